@@ -1,0 +1,124 @@
+-- A legal history with one operation more.
+use Rattle.std.proofs.Common.{subst, ◌≡◌, ℕ, ◌+◌, ◌<◌, ◌≤◌, ◌==◌, Bool, true, false, cond, nat_lt, Option, None, Some, Result, Ok, Err, is_some, List, [], ◌∷◌, ◌++◌, length, find, reverse, ◌⊎◌, inl, inr, refl, sym, ◌∙◌, ap, arith}
+use Rattle.std.proofs.lemmas.List.{length-append, length-reverse}
+use Rattle.std.proofs.lemmas.Bool.{ltb-true}
+use Rattle.batch_ids.specs.declared.refusal.Refusal.{Refusal}
+use Rattle.batch_ids.specs.declared.refusal.Refusal.TheVariants.{JobStartException, NoSuchJobExecutionException, NoSuchWork, WorkNotRunning, NotClaimer, NotStopping, RepositoryFull}
+use Rattle.batch_ids.specs.declared.status.WorkOutcome.{WorkOutcome}
+use Rattle.batch_ids.specs.declared.status.WorkOutcome.TheVariants.{Completed, Failed, Stopped}
+use Rattle.batch_history.specs.declared.call.Call.{Call}
+use Rattle.batch_history.specs.declared.call.Call.TheVariants.{Start, Restart, Claim, Finish}
+use Rattle.batch_history.specs.declared.call.Reply.{Reply}
+use Rattle.batch_history.specs.declared.call.Reply.TheVariants.{Execution as IsExecution, Nothing, Done}
+use Rattle.batch_history.specs.declared.call.Entry.{Entry}
+use Rattle.batch_history.specs.declared.query.JobExecution.{JobExecution}
+use Rattle.batch_history.specs.declared.rows.WorkRow.{WorkRow}
+use Rattle.batch_history.specs.declared.rows.WorkState.{WorkState}
+use Rattle.batch_history.specs.declared.rows.WorkState.TheVariants.{Busy, Over}
+use Rattle.jsl_model.specs.Jobs.{JobTree}
+use Rattle.batch_history.specs.History.{job_named, is_work}
+use Rattle.batch_history.specs.Replies.{is_nothing}
+use Rattle.batch_history.specs.Rows.{History, Rows, rows, reply, reply_by, entered, claimed, finished, finished_by, finished_as, has_something, is_execution, grown, after_call, StandsFor, IsLegal}
+
+-- What is entered has room
+
+entered-room : (limit count : ℕ) (given r : Reply) → entered limit count given ≡ Ok r → count < limit
+entered-room limit count given r e =
+    ltb-true count limit ((elim (nat_lt count limit) as (λ b. cond b (Ok given) (Err RepositoryFull) ≡ Ok r → b ≡ true) [
+      | true ↦ λ s. refl
+      | false ↦ λ s. cc
+    ]) e)
+
+claimed-room : (limit : ℕ) (r : Rows) (found : Option JobExecution) (given : Reply) → claimed limit r found ≡ Ok given → is_nothing given ≡ false → r.count < limit
+claimed-room limit r None given e n = cc
+claimed-room limit r (Some row) given e n = entered-room limit r.count _ given e
+
+as-room : (limit count : ℕ) (o : WorkOutcome) (given : Reply) → finished_as limit count o ≡ Ok given → count < limit
+as-room limit count Stopped given e = cc
+as-room limit count Completed given e = entered-room limit count Done given e
+as-room limit count Failed given e = entered-room limit count Done given e
+
+by-room : (limit count who : ℕ) (o : WorkOutcome) (claimer : ℕ) (state : WorkState) (given : Reply) → finished_by limit count who o claimer state ≡ Ok given → count < limit
+by-room limit count who o claimer (Over p exit) given e = cc
+by-room limit count who o claimer Busy given e =
+    (elim (claimer == who) as (λ b. cond b (finished_as limit count o) (Err NotClaimer) ≡ Ok given → count < limit) [
+      | true ↦ λ s. as-room limit count o given s
+      | false ↦ λ s. cc
+    ]) e
+
+finished-room : (limit count who : ℕ) (o : WorkOutcome) (found : Option WorkRow) (given : Reply) → finished limit count who o found ≡ Ok given → count < limit
+finished-room limit count who o None given e = cc
+finished-room limit count who o (Some row) given e = by-room limit count who o row.claimer row.state given e
+
+-- a reply that is entered has room
+pub reply-room : (limit : ℕ) (r : Rows) (who : ℕ) (call : Call) (given : Reply) → reply_by limit r who call ≡ Ok given → is_nothing given ≡ false → r.count < limit
+reply-room limit r who (Start job) given e n =
+    (elim (is_some (job_named r.catalogue job)) as (λ b. cond b (entered limit r.count (IsExecution (length r.executions + 1))) (Err JobStartException) ≡ Ok given → r.count < limit) [
+      | true ↦ λ s. entered-room limit r.count _ given s
+      | false ↦ λ s. cc
+    ]) e
+reply-room limit r who (Restart x) given e n =
+    (elim (is_some (find (is_execution x) r.executions)) as (λ b. cond b (entered limit r.count (IsExecution (length r.executions + 1))) (Err NoSuchJobExecutionException) ≡ Ok given → r.count < limit) [
+      | true ↦ λ s. entered-room limit r.count _ given s
+      | false ↦ λ s. cc
+    ]) e
+reply-room limit r who Claim given e n = claimed-room limit r (find (has_something r) r.executions) given e n
+reply-room limit r who (Finish w o exit) given e n = finished-room limit r.count who o (find (is_work w) r.works) given e
+
+-- Where a list with one element more is cut
+
+record AtEnd {A : Type 0} (xs ys : List A) (x y : A) (zs : List A) : Type 0 where
+  rest : zs ≡ []
+  front : xs ≡ ys
+  last : x ≡ y
+
+record Within {A : Type 0} (xs ys : List A) (x y : A) (zs : List A) : Type 0 where
+  ws : List A
+  front : xs ≡ ys ++ y ∷ ws
+
+cut-last : {A : Type 0} (xs ys : List A) (x y : A) (zs : List A) → xs ++ x ∷ [] ≡ ys ++ y ∷ zs → AtEnd xs ys x y zs ⊎ Within xs ys x y zs
+cut-last [] [] x y zs e = inl (record { rest = cc; front = refl; last = cc })
+cut-last [] (b ∷ ys) x y zs e =
+    let long : 1 ≡ length (b ∷ (ys ++ y ∷ zs)) = ap length e in
+    absurd (omega (arith, long, length-append ys (y ∷ zs)))
+cut-last (a ∷ xs) [] x y zs e = inr (record { ws = xs; front = cc })
+cut-last (a ∷ xs) (b ∷ ys) x y zs e =
+    let head : a ≡ b = cc in
+    let more : xs ++ x ∷ [] ≡ ys ++ y ∷ zs = cc in
+    elim (cut-last xs ys x y zs more) [
+      | inl w ↦ inl (record { rest = w.rest; front = ap (λ l. a ∷ l) w.front ∙ ap (λ h. h ∷ ys) head; last = w.last })
+      | inr w ↦ inr (record { ws = w.ws; front = ap (λ l. a ∷ l) w.front ∙ ap (λ h. h ∷ (ys ++ y ∷ w.ws)) head })
+    ]
+
+abbrev IsDueAt : ℕ → History → List Entry → Entry → Type 0
+IsDueAt limit h before e = (reply limit record { catalogue = h.catalogue; log = before } e.who e.call ≡ Ok e.reply) × (is_nothing e.reply ≡ false)
+
+-- a legal history grows by an operation with the reply that is due
+pub legal_grown : (limit : ℕ) (h : History) (e : Entry) → IsLegal limit h → reply limit h e.who e.call ≡ Ok e.reply → is_nothing e.reply ≡ false → IsLegal limit (grown h e)
+legal_grown limit h e legal due entered =
+    let room : length (reverse h.log) < limit = reply-room limit (rows h) e.who e.call e.reply due entered in
+    record {
+      within = omega (arith, room, length-reverse h.log, length-append h.log (e ∷ []));
+      due = λ before f after is. elim (cut-last h.log before e f after is) as (λ _. IsDueAt limit h before f) [
+        | inl w ↦ subst (IsDueAt limit h before) w.last (subst (λ (l : List Entry). IsDueAt limit h l e) w.front (due, entered))
+        | inr w ↦ legal.due before f w.ws w.front
+      ];
+    }
+
+-- what stands for a history and its entry, and that they are legal
+pub log_grown : (limit : ℕ) (h : History) (who : ℕ) (call : Call) (at : ℕ) (first second kept : Reply) (new : Rows) (items : List Entry)
+    → IsLegal limit h → reply limit h who call ≡ Ok first → reply limit h who call ≡ Ok second → is_nothing first ≡ false → kept ≡ first
+    → StandsFor new (after_call h who call at second)
+    → items ≡ h.log ++ record { who = who; call = call; at = at; reply = kept } ∷ []
+    → StandsFor new record { catalogue = new.catalogue; log = items } × IsLegal limit record { catalogue = new.catalogue; log = items }
+log_grown limit h who call at first second kept new items legal due1 due2 some same stands is =
+    let e : Entry = record { who = who; call = call; at = at; reply = kept } in
+    let twice : second ≡ kept = cc in
+    let entered : is_nothing kept ≡ false = ap is_nothing same ∙ some in
+    let stood : StandsFor new (cond (is_nothing kept) h (grown h e)) = subst (λ r. StandsFor new (after_call h who call at r)) twice stands in
+    let now : StandsFor new (grown h e) = subst (λ b. StandsFor new (cond b h (grown h e))) entered stood in
+    let over : new.catalogue ≡ h.catalogue = ap (λ (r : Rows). r.catalogue) now in
+    let whole : grown h e ≡ record { catalogue = new.catalogue; log = items } =
+    ap (λ (c : List JobTree). record { catalogue = c; log = h.log ++ e ∷ [] }) (sym over)
+    ∙ ap (λ (l : List Entry). record { catalogue = new.catalogue; log = l }) (sym is) in
+    (subst (StandsFor new) whole now, subst (IsLegal limit) whole (legal_grown limit h e legal (due1 ∙ ap Ok (sym same)) entered))

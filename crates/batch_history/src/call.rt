@@ -1,0 +1,203 @@
+ghost use Rattle.std.specs.Prelude.{◌≡◌, IfOk};
+ghost use Rattle.batch_history.specs.Replies.{is_nothing};
+
+use batch_ids::{
+    ExecutionId, Moment, OutOfMemory, T256, Text, WorkId, WorkOutcome, try_clone_option,
+};
+
+/// An operation on the job repository (Jakarta Batch 2.1, "JobOperator"; claim and finish are this
+/// service's own, for its workers).
+#[derive(PartialEq, Eq, Debug, Drop)]
+pub enum Call {
+    /// Makes a job instance of this job, and its first job execution.
+    Start {
+        /// The job's id.
+        job: T256,
+    },
+    /// Makes a further job execution of a job instance.
+    Restart {
+        /// A job execution of that job instance.
+        execution: ExecutionId,
+    },
+    /// Asks for a work item.
+    Claim,
+    /// Ends a work item.
+    Finish {
+        /// The work item.
+        work: WorkId,
+        /// How it ended.
+        outcome: WorkOutcome,
+        /// The exit status of the step or decision; without one it is the outcome's name.
+        exit: Option<T256>,
+    },
+}
+
+/// What a worker runs for a work item.
+#[derive(PartialEq, Eq, Debug, Drop)]
+pub enum WorkTask {
+    /// The batchlet of a step.
+    Batchlet {
+        /// The artifact's name.
+        artifact: T256,
+    },
+    /// The chunk of a step.
+    Chunk {
+        /// The name of the artifact that reads items.
+        reader: T256,
+        /// The name of the artifact that processes an item, if there is one.
+        processor: Option<T256>,
+        /// The name of the artifact that writes a group of items.
+        writer: T256,
+        /// How many items a group has, from 1.
+        item_count: u32,
+        /// The checkpoint at which the reader begins, if there is one.
+        checkpoint: Option<Text<65536>>,
+    },
+    /// A decision.
+    Decision {
+        /// The artifact's name.
+        artifact: T256,
+    },
+}
+
+/// One run of a step or of a decision.
+#[derive(PartialEq, Eq, Debug, Drop)]
+pub struct WorkItem {
+    /// Its number, which is the step execution's id where it is a step's.
+    pub work: WorkId,
+    /// The job execution that it belongs to.
+    pub execution: ExecutionId,
+    /// The id of the step or decision.
+    pub element: T256,
+    /// What is to be run.
+    pub task: WorkTask,
+}
+
+/// What an operation is answered.
+#[derive(PartialEq, Eq, Debug, Drop)]
+pub enum Reply {
+    /// The job execution that was made.
+    Execution(ExecutionId),
+    /// A work item to run.
+    Work(WorkItem),
+    /// A job execution that was taken up and had nothing to run.
+    Closed(ExecutionId),
+    /// There is nothing to run. This reply makes no entry.
+    Nothing,
+    /// It is done.
+    Done,
+}
+
+/// An accepted operation.
+#[derive(PartialEq, Eq, Debug, Drop)]
+pub struct Entry {
+    /// The number of the session that made the call.
+    pub who: u64,
+    /// The call.
+    pub call: Call,
+    /// The moment that was handed in with it.
+    pub at: Moment,
+    /// What it was answered.
+    pub reply: Reply,
+}
+
+impl Call {
+    /// An equal call, or `OutOfMemory`.
+    pub fn try_clone(&self) -> Result<Call, OutOfMemory>
+        ensures { IfOk result (λ copy. copy ≡ self.now) }
+    {
+        match self {
+            Call::Start { job } => Ok(Call::Start {
+                job: job.try_clone()?,
+            }),
+            Call::Restart { execution } => Ok(Call::Restart {
+                execution: *execution,
+            }),
+            Call::Claim => Ok(Call::Claim),
+            Call::Finish {
+                work,
+                outcome,
+                exit,
+            } => {
+                Ok(Call::Finish {
+                    work: *work,
+                    outcome: *outcome,
+                    exit: try_clone_option(exit)?,
+                })
+            }
+        }
+    }
+}
+
+impl WorkTask {
+    /// An equal task, or `OutOfMemory`.
+    pub fn try_clone(&self) -> Result<WorkTask, OutOfMemory>
+        ensures { IfOk result (λ copy. copy ≡ self.now) }
+    {
+        match self {
+            WorkTask::Batchlet { artifact } => {
+                Ok(WorkTask::Batchlet {
+                    artifact: artifact.try_clone()?,
+                })
+            }
+            WorkTask::Chunk {
+                reader,
+                processor,
+                writer,
+                item_count,
+                checkpoint,
+            } => {
+                Ok(WorkTask::Chunk {
+                    reader: reader.try_clone()?,
+                    processor: try_clone_option(processor)?,
+                    writer: writer.try_clone()?,
+                    item_count: *item_count,
+                    checkpoint: try_clone_option(checkpoint)?,
+                })
+            }
+            WorkTask::Decision { artifact } => {
+                Ok(WorkTask::Decision {
+                    artifact: artifact.try_clone()?,
+                })
+            }
+        }
+    }
+}
+
+impl WorkItem {
+    /// An equal work item, or `OutOfMemory`.
+    pub fn try_clone(&self) -> Result<WorkItem, OutOfMemory>
+        ensures { IfOk result (λ copy. copy ≡ self.now) }
+    {
+        let element = self.element.try_clone()?;
+        let task = self.task.try_clone()?;
+        Ok(WorkItem {
+            work: self.work,
+            execution: self.execution,
+            element,
+            task,
+        })
+    }
+}
+
+impl Reply {
+    /// An equal reply, or `OutOfMemory`.
+    pub fn try_clone(&self) -> Result<Reply, OutOfMemory>
+        ensures { IfOk result (λ copy. copy ≡ self.now) }
+    {
+        match self {
+            Reply::Execution(execution) => Ok(Reply::Execution(*execution)),
+            Reply::Work(item) => Ok(Reply::Work(item.try_clone()?)),
+            Reply::Closed(execution) => Ok(Reply::Closed(*execution)),
+            Reply::Nothing => Ok(Reply::Nothing),
+            Reply::Done => Ok(Reply::Done),
+        }
+    }
+
+    /// Whether it is Nothing, the one reply that makes no entry.
+    pub fn is_nothing(&self) -> bool
+        ensures { result ≡ is_nothing self.now }
+    {
+        matches!(self, Reply::Nothing)
+    }
+}

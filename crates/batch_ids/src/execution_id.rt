@@ -1,0 +1,39 @@
+ghost use Rattle.std.specs.Prelude.{◌≡◌};
+
+use std::marker::Model;
+
+/// The number of a job execution. Contracts see the number.
+///
+/// Job executions are numbered from 1 upwards, without gaps, in the order of their starts and
+/// restarts, over all job instances. 0 names nothing.
+/// See Jakarta Batch 2.1, "JobExecution" (`getExecutionId`).
+#[derive(Clone, Copy, PartialEq, Eq, PartialOrd, Ord, Hash, Debug)]
+pub struct ExecutionId {
+    number: u64,
+}
+
+impl Model for ExecutionId {
+    ghost use Rattle.std.specs.Prelude.{ℕ};
+
+    ghost Value = { ℕ };
+
+    ghost view = { λ id. id.number };
+
+    ghost inverse = { λ n. record { number = n } };
+}
+
+impl ExecutionId {
+    /// The identifier with this number.
+    pub fn new(number: u64) -> ExecutionId
+        ensures { result ≡ number }
+    {
+        ExecutionId { number }
+    }
+
+    /// The number.
+    pub fn value(self) -> u64
+        ensures { result ≡ self }
+    {
+        self.number
+    }
+}

@@ -1,0 +1,20 @@
+//! The identifiers, texts, statuses and refusals that every other crate of the job service speaks of.
+#![tactic(auto)]
+
+mod execution_id;
+mod instance_id;
+mod refusal;
+mod status;
+mod text;
+mod work_id;
+
+pub use execution_id::ExecutionId;
+pub use instance_id::InstanceId;
+pub use refusal::{OutOfMemory, Refusal};
+pub use sqlite_items::Items as Listed;
+pub use status::{BatchStatus, Moment, WorkOutcome};
+pub use text::{T256, Text, try_clone_option};
+pub use work_id::WorkId;
+
+#[cfg(test)]
+mod tests;

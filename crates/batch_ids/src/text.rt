@@ -1,0 +1,164 @@
+ghost use Rattle.std.specs.Prelude.{◌≡◌, ◌<◌, ◌≤◌, length, Err, OnErr, OnOk, IfOk, []};
+
+use crate::{OutOfMemory, Refusal};
+use std::alloc::Global;
+use std::cmp::Ordering;
+use std::hash::{Hash, Hasher};
+use std::marker::Model;
+
+/// A text of at most `MAX` bytes of UTF-8. Contracts see its bytes.
+#[derive(Debug, Drop)]
+pub struct Text<const MAX: usize> {
+    inner: String,
+}
+
+/// A text of at most 256 bytes: a name or an exit status.
+pub type T256 = Text<256>;
+
+impl<const MAX: usize> Model for Text<MAX> {
+    ghost use Rattle.std.specs.Prelude.{ℕ, List, length, string_bytes, ◌≤◌};
+
+    ghost Value = { List ℕ };
+
+    ghost view = { λ text. string_bytes text.inner };
+
+    ghost invariant = { λ text. length (string_bytes text.inner) ≤ MAX };
+}
+
+impl<const MAX: usize> Text<MAX> {
+    /// The text of these bytes. There is no lower bound: the empty text is one.
+    ///
+    /// Errors: `TextTooLong` exactly for a text of more than `MAX` bytes, else at most
+    /// `OutOfMemory`.
+    pub fn new(alloc: Global, text: &str) -> Result<Text<MAX>, Refusal>
+        ensures same { IfOk result (λ made. made ≡ text.now) }
+        ensures fits { OnOk result (length text.now ≤ MAX) }
+        ensures too_long { MAX < length text.now → result ≡ Err Refusal.TextTooLong }
+        ensures refused { length text.now ≤ MAX → OnErr result (result ≡ Err Refusal.OutOfMemory) }
+    {
+        if text.len() > MAX {
+            return Err(Refusal::TextTooLong);
+        }
+        match String::from_str(alloc, text) {
+            Ok(inner) => Ok(Text { inner }),
+            Err(_) => Err(Refusal::OutOfMemory),
+        }
+    }
+
+    /// The text of these bytes, which are known to be few enough.
+    pub fn within(alloc: Global, text: &str) -> Result<Text<MAX>, OutOfMemory>
+        requires { length text.now ≤ MAX }
+        ensures { IfOk result (λ made. made ≡ text.now) }
+    {
+        let inner = String::from_str(alloc, text)?;
+        Ok(Text { inner })
+    }
+
+    /// The empty text. It takes no memory.
+    pub fn empty(alloc: Global) -> Text<MAX>
+        ensures { result ≡ [] }
+    {
+        Text {
+            inner: String::new(alloc),
+        }
+    }
+
+    /// The text.
+    pub fn as_str(&self) -> &str
+        ensures same { result.now ≡ self.now }
+        ensures fits { length self.now ≤ MAX }
+    {
+        self.inner.as_str()
+    }
+
+    /// An equal text, or `OutOfMemory`.
+    pub fn try_clone(&self) -> Result<Text<MAX>, OutOfMemory>
+        ensures { IfOk result (λ copy. copy ≡ self.now) }
+    {
+        let inner = self.inner.clone()?;
+        Ok(Text { inner })
+    }
+}
+
+/// A copy of a text that may be left out.
+pub fn try_clone_option<const MAX: usize>(
+    text: &Option<Text<MAX>>,
+) -> Result<Option<Text<MAX>>, OutOfMemory>
+    ensures { IfOk result (λ copy. copy ≡ text.now) }
+{
+    match text {
+        None => Ok(None),
+        Some(text) => Ok(Some(text.try_clone()?)),
+    }
+}
+
+impl<const MAX: usize> PartialEq for Text<MAX> {
+    ghost use Rattle.std.specs.Prelude.{◌==◌};
+    ghost use Rattle.std.specs.Cmp.Lexicographic.{pointwise};
+    ghost use Rattle.std.specs.Cmp.Rules.{comparing};
+    ghost use Rattle.std.proofs.Common.{rules};
+
+    ghost eq = { pointwise ◌==◌ };
+
+    ghost laws = { Prim.search (comparing, rules) };
+
+    fn eq(&self, other: &Text<MAX>) -> bool {
+        self.inner.as_str() == other.inner.as_str()
+    }
+}
+
+impl<const MAX: usize> Eq for Text<MAX> {
+    ghost use Rattle.std.specs.Cmp.Rules.{comparing};
+    ghost use Rattle.std.proofs.Common.{rules};
+
+    ghost laws = { Prim.search (comparing, rules) };
+}
+
+impl<const MAX: usize> Ord for Text<MAX> {
+    ghost use Rattle.std.specs.Ordering.{nat_cmp};
+    ghost use Rattle.std.specs.Cmp.Lexicographic.{slice_cmp};
+    ghost use Rattle.std.specs.Cmp.Rules.{comparing};
+    ghost use Rattle.std.proofs.Common.{rules};
+
+    ghost cmp = { slice_cmp nat_cmp };
+
+    ghost total = { Prim.search (comparing, rules) };
+
+    ghost matches_partial_cmp = { Prim.search (comparing, rules) };
+
+    ghost matches_eq = { Prim.search (comparing, rules) };
+
+    fn cmp(&self, other: &Text<MAX>) -> Ordering {
+        self.inner.as_str().cmp(other.inner.as_str())
+    }
+}
+
+impl<const MAX: usize> PartialOrd for Text<MAX> {
+    ghost use Rattle.std.specs.Ordering.{nat_cmp, as_partial_cmp};
+    ghost use Rattle.std.specs.Cmp.Lexicographic.{slice_cmp};
+    ghost use Rattle.std.specs.Cmp.{partial_order_from_own_ties};
+    ghost use Rattle.std.specs.Cmp.Rules.{comparing};
+    ghost use Rattle.std.proofs.Common.{rules};
+
+    ghost partial_cmp = { as_partial_cmp (slice_cmp nat_cmp) };
+
+    ghost laws = { partial_order_from_own_ties (Prim.search (comparing, rules)) (Prim.search (comparing, rules)) };
+
+    fn partial_cmp(&self, other: &Text<MAX>) -> Option<Ordering> {
+        Some(self.cmp(other))
+    }
+}
+
+impl<const MAX: usize> Hash for Text<MAX> {
+    ghost use Rattle.std.specs.Hash as fed;
+    ghost use Rattle.std.specs.Cmp.Rules.{comparing, hashing};
+    ghost use Rattle.std.proofs.Common.{rules};
+
+    ghost hash_input = { fed.str };
+
+    ghost respects_eq = { Prim.search (hashing, rules) };
+
+    fn hash<H: Hasher>(&self, state: &mut H) {
+        self.inner.as_str().hash(state);
+    }
+}

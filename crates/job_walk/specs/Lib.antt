@@ -1,0 +1,2 @@
+pub mod Runnables
+pub mod Walk

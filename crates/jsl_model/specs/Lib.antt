@@ -1,0 +1,5 @@
+pub mod Catalogues
+pub mod Faults
+pub mod Jobs
+pub mod Parts
+pub mod Trees

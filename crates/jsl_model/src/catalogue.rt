@@ -1,0 +1,109 @@
+ghost use Rattle.std.specs.Prelude.{◌≡◌, ◌≤◌, ◌<◌, ◌↔◌, [], ◌++◌, ◌∷◌, find, length, option_copied, IsTrue, IsSome, IsNone, IfOk, OnOk, OnErr, Err};
+ghost use Rattle.batch_ids.specs.Texts.{is_text};
+ghost use Rattle.jsl_model.specs.Catalogues.{AreJobs};
+
+use crate::job::{Job, JobFault};
+use batch_ids::{Listed, OutOfMemory};
+use std::alloc::Global;
+use std::marker::Model;
+
+/// How many jobs a catalogue holds at most.
+const MOST_JOBS: usize = 256;
+
+/// The jobs that can be started: at most 256, each with an id of its own. Contracts see the list of
+/// jobs, in the order in which they were added.
+#[derive(Debug, Drop)]
+pub struct Catalogue {
+    jobs: Listed<Job>,
+}
+
+impl Model for Catalogue {
+    ghost use Rattle.std.specs.Prelude.{List};
+    ghost use Rattle.std.specs.Coded.{codes};
+    ghost use Rattle.jsl_model.specs.contracts.element.Body as body;
+    ghost use Rattle.jsl_model.specs.Catalogues.{AreJobs};
+    ghost use Rattle.jsl_model.specs.Jobs.{JobTree};
+
+    ghost Value = { List JobTree };
+
+    ghost coded = { Prim.hlevel (codes, body.the_row.coded) };
+
+    ghost view = { λ catalogue. catalogue.jobs };
+
+    ghost invariant = { λ catalogue. AreJobs catalogue.jobs };
+}
+
+impl Catalogue {
+    /// A catalogue without jobs. It takes no memory.
+    pub fn new(alloc: Global) -> Catalogue
+        ensures { result ≡ [] }
+    {
+        Catalogue {
+            jobs: Listed::new(alloc),
+        }
+    }
+
+    /// Adds a job at the end. A job that is refused is dropped, and the catalogue stays as it was.
+    ///
+    /// Errors: `TooMany` exactly where 256 jobs are held; else `DuplicateId` exactly where a job of
+    /// this id is held; else at most `OutOfMemory`. It costs time as the catalogue has jobs.
+    pub fn add(&mut self, job: Job) -> Result<(), JobFault>
+        ensures too_many { 256 ≤ length self.old → result ≡ Err JobFault.TooMany }
+        ensures duplicate { length self.old < 256 → IsSome (find (λ held. is_text held.id job.id) self.old) → result ≡ Err JobFault.DuplicateId }
+        ensures memory { length self.old < 256 → IsNone (find (λ held. is_text held.id job.id) self.old) → OnErr result (result ≡ Err JobFault.OutOfMemory) }
+
+        ensures added { OnOk result (self.new ≡ self.old ++ job ∷ []) }
+        ensures unchanged { OnErr result (self.new ≡ self.old) }
+    {
+        if self.len() >= MOST_JOBS {
+            return Err(JobFault::TooMany);
+        }
+        match self.job(job.id().as_str()) {
+            Some(_) => Err(JobFault::DuplicateId),
+            None => {
+                self.jobs.push(job)?;
+                Ok(())
+            }
+        }
+    }
+
+    /// The job with this id, if it is held. It costs time as the catalogue has jobs.
+    pub fn job(&self, id: &str) -> Option<&Job>
+        ensures { option_copied result ≡ find (λ job. is_text job.id id.now) self.now }
+    {
+        for job in self.jobs.as_slice() {
+            if job.id().as_str() == id {
+                return Some(job);
+            }
+        }
+        None
+    }
+
+    /// How many jobs it holds, at most 256.
+    pub fn len(&self) -> usize
+        ensures number { result ≡ length self.now }
+        ensures kept { AreJobs self.now }
+    {
+        self.jobs.len()
+    }
+
+    /// Whether it holds no job.
+    pub fn is_empty(&self) -> bool
+        ensures { IsTrue result ↔ (self.now ≡ []) }
+    {
+        self.jobs.is_empty()
+    }
+
+    /// An equal catalogue, or `OutOfMemory`. It costs time and memory as its jobs have elements.
+    pub fn try_clone(&self, alloc: Global) -> Result<Catalogue, OutOfMemory>
+        ensures { IfOk result (λ copy. copy ≡ self.now) }
+    {
+        let mut jobs = Vec::new(alloc);
+        for job in self.jobs.as_slice() {
+            jobs.push(job.try_clone(alloc)?)?;
+        }
+        Ok(Catalogue {
+            jobs: Listed::from_vec(jobs),
+        })
+    }
+}

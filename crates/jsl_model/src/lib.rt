@@ -1,0 +1,21 @@
+//! Jobs as checked trees, and the catalogue of jobs (Jakarta Batch 2.1, "Job Specification Language").
+#![tactic(auto)]
+
+mod building;
+mod catalogue;
+mod element;
+mod emptiness;
+mod job;
+mod lengths;
+mod parts;
+
+pub use catalogue::Catalogue;
+pub use element::{Body, Element, SplitFlow, Step, Task, Then, Transition};
+pub use job::{Job, JobFault};
+pub use parts::{
+    BodyParts, ElementParts, JobParts, SplitFlowParts, StepParts, TaskParts, ThenParts,
+    TransitionParts,
+};
+
+#[cfg(test)]
+mod tests;

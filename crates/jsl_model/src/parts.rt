@@ -1,0 +1,121 @@
+use batch_ids::Listed;
+
+/// The parts of a job as they were read, unchecked (Jakarta Batch 2.1, "Job Specification
+/// Language"). `Job::check` makes a job of them.
+#[derive(Debug, Drop)]
+pub struct JobParts {
+    /// The job's id.
+    pub id: String,
+    /// Whether a job execution of it may be restarted.
+    pub restartable: bool,
+    /// Its elements; it begins at the first of them.
+    pub elements: Listed<ElementParts>,
+}
+
+/// The parts of an element of a job, of a flow, or of a flow of a split.
+#[cycle(parts)]
+#[derive(Debug, Drop)]
+pub struct ElementParts {
+    /// Its id.
+    pub id: String,
+    /// The id of the element that follows it.
+    pub next: Option<String>,
+    /// Its transition elements.
+    pub transitions: Listed<TransitionParts>,
+    /// What it is.
+    pub body: BodyParts,
+}
+
+/// What an element is, in parts (Jakarta Batch 2.1, "Job Specification Language", sections "Step",
+/// "Flow", "Split" and "Decision").
+#[cycle(parts)]
+#[derive(Debug, Drop)]
+pub enum BodyParts {
+    /// A step.
+    Step(StepParts),
+    /// A flow, by its elements.
+    Flow(Listed<ElementParts>),
+    /// A split, by its flows.
+    Split(Listed<SplitFlowParts>),
+    /// A decision, by the name of its artifact.
+    Decision(String),
+}
+
+/// The parts of a flow that stands directly in a split.
+#[cycle(parts)]
+#[derive(Debug, Drop)]
+pub struct SplitFlowParts {
+    /// Its id.
+    pub id: String,
+    /// Its elements.
+    pub elements: Listed<ElementParts>,
+}
+
+/// The parts of a step (Jakarta Batch 2.1, "Job Specification Language", section "Step").
+#[derive(Debug, Drop)]
+pub struct StepParts {
+    /// How often the step may be started in one job instance; 0 sets no limit.
+    pub start_limit: u32,
+    /// Whether a restart runs the step again although it is COMPLETED.
+    pub allow_start_if_complete: bool,
+    /// What it runs.
+    pub task: TaskParts,
+}
+
+/// What a step runs, in parts.
+#[derive(Debug, Drop)]
+pub enum TaskParts {
+    /// One artifact, which is run once.
+    Batchlet {
+        /// The artifact's name.
+        artifact: String,
+    },
+    /// Items that are read, processed and written in groups.
+    Chunk {
+        /// The name of the artifact that reads items.
+        reader: String,
+        /// The name of the artifact that processes an item.
+        processor: Option<String>,
+        /// The name of the artifact that writes a group of items.
+        writer: String,
+        /// How many items a group has.
+        item_count: u32,
+    },
+}
+
+/// The parts of a transition element (Jakarta Batch 2.1, "Job Specification Language", section
+/// "Transition Elements").
+#[derive(Debug, Drop)]
+pub struct TransitionParts {
+    /// The pattern that the exit status has to match.
+    pub on: String,
+    /// Where the job goes then.
+    pub then: ThenParts,
+}
+
+/// Where a transition element leads, in parts.
+#[derive(Debug, Drop)]
+pub enum ThenParts {
+    /// On to another element of the same list.
+    Next {
+        /// The id of that element.
+        to: String,
+    },
+    /// The job ends COMPLETED.
+    End {
+        /// The job's exit status.
+        exit_status: Option<String>,
+    },
+    /// The job ends FAILED.
+    Fail {
+        /// The job's exit status.
+        exit_status: Option<String>,
+    },
+    /// The job ends STOPPED.
+    Stop {
+        /// The job's exit status.
+        exit_status: Option<String>,
+        /// The id of the job-level element at which a restart begins.
+        restart: Option<String>,
+    },
+}

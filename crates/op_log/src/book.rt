@@ -1,0 +1,109 @@
+ghost use Rattle.std.specs.Prelude.{◌≡◌, ◌≤◌, ◌<◌, ◌-◌, [], length, slice_get, IfOk, OnErr, None};
+ghost use Rattle.std.specs.Option.{option_copied};
+ghost use Rattle.batch_history.specs.Rows.{reply, answer, after_call, IsLegal};
+ghost use Rattle.seq_repository.specs.Due.{IsDue};
+
+use batch_ids::{Moment, OutOfMemory, Refusal};
+use jsl_model::Catalogue;
+use seq_repository::{Answer, Call, Entry, Query, Reply, Repository};
+use std::alloc::Global;
+use std::marker::Model;
+
+/// A job repository and the log of the operations that it accepted, at most `LIMIT` of them.
+/// Contracts see the history: the catalogue and the log, in the order of acceptance.
+///
+/// It keeps by its type that the log is legal (each entry has the reply that its call was due after
+/// the entries before it) and that the repository stands for it.
+#[derive(Debug, Drop)]
+pub struct Book<const LIMIT: u64> {
+    repository: Repository<LIMIT>,
+    log: Vec<Entry>,
+}
+
+impl<const LIMIT: u64> Model for Book<LIMIT> {
+    ghost use Rattle.batch_history.specs.Rows.{History, IsLegal, StandsFor};
+    ghost use Rattle.jsl_model.specs.contracts.element.Body as body;
+    ghost use Rattle.std.specs.Coded.{codes};
+
+    ghost Value = { History };
+
+    ghost coded = { Prim.hlevel (codes, body.the_row.coded) };
+
+    ghost view = { λ b. record { catalogue = b.repository.catalogue; log = b.log.items } };
+
+    ghost invariant = { λ b. StandsFor b.repository record { catalogue = b.repository.catalogue; log = b.log.items } × IsLegal LIMIT record { catalogue = b.repository.catalogue; log = b.log.items } };
+}
+
+impl<const LIMIT: u64> Book<LIMIT> {
+    /// A book with an empty log over this catalogue.
+    ///
+    /// `LIMIT` is at most 1,000,000. Errors: `OutOfMemory` alone.
+    pub fn new(alloc: Global, catalogue: Catalogue) -> Result<Book<LIMIT>, OutOfMemory>
+        requires { LIMIT ≤ 1000000 }
+        ensures { IfOk result (λ book. book ≡ record { catalogue = catalogue; log = [] }) }
+    {
+        let repository = Repository::new(alloc, catalogue)?;
+        Ok(Book {
+            repository,
+            log: Vec::new(alloc),
+        })
+    }
+
+    /// How many operations were accepted. It takes no memory.
+    pub fn len(&self) -> usize
+        ensures length { result ≡ length self.now.log }
+        ensures legal { IsLegal LIMIT self.now }
+    {
+        self.log.len()
+    }
+
+    /// The entry with this number, counted from 1, if there is one. It takes no memory.
+    pub fn entry(&self, k: usize) -> Option<&Entry>
+        ensures none { k ≡ 0 → option_copied result ≡ None }
+        ensures some { 0 < k → option_copied result ≡ slice_get self.now.log (k - 1) }
+    {
+        if k == 0 { None } else { self.log.get(k - 1) }
+    }
+
+    /// Answers a call of the session `who` at this moment, and appends its entry where it is
+    /// accepted. The reply Nothing makes no entry.
+    ///
+    /// Errors: the first refusal of the call that stands, `RepositoryFull` after the call's own
+    /// refusals where the log has `LIMIT` entries, or `OutOfMemory` in place of any answer. A refused
+    /// call changes nothing. All growths come before the first change.
+    pub fn act(&mut self, alloc: Global, who: u64, call: Call, at: Moment) -> Result<Reply, Refusal>
+        ensures reply { IsDue result (reply LIMIT self.old who call) }
+        ensures after { IfOk result (λ reply. self.new ≡ after_call self.old who call at reply) }
+        ensures refused { OnErr result (self.new ≡ self.old) }
+    {
+        let room = self.log.reserve(1);
+        if room.is_err() {
+            return Err(Refusal::OutOfMemory);
+        }
+        let reply = self.repository.preview(alloc, who, &call)?;
+        if reply.is_nothing() {
+            return Ok(reply);
+        }
+        let kept = reply.try_clone()?;
+        let reply = self.repository.apply(alloc, who, &call, at)?;
+        let entry = Entry {
+            who,
+            call,
+            at,
+            reply: kept,
+        };
+        match self.log.push(entry) {
+            Ok(()) => Ok(reply),
+            Err(_) => unreachable!(),
+        }
+    }
+
+    /// Answers a query about the log so far.
+    ///
+    /// Errors: the query's refusal where it stands, or `OutOfMemory` in place of any answer.
+    pub fn ask(&self, alloc: Global, query: &Query) -> Result<Answer, Refusal>
+        ensures { IsDue result (answer self.now query.now) }
+    {
+        self.repository.ask(alloc, query)
+    }
+}

@@ -1,0 +1,202 @@
+ghost use Rattle.std.specs.Prelude.{ℕ, ◌≡◌, ◌++◌, ◌∷◌, [], IfOk, find};
+ghost use Rattle.std.specs.Option.{option_copied};
+ghost use Rattle.batch_history.specs.History.{change_first, is_work, over_as, fact_from, known_of, walk_of, walk_value, job_named, owner_of};
+ghost use Rattle.batch_history.specs.Rows.{is_execution, has_by};
+
+use crate::status::first_ready;
+use batch_history::{JobExecution, WorkRow, WorkState};
+use batch_ids::{BatchStatus, ExecutionId, OutOfMemory, T256, WorkId, WorkOutcome};
+use job_walk::{Fact, Known, Value};
+use jsl_model::Catalogue;
+use std::alloc::Global;
+
+/// The record of a job execution.
+pub(crate) fn find_execution(rows: &[JobExecution], x: ExecutionId) -> Option<&JobExecution>
+    ensures { option_copied result ≡ find (is_execution x) rows.now }
+{
+    for row in rows {
+        if row.execution == x {
+            return Some(row);
+        }
+    }
+    None
+}
+
+/// The row of a work item.
+pub(crate) fn find_work(rows: &[WorkRow], w: WorkId) -> Option<&WorkRow>
+    ensures { option_copied result ≡ find (is_work w) rows.now }
+{
+    for row in rows {
+        if row.work == w {
+            return Some(row);
+        }
+    }
+    None
+}
+
+/// The job execution of a work item.
+pub(crate) fn owner_of(rows: &[WorkRow], w: WorkId) -> Option<ExecutionId>
+    ensures { result ≡ owner_of rows.now w }
+{
+    match find_work(rows, w) {
+        None => None,
+        Some(row) => Some(row.execution),
+    }
+}
+
+fn fact_from(state: &WorkState) -> Result<Fact, OutOfMemory>
+    ensures { IfOk result (λ fact. fact ≡ fact_from state.now) }
+{
+    match state {
+        WorkState::Busy => Ok(Fact::Busy),
+        WorkState::Over(outcome, exit) => Ok(Fact::Over(*outcome, exit.try_clone()?)),
+    }
+}
+
+/// What is known of the elements of a job execution.
+pub(crate) fn known_of(
+    alloc: Global,
+    works: &[WorkRow],
+    x: ExecutionId,
+) -> Result<Vec<Known>, OutOfMemory>
+    ensures { IfOk result (λ known. known.items ≡ known_of x works.now) }
+{
+    let mut known = Vec::new(alloc);
+    for row in works {
+        if row.execution == x {
+            known.push(Known {
+                id: row.element.try_clone()?,
+                fact: fact_from(&row.state)?,
+            })?;
+        }
+    }
+    Ok(known)
+}
+
+/// What is known of the elements of a job execution once this element is handed out.
+pub(crate) fn known_handed(
+    alloc: Global,
+    works: &[WorkRow],
+    x: ExecutionId,
+    element: &T256,
+) -> Result<Vec<Known>, OutOfMemory>
+    ensures { (w claimer : ℕ) → IfOk result (λ known. known.items
+        ≡ known_of x (works.now ++ record { work = w; execution = x; element = element.now; claimer = claimer; state = WorkState.Busy } ∷ [])) }
+{
+    let mut known = known_of(alloc, works, x)?;
+    known.push(Known {
+        id: element.try_clone()?,
+        fact: Fact::Busy,
+    })?;
+    Ok(known)
+}
+
+/// What is known of the elements of a job execution once a work item is over.
+pub(crate) fn known_over(
+    alloc: Global,
+    works: &[WorkRow],
+    x: ExecutionId,
+    w: WorkId,
+    outcome: WorkOutcome,
+    exit: &T256,
+) -> Result<Vec<Known>, OutOfMemory>
+    ensures { IfOk result (λ known. known.items ≡ known_of x (change_first (is_work w) (over_as outcome exit.now) works.now)) }
+{
+    let mut known = Vec::new(alloc);
+    let mut met = false;
+    for row in works {
+        let here = !met && row.work == w;
+        if row.execution == x {
+            let fact = if here {
+                Fact::Over(outcome, exit.try_clone()?)
+            } else {
+                fact_from(&row.state)?
+            };
+            known.push(Known {
+                id: row.element.try_clone()?,
+                fact,
+            })?;
+        }
+        if here {
+            met = true;
+        }
+    }
+    Ok(known)
+}
+
+/// The value of a walk of this job, by what is known of its elements.
+pub(crate) fn walk_of(
+    alloc: Global,
+    catalogue: &Catalogue,
+    known: &[Known],
+    job: &T256,
+) -> Result<Value, OutOfMemory>
+    ensures { IfOk result (λ value. value ≡ walk_of known.now (job_named catalogue.now job.now)) }
+{
+    let Some(job) = catalogue.job(job.as_str()) else {
+        return Ok(Value::Done {
+            exit: T256::empty(alloc),
+        });
+    };
+    let elements = job.elements();
+    match elements.first() {
+        None => {
+            let from = T256::empty(alloc);
+            Ok(job_walk::walk_value(alloc, known, elements, &from)?)
+        }
+        Some(first) => Ok(job_walk::walk_value(alloc, known, elements, &first.id)?),
+    }
+}
+
+/// The value of the walk of a job execution.
+pub(crate) fn walk_value(
+    alloc: Global,
+    catalogue: &Catalogue,
+    works: &[WorkRow],
+    row: &JobExecution,
+) -> Result<Value, OutOfMemory>
+    ensures { IfOk result (λ value. value ≡ walk_value catalogue.now works.now row.now.execution row.now.job) }
+{
+    let known = known_of(alloc, works, row.execution)?;
+    walk_of(alloc, catalogue, known.as_slice(), &row.job)
+}
+
+fn has_something(
+    alloc: Global,
+    catalogue: &Catalogue,
+    works: &[WorkRow],
+    row: &JobExecution,
+) -> Result<bool, OutOfMemory>
+    ensures { IfOk result (λ has. has ≡ has_by row.now.status (walk_value catalogue.now works.now row.now.execution row.now.job)) }
+{
+    match row.status {
+        BatchStatus::Starting => Ok(true),
+        BatchStatus::Started => {
+            let value = walk_value(alloc, catalogue, works, row)?;
+            Ok(first_ready(&value).is_some())
+        }
+        BatchStatus::Stopping => Ok(false),
+        BatchStatus::Stopped => Ok(false),
+        BatchStatus::Failed => Ok(false),
+        BatchStatus::Completed => Ok(false),
+        BatchStatus::Abandoned => Ok(false),
+    }
+}
+
+/// The first job execution that has something to do.
+pub(crate) fn find_ready<'a>(
+    alloc: Global,
+    catalogue: &Catalogue,
+    works: &[WorkRow],
+    rows: &'a [JobExecution],
+) -> Result<Option<&'a JobExecution>, OutOfMemory>
+    ensures { IfOk result (λ found. option_copied found
+        ≡ find (λ row. has_by row.status (walk_value catalogue.now works.now row.execution row.job)) rows.now) }
+{
+    for row in rows {
+        if has_something(alloc, catalogue, works, row)? {
+            return Ok(Some(row));
+        }
+    }
+    Ok(None)
+}

@@ -1,0 +1,3 @@
+pub mod Cuts
+pub mod Decided
+pub mod Retries
