@@ -1,0 +1,157 @@
+-- What was read so far, as lines and the bytes behind them: the laws that a loop over the lines of a script needs.
+use Rattle.std.proofs.Common.{◌≡◌, ◌∙◌, ◌⊎◌, inl, inr, ℕ, ◌+◌, ◌<◌, ◌≤◌, List, [], ◌∷◌, ◌++◌, true, false, length, Option, Some, None, Result, Ok, Err, refl, sym, ap, append_assoc, length-append, arith}
+use Rattle.std.proofs.lemmas.Bool.{false≢true}
+use Rattle.std.proofs.lemmas.List.{append-nil}
+use Rattle.script_lines.specs.declared.line.Line.{Line}
+use Rattle.script_lines.specs.declared.line_fault.LineFault.{LineFault}
+use Rattle.script_lines.specs.declared.line_fault.LineFault.TheVariants.{Read}
+use Rattle.script_lines.specs.declared.pending.TheConstants.{MAX_READS}
+use Rattle.script_lines.specs.Device.{Told}
+use Rattle.script_lines.specs.Cut.{lines_of, whole_lines, has_feed, at_least_one, script_lines}
+use Rattle.script_lines.specs.Unread.{Unread, nothing_read}
+use Rattle.script_lines.specs.Lines.{Shows, ShowsFirst, Cuts, Took, IsReadFault}
+use Rattle.script_lines.proofs.CutLaws.{lines_of-cut, lines_of-last, lines_of-nil, whole_lines-cut, whole_lines-none}
+use Rattle.script_lines.proofs.Growing.{is_false}
+
+-- the reader told an input, of which these lines are done, whatever it tells from now on
+pub record Cutting (start now : Told) (p : Unread) (done : List (List ℕ)) : Type 0 where
+  pub input : List ℕ
+  pub read : now.bytes ≡ start.bytes ++ input
+  pub lines : (more : List ℕ) → (p.ended ≡ true → more ≡ []) → script_lines (input ++ more) ≡ done ++ lines_of (p.bytes ++ more)
+  pub whole : p.ended ≡ false → (more : List ℕ) → whole_lines (input ++ more) ≡ done ++ whole_lines (p.bytes ++ more)
+  pub failures : now.failures ≡ start.failures
+  pub calls : now.calls + p.reads_left ≡ start.calls + MAX_READS
+  pub ends : p.ended ≡ true → start.ends < now.ends
+  pub later : start.ends ≤ now.ends
+  pub drained : p.ended ≡ true → p.bytes ≡ []
+
+-- a line was cut off, whatever comes
+cut_off : (bytes line : List ℕ) (q : Unread) → has_feed line ≡ false → Cuts bytes line q → (more : List ℕ) → (q.ended ≡ true → more ≡ []) → lines_of (bytes ++ more) ≡ line ∷ lines_of (q.bytes ++ more)
+cut_off bytes line q clean (inl e) more h =
+    ap (λ b. lines_of (b ++ more)) e ∙ ap lines_of (append_assoc line (10 ∷ q.bytes) more) ∙ lines_of-cut line (q.bytes ++ more) clean
+cut_off bytes [] q clean (inr e) more h = absurd (omega (arith, e.1))
+cut_off bytes (b ∷ bs) q clean (inr e) more h =
+    let none = h e.3 in
+    let last = ap (λ x. lines_of (x ++ more)) e.0 ∙ ap (λ x. lines_of ((b ∷ bs) ++ x)) none ∙ ap lines_of (append-nil (b ∷ bs)) ∙ lines_of-last b bs clean in
+    last ∙ sym (ap (λ x. (b ∷ bs) ∷ lines_of (x ++ more)) e.2 ∙ ap (λ x. (b ∷ bs) ∷ lines_of x) none ∙ ap (λ x. (b ∷ bs) ∷ x) lines_of-nil)
+
+cut_off_whole : (bytes line : List ℕ) (q : Unread) → has_feed line ≡ false → Cuts bytes line q → q.ended ≡ false → (more : List ℕ) → whole_lines (bytes ++ more) ≡ line ∷ whole_lines (q.bytes ++ more)
+cut_off_whole bytes line q clean (inl e) open_end more =
+    ap (λ b. whole_lines (b ++ more)) e ∙ ap whole_lines (append_assoc line (10 ∷ q.bytes) more) ∙ whole_lines-cut line (q.bytes ++ more) clean
+cut_off_whole bytes line q clean (inr e) open_end more = absurd (false≢true (sym open_end ∙ e.3))
+
+-- of nothing no line is cut off
+something : (bytes line : List ℕ) (q : Unread) → Cuts bytes line q → bytes ≡ [] → ⊥
+something bytes line q (inl e) none =
+    let l : length bytes ≡ length line + length (10 ∷ q.bytes) = ap length e ∙ length-append line (10 ∷ q.bytes) in
+    let z : length bytes ≡ 0 = ap length none in
+    omega arith
+something bytes line q (inr e) none =
+    let l : length bytes ≡ length line = ap length e.0 in
+    let z : length bytes ≡ 0 = ap length none in
+    let pos : 0 < length line = e.1 in
+    omega arith
+
+ends_after : (start now next : Told) (p : Unread) → (p.ended ≡ true → start.ends < now.ends) → start.ends ≤ now.ends → now.ends ≤ next.ends → (p.ended ≡ true) ⊎ (now.ends < next.ends) → start.ends < next.ends
+ends_after start now next p before a b (inl e) = let h = before e in omega (arith, h)
+ends_after start now next p before a b (inr h) = omega arith
+
+caused : (start now next : Told) (p q : Unread) → now.failures ≡ start.failures → now.calls + p.reads_left ≡ start.calls + MAX_READS → next.calls + q.reads_left ≡ now.calls + p.reads_left → (now.failures < next.failures) ⊎ (q.reads_left ≡ 0) → IsReadFault start next
+caused start now next p q f c d (inl h) = inl (omega arith)
+caused start now next p q f c d (inr h) = inr (omega arith)
+
+-- the first line: no line is an empty one
+pub cut_first : (start next : Told) (q : Unread) (first : Option Line) → Took start next nothing_read q (Ok first)
+    → (line : List ℕ) × ShowsFirst first line × Cutting start next q (line ∷ [])
+cut_first start next q None t = (
+  [],
+  refl,
+  record {
+    input = t.more;
+    read = t.told;
+    lines = λ more h. ap (λ x. script_lines (x ++ more)) t.outcome.0 ∙ ap script_lines (h t.outcome.2) ∙ ap at_least_one lines_of-nil
+        ∙ sym (ap (λ x. [] ∷ lines_of (x ++ more)) t.outcome.1 ∙ ap (λ x. [] ∷ lines_of x) (h t.outcome.2) ∙ ap (λ x. [] ∷ x) lines_of-nil);
+    whole = λ e. absurd (false≢true (sym e ∙ t.outcome.2));
+    failures = t.cause;
+    calls = t.calls;
+    ends = λ e. ends_after start start next nothing_read (λ h. absurd (false≢true h)) (omega arith) t.later (t.ended e);
+    later = t.later;
+    drained = t.drained;
+  },
+)
+cut_first start next q (Some l) t =
+    let line = t.outcome.0 in (
+      line,
+      t.outcome.1,
+      record {
+        input = t.more;
+        read = t.told;
+        lines = λ more h. ap at_least_one (cut_off t.more line q t.outcome.2 t.outcome.3 more h);
+        whole = λ e more. cut_off_whole t.more line q t.outcome.2 t.outcome.3 e more;
+        failures = t.cause;
+        calls = t.calls;
+        ends = λ e. ends_after start start next nothing_read (λ h. absurd (false≢true h)) (omega arith) t.later (t.ended e);
+        later = t.later;
+        drained = t.drained;
+      },
+    )
+
+-- the next line
+pub cut_next : (start now next : Told) (p q : Unread) (done : List (List ℕ)) (l : Line) → Cutting start now p done → Took now next p q (Ok (Some l))
+    → (line : List ℕ) × Shows l line × Cutting start next q (done ++ line ∷ [])
+cut_next start now next p q done l C t =
+    let line = t.outcome.0 in
+    let running : p.ended ≡ true → ⊥ = λ e. something (p.bytes ++ t.more) line q t.outcome.3 (ap (λ x. x ++ t.more) (C.drained e) ∙ t.quiet e) in (
+      line,
+      t.outcome.1,
+      record {
+        input = C.input ++ t.more;
+        read = t.told ∙ ap (λ b. b ++ t.more) C.read ∙ append_assoc start.bytes C.input t.more;
+        lines = λ more h. ap script_lines (append_assoc C.input t.more more) ∙ C.lines (t.more ++ more) (λ e. absurd (running e))
+            ∙ ap (λ x. done ++ lines_of x) (sym (append_assoc p.bytes t.more more)) ∙ ap (λ x. done ++ x) (cut_off (p.bytes ++ t.more) line q t.outcome.2 t.outcome.3 more h)
+            ∙ sym (append_assoc done (line ∷ []) (lines_of (q.bytes ++ more)));
+        whole = λ e more. ap whole_lines (append_assoc C.input t.more more) ∙ C.whole (is_false p.ended running) (t.more ++ more)
+            ∙ ap (λ x. done ++ whole_lines x) (sym (append_assoc p.bytes t.more more)) ∙ ap (λ x. done ++ x) (cut_off_whole (p.bytes ++ t.more) line q t.outcome.2 t.outcome.3 e more)
+            ∙ sym (append_assoc done (line ∷ []) (whole_lines (q.bytes ++ more)));
+        failures = t.cause ∙ C.failures;
+        calls = t.calls ∙ C.calls;
+        ends = λ e. ends_after start now next p C.ends C.later t.later (t.ended e);
+        later = omega (arith, C.later, t.later);
+        drained = t.drained;
+      },
+    )
+
+-- whatever the answer, these lines are done, and others may stand behind them
+pub cut_short : (start now next : Told) (p q : Unread) (done : List (List ℕ)) (r : Result (Option Line) LineFault) → Cutting start now p done → Took now next p q r
+    → (input : List ℕ) × (next.bytes ≡ start.bytes ++ input) × ((rest : List (List ℕ)) × (script_lines input ≡ done ++ rest))
+cut_short start now next p q done r C t =
+    (C.input ++ t.more, t.told ∙ ap (λ b. b ++ t.more) C.read ∙ append_assoc start.bytes C.input t.more, (lines_of (p.bytes ++ t.more), C.lines t.more t.quiet))
+
+-- between two lines, these are done, and others may stand behind them
+pub cut_so_far : (start now : Told) (p : Unread) (done : List (List ℕ)) (C : Cutting start now p done) → (rest : List (List ℕ)) × (script_lines C.input ≡ done ++ rest)
+cut_so_far start now p done C = (lines_of (p.bytes ++ []), ap script_lines (sym (append-nil C.input)) ∙ C.lines [] (λ e. refl))
+
+-- at the end, these lines are all
+pub cut_all : (start now next : Told) (p q : Unread) (done : List (List ℕ)) → Cutting start now p done → Took now next p q (Ok None)
+    → (input : List ℕ) × (next.bytes ≡ start.bytes ++ input) × (script_lines input ≡ done) × (start.ends < next.ends)
+cut_all start now next p q done C t = (
+  C.input ++ t.more,
+  t.told ∙ ap (λ b. b ++ t.more) C.read ∙ append_assoc start.bytes C.input t.more,
+  C.lines t.more t.quiet ∙ ap (λ x. done ++ lines_of x) t.outcome.0 ∙ ap (λ x. done ++ x) lines_of-nil ∙ append-nil done,
+  ends_after start now next p C.ends C.later t.later (t.ended t.outcome.2),
+)
+
+-- at a fault of the reader, these lines are all that have their line feed
+pub cut_fault : (start now next : Told) (p q : Unread) (done : List (List ℕ)) → Cutting start now p done → Took now next p q (Err Read)
+    → (input : List ℕ) × (next.bytes ≡ start.bytes ++ input) × (whole_lines input ≡ done) × IsReadFault start next
+cut_fault start now next p q done C t = (
+  C.input ++ t.more,
+  t.told ∙ ap (λ b. b ++ t.more) C.read ∙ append_assoc start.bytes C.input t.more,
+  C.whole t.cause.1 t.more ∙ ap (λ x. done ++ x) (whole_lines-none (p.bytes ++ t.more) t.outcome) ∙ append-nil done,
+  caused start now next p q C.failures C.calls t.calls t.cause.0,
+)
+
+-- a fault of the reader ahead of the first line
+pub first_fault : (start next : Told) (q : Unread) → (t : Took start next nothing_read q (Err Read)) → (whole_lines t.more ≡ []) × IsReadFault start next
+first_fault start next q t =
+    (whole_lines-none t.more t.outcome, caused start start next nothing_read q refl refl t.calls t.cause.0)

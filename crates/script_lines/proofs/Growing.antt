@@ -1,0 +1,97 @@
+-- What is known while a line grows.
+use Rattle.std.proofs.Common.{◌≡◌, ◌∙◌, ◌⊎◌, inl, inr, ℕ, ◌+◌, ◌*◌, ◌≤◌, ◌<◌, List, [], ◌∷◌, ◌++◌, ◌||◌, ◌==◌, Bool, true, false, length, take, drop, Some, Ok, refl, sym, ap, append_assoc, length-append, arith}
+use Rattle.std.proofs.lemmas.Bool.{false≢true}
+use Rattle.std.proofs.lemmas.List.{take-append-drop}
+use Rattle.std.proofs.lemmas.List.Folds.{list_any-append}
+use Rattle.script_lines.specs.declared.line.Line.{Line}
+use Rattle.script_lines.specs.declared.pending.TheConstants.{CHUNK}
+use Rattle.script_lines.specs.Device.{Told, Held}
+use Rattle.script_lines.specs.Cut.{has_feed}
+use Rattle.script_lines.specs.Unread.{Unread, skipped, weight}
+use Rattle.script_lines.specs.Lines.{Shows, Took, IsPassedOn}
+
+-- the line so far, and all that was read for it
+pub record Growing (old now : Told) (before after : Unread) (grown : Line) : Type 0 where
+  pub line : List ℕ
+  pub more : List ℕ
+  pub shows : Shows grown line
+  pub no_feed : has_feed line ≡ false
+  pub told : now.bytes ≡ old.bytes ++ more
+  pub bytes : before.bytes ++ more ≡ line ++ after.bytes
+  pub failures : now.failures ≡ old.failures
+  pub calls : now.calls + after.reads_left ≡ old.calls + before.reads_left
+  pub quiet : before.ended ≡ true → more ≡ []
+  pub still : before.ended ≡ true → after.ended ≡ true
+  pub later : old.ends ≤ now.ends
+  pub ended : after.ended ≡ true → (before.ended ≡ true) ⊎ (old.ends < now.ends)
+  pub lighter : weight after + length line ≤ weight before
+
+-- what the writer's side keeps while a line grows
+pub record Passing (old now : Told) (start held : Held) (waited waits : List ℕ) : Type 0 where
+  pub kept : IsPassedOn start held waited waits
+  pub prompt : ((now.calls ≡ old.calls) × (held.bytes ≡ start.bytes) × (waits ≡ waited)) ⊎ (waits ≡ [])
+
+no_feed-append : (xs ys : List ℕ) → has_feed xs ≡ false → has_feed ys ≡ false → has_feed (xs ++ ys) ≡ false
+no_feed-append xs ys h k = list_any-append (λ b. b == 10) xs ys ∙ ap (λ b. b || has_feed ys) h ∙ k
+
+-- fewer reads left weigh less, whatever a read gave
+fewer_weigh_less : (a b k u : ℕ) → a < b → u ≤ k → a * (k + 1) + u < b * (k + 1)
+fewer_weigh_less a b k u l h = grind arith
+
+-- all that was read is used, and more was read
+pub grew : (old now next : Told) (before mid after : Unread) (grown longer : Line) → Growing old now before mid grown
+    → has_feed mid.bytes ≡ false → mid.ended ≡ false
+    → ((line : List ℕ) → Shows grown line → Shows longer (line ++ mid.bytes))
+    → next.bytes ≡ now.bytes ++ after.bytes
+    → (after.ended ≡ true → (after.bytes ≡ []) × (now.ends < next.ends))
+    → now.ends ≤ next.ends
+    → next.calls + after.reads_left ≡ now.calls + mid.reads_left
+    → next.failures ≡ now.failures
+    → after.reads_left < mid.reads_left
+    → length after.bytes ≤ CHUNK
+    → Growing old next before after longer
+grew old now next before mid after grown longer G clean running adds told ended later calls failures fewer small = record {
+  line = G.line ++ mid.bytes;
+  more = G.more ++ after.bytes;
+  shows = adds G.line G.shows;
+  no_feed = no_feed-append G.line mid.bytes G.no_feed clean;
+  told = told ∙ ap (λ b. b ++ after.bytes) G.told ∙ append_assoc old.bytes G.more after.bytes;
+  bytes = sym (append_assoc before.bytes G.more after.bytes) ∙ ap (λ b. b ++ after.bytes) G.bytes;
+  failures = failures ∙ G.failures;
+  calls = calls ∙ G.calls;
+  quiet = λ e. absurd (false≢true (sym running ∙ G.still e));
+  still = λ e. absurd (false≢true (sym running ∙ G.still e));
+  later = omega (arith, later, G.later);
+  ended = λ e. inr (omega (arith, (ended e).1, G.later));
+  lighter = omega (arith, fewer_weigh_less after.reads_left mid.reads_left CHUNK (length after.bytes) fewer small, G.lighter, length-append G.line mid.bytes);
+}
+
+-- the line feed stands at a place of what is there
+pub found : (old now : Told) (before mid after : Unread) (grown longer : Line) (at : ℕ) → Growing old now before mid grown
+    → has_feed (take at mid.bytes) ≡ false → drop at mid.bytes ≡ 10 ∷ drop (at + 1) mid.bytes → mid.ended ≡ false
+    → ((line : List ℕ) → Shows grown line → Shows longer (line ++ take at mid.bytes))
+    → after ≡ skipped (at + 1) mid
+    → Took old now before after (Ok (Some longer))
+found old now before mid after grown longer at G clean feed running adds rest =
+    let whole : mid.bytes ≡ take at mid.bytes ++ 10 ∷ drop (at + 1) mid.bytes = sym (take-append-drop at mid.bytes) ∙ ap (λ r. take at mid.bytes ++ r) feed in
+    rw rest (record {
+      more = G.more;
+      told = G.told;
+      outcome = (
+        G.line ++ take at mid.bytes,
+        adds G.line G.shows,
+        no_feed-append G.line (take at mid.bytes) G.no_feed clean,
+        inl (G.bytes ∙ ap (λ r. G.line ++ r) whole ∙ sym (append_assoc G.line (take at mid.bytes) (10 ∷ drop (at + 1) mid.bytes))),
+      );
+      cause = G.failures;
+      calls = G.calls;
+      quiet = G.quiet;
+      later = G.later;
+      ended = λ e. absurd (false≢true (sym running ∙ e));
+      drained = λ e. absurd (false≢true (sym running ∙ e));
+    })
+
+-- what isn't true is false
+pub is_false : (b : Bool) → (b ≡ true → ⊥) → b ≡ false
+is_false true h = absurd (h refl)
+is_false false h = refl

@@ -1,0 +1,5 @@
+pub mod Writing
+pub mod Skipping
+pub mod Growing
+pub mod CutLaws
+pub mod Cutting

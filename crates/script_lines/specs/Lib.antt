@@ -1,0 +1,6 @@
+pub mod Device
+pub mod Tape
+pub mod Noted
+pub mod Cut
+pub mod Unread
+pub mod Lines

@@ -1,0 +1,72 @@
+-- What a call for the next line does.
+use Rattle.std.specs.Prelude.{◌≡◌, ◌⊎◌, ℕ, ◌+◌, ◌<◌, ◌≤◌, List, [], ◌∷◌, ◌++◌, true, false, length, take, Option, Some, None, Result, Ok, Err}
+use Rattle.script_lines.specs.declared.line.TheConstants.{MAX_LINE}
+use Rattle.script_lines.specs.declared.line.Line.{Line}
+use Rattle.script_lines.specs.declared.line.Line.TheVariants.{Whole, TooLong}
+use Rattle.script_lines.specs.declared.line_fault.LineFault.{LineFault}
+use Rattle.script_lines.specs.declared.line_fault.LineFault.TheVariants.{Read, Write, OutOfMemory}
+use Rattle.script_lines.specs.declared.pending.TheConstants.{MAX_READS}
+use Rattle.script_lines.specs.Device.{Told, Held}
+use Rattle.script_lines.specs.Cut.{has_feed}
+use Rattle.script_lines.specs.Unread.{Unread}
+
+-- the bytes that a line stands for
+abbrev pub Shows : Line → List ℕ → Type 0
+Shows (Whole bytes) line = (bytes.items ≡ line) × (length line ≤ MAX_LINE)
+Shows TooLong line = MAX_LINE < length line
+
+-- the bytes that the first line of a script stands for: no line is an empty one
+abbrev pub ShowsFirst : Option Line → List ℕ → Type 0
+ShowsFirst None line = line ≡ []
+ShowsFirst (Some first) line = Shows first line
+
+-- the line is cut off with its line feed, or is the last one, which lacks it
+abbrev pub Cuts : List ℕ → List ℕ → Unread → Type 0
+Cuts bytes line p = (bytes ≡ line ++ 10 ∷ p.bytes) ⊎ ((bytes ≡ line) × (0 < length line) × (p.bytes ≡ []) × (p.ended ≡ true))
+
+-- what became of the bytes at hand, by the answer
+abbrev pub Outcome : List ℕ → Unread → Result (Option Line) LineFault → Type 0
+Outcome bytes p (Ok None) = (bytes ≡ []) × (p.bytes ≡ []) × (p.ended ≡ true)
+Outcome bytes p (Ok (Some shown)) = (line : List ℕ) × Shows shown line × (has_feed line ≡ false) × Cuts bytes line p
+Outcome bytes p (Err Read) = has_feed bytes ≡ false
+Outcome bytes p (Err Write) = Unit {0}
+Outcome bytes p (Err OutOfMemory) = Unit {0}
+
+-- an answer Read has a cause: the reader failed or may not be called again, and had not told its end before; at any other answer it didn't fail
+abbrev pub HasCause : Told → Told → Unread → Unread → Result (Option Line) LineFault → Type 0
+HasCause old new before after (Ok line) = new.failures ≡ old.failures
+HasCause old new before after (Err Read) = ((old.failures < new.failures) ⊎ (after.reads_left ≡ 0)) × (before.ended ≡ false)
+HasCause old new before after (Err Write) = new.failures ≡ old.failures
+HasCause old new before after (Err OutOfMemory) = new.failures ≡ old.failures
+
+-- the reader failed since, or was called as often as it may be
+abbrev pub IsReadFault : Told → Told → Type 0
+IsReadFault start now = (start.failures < now.failures) ⊎ (start.calls + MAX_READS ≤ now.calls)
+
+-- the reader told more, and a line was taken off
+pub record Took (old new : Told) (before after : Unread) (result : Result (Option Line) LineFault) : Type 0 where
+  -- what was told in this call
+  pub more : List ℕ
+  pub told : new.bytes ≡ old.bytes ++ more
+  -- what became of it and of what was left before
+  pub outcome : Outcome (before.bytes ++ more) after result
+  pub cause : HasCause old new before after result
+  -- each call of the reader counts
+  pub calls : new.calls + after.reads_left ≡ old.calls + before.reads_left
+  -- behind the end nothing is read, and nothing is left
+  pub quiet : before.ended ≡ true → more ≡ []
+  pub drained : after.ended ≡ true → after.bytes ≡ []
+  -- an end that is known was told
+  pub ended : after.ended ≡ true → (before.ended ≡ true) ⊎ (old.ends < new.ends)
+  pub later : old.ends ≤ new.ends
+
+-- what was written and what waits are together what they were, and the writer didn't fail
+abbrev pub IsPassedOn : Held → Held → List ℕ → List ℕ → Type 0
+IsPassedOn old new waited waits = (new.bytes ++ waits ≡ old.bytes ++ waited) × (new.failures ≡ old.failures)
+
+-- what a call for the next line does to the writer and to what waits, by the answer
+abbrev pub PassedOn : Held → Held → List ℕ → List ℕ → Result (Option Line) LineFault → Type 0
+PassedOn old new waited waits (Ok line) = IsPassedOn old new waited waits
+PassedOn old new waited waits (Err Read) = IsPassedOn old new waited waits
+PassedOn old new waited waits (Err OutOfMemory) = IsPassedOn old new waited waits
+PassedOn old new waited waits (Err Write) = ((n : ℕ) × (new.bytes ≡ old.bytes ++ take n waited)) × (old.failures < new.failures)

@@ -1,0 +1,65 @@
+ghost use Rattle.std.specs.Prelude.{◌≡◌, ◌<◌, ◌+◌, ◌∷◌, ◌++◌, List, ℕ, [], false, length, take, drop, IfOk, MatchOption};
+ghost use Rattle.script_lines.specs.Cut.{has_feed};
+
+use std::alloc::AllocError;
+
+/// The most bytes of a line, without its line feed.
+pub const MAX_LINE: usize = 16_777_216;
+
+/// A line of a script, without its line feed.
+#[derive(Debug, Drop)]
+pub enum Line {
+    /// All bytes of a line of at most [`MAX_LINE`] bytes.
+    Whole(Vec<u8>),
+    /// A longer line, of which nothing is kept.
+    TooLong,
+}
+
+impl Line {
+    ghost use Rattle.script_lines.specs.Lines.{Shows};
+
+    // The line with a part more at its end.
+    pub(crate) fn add(self, part: &[u8]) -> Result<Line, AllocError>
+        ensures { IfOk result (λ grown. (line : List ℕ) → Shows self line → Shows grown (line ++ part.now)) }
+    {
+        match self {
+            Line::Whole(mut bytes) => {
+                if part.len() > MAX_LINE || bytes.len() > MAX_LINE - part.len() {
+                    return Ok(Line::TooLong);
+                }
+                bytes.extend_from_slice(part)?;
+                Ok(Line::Whole(bytes))
+            }
+            Line::TooLong => Ok(Line::TooLong),
+        }
+    }
+
+    // The last line, if anything stands there.
+    pub(crate) fn unless_empty(self) -> Option<Line>
+        ensures { (line : List ℕ) → Shows self line → MatchOption result (line ≡ []) (λ last. Shows last line × (0 < length line)) }
+    {
+        match self {
+            Line::Whole(bytes) => {
+                if bytes.is_empty() {
+                    None
+                } else {
+                    Some(Line::Whole(bytes))
+                }
+            }
+            Line::TooLong => Some(Line::TooLong),
+        }
+    }
+}
+
+// Where the first line feed stands.
+pub(crate) fn feed_at(bytes: &[u8]) -> Option<usize>
+    ensures { MatchOption result (has_feed bytes.now ≡ false) (λ i. (i < length bytes.now)
+        × (has_feed (take i bytes.now) ≡ false) × (drop i bytes.now ≡ 10 ∷ drop (i + 1) bytes.now)) }
+{
+    for (i, byte) in bytes.iter().enumerate() {
+        if *byte == b'\n' {
+            return Some(i);
+        }
+    }
+    None
+}

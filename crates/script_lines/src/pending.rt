@@ -1,0 +1,153 @@
+ghost use Rattle.std.specs.Prelude.{◌≡◌, ◌<◌, ◌≤◌, ◌+◌, ◌++◌, ◌⊎◌, ℕ, [], true, false, length, drop, IfOk, IfErr, IsSome, OnOk, OnErr};
+
+use crate::buffer::new_buffer;
+use crate::device::{Sink, Source};
+use crate::line::{Line, feed_at};
+use crate::line_fault::LineFault;
+use crate::outbox::Outbox;
+use std::alloc::{AllocError, Global};
+use std::marker::Model;
+
+// How many bytes are read at a time.
+const CHUNK: usize = 65536;
+
+/// The most calls of a reader by one [`Pending`].
+pub const MAX_READS: u64 = 1 << 40;
+
+/// What was read of a reader and is not used yet. It goes with one reader, the same at each call, and holds a piece
+/// of 65,536 bytes that is made once.
+#[derive(Drop)]
+pub struct Pending {
+    chunk: Vec<u8>,
+    start: usize,
+    end: usize,
+    ended: bool,
+    reads_left: u64,
+}
+
+impl Model for Pending {
+    ghost use Rattle.script_lines.specs.Unread.{Unread};
+
+    ghost Value = { Unread };
+
+    ghost use Rattle.std.specs.Prelude.{◌≡◌, ◌-◌, ◌≤◌, true, length, take, drop};
+    ghost use Rattle.script_lines.specs.declared.pending.TheConstants.{CHUNK};
+
+    ghost view = { λ p. record { bytes = take (p.end - p.start) (drop p.start p.chunk.items); ended = p.ended; reads_left = p.reads_left } };
+
+    ghost invariant = { λ p. (length p.chunk.items ≡ CHUNK) × (p.end ≤ CHUNK) × (p.start ≤ p.end) × (p.ended ≡ true → p.start ≡ p.end) };
+}
+
+impl Pending {
+    ghost use Rattle.script_lines.specs.Unread.{nothing_read, skipped, weight};
+    ghost use Rattle.script_lines.specs.Lines.{Took, PassedOn};
+
+    /// Nothing read yet, of a reader that may be called [`MAX_READS`] times.
+    ///
+    /// # Errors
+    ///
+    /// `AllocError` where memory for a chunk is lacking.
+    pub fn new(alloc: Global) -> Result<Pending, AllocError>
+        ensures { IfOk result (λ pending. pending ≡ nothing_read) }
+    {
+        Ok(Pending {
+            chunk: new_buffer(alloc, CHUNK)?,
+            start: 0,
+            end: 0,
+            ended: false,
+            reads_left: MAX_READS,
+        })
+    }
+
+    fn unread(&self) -> &[u8]
+        ensures { result.now ≡ self.now.bytes }
+    {
+        &self.chunk[self.start..self.end]
+    }
+
+    // Whether the reader told its end.
+    fn has_ended(&self) -> bool
+        ensures value { result ≡ self.now.ended }
+        ensures nothing_left { self.now.ended ≡ true → self.now.bytes ≡ [] }
+    {
+        self.ended
+    }
+
+    // Counts so many bytes as used.
+    fn skip(&mut self, count: usize)
+        requires { count ≤ length self.old.bytes }
+        ensures { self.new ≡ skipped count self.old }
+    {
+        self.start += count;
+    }
+
+    // Reads the next chunk, where all of the last one was used. Nothing may wait in the outbox, so that whoever
+    // answers has seen all that there is to answer to.
+    fn fill<S: Source>(&mut self, source: &mut S, outbox: &Outbox) -> Result<(), LineFault>
+        requires nothing_waits { outbox.now ≡ [] }
+        ensures ok { OnOk result ((S.tape source.new).bytes ≡ (S.tape source.old).bytes ++ self.new.bytes) }
+        ensures ended { OnOk result (self.new.ended ≡ true → (self.new.bytes ≡ []) × ((S.tape source.old).ends < (S.tape source.new).ends)) }
+        ensures err { OnErr result ((S.tape source.new).bytes ≡ (S.tape source.old).bytes) }
+        ensures err_ended { OnErr result (self.new.ended ≡ self.old.ended) }
+        ensures later { (S.tape source.old).ends ≤ (S.tape source.new).ends }
+        ensures calls { (S.tape source.new).calls + self.new.reads_left ≡ (S.tape source.old).calls + self.old.reads_left }
+        ensures quiet { OnOk result ((S.tape source.new).failures ≡ (S.tape source.old).failures) }
+        ensures cause { IfErr result (λ e. (e ≡ LineFault.Read) × (((S.tape source.old).failures < (S.tape source.new).failures) ⊎ (self.new.reads_left ≡ 0))) }
+        ensures fewer { OnOk result (self.new.reads_left < self.old.reads_left) }
+        ensures small { OnOk result (length self.new.bytes ≤ CHUNK) }
+    {
+        prove!(outbox.is_empty());
+        if self.reads_left == 0 {
+            return Err(LineFault::Read);
+        }
+        self.reads_left -= 1;
+        self.start = 0;
+        self.end = 0;
+        match source.read(&mut self.chunk) {
+            Ok(n) => {
+                self.end = n;
+                self.ended = n == 0;
+                Ok(())
+            }
+            Err(_) => Err(LineFault::Read),
+        }
+    }
+
+    /// The next line. It ends with a line feed, which is taken off; the last line may lack one. `None` says that the
+    /// reader told its end and nothing is left.
+    ///
+    /// Before each call of the reader all that waits in `outbox` is written, so that whoever is at the other end of a
+    /// pipe has every reply before the script goes on.
+    ///
+    /// # Errors
+    ///
+    /// - `Read` where the reader failed in this call, or may not be called again.
+    /// - `Write` where what waited could not be written. The writer holds a front of it.
+    /// - `OutOfMemory` where memory for the line is lacking.
+    pub fn next_line<S: Source, W: Sink>(
+        &mut self,
+        alloc: Global,
+        source: &mut S,
+        outbox: &mut Outbox,
+        writer: &mut W,
+    ) -> Result<Option<Line>, LineFault>
+        ensures took { Took (S.tape source.old) (S.tape source.new) self.old self.new result }
+        ensures passed_on { PassedOn (W.tape writer.old) (W.tape writer.new) outbox.old outbox.new result }
+        ensures prompt { ((S.tape source.new).calls ≡ (S.tape source.old).calls) ⊎ (outbox.new ≡ []) }
+        ensures smaller { IfOk result (λ line. IsSome line → weight self.new < weight self.old) }
+    {
+        let mut line = Line::Whole(Vec::new(alloc));
+        while !self.has_ended() {
+            let bytes = self.unread();
+            if let Some(at) = feed_at(bytes) {
+                line = line.add(&bytes[..at])?;
+                self.skip(at + 1);
+                return Ok(Some(line));
+            }
+            line = line.add(bytes)?;
+            outbox.flush(writer).map_err(|_| LineFault::Write)?;
+            self.fill(source, outbox)?;
+        }
+        Ok(line.unless_empty())
+    }
+}
