@@ -1,0 +1,22 @@
+ghost use Rattle.std.specs.Prelude.{◌≡◌, IfOk, option_map};
+ghost use Rattle.serde_json.specs.View.{view};
+ghost use Rattle.json_members.specs.Members.{data_of};
+
+use serde_json::Value;
+use std::alloc::{AllocError, Global};
+
+/// The value that the bytes stand for, or `None` where they are not UTF-8 or not one JSON value.
+///
+/// Lists and objects may nest 127 deep. Of a member that comes twice the last value is kept. A
+/// number that no `f64` comes near is not read.
+///
+/// Errors: only want of memory.
+pub fn read_value(alloc: Global, bytes: &[u8]) -> Result<Option<Value>, AllocError>
+    ensures { IfOk result (λ found. option_map view found ≡ data_of bytes.now) }
+{
+    match Value::from_slice(alloc, bytes) {
+        Ok(value) => Ok(Some(value)),
+        Err(error) if error.is_memory() => Err(AllocError),
+        Err(_) => Ok(None),
+    }
+}

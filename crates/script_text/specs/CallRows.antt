@@ -1,0 +1,54 @@
+-- The calls of a script (`do`), a row of the table each: the members that a line has, and no others. A text may be of any length here.
+use Rattle.std.specs.Prelude.{ℕ, List, [], ◌∷◌, bytes_eq, codes, Option, Some, None, option_map, if◌then◌else◌}
+use Rattle.serde_json.specs.Data.{Data}
+use Rattle.json_members.specs.Members.{has_only, text_at, number_at, optional_text}
+use Rattle.batch_ids.specs.declared.status.WorkOutcome.{WorkOutcome}
+use Rattle.batch_ids.specs.declared.status.WorkOutcome.TheVariants.{Completed, Failed, Stopped}
+use Rattle.batch_history.specs.declared.call.Call.{Call}
+use Rattle.batch_history.specs.declared.call.Call.TheVariants.{Start, Restart, Claim, Finish}
+use Rattle.script_text.specs.Chains.{◌>>=◌}
+
+-- the outcome of a work item by its name
+abbrev pub outcome_named : List ℕ → Option WorkOutcome
+outcome_named name =
+    if bytes_eq name (codes "COMPLETED") then Some Completed
+    else (if bytes_eq name (codes "FAILED") then Some Failed
+    else (if bytes_eq name (codes "STOPPED") then Some Stopped else None))
+
+-- start: the name of a job
+unfoldable pub start_of : Data → Option Call
+start_of d =
+    if has_only (codes "do" ∷ codes "by" ∷ codes "at" ∷ codes "job" ∷ []) d
+    then option_map Start (text_at (codes "job") d)
+    else None
+
+-- restart: a job execution
+unfoldable pub restart_of : Data → Option Call
+restart_of d =
+    if has_only (codes "do" ∷ codes "by" ∷ codes "at" ∷ codes "execution" ∷ []) d
+    then option_map Restart (number_at (codes "execution") d)
+    else None
+
+-- claim: nothing more
+unfoldable pub claim_of : Data → Option Call
+claim_of d = if has_only (codes "do" ∷ codes "by" ∷ codes "at" ∷ []) d then Some Claim else None
+
+-- finish: a work item, its outcome, and its exit status, which may be left out
+unfoldable pub finish_of : Data → Option Call
+finish_of d =
+    if has_only (codes "do" ∷ codes "by" ∷ codes "at" ∷ codes "work" ∷ codes "outcome" ∷ codes "exit" ∷ []) d
+    then (do
+      work ← number_at (codes "work") d
+      name ← text_at (codes "outcome") d
+      outcome ← outcome_named name
+      exit ← optional_text (codes "exit") d
+      Some (Finish work outcome exit))
+    else None
+
+-- the call of a line whose `do` is this word
+unfoldable pub call_named : List ℕ → Data → Option Call
+call_named word d =
+    if bytes_eq word (codes "start") then start_of d
+    else (if bytes_eq word (codes "restart") then restart_of d
+    else (if bytes_eq word (codes "claim") then claim_of d
+    else (if bytes_eq word (codes "finish") then finish_of d else None)))

@@ -1,0 +1,32 @@
+-- The text of a catalogue's faults.
+use Rattle.std.specs.Prelude.{ℕ, List, codes}
+use Rattle.serde_json.specs.Data.{Data, null, string, object, member, no_members}
+use Rattle.jsl_model.specs.Faults.{fault_name}
+use Rattle.script_text.specs.declared.fault.ReadFault.{ReadFault}
+use Rattle.script_text.specs.declared.fault.ReadFault.TheVariants.{NotJson, NotACatalogue, BadElement, InJob, OutOfMemory}
+use Rattle.script_text.specs.Replies.{one, count, count_or_null, line_of}
+
+-- the name that a fault prints as
+abbrev pub read_fault_name : ReadFault → List ℕ
+read_fault_name NotJson = codes "NotJson"
+read_fault_name NotACatalogue = codes "NotACatalogue"
+read_fault_name (BadElement job element) = codes "BadElement"
+read_fault_name (InJob job fault) = fault_name fault
+read_fault_name OutOfMemory = codes "OutOfMemory"
+
+-- a fault by its name, with the numbers of the job and of the element; want of memory has no text
+abbrev pub fault_data : ReadFault → Data
+fault_data NotJson = one (codes "fault") (string (read_fault_name NotJson))
+fault_data NotACatalogue = one (codes "fault") (string (read_fault_name NotACatalogue))
+fault_data (BadElement job element) = object
+    (member (codes "element") (count_or_null element)
+    (member (codes "fault") (string (read_fault_name (BadElement job element)))
+    (member (codes "job") (count job) no_members)))
+fault_data (InJob job fault) = object
+    (member (codes "fault") (string (read_fault_name (InJob job fault)))
+    (member (codes "job") (count job) no_members))
+fault_data OutOfMemory = null
+
+-- the line of a fault
+abbrev pub fault_text : ReadFault → List ℕ
+fault_text fault = line_of (fault_data fault)

@@ -1,0 +1,95 @@
+// The calls of a script, a row of the table each.
+ghost use Rattle.std.specs.Prelude.{◌≡◌, option_map};
+ghost use Rattle.serde_json.specs.View.{view};
+ghost use Rattle.script_text.specs.CallRows.{outcome_named, start_of, restart_of, claim_of, finish_of, call_named};
+ghost use Rattle.script_text.specs.Shapes.{call_in};
+
+use crate::shape::CallShape;
+use batch_ids::WorkOutcome;
+use json_members::{has_only, number_at, optional_text, text_at};
+use serde_json::Value;
+
+/// The call of a line whose `do` is this word.
+#[tactic(auto, unfolding(crate::specs::CallRows::call_named))]
+pub fn call_named<'v>(word: &str, value: &'v Value) -> Option<CallShape<'v>>
+    ensures { option_map call_in result ≡ call_named word.now (view value.now) }
+{
+    if word == "start" {
+        return start_of(value);
+    }
+    if word == "restart" {
+        return restart_of(value);
+    }
+    if word == "claim" {
+        return claim_of(value);
+    }
+    if word == "finish" {
+        return finish_of(value);
+    }
+    None
+}
+
+#[tactic(auto, unfolding(crate::specs::CallRows::start_of))]
+fn start_of(value: &Value) -> Option<CallShape<'_>>
+    ensures { option_map call_in result ≡ start_of (view value.now) }
+{
+    if !has_only(value, &["do", "by", "at", "job"]) {
+        return None;
+    }
+    let job = text_at(value, "job")?;
+    Some(CallShape::Start { job })
+}
+
+#[tactic(auto, unfolding(crate::specs::CallRows::restart_of))]
+fn restart_of(value: &Value) -> Option<CallShape<'_>>
+    ensures { option_map call_in result ≡ restart_of (view value.now) }
+{
+    if !has_only(value, &["do", "by", "at", "execution"]) {
+        return None;
+    }
+    let execution = number_at(value, "execution")?;
+    Some(CallShape::Restart { execution })
+}
+
+#[tactic(auto, unfolding(crate::specs::CallRows::claim_of))]
+fn claim_of(value: &Value) -> Option<CallShape<'_>>
+    ensures { option_map call_in result ≡ claim_of (view value.now) }
+{
+    if !has_only(value, &["do", "by", "at"]) {
+        return None;
+    }
+    Some(CallShape::Claim)
+}
+
+#[tactic(auto, unfolding(crate::specs::CallRows::finish_of))]
+fn finish_of(value: &Value) -> Option<CallShape<'_>>
+    ensures { option_map call_in result ≡ finish_of (view value.now) }
+{
+    if !has_only(value, &["do", "by", "at", "work", "outcome", "exit"]) {
+        return None;
+    }
+    let work = number_at(value, "work")?;
+    let name = text_at(value, "outcome")?;
+    let outcome = outcome_named(name)?;
+    let exit = optional_text(value, "exit")?;
+    Some(CallShape::Finish {
+        work,
+        outcome,
+        exit,
+    })
+}
+
+fn outcome_named(name: &str) -> Option<WorkOutcome>
+    ensures { result ≡ outcome_named name.now }
+{
+    if name == "COMPLETED" {
+        return Some(WorkOutcome::Completed);
+    }
+    if name == "FAILED" {
+        return Some(WorkOutcome::Failed);
+    }
+    if name == "STOPPED" {
+        return Some(WorkOutcome::Stopped);
+    }
+    None
+}

@@ -1,0 +1,83 @@
+ghost use Rattle.std.specs.Prelude.{◌≡◌, option_map};
+ghost use Rattle.serde_json.specs.View.{view};
+ghost use Rattle.script_text.specs.Commands.{session_at, act_of, question_of, row_of};
+ghost use Rattle.script_text.specs.Shapes.{command_in};
+
+use crate::call_rows::call_named;
+use crate::query_rows::query_named;
+use batch_ids::{Moment, WorkOutcome};
+use json_members::{number_at, text_at};
+use serde_json::Value;
+
+/// A command as its line spells it. Its texts are those of the line, and may be of any length.
+#[derive(Clone, Copy)]
+pub enum Shape<'a> {
+    Act {
+        by: u64,
+        at: Moment,
+        call: CallShape<'a>,
+    },
+    Ask(QueryShape),
+}
+
+/// A call as its line spells it.
+#[derive(Clone, Copy)]
+pub enum CallShape<'a> {
+    Start {
+        job: &'a str,
+    },
+    Restart {
+        execution: u64,
+    },
+    Claim,
+    Finish {
+        work: u64,
+        outcome: WorkOutcome,
+        exit: Option<&'a str>,
+    },
+}
+
+/// A query as its line spells it.
+#[derive(Clone, Copy)]
+pub enum QueryShape {
+    JobExecution { execution: u64 },
+}
+
+/// The command that a value is, if it is one of the table.
+#[tactic(auto, unfolding(crate::specs::Commands::row_of))]
+pub fn shape_of(value: &Value) -> Option<Shape<'_>>
+    ensures { option_map command_in result ≡ row_of (view value.now) }
+{
+    match act_of(value) {
+        Some(act) => Some(act),
+        None => question_of(value),
+    }
+}
+
+#[tactic(auto, unfolding(crate::specs::Commands::act_of))]
+fn act_of(value: &Value) -> Option<Shape<'_>>
+    ensures { option_map command_in result ≡ act_of (view value.now) }
+{
+    let word = text_at(value, "do")?;
+    let call = call_named(word, value)?;
+    let by = session_at(value)?;
+    let at = number_at(value, "at")?;
+    Some(Shape::Act { by, at, call })
+}
+
+#[tactic(auto, unfolding(crate::specs::Commands::question_of))]
+fn question_of(value: &Value) -> Option<Shape<'_>>
+    ensures { option_map command_in result ≡ question_of (view value.now) }
+{
+    let word = text_at(value, "ask")?;
+    let query = query_named(word, value)?;
+    Some(Shape::Ask(query))
+}
+
+/// The session that gives a command: a number from 1.
+fn session_at(value: &Value) -> Option<u64>
+    ensures { result ≡ session_at (view value.now) }
+{
+    let by = number_at(value, "by")?;
+    if by == 0 { None } else { Some(by) }
+}
