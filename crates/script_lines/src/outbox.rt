@@ -74,6 +74,7 @@ impl Outbox {
     /// on is left open: the outbox is of no more use.
     pub fn put<W: Sink>(&mut self, writer: &mut W, text: &[u8]) -> Result<(), DeviceFault>
         ensures ok { OnOk result ((W.tape writer.new).bytes ++ self.new ≡ ((W.tape writer.old).bytes ++ self.old) ++ text.now) }
+        ensures ok_grown { OnOk result ((sent : List ℕ) × ((W.tape writer.new).bytes ≡ (W.tape writer.old).bytes ++ sent)) }
         ensures ok_failures { OnOk result ((W.tape writer.new).failures ≡ (W.tape writer.old).failures) }
         ensures err { OnErr result ((n : ℕ) × ((W.tape writer.new).bytes ≡ (W.tape writer.old).bytes ++ take n (self.old ++ text.now))) }
         ensures err_failures { OnErr result ((W.tape writer.old).failures < (W.tape writer.new).failures) }

@@ -1,4 +1,4 @@
-ghost use Rattle.std.specs.Prelude.{◌≡◌, ◌<◌, ◌≤◌, ◌+◌, ◌++◌, ◌⊎◌, ℕ, [], true, false, length, drop, IfOk, IfErr, IsSome, OnOk, OnErr};
+ghost use Rattle.std.specs.Prelude.{◌≡◌, ◌<◌, ◌≤◌, ◌+◌, ◌++◌, ◌⊎◌, List, ℕ, [], true, false, length, drop, IfOk, IfErr, IsSome, OnOk, OnErr};
 
 use crate::buffer::new_buffer;
 use crate::device::{Sink, Source};
@@ -133,6 +133,7 @@ impl Pending {
     ) -> Result<Option<Line>, LineFault>
         ensures took { Took (S.tape source.old) (S.tape source.new) self.old self.new result }
         ensures passed_on { PassedOn (W.tape writer.old) (W.tape writer.new) outbox.old outbox.new result }
+        ensures grown { (sent : List ℕ) × ((W.tape writer.new).bytes ≡ (W.tape writer.old).bytes ++ sent) }
         ensures prompt { ((S.tape source.new).calls ≡ (S.tape source.old).calls) ⊎ (outbox.new ≡ []) }
         ensures smaller { IfOk result (λ line. IsSome line → weight self.new < weight self.old) }
     {

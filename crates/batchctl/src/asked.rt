@@ -1,0 +1,6 @@
+/// What the command line asks for.
+#[derive(Clone, Copy, PartialEq, Eq, Debug)]
+pub enum Arguments {
+    /// To answer a script.
+    Script,
+}

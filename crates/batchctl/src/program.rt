@@ -1,0 +1,82 @@
+ghost use Rattle.std.specs.Prelude.{◌≡◌};
+
+use crate::arguments::arguments;
+use crate::asked::Arguments;
+use script_engine::{Counted, EngineFault, run_script};
+use std::alloc::Global;
+use std::io::{Read, Write};
+
+/// The exit status of a run that is done, also of a request for help.
+pub const DONE: u8 = 0;
+
+/// The exit status where the command line is refused.
+pub const REFUSED: u8 = 2;
+
+/// The exit status where the catalogue is refused.
+pub const FAULTY_CATALOGUE: u8 = 3;
+
+/// The exit status where a read or a write failed.
+pub const DEVICE_FAILED: u8 = 4;
+
+/// The exit status where memory was refused.
+pub const OUT_OF_MEMORY: u8 = 5;
+
+// What is told on standard error is told as far as it goes: the exit status says it again.
+fn tell<F: Write>(faults: &mut F, text: &str) {
+    let _ = writeln!(faults, "{text}");
+}
+
+fn script<R: Read + Drop, W: Write + Drop, F: Write>(
+    alloc: Global,
+    reader: R,
+    writer: W,
+    faults: &mut F,
+) -> u8 {
+    let mut source = Counted::new(reader);
+    let mut sink = Counted::new(writer);
+    match run_script(alloc, &mut source, &mut sink) {
+        Ok(_) => DONE,
+        Err(EngineFault::Catalogue(_)) => FAULTY_CATALOGUE,
+        Err(EngineFault::Read) => {
+            tell(faults, "batchctl: read fault");
+            DEVICE_FAILED
+        }
+        Err(EngineFault::Write) => {
+            tell(faults, "batchctl: write fault");
+            DEVICE_FAILED
+        }
+        Err(EngineFault::OutOfMemory) => {
+            tell(faults, "batchctl: out of memory");
+            OUT_OF_MEMORY
+        }
+    }
+}
+
+/// Runs the program on the words that follow its name, and gives the exit status: 0 done (also a
+/// request for help, its text on `writer`), 2 the command line was refused, 3 the catalogue was
+/// refused (its fault line on `writer`), 4 a read or a write failed, 5 out of memory. What goes to
+/// standard error is told to `faults`.
+pub fn program<R: Read + Drop, W: Write + Drop, F: Write>(
+    alloc: Global,
+    words: &[&str],
+    reader: R,
+    mut writer: W,
+    faults: &mut F,
+) -> u8 {
+    match arguments(alloc, words) {
+        Ok(Arguments::Script) => script(alloc, reader, writer, faults),
+        Err(error) => {
+            if error.use_stderr() {
+                let _ = write!(faults, "{error}");
+                return REFUSED;
+            }
+            match write!(writer, "{error}") {
+                Ok(()) => DONE,
+                Err(_) => {
+                    tell(faults, "batchctl: write fault");
+                    DEVICE_FAILED
+                }
+            }
+        }
+    }
+}

@@ -1,0 +1,18 @@
+//! The job repository over the history itself: each call and query is answered by searches over all
+//! accepted operations.
+#![tactic(auto)]
+
+mod claiming;
+mod law;
+mod moments;
+mod origin;
+mod replies;
+mod repository;
+mod walking;
+mod works;
+
+pub use law::{searches_find_the_same_histories_legal, searches_say_what_rows_say};
+pub use repository::PlainRepository;
+
+#[cfg(test)]
+mod tests;

@@ -1,0 +1,99 @@
+-- The text that a script is answered with.
+use Rattle.std.specs.Prelude.{ℕ, ◌==◌, List, [], ◌∷◌, ◌++◌, length, nat_lt, Result, Ok, Err, if◌then◌else◌}
+use Rattle.batch_ids.specs.declared.refusal.Refusal.{Refusal}
+use Rattle.batch_ids.specs.declared.refusal.Refusal.TheVariants as refusals
+use Rattle.jsl_model.specs.Jobs.{JobTree}
+use Rattle.batch_history.specs.declared.call.Call.{Call}
+use Rattle.batch_history.specs.declared.call.Reply.{Reply}
+use Rattle.batch_history.specs.Rows.{History, reply, answer, after_call}
+use Rattle.script_lines.specs.declared.line.TheConstants.{MAX_LINE}
+use Rattle.script_lines.specs.Cut.{script_lines}
+use Rattle.script_text.specs.declared.command.Command.{Command}
+use Rattle.script_text.specs.declared.command.Command.TheVariants.{BadLine, TextTooLong, Act, Ask}
+use Rattle.script_text.specs.declared.fault.ReadFault.{ReadFault}
+use Rattle.script_text.specs.declared.fault.ReadFault.TheVariants.{NotACatalogue}
+use Rattle.script_text.specs.Commands.{command_of}
+use Rattle.script_text.specs.Catalogues.{catalogue_of}
+use Rattle.script_text.specs.Replies.{reply_text, answer_text, bad_line_text}
+use Rattle.script_text.specs.Faults.{fault_text}
+
+-- how many operations a log may have
+abbrev pub limit : ℕ
+limit = 1000000
+
+-- Lines
+
+-- the command that a line is: one above the bound is none
+abbrev pub command_at : List ℕ → Command
+command_at line = if nat_lt MAX_LINE (length line) then BadLine else command_of line
+
+-- the catalogue that a line is: one above the bound is none
+abbrev pub catalogue_at : List ℕ → Result (List JobTree) ReadFault
+catalogue_at line = if nat_lt MAX_LINE (length line) then Err NotACatalogue else catalogue_of line
+
+-- the reply to a command after a history
+abbrev pub text_for : History → Command → List ℕ
+text_for h BadLine = bad_line_text
+text_for h TextTooLong = reply_text (Err refusals.TextTooLong)
+text_for h (Act by at call) = reply_text (reply limit h by call)
+text_for h (Ask query) = answer_text (answer h query)
+
+-- the history after a call that is answered so: a refused call changes nothing
+abbrev pub history_with : History → ℕ → ℕ → Call → Result Reply Refusal → History
+history_with h by at call (Ok answered) = after_call h by call at answered
+history_with h by at call (Err refusal) = h
+
+-- the history after a command: only a call changes it
+abbrev pub history_for : History → Command → History
+history_for h BadLine = h
+history_for h TextTooLong = h
+history_for h (Act by at call) = history_with h by at call (reply limit h by call)
+history_for h (Ask query) = h
+
+-- the reply to a line after a history; an empty line has none
+unfoldable pub line_text : History → List ℕ → List ℕ
+line_text h line = if length line == 0 then [] else text_for h (command_at line)
+
+-- the history after a line; an empty line changes nothing
+unfoldable pub line_after : History → List ℕ → History
+line_after h line = if length line == 0 then h else history_for h (command_at line)
+
+-- Scripts
+
+-- the replies to lines, one after another
+abbrev pub replies : History → List (List ℕ) → List ℕ
+replies h [] = []
+replies h (line ∷ lines) = line_text h line ++ replies (line_after h line) lines
+
+-- the history after lines
+abbrev pub history_past : History → List (List ℕ) → History
+history_past h [] = h
+history_past h (line ∷ lines) = history_past (line_after h line) lines
+
+-- a catalogue's history before the first operation
+abbrev pub begin : List JobTree → History
+begin catalogue = record { catalogue = catalogue; log = [] }
+
+-- the text for the lines behind the first: a fault of the catalogue is all that is told
+abbrev pub opened : Result (List JobTree) ReadFault → List (List ℕ) → List ℕ
+opened (Ok catalogue) lines = replies (begin catalogue) lines
+opened (Err fault) lines = fault_text fault
+
+-- the text for lines, of which the first is the catalogue
+abbrev pub text_of_lines : List (List ℕ) → List ℕ
+text_of_lines [] = []
+text_of_lines (line ∷ lines) = opened (catalogue_at line) lines
+
+-- how many operations are in the log behind lines; without a catalogue there is none
+abbrev pub entries_from : Result (List JobTree) ReadFault → List (List ℕ) → ℕ
+entries_from (Ok catalogue) lines = length (history_past (begin catalogue) lines).log
+entries_from (Err fault) lines = 0
+
+-- how many operations are in the log behind lines, of which the first is the catalogue
+abbrev pub entries_of_lines : List (List ℕ) → ℕ
+entries_of_lines [] = 0
+entries_of_lines (line ∷ lines) = entries_from (catalogue_at line) lines
+
+-- THE TEXT OF A SCRIPT: what is written for an input
+abbrev pub script_text : List ℕ → List ℕ
+script_text input = text_of_lines (script_lines input)

@@ -1,0 +1,135 @@
+ghost use Rattle.std.specs.Prelude.{◌≡◌, List, ℕ, IfOk, OnOk};
+ghost use Rattle.batch_ids.specs.Refusals.{is_out_of_memory};
+ghost use Rattle.script_lines.specs.Lines.{Shows};
+ghost use Rattle.script_text.specs.declared.command.Command.TheVariants.{Act, Ask};
+ghost use Rattle.script_text.specs.Replies.{bad_line_text, reply_text};
+ghost use Rattle.script_engine.specs.Script.{line_text, line_after, text_for, history_for};
+
+use crate::summary::Kind;
+use batch_ids::{Moment, Refusal};
+use op_log::{Book, Call, Query};
+use script_lines::Line;
+use script_text::{Command, answer_text, bad_line_text, read_command, reply_text};
+use std::alloc::{AllocError, Global};
+
+/// How many operations the log may have.
+pub(crate) const LIMIT: u64 = 1_000_000;
+
+/// The reply line to a line, and what became of it.
+#[derive(Drop)]
+pub(crate) struct Answered {
+    /// The text, with its line feed; nothing for an empty line.
+    pub(crate) text: Vec<u8>,
+    /// What became of the line.
+    pub(crate) kind: Kind,
+}
+
+/// Answers a line. At an `Err` the history is left open.
+#[tactic(auto, unfolding(crate::specs::Script::line_text, crate::specs::Script::line_after))]
+pub(crate) fn answer(
+    alloc: Global,
+    book: &mut Book<LIMIT>,
+    line: &Line,
+) -> Result<Answered, AllocError>
+    ensures text { IfOk result (λ answered. (bytes : List ℕ) → Shows line.now bytes → answered.text.items ≡ line_text book.old bytes) }
+    ensures after { OnOk result ((bytes : List ℕ) → Shows line.now bytes → book.new ≡ line_after book.old bytes) }
+{
+    match line {
+        Line::Whole(bytes) => {
+            if bytes.is_empty() {
+                return Ok(Answered {
+                    text: Vec::new(alloc),
+                    kind: Kind::Empty,
+                });
+            }
+            let command = read_command(alloc, bytes)?;
+            obey(alloc, book, command)
+        }
+        Line::TooLong => bad(alloc),
+    }
+}
+
+/// Answers a command.
+fn obey(alloc: Global, book: &mut Book<LIMIT>, command: Command) -> Result<Answered, AllocError>
+    ensures text { IfOk result (λ answered. answered.text.items ≡ text_for book.old command) }
+    ensures after { OnOk result (book.new ≡ history_for book.old command) }
+{
+    match command {
+        Command::BadLine => bad(alloc),
+        Command::TextTooLong => refused(alloc, Refusal::TextTooLong),
+        Command::Act { by, at, call } => act(alloc, book, by, at, call),
+        Command::Ask(query) => ask(alloc, book, &query),
+    }
+}
+
+/// Answers what is no command.
+fn bad(alloc: Global) -> Result<Answered, AllocError>
+    ensures { IfOk result (λ answered. answered.text.items ≡ bad_line_text) }
+{
+    Ok(Answered {
+        text: bad_line_text(alloc)?,
+        kind: Kind::Bad,
+    })
+}
+
+/// Answers a call or a query that is refused.
+fn refused(alloc: Global, refusal: Refusal) -> Result<Answered, AllocError>
+    ensures { IfOk result (λ answered. answered.text.items ≡ reply_text (Err refusal)) }
+{
+    Ok(Answered {
+        text: reply_text(alloc, &Err(refusal))?,
+        kind: Kind::Refused,
+    })
+}
+
+/// Answers a call.
+fn act(
+    alloc: Global,
+    book: &mut Book<LIMIT>,
+    by: u64,
+    at: Moment,
+    call: Call,
+) -> Result<Answered, AllocError>
+    ensures text { IfOk result (λ answered. answered.text.items ≡ text_for book.old (Act by at call)) }
+    ensures after { OnOk result (book.new ≡ history_for book.old (Act by at call)) }
+{
+    match book.act(alloc, by, call, at) {
+        Ok(reply) => Ok(Answered {
+            text: reply_text(alloc, &Ok(reply))?,
+            kind: Kind::Accepted,
+        }),
+        Err(refusal) => {
+            if is_out_of_memory(refusal) {
+                return Err(AllocError);
+            }
+            refused(alloc, refusal)
+        }
+    }
+}
+
+/// Answers a query.
+fn ask(alloc: Global, book: &Book<LIMIT>, query: &Query) -> Result<Answered, AllocError>
+    ensures { IfOk result (λ answered. answered.text.items ≡ text_for book.now (Ask query.now)) }
+{
+    match book.ask(alloc, query) {
+        Ok(answer) => Ok(Answered {
+            text: answer_text(alloc, &Ok(answer))?,
+            kind: Kind::Accepted,
+        }),
+        Err(refusal) => {
+            if is_out_of_memory(refusal) {
+                return Err(AllocError);
+            }
+            Ok(Answered {
+                text: answer_text(alloc, &Err(refusal))?,
+                kind: Kind::Refused,
+            })
+        }
+    }
+}
+
+fn is_out_of_memory(refusal: Refusal) -> bool
+    ensures { result ≡ is_out_of_memory refusal }
+{
+    matches!(refusal, Refusal::OutOfMemory)
+}

@@ -1,0 +1,44 @@
+ghost use Rattle.std.specs.Prelude.{◌≡◌, List, ℕ, [], false, Ok, Err, IfOk, IfErr};
+ghost use Rattle.script_lines.specs.Lines.{ShowsFirst};
+ghost use Rattle.script_text.specs.Catalogues.{is_out_of_memory};
+ghost use Rattle.script_engine.specs.Script.{catalogue_at};
+ghost use Rattle.script_engine.specs.Ran.{TellsFault};
+
+use crate::fault::EngineFault;
+use jsl_model::Catalogue;
+use script_lines::{Line, Outbox, Sink};
+use script_text::{ReadFault, fault_text, read_catalogue};
+use std::alloc::Global;
+
+/// The catalogue that the first line is. Want of memory is `OutOfMemory`, in place of any answer.
+pub(crate) fn catalogue_in(alloc: Global, first: &Option<Line>) -> Result<Catalogue, ReadFault>
+    ensures read { IfOk result (λ catalogue. (line : List ℕ) → ShowsFirst first.now line → catalogue_at line ≡ Ok catalogue) }
+    ensures fault { IfErr result (λ fault. is_out_of_memory fault ≡ false → (line : List ℕ) → ShowsFirst first.now line → catalogue_at line ≡ Err fault) }
+{
+    match first {
+        None => read_catalogue(alloc, &[]),
+        Some(Line::Whole(bytes)) => read_catalogue(alloc, bytes),
+        Some(Line::TooLong) => Err(ReadFault::NotACatalogue),
+    }
+}
+
+/// Replies with the line of a fault, and answers how the run ends by that.
+pub(crate) fn tell_fault<W: Sink>(
+    alloc: Global,
+    outbox: &mut Outbox,
+    writer: &mut W,
+    fault: ReadFault,
+) -> EngineFault
+    ensures { TellsFault fault (W.tape writer.old) outbox.old (W.tape writer.new) outbox.new result }
+{
+    if fault.is_out_of_memory() {
+        return EngineFault::OutOfMemory;
+    }
+    match fault_text(alloc, &fault) {
+        Ok(text) => match outbox.put(writer, &text) {
+            Ok(()) => EngineFault::Catalogue(fault),
+            Err(_) => EngineFault::Write,
+        },
+        Err(_) => EngineFault::OutOfMemory,
+    }
+}

@@ -1,0 +1,17 @@
+//! Runs a script: the bytes of any reader in, the replies to its lines out to any writer.
+#![tactic(auto)]
+
+mod answer;
+mod catalogue;
+mod fault;
+mod run;
+mod summary;
+
+pub use fault::EngineFault;
+pub use run::run_script;
+pub use script_lines::{Counted, DeviceFault, MAX_LINE, MAX_READS, Sink, Source};
+pub use script_text::ReadFault;
+pub use summary::Summary;
+
+#[cfg(test)]
+mod tests;

@@ -1,0 +1,79 @@
+ghost use Rattle.std.specs.Prelude.{◌≡◌, []};
+ghost use Rattle.script_engine.specs.Ran.{Ran, RanSoFar, has_writer_failed};
+
+use crate::answer::{LIMIT, answer};
+use crate::catalogue::{catalogue_in, tell_fault};
+use crate::fault::EngineFault;
+use crate::summary::Summary;
+use op_log::Book;
+use script_lines::{Outbox, Pending, Sink, Source};
+use std::alloc::Global;
+
+/// Runs a script, and leaves the last replies in the outbox.
+fn run<R: Source, W: Sink>(
+    alloc: Global,
+    reader: &mut R,
+    outbox: &mut Outbox,
+    writer: &mut W,
+) -> Result<Summary, EngineFault>
+    requires { outbox.old ≡ [] }
+    ensures { RanSoFar (R.tape reader.old) (R.tape reader.new) (W.tape writer.old) (W.tape writer.new) outbox.new result }
+{
+    let mut pending = Pending::new(alloc)?;
+    let first = pending.next_line(alloc, reader, outbox, writer)?;
+    let catalogue = match catalogue_in(alloc, &first) {
+        Ok(catalogue) => catalogue,
+        Err(fault) => return Err(tell_fault(alloc, outbox, writer, fault)),
+    };
+    let mut book = Book::<LIMIT>::new(alloc, catalogue)?;
+    let mut summary = Summary::default();
+    while let Some(line) = pending.next_line(alloc, reader, outbox, writer)? {
+        let answered = answer(alloc, &mut book, &line)?;
+        outbox.put(writer, &answered.text)?;
+        summary.count(answered.kind);
+    }
+    summary.entries = book.len() as u64;
+    Ok(summary)
+}
+
+fn has_writer_failed(outcome: &Result<Summary, EngineFault>) -> bool
+    ensures { result ≡ has_writer_failed outcome.now }
+{
+    match outcome {
+        Ok(_) => false,
+        Err(fault) => fault.is_of_writer(),
+    }
+}
+
+/// Runs the script that `reader` tells, to its end, and writes the replies to `writer`.
+///
+/// A script is lines, each ended by a line feed; the last may lack it. The first line is the
+/// catalogue of jobs (no input at all counts as an empty first line), every other line a command or
+/// a query. An empty line has no reply; every other line has one, a line, in their order. A line of
+/// more than [`MAX_LINE`](crate::MAX_LINE) bytes is no command and no catalogue. The log has at
+/// most 1,000,000 operations. Replies are collected, 65,536 bytes at most, and written before the
+/// reader is asked for more and at the end.
+///
+/// # Errors
+///
+/// - `Catalogue` where the first line is no catalogue: its fault's line is all that is written, and
+///   no further line is answered.
+/// - `Read` where the reader failed, or was called [`MAX_READS`](crate::MAX_READS) times: the
+///   replies to the complete lines were written.
+/// - `Write` where the writer failed: it holds a front of the replies to what was read.
+/// - `OutOfMemory` where memory was refused: the replies to the lines before were written.
+pub fn run_script<R: Source, W: Sink>(
+    alloc: Global,
+    reader: &mut R,
+    writer: &mut W,
+) -> Result<Summary, EngineFault>
+    ensures { Ran (R.tape reader.old) (R.tape reader.new) (W.tape writer.old) (W.tape writer.new) result }
+{
+    let mut outbox = Outbox::new(alloc)?;
+    let outcome = run(alloc, reader, &mut outbox, writer);
+    if has_writer_failed(&outcome) {
+        return outcome;
+    }
+    outbox.flush(writer)?;
+    outcome
+}
