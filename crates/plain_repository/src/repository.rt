@@ -19,6 +19,7 @@ use std::marker::Model;
 #[derive(Debug, Drop)]
 pub struct PlainRepository<const LIMIT: u64> {
     catalogue: Catalogue,
+    /// The accepted operations, the newest first.
     past: Vec<Entry>,
 }
 
