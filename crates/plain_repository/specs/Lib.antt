@@ -1,3 +1,2 @@
-pub mod Due
 pub mod Found
 pub mod Searches

@@ -2,7 +2,7 @@ ghost use Rattle.std.specs.Prelude.{◌≡◌, ◌≤◌, ◌<◌, ◌+◌, ◌^
 ghost use Rattle.batch_history.specs.History.{is_work};
 ghost use Rattle.batch_history.specs.Replies.{is_nothing};
 ghost use Rattle.batch_history.specs.Rows.{entered, finished};
-ghost use Rattle.plain_repository.specs.Due.{IsDue};
+ghost use Rattle.seq_repository.specs.Due.{IsDue};
 ghost use Rattle.plain_repository.specs.Searches.{works_found};
 ghost use Rattle.plain_repository.specs.Found.{reply_over, answer_over};
 

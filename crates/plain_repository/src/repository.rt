@@ -1,6 +1,6 @@
 ghost use Rattle.std.specs.Prelude.{◌≡◌, ◌≤◌, [], IfOk, OnErr};
 ghost use Rattle.batch_history.specs.Rows.{after_call};
-ghost use Rattle.plain_repository.specs.Due.{IsDue};
+ghost use Rattle.seq_repository.specs.Due.{IsDue};
 ghost use Rattle.plain_repository.specs.Found.{reply_found, answer_found};
 
 use crate::replies;
