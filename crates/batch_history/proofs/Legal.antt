@@ -10,6 +10,7 @@ use Rattle.batch_history.specs.declared.call.Call.{Call}
 use Rattle.batch_history.specs.declared.call.Call.TheVariants.{Start, Restart, Claim, Finish}
 use Rattle.batch_history.specs.declared.call.Reply.{Reply}
 use Rattle.batch_history.specs.declared.call.Reply.TheVariants.{Execution as IsExecution, Nothing, Done}
+use Rattle.batch_history.specs.declared.call.WorkKind.{WorkKind}
 use Rattle.batch_history.specs.declared.call.Entry.{Entry}
 use Rattle.batch_history.specs.declared.query.JobExecution.{JobExecution}
 use Rattle.batch_history.specs.declared.rows.WorkRow.{WorkRow}
@@ -33,22 +34,22 @@ claimed-room : (limit : ℕ) (r : Rows) (found : Option JobExecution) (given : R
 claimed-room limit r None given e n = cc
 claimed-room limit r (Some row) given e n = entered-room limit r.count _ given e
 
-as-room : (limit count : ℕ) (o : WorkOutcome) (given : Reply) → finished_as limit count o ≡ Ok given → count < limit
-as-room limit count Stopped given e = cc
-as-room limit count Completed given e = entered-room limit count Done given e
-as-room limit count Failed given e = entered-room limit count Done given e
+as-room : (limit count : ℕ) (kind : WorkKind) (o : WorkOutcome) (given : Reply) → finished_as limit count kind o ≡ Ok given → count < limit
+as-room limit count kind Stopped given e = cc
+as-room limit count kind Completed given e = entered-room limit count Done given e
+as-room limit count kind Failed given e = entered-room limit count Done given e
 
-by-room : (limit count who : ℕ) (o : WorkOutcome) (claimer : ℕ) (state : WorkState) (given : Reply) → finished_by limit count who o claimer state ≡ Ok given → count < limit
-by-room limit count who o claimer (Over p exit) given e = cc
-by-room limit count who o claimer Busy given e =
-    (elim (claimer == who) as (λ b. cond b (finished_as limit count o) (Err NotClaimer) ≡ Ok given → count < limit) [
-      | true ↦ λ s. as-room limit count o given s
+by-room : (limit count who : ℕ) (o : WorkOutcome) (claimer : ℕ) (kind : WorkKind) (state : WorkState) (given : Reply) → finished_by limit count who o claimer kind state ≡ Ok given → count < limit
+by-room limit count who o claimer kind (Over p exit) given e = cc
+by-room limit count who o claimer kind Busy given e =
+    (elim (claimer == who) as (λ b. cond b (finished_as limit count kind o) (Err NotClaimer) ≡ Ok given → count < limit) [
+      | true ↦ λ s. as-room limit count kind o given s
       | false ↦ λ s. cc
     ]) e
 
 finished-room : (limit count who : ℕ) (o : WorkOutcome) (found : Option WorkRow) (given : Reply) → finished limit count who o found ≡ Ok given → count < limit
 finished-room limit count who o None given e = cc
-finished-room limit count who o (Some row) given e = by-room limit count who o row.claimer row.state given e
+finished-room limit count who o (Some row) given e = by-room limit count who o row.claimer row.kind row.state given e
 
 -- a reply that is entered has room
 pub reply-room : (limit : ℕ) (r : Rows) (who : ℕ) (call : Call) (given : Reply) → reply_by limit r who call ≡ Ok given → is_nothing given ≡ false → r.count < limit

@@ -17,8 +17,13 @@ use Rattle.job_walk.specs.declared.facts.Value.TheVariants.{Open, Done as IsDone
 use Rattle.job_walk.specs.Walk.{fact_of, value_of}
 use Rattle.batch_history.specs.declared.call.Call.{Call}
 use Rattle.batch_history.specs.declared.call.Call.TheVariants.{Start, Restart, Claim, Finish}
+use Rattle.batch_history.specs.declared.call.WorkItem.{WorkItem}
 use Rattle.batch_history.specs.declared.call.Reply.{Reply}
 use Rattle.batch_history.specs.declared.call.Reply.TheVariants.{Execution, Work, Closed, Nothing, Done}
+use Rattle.batch_history.specs.declared.call.WorkTask.{WorkTask}
+use Rattle.batch_history.specs.declared.call.WorkTask.TheVariants.{Batchlet as BatchletTask, Chunk as ChunkTask, Decision as DecisionTask}
+use Rattle.batch_history.specs.declared.call.WorkKind.{WorkKind}
+use Rattle.batch_history.specs.declared.call.WorkKind.TheVariants.{Batchlet, Chunk, Decision}
 use Rattle.batch_history.specs.declared.call.Entry.{Entry}
 use Rattle.batch_history.specs.declared.rows.WorkRow.{WorkRow}
 use Rattle.batch_history.specs.declared.rows.WorkState.{WorkState}
@@ -100,9 +105,19 @@ exit_given outcome exit = unwrap_or exit (outcome_name outcome)
 abbrev pub over : WorkOutcome → Option (List ℕ) → WorkRow → WorkRow
 over outcome exit = over_as outcome (exit_given outcome exit)
 
+-- what kind of work a task is
+abbrev pub kind_of : WorkTask → WorkKind
+kind_of (BatchletTask artifact) = Batchlet
+kind_of (ChunkTask reader processor writer count checkpoint) = Chunk
+kind_of (DecisionTask artifact) = Decision
+
+-- a work item as it is handed out to this session
+abbrev pub handed_to : ℕ → WorkItem → WorkRow
+handed_to who item =
+    record { work = item.work; execution = item.execution; element = item.element; kind = kind_of item.task; claimer = who; state = Busy }
+
 abbrev pub handed_out : ℕ → Reply → List WorkRow → List WorkRow
-handed_out who (Work item) rows =
-    rows ++ record { work = item.work; execution = item.execution; element = item.element; claimer = who; state = Busy } ∷ []
+handed_out who (Work item) rows = rows ++ handed_to who item ∷ []
 handed_out who (Execution x) rows = rows
 handed_out who (Closed x) rows = rows
 handed_out who Nothing rows = rows

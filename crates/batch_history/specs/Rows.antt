@@ -4,7 +4,7 @@ use Rattle.std.specs.Option.{option_map, option_and_then}
 use Rattle.batch_ids.specs.declared.status.BatchStatus.{BatchStatus}
 use Rattle.batch_ids.specs.declared.status.BatchStatus.TheVariants.{Starting, Started, Stopping, Stopped as IsStopped, Failed as IsFailed, Completed as IsCompleted, Abandoned}
 use Rattle.batch_ids.specs.declared.refusal.Refusal.{Refusal}
-use Rattle.batch_ids.specs.declared.refusal.Refusal.TheVariants.{JobStartException, NoSuchJobExecutionException, NoSuchWork, WorkNotRunning, NotClaimer, NotStopping, RepositoryFull}
+use Rattle.batch_ids.specs.declared.refusal.Refusal.TheVariants.{JobStartException, NoSuchJobExecutionException, NoSuchWork, WorkNotRunning, NotClaimer, NotStopping, WrongOutcome, RepositoryFull}
 use Rattle.batch_ids.specs.declared.status.WorkOutcome.{WorkOutcome}
 use Rattle.batch_ids.specs.declared.status.WorkOutcome.TheVariants.{Completed, Failed, Stopped}
 use Rattle.jsl_model.specs.Jobs.{JobTree}
@@ -22,6 +22,8 @@ use Rattle.batch_history.specs.declared.call.Reply.TheVariants.{Execution as IsE
 use Rattle.batch_history.specs.declared.call.WorkItem.{WorkItem}
 use Rattle.batch_history.specs.declared.call.WorkTask.{WorkTask}
 use Rattle.batch_history.specs.declared.call.WorkTask.TheVariants.{Batchlet as BatchletTask, Chunk as ChunkTask, Decision as DecisionTask}
+use Rattle.batch_history.specs.declared.call.WorkKind.{WorkKind}
+use Rattle.batch_history.specs.declared.call.WorkKind.TheVariants.{Batchlet as BatchletKind, Chunk as ChunkKind, Decision as DecisionKind}
 use Rattle.batch_history.specs.declared.call.Entry.{Entry}
 use Rattle.batch_history.specs.declared.query.JobExecution.{JobExecution}
 use Rattle.batch_history.specs.declared.query.Query.{Query}
@@ -135,19 +137,27 @@ claimed limit r None = Ok Nothing
 claimed limit r (Some row) =
     entered limit r.count (claim_reply (length r.works + 1) row.execution (job_named r.catalogue row.job) (first_ready (walk_in r row)))
 
--- there is no stop that a work item could follow
-abbrev pub finished_as : ℕ → ℕ → WorkOutcome → Result Reply Refusal
-finished_as limit count Stopped = Err NotStopping
-finished_as limit count Completed = entered limit count Done
-finished_as limit count Failed = entered limit count Done
+-- why a work item is not STOPPED: a decision never is, and there is no stop that a step could follow
+abbrev pub stopped_refusal : WorkKind → Refusal
+stopped_refusal DecisionKind = WrongOutcome
+stopped_refusal BatchletKind = NotStopping
+stopped_refusal ChunkKind = NotStopping
 
-abbrev pub finished_by : ℕ → ℕ → ℕ → WorkOutcome → ℕ → WorkState → Result Reply Refusal
-finished_by limit count who outcome claimer (Over o exit) = Err WorkNotRunning
-finished_by limit count who outcome claimer Busy = if claimer == who then finished_as limit count outcome else Err NotClaimer
+-- the end of a work item by the session that claimed it
+abbrev pub finished_as : ℕ → ℕ → WorkKind → WorkOutcome → Result Reply Refusal
+finished_as limit count kind Stopped = Err (stopped_refusal kind)
+finished_as limit count kind Completed = entered limit count Done
+finished_as limit count kind Failed = entered limit count Done
+
+-- the end of a work item by any session: it must be busy, and the session's own
+abbrev pub finished_by : ℕ → ℕ → ℕ → WorkOutcome → ℕ → WorkKind → WorkState → Result Reply Refusal
+finished_by limit count who outcome claimer kind (Over o exit) = Err WorkNotRunning
+finished_by limit count who outcome claimer kind Busy =
+    if claimer == who then finished_as limit count kind outcome else Err NotClaimer
 
 abbrev pub finished : ℕ → ℕ → ℕ → WorkOutcome → Option WorkRow → Result Reply Refusal
 finished limit count who outcome None = Err NoSuchWork
-finished limit count who outcome (Some row) = finished_by limit count who outcome row.claimer row.state
+finished limit count who outcome (Some row) = finished_by limit count who outcome row.claimer row.kind row.state
 
 -- what a call is answered by these rows
 abbrev pub reply_by : ℕ → Rows → ℕ → Call → Result Reply Refusal

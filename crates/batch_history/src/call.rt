@@ -1,4 +1,5 @@
 ghost use Rattle.std.specs.Prelude.{◌≡◌, IfOk};
+ghost use Rattle.batch_history.specs.History.{kind_of};
 ghost use Rattle.batch_history.specs.Replies.{is_nothing};
 
 use batch_ids::{
@@ -58,6 +59,17 @@ pub enum WorkTask {
         /// The artifact's name.
         artifact: T256,
     },
+}
+
+/// What kind of work a work item is.
+#[derive(Clone, Copy, PartialEq, Eq, Debug)]
+pub enum WorkKind {
+    /// The batchlet of a step.
+    Batchlet,
+    /// The chunk of a step.
+    Chunk,
+    /// A decision.
+    Decision,
 }
 
 /// One run of a step or of a decision.
@@ -130,6 +142,17 @@ impl Call {
 }
 
 impl WorkTask {
+    /// What kind of work it is.
+    pub fn kind(&self) -> WorkKind
+        ensures { result ≡ kind_of self.now }
+    {
+        match self {
+            WorkTask::Batchlet { .. } => WorkKind::Batchlet,
+            WorkTask::Chunk { .. } => WorkKind::Chunk,
+            WorkTask::Decision { .. } => WorkKind::Decision,
+        }
+    }
+
     /// An equal task, or `OutOfMemory`.
     pub fn try_clone(&self) -> Result<WorkTask, OutOfMemory>
         ensures { IfOk result (λ copy. copy ≡ self.now) }

@@ -6,6 +6,6 @@ mod call;
 mod query;
 mod rows;
 
-pub use call::{Call, Entry, Reply, WorkItem, WorkTask};
+pub use call::{Call, Entry, Reply, WorkItem, WorkKind, WorkTask};
 pub use query::{Answer, JobExecution, Query};
 pub use rows::{InstanceRow, WorkRow, WorkState};

@@ -1,3 +1,4 @@
+use crate::call::WorkKind;
 use batch_ids::{ExecutionId, InstanceId, T256, WorkId, WorkOutcome};
 
 /// What a repository keeps of a job instance.
@@ -27,6 +28,8 @@ pub struct WorkRow {
     pub execution: ExecutionId,
     /// The id of the step or decision.
     pub element: T256,
+    /// What kind of work it is.
+    pub kind: WorkKind,
     /// The number of the session that claimed it.
     pub claimer: u64,
     /// How far it is.

@@ -1,2 +1,3 @@
+pub mod Cursors
 pub mod Runnables
 pub mod Walk

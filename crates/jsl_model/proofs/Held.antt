@@ -4,7 +4,8 @@ use Rattle.std.specs.Cmp.Lexicographic.{bytes_decides}
 use Rattle.std.proofs.lemmas.List.Elements.{All-push}
 use Rattle.std.proofs.lemmas.List.Quantifiers.{all_pairs_push}
 use Rattle.batch_ids.specs.Texts.{is_text}
-use Rattle.jsl_model.specs.Jobs.{JobTree, IsChecked}
+use Rattle.jsl_model.specs.Jobs.{JobTree}
+use Rattle.jsl_model.specs.Faults.{IsChecked}
 use Rattle.jsl_model.specs.Catalogues.{AreJobs}
 
 -- a search whose first step gives nothing: the test fails there, and the rest gives nothing

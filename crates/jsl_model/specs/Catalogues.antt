@@ -1,6 +1,7 @@
 -- What a catalogue keeps of its jobs.
 use Rattle.std.specs.Prelude.{◌≤◌, ◌≢◌, List, length, All, AllPairs}
-use Rattle.jsl_model.specs.Jobs.{JobTree, IsChecked}
+use Rattle.jsl_model.specs.Jobs.{JobTree}
+use Rattle.jsl_model.specs.Faults.{IsChecked}
 
 -- a catalogue's jobs: at most 256, each checked, no two of one id
 pub record AreJobs (jobs : List JobTree) : Type 0 where

@@ -1,10 +1,17 @@
 -- The faults of a job, and their names.
-use Rattle.std.specs.Prelude.{ℕ, Bool, true, false, Option, Some, None, List, codes, if◌then◌else◌}
+use Rattle.std.specs.Prelude.{ℕ, ◌≡◌, ◌<◌, ◌||◌, All, Bool, true, false, Option, Some, None, List, length, map, nat_lt, codes, if◌then◌else◌}
+use Rattle.std.specs.List.{filter_map}
 use Rattle.jsl_model.specs.declared.job.JobFault.{JobFault}
 use Rattle.jsl_model.specs.declared.job.JobFault.TheVariants.{TextTooLong, Empty, TooDeep, TooMany, DuplicateId, NoSuchTarget, Loop, RestartNotJobLevel, OutOfMemory}
-use Rattle.jsl_model.specs.declared.parts.JobParts.{JobParts}
-use Rattle.jsl_model.specs.Jobs.{JobTree, has_empty}
-use Rattle.jsl_model.specs.Parts.{has_long_text, tree_of}
+use Rattle.jsl_model.specs.declared.element.Then.{Then}
+use Rattle.jsl_model.specs.declared.element.Then.TheVariants.{Next, End, Fail, Stop}
+use Rattle.jsl_model.specs.declared.element.Transition.{Transition}
+use Rattle.jsl_model.specs.Trees.{is_empty, any_true, joined, Member, members, depth}
+use Rattle.jsl_model.specs.Names.{has_twice, are_among}
+use Rattle.jsl_model.specs.Targets.{outline, ids as own_ids, lists_of, lacks_some_target, has_some_loop, HasRanks}
+use Rattle.jsl_model.specs.LongTexts.{is_long, element_has_long}
+use Rattle.jsl_model.specs.Emptiness.{is_lacking, element_has_empty}
+use Rattle.jsl_model.specs.Jobs.{JobTree}
 
 -- the name that a fault prints as
 abbrev pub fault_name : JobFault → List ℕ
@@ -42,10 +49,67 @@ IsBuildingFault Loop = ⊥
 IsBuildingFault RestartNotJobLevel = ⊥
 IsBuildingFault OutOfMemory = Unit {0}
 
+-- whether a text of a job has more than 256 bytes
+abbrev pub has_long_text : JobTree → Bool
+has_long_text job = is_long job.id || any_true (map element_has_long job.elements)
+
+-- whether something that has to be there is empty: an id (the job's too), an artifact name, a list of elements, the flows of a split, the items of a group
+abbrev pub has_empty : JobTree → Bool
+has_empty job = is_empty job.id || is_lacking (map element_has_empty job.elements)
+
+-- whether an element stands deeper than 16
+abbrev pub is_too_deep : JobTree → Bool
+is_too_deep job = nat_lt 16 (depth job.elements)
+
+-- whether there are more than 1,000 elements, flows of splits included
+abbrev pub has_too_many : JobTree → Bool
+has_too_many job = nat_lt 1000 (length (members job.elements))
+
+-- the ids of these
+abbrev pub ids : List Member → List (List ℕ)
+ids all = map (λ (m : Member). m.id) all
+
+-- whether two elements, flows of splits included, have one id
+abbrev pub has_duplicate : JobTree → Bool
+has_duplicate job = has_twice (ids (members job.elements))
+
+-- the element at which a restart begins, where a stop names one
+abbrev pub restart_at : Then → Option (List ℕ)
+restart_at (Next to) = None
+restart_at (End exit_status) = None
+restart_at (Fail exit_status) = None
+restart_at (Stop exit_status restart) = restart
+
+-- the elements at which restarts begin, by these transition elements
+abbrev pub restarts_in : List Transition → List (List ℕ)
+restarts_in transitions = filter_map (λ (t : Transition). restart_at t.then) transitions
+
+-- the elements at which restarts begin, by all transition elements
+abbrev pub restarts : List Member → List (List ℕ)
+restarts all = joined (map (λ (m : Member). restarts_in m.transitions) all)
+
+-- whether each restart begins at an element of the job's own list
+abbrev pub has_restarts : JobTree → Bool
+has_restarts job = are_among (own_ids (outline job.elements)) (restarts (members job.elements))
+
 -- the first fault of a job whose texts are short enough, each tested over the whole job
 abbrev pub tree_fault : JobTree → Option JobFault
-tree_fault job = if has_empty job then Some Empty else None
+tree_fault job =
+    if has_empty job then Some Empty
+    else (if is_too_deep job then Some TooDeep
+    else (if has_too_many job then Some TooMany
+    else (if has_duplicate job then Some DuplicateId
+    else (if lacks_some_target job.elements then Some NoSuchTarget
+    else (if has_some_loop job.elements then Some Loop
+    else (if has_restarts job then None else Some RestartNotJobLevel))))))
 
--- the first fault of a job's parts, each tested over the whole job
-abbrev pub job_fault : JobParts → Option JobFault
-job_fault parts = if has_long_text parts then Some TextTooLong else tree_fault (tree_of parts)
+-- the first fault of a job, each tested over the whole job
+abbrev pub job_fault : JobTree → Option JobFault
+job_fault job = if has_long_text job then Some TextTooLong else tree_fault job
+
+-- what a checked job keeps
+pub record IsChecked (job : JobTree) : Type 0 where
+  pub faultless : job_fault job ≡ None
+  -- each list of the job has numbers on its elements that rise along every target
+  pub ranked : All HasRanks (lists_of job.elements)
+  pub has_elements : 0 < length job.elements

@@ -1,5 +1,10 @@
 pub mod Catalogues
+pub mod Emptiness
 pub mod Faults
 pub mod Jobs
+pub mod LongTexts
+pub mod Members
+pub mod Names
 pub mod Parts
+pub mod Targets
 pub mod Trees

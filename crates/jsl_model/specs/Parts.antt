@@ -1,5 +1,5 @@
--- The parts of a job: the tree that they give, and whether a text of theirs is too long.
-use Rattle.std.specs.Prelude.{ℕ, ◌||◌, Bool, false, Option, Some, None, option_map, List, length, map, nat_lt, String, string_bytes}
+-- The parts of a job, and the tree that they give.
+use Rattle.std.specs.Prelude.{ℕ, Option, option_map, List, map, String, string_bytes}
 use Rattle.std.specs.declared.alloc.Global.{Global}
 use Rattle.jsl_model.specs.declared.parts.ThenParts.{ThenParts}
 use Rattle.jsl_model.specs.declared.parts.ThenParts.TheVariants.{Next as NextParts, End as EndParts, Fail as FailParts, Stop as StopParts}
@@ -22,7 +22,6 @@ use Rattle.jsl_model.specs.declared.element.Element.{Element}
 use Rattle.jsl_model.specs.declared.element.SplitFlow.{SplitFlow, roll-SplitFlow}
 use Rattle.jsl_model.specs.declared.element.Body.{Body}
 use Rattle.jsl_model.specs.declared.element.Body.TheVariants.{Step, Flow, Split, Decision}
-use Rattle.jsl_model.specs.Trees.{any_true}
 use Rattle.jsl_model.specs.Jobs.{JobTree}
 
 -- the bytes of a text that may be left out
@@ -81,61 +80,3 @@ flow_of = fold-SplitFlowParts Body Element SplitFlow body_tree element_tree flow
 -- the job that its parts give, each text as its bytes
 abbrev pub tree_of : JobParts → JobTree
 tree_of parts = record { id = string_bytes parts.id; restartable = parts.restartable; elements = map element_of parts.elements }
-
--- whether a text has more than 256 bytes
-abbrev pub is_long : List ℕ → Bool
-is_long text = nat_lt 256 (length text)
-
--- whether a text that may be left out is there and has more than 256 bytes
-abbrev pub is_long_option : Option (String Global) → Bool
-is_long_option None = false
-is_long_option (Some text) = is_long (string_bytes text)
-
--- whether a transition element leads on by a text that is too long
-abbrev pub then_has_long : ThenParts → Bool
-then_has_long (NextParts to) = is_long (string_bytes to)
-then_has_long (EndParts exit_status) = is_long_option exit_status
-then_has_long (FailParts exit_status) = is_long_option exit_status
-then_has_long (StopParts exit_status restart) = is_long_option exit_status || is_long_option restart
-
--- whether a transition element has a text that is too long
-abbrev pub transition_has_long : TransitionParts → Bool
-transition_has_long parts = is_long (string_bytes parts.on) || then_has_long parts.then
-
--- whether a task has an artifact name that is too long
-abbrev pub task_has_long : TaskParts → Bool
-task_has_long (BatchletParts artifact) = is_long (string_bytes artifact)
-task_has_long (ChunkParts reader processor writer item_count) =
-    is_long (string_bytes reader) || is_long_option processor || is_long (string_bytes writer)
-
--- whether a body has a text that is too long, which is known of its members
-abbrev pub body_long : BodyParts-F Bool Bool Bool → Bool
-body_long (StepOf step) = task_has_long step.task
-body_long (FlowOf elements) = any_true elements
-body_long (SplitOf flows) = any_true flows
-body_long (DecisionOf artifact) = is_long (string_bytes artifact)
-
--- whether an element has a text that is too long, which is known of its body
-abbrev pub element_long : ElementParts-F Bool Bool Bool → Bool
-element_long parts =
-    is_long (string_bytes parts.id) || is_long_option parts.next || any_true (map transition_has_long parts.transitions) || parts.body
-
--- whether a flow of a split has a text that is too long, which is known of its elements
-abbrev pub flow_long : SplitFlowParts-F Bool Bool Bool → Bool
-flow_long parts = is_long (string_bytes parts.id) || any_true parts.elements
-
--- whether an element has, at any depth, a text of more than 256 bytes
-abbrev pub element_has_long : ElementParts → Bool
-element_has_long = fold-ElementParts Bool Bool Bool body_long element_long flow_long
-
--- the same of a body
-abbrev pub body_has_long : BodyParts → Bool
-body_has_long = fold-BodyParts Bool Bool Bool body_long element_long flow_long
-
--- the same of a flow of a split
-abbrev pub flow_has_long : SplitFlowParts → Bool
-flow_has_long = fold-SplitFlowParts Bool Bool Bool body_long element_long flow_long
-
--- whether a job has a text of more than 256 bytes
-abbrev pub has_long_text : JobParts → Bool
-has_long_text parts = is_long (string_bytes parts.id) || any_true (map element_has_long parts.elements)

@@ -1,83 +1,112 @@
--- Folds over the tree of a job's elements.
-use Rattle.std.specs.Prelude.{ℕ, ◌+◌, ◌||◌, Bool, true, false, Option, Some, None, List, [], ◌∷◌, map, sum, nat_eq}
+-- The tree of a job's elements: what stands in it at all depths, and how deep it is.
+use Rattle.std.specs.Prelude.{ℕ, ◌+◌, Bool, true, false, List, [], ◌∷◌, ◌++◌, map, nat_lt, if◌then◌else◌}
 use Rattle.std.specs.List.{list_any}
+use Rattle.std.specs.Option.{option_to_list}
 use Rattle.jsl_model.specs.declared.element.Task.{Task}
 use Rattle.jsl_model.specs.declared.element.Task.TheVariants.{Batchlet, Chunk}
+use Rattle.jsl_model.specs.declared.element.Transition.{Transition}
 use Rattle.jsl_model.specs.declared.element.Element.{Element, Element-F, fold-Element}
 use Rattle.jsl_model.specs.declared.element.SplitFlow.{SplitFlow, SplitFlow-F, fold-SplitFlow}
 use Rattle.jsl_model.specs.declared.element.Body.{Body, Body-F, fold-Body}
 use Rattle.jsl_model.specs.declared.element.Body.TheOpen.{Step, Flow, Split, Decision}
 
--- how many elements a body has inside, the counts of its members being known
-abbrev pub body_count : Body-F ℕ ℕ ℕ → ℕ
-body_count (Step step) = 0
-body_count (Flow elements) = sum elements
-body_count (Split flows) = sum flows
-body_count (Decision artifact) = 0
+-- lists one after another
+abbrev pub joined : {X : Type 0} → List (List X) → List X
+joined [] = []
+joined (part ∷ rest) = part ++ joined rest
 
--- an element counts as one, with what it has inside
-abbrev pub element_count : Element-F ℕ ℕ ℕ → ℕ
-element_count element = 1 + element.body
-
--- a flow of a split counts as one, with its elements
-abbrev pub flow_count : SplitFlow-F ℕ ℕ ℕ → ℕ
-flow_count flow = 1 + sum flow.elements
-
--- how many elements an element is, with those inside and the flows of splits
-abbrev pub count_of : Element → ℕ
-count_of = fold-Element ℕ ℕ ℕ body_count element_count flow_count
-
--- how many elements a list of elements has at all depths, flows of splits included
-abbrev pub count_of_all : List Element → ℕ
-count_of_all elements = sum (map count_of elements)
+-- whether one of these is true
+abbrev pub any_true : List Bool → Bool
+any_true tests = list_any (λ test. test) tests
 
 -- whether a text or a list has nothing in it
 abbrev pub is_empty : {X : Type 0} → List X → Bool
 is_empty [] = true
 is_empty (first ∷ rest) = false
 
--- whether a name that may be left out is there and empty
-abbrev pub is_empty_option : Option (List ℕ) → Bool
-is_empty_option None = false
-is_empty_option (Some text) = is_empty text
+-- ---- All elements, with the flows of splits, in written order: each before what is inside it
 
--- whether one of these is true
-abbrev pub any_true : List Bool → Bool
-any_true tests = list_any (λ test. test) tests
+-- an element or a flow of a split by itself; a flow of a split has no transition elements
+pub record Member : Type 0 where
+  pub id : List ℕ
+  pub transitions : List Transition
+  -- the artifacts that it names itself, in written order
+  pub artifacts : List (List ℕ)
 
--- whether a list has no member, or a member in which something is empty
-abbrev pub is_lacking : List Bool → Bool
-is_lacking members = is_empty members || any_true members
+-- a body: the artifacts that it names itself, and all that is inside it
+pub record Inside : Type 0 where
+  pub artifacts : List (List ℕ)
+  pub members : List Member
 
--- whether a task has an empty artifact name, or groups of no item
-abbrev pub task_has_empty : Task → Bool
-task_has_empty (Batchlet artifact) = is_empty artifact
-task_has_empty (Chunk reader processor writer item_count) =
-    is_empty reader || is_empty_option processor || is_empty writer || nat_eq item_count 0
+-- the artifacts of a batchlet or a chunk
+abbrev pub task_artifacts : Task → List (List ℕ)
+task_artifacts (Batchlet artifact) = artifact ∷ []
+task_artifacts (Chunk reader processor writer item_count) = reader ∷ (option_to_list processor ++ writer ∷ [])
 
--- whether something is empty in a body, which is known of its members
-abbrev pub body_empty : Body-F Bool Bool Bool → Bool
-body_empty (Step step) = task_has_empty step.task
-body_empty (Flow elements) = is_lacking elements
-body_empty (Split flows) = is_lacking flows
-body_empty (Decision artifact) = is_empty artifact
+abbrev pub body_members : Body-F Inside (List Member) (List Member) → Inside
+body_members (Step step) = record { artifacts = task_artifacts step.task; members = [] }
+body_members (Flow elements) = record { artifacts = []; members = joined elements }
+body_members (Split flows) = record { artifacts = []; members = joined flows }
+body_members (Decision artifact) = record { artifacts = artifact ∷ []; members = [] }
 
--- an element has something empty if its id is empty or its body has
-abbrev pub element_empty : Element-F Bool Bool Bool → Bool
-element_empty element = is_empty element.id || element.body
+abbrev pub element_members : Element-F Inside (List Member) (List Member) → List Member
+element_members element =
+    record { id = element.id; transitions = element.transitions; artifacts = element.body.artifacts } ∷ element.body.members
 
--- a flow of a split has something empty if its id is empty, or its list lacks something
-abbrev pub flow_empty : SplitFlow-F Bool Bool Bool → Bool
-flow_empty flow = is_empty flow.id || is_lacking flow.elements
+abbrev pub flow_members : SplitFlow-F Inside (List Member) (List Member) → List Member
+flow_members flow = record { id = flow.id; transitions = []; artifacts = [] } ∷ joined flow.elements
 
--- whether an element has something empty that has to be there: an id, an artifact name, a list of elements, the flows of a split, the items of a group
-abbrev pub element_has_empty : Element → Bool
-element_has_empty = fold-Element Bool Bool Bool body_empty element_empty flow_empty
+-- an element, and then what is inside it
+abbrev pub members_of : Element → List Member
+members_of = fold-Element Inside (List Member) (List Member) body_members element_members flow_members
 
--- the same of a body
-abbrev pub body_has_empty : Body → Bool
-body_has_empty = fold-Body Bool Bool Bool body_empty element_empty flow_empty
+-- the artifacts that a body names itself, and what is inside it
+abbrev pub inside : Body → Inside
+inside = fold-Body Inside (List Member) (List Member) body_members element_members flow_members
 
--- the same of a flow of a split
-abbrev pub flow_has_empty : SplitFlow → Bool
-flow_has_empty = fold-SplitFlow Bool Bool Bool body_empty element_empty flow_empty
+-- a flow of a split, and then what is inside it
+abbrev pub members_of_flow : SplitFlow → List Member
+members_of_flow = fold-SplitFlow Inside (List Member) (List Member) body_members element_members flow_members
+
+-- all that a list of elements has, at all depths
+abbrev pub members : List Element → List Member
+members elements = joined (map members_of elements)
+
+-- the artifacts that the elements of a list name at all depths, in written order
+abbrev pub artifacts : List Element → List (List ℕ)
+artifacts elements = joined (map (λ (m : Member). m.artifacts) (members elements))
+
+-- ---- Depth: the elements of a list stand at 1, those inside a flow one deeper than it, the flows of a split too
+
+-- the greatest of these numbers
+abbrev pub greatest : List ℕ → ℕ
+greatest [] = 0
+greatest (n ∷ rest) = if nat_lt n (greatest rest) then greatest rest else n
+
+abbrev pub body_depth : Body-F ℕ ℕ ℕ → ℕ
+body_depth (Step step) = 0
+body_depth (Flow elements) = greatest elements
+body_depth (Split flows) = greatest flows
+body_depth (Decision artifact) = 0
+
+abbrev pub element_depth : Element-F ℕ ℕ ℕ → ℕ
+element_depth element = 1 + element.body
+
+abbrev pub flow_depth : SplitFlow-F ℕ ℕ ℕ → ℕ
+flow_depth flow = 1 + greatest flow.elements
+
+-- how many levels an element has
+abbrev pub depth_of : Element → ℕ
+depth_of = fold-Element ℕ ℕ ℕ body_depth element_depth flow_depth
+
+-- how many levels a body has
+abbrev pub depth_of_body : Body → ℕ
+depth_of_body = fold-Body ℕ ℕ ℕ body_depth element_depth flow_depth
+
+-- how many levels a flow of a split has
+abbrev pub depth_of_flow : SplitFlow → ℕ
+depth_of_flow = fold-SplitFlow ℕ ℕ ℕ body_depth element_depth flow_depth
+
+-- how deep the deepest element of a list stands
+abbrev pub depth : List Element → ℕ
+depth elements = greatest (map depth_of elements)

@@ -1,16 +1,19 @@
 ghost use Rattle.std.specs.Prelude.{◌≡◌, true, false, map, Err, IfOk, IfErr, OnOk};
 ghost use Rattle.jsl_model.specs.Faults.{IsBuildingFault};
-ghost use Rattle.jsl_model.specs.Parts.{bytes_of_option, then_of, transition_of, task_of, step_of, body_of, element_of, flow_of, is_long, is_long_option, then_has_long, transition_has_long, task_has_long, body_has_long, element_has_long, flow_has_long};
+ghost use Rattle.jsl_model.specs.Parts.{bytes_of_option, then_of, transition_of, task_of, step_of, body_of, element_of, flow_of};
+ghost use Rattle.jsl_model.specs.LongTexts.{is_long, is_long_option, then_has_long, transition_has_long, task_has_long, body_has_long, element_has_long, flow_has_long};
 ghost use Rattle.jsl_model.specs.Trees.{any_true};
 
 use crate::element::{Body, Element, SplitFlow, Step, Task, Then, Transition};
 use crate::job::JobFault;
-use crate::lengths::is_long_text;
 use crate::parts::{
     BodyParts, ElementParts, SplitFlowParts, StepParts, TaskParts, ThenParts, TransitionParts,
 };
 use batch_ids::{Listed, T256};
 use std::alloc::Global;
+
+/// How many bytes a text of a job has at most.
+const MOST_BYTES: usize = 256;
 
 /// The bounded text of these bytes.
 pub fn build_text(alloc: Global, text: &str) -> Result<T256, JobFault>
@@ -19,7 +22,7 @@ pub fn build_text(alloc: Global, text: &str) -> Result<T256, JobFault>
     ensures long { result ≡ Err JobFault.TextTooLong → is_long text.now ≡ true }
     ensures fault { IfErr result IsBuildingFault }
 {
-    if is_long_text(text) {
+    if text.len() > MOST_BYTES {
         return Err(JobFault::TextTooLong);
     }
     Ok(T256::within(alloc, text)?)
@@ -27,8 +30,8 @@ pub fn build_text(alloc: Global, text: &str) -> Result<T256, JobFault>
 
 fn build_option(alloc: Global, text: &Option<String>) -> Result<Option<T256>, JobFault>
     ensures same { IfOk result (λ built. built ≡ bytes_of_option text.now) }
-    ensures short { OnOk result (is_long_option text.now ≡ false) }
-    ensures long { result ≡ Err JobFault.TextTooLong → is_long_option text.now ≡ true }
+    ensures short { OnOk result (is_long_option (bytes_of_option text.now) ≡ false) }
+    ensures long { result ≡ Err JobFault.TextTooLong → is_long_option (bytes_of_option text.now) ≡ true }
     ensures fault { IfErr result IsBuildingFault }
 {
     match text {
@@ -39,8 +42,8 @@ fn build_option(alloc: Global, text: &Option<String>) -> Result<Option<T256>, Jo
 
 fn build_then(alloc: Global, parts: &ThenParts) -> Result<Then, JobFault>
     ensures same { IfOk result (λ built. built ≡ then_of parts.now) }
-    ensures short { OnOk result (then_has_long parts.now ≡ false) }
-    ensures long { result ≡ Err JobFault.TextTooLong → then_has_long parts.now ≡ true }
+    ensures short { OnOk result (then_has_long (then_of parts.now) ≡ false) }
+    ensures long { result ≡ Err JobFault.TextTooLong → then_has_long (then_of parts.now) ≡ true }
     ensures fault { IfErr result IsBuildingFault }
 {
     match parts {
@@ -73,8 +76,8 @@ fn build_then(alloc: Global, parts: &ThenParts) -> Result<Then, JobFault>
 
 fn build_transition(alloc: Global, parts: &TransitionParts) -> Result<Transition, JobFault>
     ensures same { IfOk result (λ built. built ≡ transition_of parts.now) }
-    ensures short { OnOk result (transition_has_long parts.now ≡ false) }
-    ensures long { result ≡ Err JobFault.TextTooLong → transition_has_long parts.now ≡ true }
+    ensures short { OnOk result (transition_has_long (transition_of parts.now) ≡ false) }
+    ensures long { result ≡ Err JobFault.TextTooLong → transition_has_long (transition_of parts.now) ≡ true }
     ensures fault { IfErr result IsBuildingFault }
 {
     let on = build_text(alloc, parts.on.as_str())?;
@@ -87,8 +90,8 @@ fn build_transitions(
     parts: &[TransitionParts],
 ) -> Result<Listed<Transition>, JobFault>
     ensures same { IfOk result (λ built. built ≡ map transition_of parts.now) }
-    ensures short { OnOk result (any_true (map transition_has_long parts.now) ≡ false) }
-    ensures long { result ≡ Err JobFault.TextTooLong → any_true (map transition_has_long parts.now) ≡ true }
+    ensures short { OnOk result (any_true (map transition_has_long (map transition_of parts.now)) ≡ false) }
+    ensures long { result ≡ Err JobFault.TextTooLong → any_true (map transition_has_long (map transition_of parts.now)) ≡ true }
     ensures fault { IfErr result IsBuildingFault }
 {
     let mut built = Vec::new(alloc);
@@ -100,8 +103,8 @@ fn build_transitions(
 
 fn build_task(alloc: Global, parts: &TaskParts) -> Result<Task, JobFault>
     ensures same { IfOk result (λ built. built ≡ task_of parts.now) }
-    ensures short { OnOk result (task_has_long parts.now ≡ false) }
-    ensures long { result ≡ Err JobFault.TextTooLong → task_has_long parts.now ≡ true }
+    ensures short { OnOk result (task_has_long (task_of parts.now) ≡ false) }
+    ensures long { result ≡ Err JobFault.TextTooLong → task_has_long (task_of parts.now) ≡ true }
     ensures fault { IfErr result IsBuildingFault }
 {
     match parts {
@@ -128,8 +131,8 @@ fn build_task(alloc: Global, parts: &TaskParts) -> Result<Task, JobFault>
 
 fn build_step(alloc: Global, parts: &StepParts) -> Result<Step, JobFault>
     ensures same { IfOk result (λ built. built ≡ step_of parts.now) }
-    ensures short { OnOk result (task_has_long parts.now.task ≡ false) }
-    ensures long { result ≡ Err JobFault.TextTooLong → task_has_long parts.now.task ≡ true }
+    ensures short { OnOk result (task_has_long (task_of parts.now.task) ≡ false) }
+    ensures long { result ≡ Err JobFault.TextTooLong → task_has_long (task_of parts.now.task) ≡ true }
     ensures fault { IfErr result IsBuildingFault }
 {
     let task = build_task(alloc, &parts.task)?;
@@ -141,10 +144,11 @@ fn build_step(alloc: Global, parts: &StepParts) -> Result<Step, JobFault>
 }
 
 #[cycle(building)]
+#[tactic(auto, using(crate::proofs::Layers::element_long_of))]
 fn build_element(alloc: Global, parts: &ElementParts) -> Result<Element, JobFault>
     ensures same { IfOk result (λ built. built ≡ element_of parts.now) }
-    ensures short { OnOk result (element_has_long parts.now ≡ false) }
-    ensures long { result ≡ Err JobFault.TextTooLong → element_has_long parts.now ≡ true }
+    ensures short { OnOk result (element_has_long (element_of parts.now) ≡ false) }
+    ensures long { result ≡ Err JobFault.TextTooLong → element_has_long (element_of parts.now) ≡ true }
     ensures fault { IfErr result IsBuildingFault }
 {
     let id = build_text(alloc, parts.id.as_str())?;
@@ -160,10 +164,11 @@ fn build_element(alloc: Global, parts: &ElementParts) -> Result<Element, JobFaul
 }
 
 #[cycle(building)]
+#[tactic(auto, using(crate::proofs::Layers::step_long, crate::proofs::Layers::flow_body_long, crate::proofs::Layers::split_long, crate::proofs::Layers::decision_long))]
 fn build_body(alloc: Global, parts: &BodyParts) -> Result<Body, JobFault>
     ensures same { IfOk result (λ built. built ≡ body_of parts.now) }
-    ensures short { OnOk result (body_has_long parts.now ≡ false) }
-    ensures long { result ≡ Err JobFault.TextTooLong → body_has_long parts.now ≡ true }
+    ensures short { OnOk result (body_has_long (body_of parts.now) ≡ false) }
+    ensures long { result ≡ Err JobFault.TextTooLong → body_has_long (body_of parts.now) ≡ true }
     ensures fault { IfErr result IsBuildingFault }
 {
     match parts {
@@ -182,8 +187,8 @@ fn build_body(alloc: Global, parts: &BodyParts) -> Result<Body, JobFault>
 #[cycle(building)]
 pub fn build_elements(alloc: Global, parts: &[ElementParts]) -> Result<Listed<Element>, JobFault>
     ensures same { IfOk result (λ built. built ≡ map element_of parts.now) }
-    ensures short { OnOk result (any_true (map element_has_long parts.now) ≡ false) }
-    ensures long { result ≡ Err JobFault.TextTooLong → any_true (map element_has_long parts.now) ≡ true }
+    ensures short { OnOk result (any_true (map element_has_long (map element_of parts.now)) ≡ false) }
+    ensures long { result ≡ Err JobFault.TextTooLong → any_true (map element_has_long (map element_of parts.now)) ≡ true }
     ensures fault { IfErr result IsBuildingFault }
 {
     let mut built = Vec::new(alloc);
@@ -194,10 +199,11 @@ pub fn build_elements(alloc: Global, parts: &[ElementParts]) -> Result<Listed<El
 }
 
 #[cycle(building)]
+#[tactic(auto, using(crate::proofs::Layers::flow_long_of))]
 fn build_flow(alloc: Global, parts: &SplitFlowParts) -> Result<SplitFlow, JobFault>
     ensures same { IfOk result (λ built. built ≡ flow_of parts.now) }
-    ensures short { OnOk result (flow_has_long parts.now ≡ false) }
-    ensures long { result ≡ Err JobFault.TextTooLong → flow_has_long parts.now ≡ true }
+    ensures short { OnOk result (flow_has_long (flow_of parts.now) ≡ false) }
+    ensures long { result ≡ Err JobFault.TextTooLong → flow_has_long (flow_of parts.now) ≡ true }
     ensures fault { IfErr result IsBuildingFault }
 {
     let id = build_text(alloc, parts.id.as_str())?;
@@ -208,8 +214,8 @@ fn build_flow(alloc: Global, parts: &SplitFlowParts) -> Result<SplitFlow, JobFau
 #[cycle(building)]
 fn build_flows(alloc: Global, parts: &[SplitFlowParts]) -> Result<Listed<SplitFlow>, JobFault>
     ensures same { IfOk result (λ built. built ≡ map flow_of parts.now) }
-    ensures short { OnOk result (any_true (map flow_has_long parts.now) ≡ false) }
-    ensures long { result ≡ Err JobFault.TextTooLong → any_true (map flow_has_long parts.now) ≡ true }
+    ensures short { OnOk result (any_true (map flow_has_long (map flow_of parts.now)) ≡ false) }
+    ensures long { result ≡ Err JobFault.TextTooLong → any_true (map flow_has_long (map flow_of parts.now)) ≡ true }
     ensures fault { IfErr result IsBuildingFault }
 {
     let mut built = Vec::new(alloc);

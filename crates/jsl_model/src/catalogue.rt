@@ -1,8 +1,15 @@
-ghost use Rattle.std.specs.Prelude.{◌≡◌, ◌≤◌, ◌<◌, ◌↔◌, [], ◌++◌, ◌∷◌, find, length, option_copied, IsTrue, IsSome, IsNone, IfOk, OnOk, OnErr, Err};
+ghost use Rattle.std.specs.Prelude.{◌≡◌, ◌≤◌, ◌<◌, ◌↔◌, [], ◌++◌, ◌∷◌, find, length, map, option_copied, IsTrue, IsSome, IsNone, IfOk, OnOk, OnErr, Err};
+ghost use Rattle.std.specs.List.{flat_map};
 ghost use Rattle.batch_ids.specs.Texts.{is_text};
+ghost use Rattle.jsl_model.specs.Trees.{artifacts};
+ghost use Rattle.jsl_model.specs.Names.{distinct};
 ghost use Rattle.jsl_model.specs.Catalogues.{AreJobs};
 
+use crate::element::Element;
 use crate::job::{Job, JobFault};
+use crate::member::members_in;
+use crate::names::distinct;
+use crate::naming::add_artifacts;
 use batch_ids::{Listed, OutOfMemory};
 use std::alloc::Global;
 use std::marker::Model;
@@ -94,6 +101,18 @@ impl Catalogue {
         self.jobs.is_empty()
     }
 
+    /// The names of all artifacts that its jobs name, each once, the first use first, or `OutOfMemory`.
+    /// It costs time and memory as its jobs have elements.
+    pub fn artifacts(&self, alloc: Global) -> Result<Vec<&str>, OutOfMemory>
+        ensures { IfOk result (λ names. map (λ name. name.now) names.items ≡ distinct (flat_map (λ job. artifacts job.elements) self.now)) }
+    {
+        let mut names = Vec::new(alloc);
+        for job in self.jobs.as_slice() {
+            add_all_artifacts(alloc, job.elements(), &mut names)?;
+        }
+        distinct(alloc, names.as_slice())
+    }
+
     /// An equal catalogue, or `OutOfMemory`. It costs time and memory as its jobs have elements.
     pub fn try_clone(&self, alloc: Global) -> Result<Catalogue, OutOfMemory>
         ensures { IfOk result (λ copy. copy ≡ self.now) }
@@ -106,4 +125,21 @@ impl Catalogue {
             jobs: Listed::from_vec(jobs),
         })
     }
+}
+
+/// Adds the artifacts that elements name at all depths.
+fn add_all_artifacts<'a>(
+    alloc: Global,
+    elements: &'a [Element],
+    names: &mut Vec<&'a str>,
+) -> Result<(), OutOfMemory>
+    ensures { OnOk result (map (λ name. name.now) names.new.items ≡ map (λ name. name.now) names.old.items ++ artifacts elements.now) }
+{
+    let members = members_in(alloc, elements)?;
+    for member in members.as_slice() {
+        if let Some(body) = member.body {
+            add_artifacts(body, names)?;
+        }
+    }
+    Ok(())
 }

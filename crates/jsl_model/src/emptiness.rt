@@ -1,11 +1,11 @@
 ghost use Rattle.std.specs.Prelude.{◌≡◌, map};
-ghost use Rattle.jsl_model.specs.Parts.{bytes_of_option, task_of, body_of, element_of, flow_of};
-ghost use Rattle.jsl_model.specs.Trees.{is_empty, is_empty_option, is_lacking, task_has_empty, body_has_empty, element_has_empty, flow_has_empty};
+ghost use Rattle.jsl_model.specs.Emptiness.{is_empty_option, is_lacking, task_has_empty, body_has_empty, element_has_empty, flow_has_empty};
 
-use crate::parts::{BodyParts, ElementParts, SplitFlowParts, TaskParts};
+use crate::element::{Body, Element, SplitFlow, Task};
+use batch_ids::T256;
 
-fn is_empty_name(name: &Option<String>) -> bool
-    ensures { result ≡ is_empty_option (bytes_of_option name.now) }
+fn is_empty_name(name: &Option<T256>) -> bool
+    ensures { result ≡ is_empty_option name.now }
 {
     match name {
         None => false,
@@ -13,12 +13,12 @@ fn is_empty_name(name: &Option<String>) -> bool
     }
 }
 
-fn has_empty_task(parts: &TaskParts) -> bool
-    ensures { result ≡ task_has_empty (task_of parts.now) }
+fn has_empty_task(task: &Task) -> bool
+    ensures { result ≡ task_has_empty task.now }
 {
-    match parts {
-        TaskParts::Batchlet { artifact } => artifact.as_str().is_empty(),
-        TaskParts::Chunk {
+    match task {
+        Task::Batchlet { artifact } => artifact.as_str().is_empty(),
+        Task::Chunk {
             reader,
             processor,
             writer,
@@ -33,30 +33,28 @@ fn has_empty_task(parts: &TaskParts) -> bool
 }
 
 #[cycle(emptiness)]
-#[tactic(auto, using(crate::proofs::Layers::element_empty_of))]
-fn is_empty_element(parts: &ElementParts) -> bool
-    ensures { result ≡ element_has_empty (element_of parts.now) }
+fn is_empty_element(element: &Element) -> bool
+    ensures { result ≡ element_has_empty element.now }
 {
-    parts.id.as_str().is_empty() || is_empty_body(&parts.body)
+    element.id.as_str().is_empty() || is_empty_body(&element.body)
 }
 
 #[cycle(emptiness)]
-#[tactic(auto, using(crate::proofs::Layers::step_empty, crate::proofs::Layers::flow_body_empty, crate::proofs::Layers::split_empty, crate::proofs::Layers::decision_empty))]
-fn is_empty_body(parts: &BodyParts) -> bool
-    ensures { result ≡ body_has_empty (body_of parts.now) }
+fn is_empty_body(body: &Body) -> bool
+    ensures { result ≡ body_has_empty body.now }
 {
-    match parts {
-        BodyParts::Step(step) => has_empty_task(&step.task),
-        BodyParts::Flow(elements) => is_list_lacking(elements.as_slice()),
-        BodyParts::Split(flows) => is_split_lacking(flows.as_slice()),
-        BodyParts::Decision(artifact) => artifact.as_str().is_empty(),
+    match body {
+        Body::Step(step) => has_empty_task(&step.task),
+        Body::Flow(elements) => is_list_lacking(elements.as_slice()),
+        Body::Split(flows) => is_split_lacking(flows.as_slice()),
+        Body::Decision { artifact } => artifact.as_str().is_empty(),
     }
 }
 
 /// Whether there is no element, or one in which something is empty that has to be there.
 #[cycle(emptiness)]
-pub fn is_list_lacking(elements: &[ElementParts]) -> bool
-    ensures { result ≡ is_lacking (map element_has_empty (map element_of elements.now)) }
+pub fn is_list_lacking(elements: &[Element]) -> bool
+    ensures { result ≡ is_lacking (map element_has_empty elements.now) }
 {
     if elements.is_empty() {
         return true;
@@ -70,16 +68,15 @@ pub fn is_list_lacking(elements: &[ElementParts]) -> bool
 }
 
 #[cycle(emptiness)]
-#[tactic(auto, using(crate::proofs::Layers::flow_empty_of))]
-fn is_empty_flow(parts: &SplitFlowParts) -> bool
-    ensures { result ≡ flow_has_empty (flow_of parts.now) }
+fn is_empty_flow(flow: &SplitFlow) -> bool
+    ensures { result ≡ flow_has_empty flow.now }
 {
-    parts.id.as_str().is_empty() || is_list_lacking(parts.elements.as_slice())
+    flow.id.as_str().is_empty() || is_list_lacking(flow.elements.as_slice())
 }
 
 #[cycle(emptiness)]
-fn is_split_lacking(flows: &[SplitFlowParts]) -> bool
-    ensures { result ≡ is_lacking (map flow_has_empty (map flow_of flows.now)) }
+fn is_split_lacking(flows: &[SplitFlow]) -> bool
+    ensures { result ≡ is_lacking (map flow_has_empty flows.now) }
 {
     if flows.is_empty() {
         return true;

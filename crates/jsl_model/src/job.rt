@@ -1,12 +1,11 @@
-ghost use Rattle.std.specs.Prelude.{◌≡◌, ◌≤◌, false, length, Some, None, Err, IfSome, IfOk, IfErr, OnOk};
-ghost use Rattle.jsl_model.specs.Jobs.{IsChecked};
+ghost use Rattle.std.specs.Prelude.{◌≡◌, ◌≤◌, false, length, find, option_copied, Some, None, Err, IfOk, IfErr, OnOk};
+ghost use Rattle.batch_ids.specs.Texts.{is_text};
 ghost use Rattle.jsl_model.specs.Parts.{tree_of};
-ghost use Rattle.jsl_model.specs.Faults.{fault_name, is_out_of_memory, job_fault};
+ghost use Rattle.jsl_model.specs.Faults.{fault_name, is_out_of_memory, job_fault, IsChecked};
 
 use crate::building::{build_elements, build_text};
 use crate::element::{Body, Element, copies_of};
-use crate::emptiness::is_list_lacking;
-use crate::lengths::{has_long_element, is_long_text};
+use crate::faults::fault_in;
 use crate::parts::JobParts;
 use batch_ids::{Listed, OutOfMemory, T256};
 use std::alloc::{AllocError, AllocFailed, Global};
@@ -98,7 +97,8 @@ pub struct Job {
 }
 
 impl Model for Job {
-    ghost use Rattle.jsl_model.specs.Jobs.{JobTree, IsChecked};
+    ghost use Rattle.jsl_model.specs.Jobs.{JobTree};
+    ghost use Rattle.jsl_model.specs.Faults.{IsChecked};
     ghost use Rattle.jsl_model.specs.contracts.element.Body as body;
     ghost use Rattle.std.specs.Coded.{codes};
 
@@ -119,25 +119,31 @@ impl Job {
     /// - `TextTooLong`: a text (an id, a `next`, an artifact's name, an `on`, a `to`, an exit status,
     ///   a `restart`) has more than 256 bytes;
     /// - `Empty`: an id or an artifact's name is empty, a list has no element, a split has no flow, or
-    ///   an item-count is 0.
+    ///   an item-count is 0;
+    /// - `TooDeep`: an element stands deeper than 16 (the job's own elements stand at 1, those inside a
+    ///   flow one deeper than it, the flows of a split one deeper than it and their elements two);
+    /// - `TooMany`: there are more than 1,000 elements, flows of splits included;
+    /// - `DuplicateId`: two of them have one id;
+    /// - `NoSuchTarget`: a `next` or a `to` names no element of its own list;
+    /// - `Loop`: in one list, the targets of `next` and `to` form a cycle;
+    /// - `RestartNotJobLevel`: a `restart` names no element of the job's own list.
     ///
-    /// Where none of them stands, at most `OutOfMemory`.
+    /// `OutOfMemory` may stand in place of any answer. The time is near linear in the size of the parts.
     pub fn check(alloc: Global, parts: JobParts) -> Result<Job, JobFault>
         ensures same { IfOk result (λ job. job ≡ tree_of parts) }
-        ensures faultless { OnOk result (job_fault parts ≡ None) }
-        ensures fault { IfErr result (λ fault. is_out_of_memory fault ≡ false → job_fault parts ≡ Some fault) }
-        ensures refused { IfSome (job_fault parts) (λ fault. result ≡ Err fault) }
+        ensures faultless { OnOk result (job_fault (tree_of parts) ≡ None) }
+        ensures fault { IfErr result (λ fault. is_out_of_memory fault ≡ false → job_fault (tree_of parts) ≡ Some fault) }
     {
-        if let Some(fault) = fault_in(&parts) {
-            return Err(fault);
-        }
         let id = build_text(alloc, parts.id.as_str())?;
         let elements = build_elements(alloc, parts.elements.as_slice())?;
-        Ok(Job {
-            id,
-            restartable: parts.restartable,
-            elements,
-        })
+        match fault_in(alloc, &id, elements.as_slice())? {
+            Some(fault) => Err(fault),
+            None => Ok(Job {
+                id,
+                restartable: parts.restartable,
+                elements,
+            }),
+        }
     }
 
     /// The job's id, of 1 to 256 bytes.
@@ -163,6 +169,19 @@ impl Job {
         self.elements.as_slice()
     }
 
+    /// The element of the job's own list that has this id, if there is one (an element inside a flow or
+    /// a split is not looked for). It costs time as the list has elements.
+    pub fn element(&self, id: &str) -> Option<&Element>
+        ensures { option_copied result ≡ find (λ element. is_text element.id id.now) self.now.elements }
+    {
+        for element in self.elements() {
+            if element.id.as_str() == id {
+                return Some(element);
+            }
+        }
+        None
+    }
+
     /// An equal job, or `OutOfMemory`. It costs time and memory as the job has elements.
     pub fn try_clone(&self, alloc: Global) -> Result<Job, OutOfMemory>
         ensures { IfOk result (λ copy. copy ≡ self.now) }
@@ -175,17 +194,4 @@ impl Job {
             elements,
         })
     }
-}
-
-/// The first fault of these parts, each tested over the whole job.
-fn fault_in(parts: &JobParts) -> Option<JobFault>
-    ensures { result ≡ job_fault parts.now }
-{
-    if is_long_text(parts.id.as_str()) || has_long_element(parts.elements.as_slice()) {
-        return Some(JobFault::TextTooLong);
-    }
-    if parts.id.as_str().is_empty() || is_list_lacking(parts.elements.as_slice()) {
-        return Some(JobFault::Empty);
-    }
-    None
 }

@@ -3,11 +3,17 @@
 
 mod building;
 mod catalogue;
+mod depth;
 mod element;
 mod emptiness;
+mod faults;
 mod job;
-mod lengths;
+mod lists;
+mod member;
+mod names;
+mod naming;
 mod parts;
+mod targets;
 
 pub use catalogue::Catalogue;
 pub use element::{Body, Element, SplitFlow, Step, Task, Then, Transition};

@@ -3,26 +3,61 @@ use batch_ids::Listed;
 use std::alloc::{AllocError, Global};
 use std::test::Fail;
 
-fn one_step(alloc: Global, id: &str, artifact: &str) -> Result<JobParts, AllocError> {
+fn element(alloc: Global, id: &str, body: BodyParts) -> Result<ElementParts, AllocError> {
+    Ok(ElementParts {
+        id: String::from_str(alloc, id)?,
+        next: None,
+        transitions: Listed::new(alloc),
+        body,
+    })
+}
+
+fn step(alloc: Global, id: &str, artifact: &str) -> Result<ElementParts, AllocError> {
     let artifact = String::from_str(alloc, artifact)?;
-    let step = StepParts {
+    let body = BodyParts::Step(StepParts {
         start_limit: 0,
         allow_start_if_complete: false,
         task: TaskParts::Batchlet { artifact },
-    };
-    let element = ElementParts {
-        id: String::from_str(alloc, "s")?,
-        next: None,
-        transitions: Listed::new(alloc),
-        body: BodyParts::Step(step),
-    };
-    let mut elements = Listed::new(alloc);
-    elements.push(element)?;
+    });
+    element(alloc, id, body)
+}
+
+fn job_of(alloc: Global, id: &str, elements: Listed<ElementParts>) -> Result<JobParts, AllocError> {
     Ok(JobParts {
         id: String::from_str(alloc, id)?,
         restartable: true,
         elements,
     })
+}
+
+fn one_step(alloc: Global, id: &str, artifact: &str) -> Result<JobParts, AllocError> {
+    let mut elements = Listed::new(alloc);
+    elements.push(step(alloc, "s", artifact)?)?;
+    job_of(alloc, id, elements)
+}
+
+// A step inside so many flows.
+fn nested(alloc: Global, flows: u32) -> Result<JobParts, AllocError> {
+    let mut inside = step(alloc, "s", "ok")?;
+    for number in 0..flows {
+        let id = format!(in alloc; "{number}")?;
+        let mut elements = Listed::new(alloc);
+        elements.push(inside)?;
+        inside = element(alloc, id.as_str(), BodyParts::Flow(elements))?;
+    }
+    let mut elements = Listed::new(alloc);
+    elements.push(inside)?;
+    job_of(alloc, "a", elements)
+}
+
+// A job of so many steps.
+fn steps(alloc: Global, count: u32) -> Result<JobParts, AllocError> {
+    let mut elements = Listed::new(alloc);
+    for number in 0..count {
+        let id = format!(in alloc; "{number}")?;
+        elements.push(step(alloc, id.as_str(), "ok")?)?;
+    }
+    job_of(alloc, "a", elements)
 }
 
 #[test]
@@ -62,6 +97,38 @@ fn a_catalogue_holds_256_jobs_of_different_ids(rt: HostRuntime) -> Result<(), Fa
         assert_eq!(rt; catalogue.add(again), Err(wanted));
     }
     assert!(rt; catalogue.try_clone(alloc)?.job("255").is_some());
+    Ok(())
+}
+
+#[test]
+fn a_step_stands_in_at_most_15_flows(rt: HostRuntime) -> Result<(), Fail> {
+    let alloc = rt.alloc();
+    assert!(rt; Job::check(alloc, nested(alloc, 15)?).is_ok());
+    let fault = Job::check(alloc, nested(alloc, 16)?).err();
+    assert_eq!(rt; fault, Some(JobFault::TooDeep));
+    Ok(())
+}
+
+#[test]
+fn a_job_has_at_most_1000_elements(rt: HostRuntime) -> Result<(), Fail> {
+    let alloc = rt.alloc();
+    let job = Job::check(alloc, steps(alloc, 1000)?)?;
+    assert!(rt; job.element("999").is_some());
+    assert!(rt; job.element("1000").is_none());
+    let fault = Job::check(alloc, steps(alloc, 1001)?).err();
+    assert_eq!(rt; fault, Some(JobFault::TooMany));
+    Ok(())
+}
+
+#[test]
+fn each_artifact_is_listed_once(rt: HostRuntime) -> Result<(), Fail> {
+    let alloc = rt.alloc();
+    let mut catalogue = Catalogue::new(alloc);
+    catalogue.add(Job::check(alloc, one_step(alloc, "a", "load")?)?)?;
+    catalogue.add(Job::check(alloc, one_step(alloc, "b", "send")?)?)?;
+    catalogue.add(Job::check(alloc, one_step(alloc, "c", "load")?)?)?;
+    let names = catalogue.artifacts(alloc)?;
+    assert_eq!(rt; names.as_slice(), ["load", "send"].as_slice());
     Ok(())
 }
 

@@ -12,7 +12,7 @@ use Rattle.batch_history.specs.declared.call.Entry.{Entry}
 use Rattle.batch_history.specs.declared.rows.WorkRow.{WorkRow}
 use Rattle.batch_history.specs.declared.rows.WorkState.{WorkState}
 use Rattle.batch_history.specs.declared.rows.WorkState.TheVariants.{Busy, Over}
-use Rattle.batch_history.specs.History.{made, works_of, works_after, is_work, change_first, over, exit_given}
+use Rattle.batch_history.specs.History.{kind_of, made, works_of, works_after, is_work, change_first, over, exit_given}
 use Rattle.plain_repository.specs.Searches.{works_in, hands_out, handed_by, handed_out, finishes, finish_entry, state_by, state_of, in_state, works_found}
 use Rattle.plain_repository.proofs.Counting.{counted, one-more, map-same, some-map}
 use Rattle.plain_repository.proofs.Pasts.{Fits, FitsClaim, AllFit}
@@ -30,7 +30,7 @@ rows-append k (r ∷ rows) row h e = (h.0, rows-append (k + 1) rows row h.1 (ome
 length-step : (older : List Entry) (who at : ℕ) (call : Call) (reply : Reply) → length (handed_out older) ≡ works_in older
     → length (handed_out (record { who = who; call = call; at = at; reply = reply } ∷ older)) ≡ works_in (record { who = who; call = call; at = at; reply = reply } ∷ older)
 length-step older who at call (Work item) h =
-    one-more (handed_out older) (record { work = works_in older + 1; execution = item.execution; element = item.element; claimer = who; state = Busy })
+    one-more (handed_out older) (record { work = works_in older + 1; execution = item.execution; element = item.element; kind = kind_of item.task; claimer = who; state = Busy })
     ∙ (ap suc h ∙ sym (counted (λ (e : Entry). hands_out e.reply) (record { who = who; call = call; at = at; reply = Work item }) older refl))
 length-step older who at call (IsExecution x) h = ap length (append-nil (handed_out older)) ∙ h
 length-step older who at call (Closed x) h = ap length (append-nil (handed_out older)) ∙ h
@@ -44,7 +44,7 @@ handed-length (e ∷ older) = length-step older e.who e.at e.call e.reply (hande
 
 rows-step : (w who : ℕ) (reply : Reply) (rows : List WorkRow) → AreRows 1 rows → w ≡ length rows + 1 → AreRows 1 (rows ++ handed_by w who reply)
 rows-step w who (Work item) rows h e =
-    rows-append 1 rows (record { work = w; execution = item.execution; element = item.element; claimer = who; state = Busy }) h e
+    rows-append 1 rows (record { work = w; execution = item.execution; element = item.element; kind = kind_of item.task; claimer = who; state = Busy }) h e
 rows-step w who (IsExecution x) rows h e = subst (AreRows 1) (sym (append-nil rows)) h
 rows-step w who (Closed x) rows h e = subst (AreRows 1) (sym (append-nil rows)) h
 rows-step w who Nothing rows h e = subst (AreRows 1) (sym (append-nil rows)) h
@@ -67,7 +67,7 @@ rows-within v k (row ∷ rows) h e =
 
 same-state : (s t : ℕ → WorkState) (row : WorkRow) → s row.work ≡ t row.work → in_state s row ≡ in_state t row
 same-state s t row e =
-    ap (λ (x : WorkState). record { work = row.work; execution = row.execution; element = row.element; claimer = row.claimer; state = x }) e
+    ap (λ (x : WorkState). record { work = row.work; execution = row.execution; element = row.element; kind = row.kind; claimer = row.claimer; state = x }) e
 
 states-above : (s t : ℕ → WorkState) (v k : ℕ) (rows : List WorkRow) → AreRows k rows → v < k
     → ((w : ℕ) → (v == w) ≡ false → s w ≡ t w) → map (in_state s) rows ≡ map (in_state t) rows
@@ -124,7 +124,7 @@ claim-works older who at (Work item) fits before =
     ap length (sym before.same) ∙ (length-map (handed_out older) (in_state (state_of older)) ∙ handed-length older) in
     let number : works_in older + 1 ≡ item.work = ap (λ n. n + 1) (sym count) ∙ sym fits.0 in
     let busy : state_of older (works_in older + 1) ≡ Busy = ap state_by (before.later (works_in older + 1) (omega arith)) in
-    let row : ℕ → WorkState → WorkRow = λ w s. record { work = w; execution = item.execution; element = item.element; claimer = who; state = s } in
+    let row : ℕ → WorkState → WorkRow = λ w s. record { work = w; execution = item.execution; element = item.element; kind = kind_of item.task; claimer = who; state = s } in
     map-append (in_state (state_of older)) (handed_out older) (row (works_in older + 1) Busy ∷ [])
     ∙ (ap (λ rows. rows ++ row (works_in older + 1) (state_of older (works_in older + 1)) ∷ []) before.same
     ∙ (ap (λ s. works_of older ++ row (works_in older + 1) s ∷ []) busy

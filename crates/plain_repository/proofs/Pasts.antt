@@ -11,6 +11,7 @@ use Rattle.batch_history.specs.declared.call.Call.{Call}
 use Rattle.batch_history.specs.declared.call.Call.TheVariants.{Start, Restart, Claim, Finish}
 use Rattle.batch_history.specs.declared.call.Reply.{Reply}
 use Rattle.batch_history.specs.declared.call.Reply.TheVariants.{Execution as IsExecution, Work, Closed, Nothing, Done}
+use Rattle.batch_history.specs.declared.call.WorkKind.{WorkKind}
 use Rattle.batch_history.specs.declared.call.Entry.{Entry}
 use Rattle.batch_history.specs.declared.query.JobExecution.{JobExecution}
 use Rattle.batch_history.specs.declared.rows.WorkRow.{WorkRow}
@@ -72,23 +73,23 @@ claimed-fits limit r executions (Some row) given e below =
     subst (FitsClaim (length r.works) executions) (sym (entered-is limit r.count reply given e))
     (claim-fits (length r.works) executions row.execution (job_named r.catalogue row.job) (first_ready (walk_in r row)) (below row refl))
 
-as-is : (limit count : ℕ) (o : WorkOutcome) (given : Reply) → finished_as limit count o ≡ Ok given → given ≡ Done
-as-is limit count Stopped given e = cc
-as-is limit count Completed given e = entered-is limit count Done given e
-as-is limit count Failed given e = entered-is limit count Done given e
+as-is : (limit count : ℕ) (kind : WorkKind) (o : WorkOutcome) (given : Reply) → finished_as limit count kind o ≡ Ok given → given ≡ Done
+as-is limit count kind Stopped given e = cc
+as-is limit count kind Completed given e = entered-is limit count Done given e
+as-is limit count kind Failed given e = entered-is limit count Done given e
 
-by-is : (limit count who : ℕ) (o : WorkOutcome) (claimer : ℕ) (state : WorkState) (given : Reply) → finished_by limit count who o claimer state ≡ Ok given → given ≡ Done
-by-is limit count who o claimer (Over p exit) given e = cc
-by-is limit count who o claimer Busy given e =
-    (elim (claimer == who) as (λ b. cond b (finished_as limit count o) (Err NotClaimer) ≡ Ok given → given ≡ Done) [
-      | true ↦ λ s. as-is limit count o given s
+by-is : (limit count who : ℕ) (o : WorkOutcome) (claimer : ℕ) (kind : WorkKind) (state : WorkState) (given : Reply) → finished_by limit count who o claimer kind state ≡ Ok given → given ≡ Done
+by-is limit count who o claimer kind (Over p exit) given e = cc
+by-is limit count who o claimer kind Busy given e =
+    (elim (claimer == who) as (λ b. cond b (finished_as limit count kind o) (Err NotClaimer) ≡ Ok given → given ≡ Done) [
+      | true ↦ λ s. as-is limit count kind o given s
       | false ↦ λ s. cc
     ]) e
 
 finished-fits : (limit count who : ℕ) (o : WorkOutcome) (found : Option WorkRow) (given : Reply) → finished limit count who o found ≡ Ok given
     → (given ≡ Done) × (is_some found ≡ true)
 finished-fits limit count who o None given e = cc
-finished-fits limit count who o (Some row) given e = (by-is limit count who o row.claimer row.state given e, refl)
+finished-fits limit count who o (Some row) given e = (by-is limit count who o row.claimer row.kind row.state given e, refl)
 
 -- an entry whose reply is due fits what is older
 pub due-fits : (limit : ℕ) (catalogue : List JobTree) (older : List Entry) (who : ℕ) (call : Call) (given : Reply)

@@ -14,7 +14,7 @@ use Rattle.batch_history.specs.declared.query.JobExecution.{JobExecution}
 use Rattle.batch_history.specs.declared.rows.WorkRow.{WorkRow}
 use Rattle.batch_history.specs.declared.rows.WorkState.{WorkState}
 use Rattle.batch_history.specs.declared.rows.WorkState.TheVariants.{Busy, Over}
-use Rattle.batch_history.specs.History.{is_at, owner_of, exit_given, earliest, known_of, walk_of, job_named, status_from, exit_from, is_finished}
+use Rattle.batch_history.specs.History.{kind_of, is_at, owner_of, exit_given, earliest, known_of, walk_of, job_named, status_from, exit_from, is_finished}
 use Rattle.plain_repository.specs.declared.origin.Origin.{Origin}
 
 -- ---- Job executions: execution x is the x-th Start or Restart
@@ -81,7 +81,7 @@ works_in past = count_by (λ e. hands_out e.reply) past
 -- the work item that a reply hands out under this number, to this session
 abbrev pub handed_by : ℕ → ℕ → Reply → List WorkRow
 handed_by w who (Work item) =
-    record { work = w; execution = item.execution; element = item.element; claimer = who; state = Busy } ∷ []
+    record { work = w; execution = item.execution; element = item.element; kind = kind_of item.task; claimer = who; state = Busy } ∷ []
 handed_by w who (Execution x) = []
 handed_by w who (Closed x) = []
 handed_by w who Nothing = []
@@ -122,7 +122,7 @@ state_of past w = state_by (finish_entry past w)
 -- a work item in the state of its number
 abbrev pub in_state : (ℕ → WorkState) → WorkRow → WorkRow
 in_state states row =
-    record { work = row.work; execution = row.execution; element = row.element; claimer = row.claimer; state = states row.work }
+    record { work = row.work; execution = row.execution; element = row.element; kind = row.kind; claimer = row.claimer; state = states row.work }
 
 -- the work items, in order, each in its state
 abbrev pub works_found : List Entry → List WorkRow

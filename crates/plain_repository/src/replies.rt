@@ -1,7 +1,7 @@
 ghost use Rattle.std.specs.Prelude.{◌≡◌, ◌≤◌, ◌<◌, ◌+◌, ◌^◌, length, find, IfOk, OnOk, false};
 ghost use Rattle.batch_history.specs.History.{is_work};
 ghost use Rattle.batch_history.specs.Replies.{is_nothing};
-ghost use Rattle.batch_history.specs.Rows.{entered, finished};
+ghost use Rattle.batch_history.specs.Rows.{entered, finished, stopped_refusal};
 ghost use Rattle.seq_repository.specs.Due.{IsDue};
 ghost use Rattle.plain_repository.specs.Searches.{works_found};
 ghost use Rattle.plain_repository.specs.Found.{reply_over, answer_over};
@@ -10,7 +10,7 @@ use crate::claiming::{claim_found, least_found};
 use crate::moments::record_found;
 use crate::origin::{executions_in, origin_of};
 use crate::works::{find_work, works_of};
-use batch_history::{Answer, Call, Entry, Query, Reply, WorkRow, WorkState};
+use batch_history::{Answer, Call, Entry, Query, Reply, WorkKind, WorkRow, WorkState};
 use batch_ids::{ExecutionId, Refusal, T256, WorkId, WorkOutcome};
 use jsl_model::Catalogue;
 use std::alloc::Global;
@@ -71,6 +71,17 @@ fn claim(alloc: Global, limit: u64, catalogue: &Catalogue, past: &[Entry]) -> Re
     }
 }
 
+/// Why a work item is not finished STOPPED.
+fn stopped_refusal(kind: WorkKind) -> Refusal
+    ensures { result ≡ stopped_refusal kind }
+{
+    match kind {
+        WorkKind::Decision => Refusal::WrongOutcome,
+        WorkKind::Batchlet => Refusal::NotStopping,
+        WorkKind::Chunk => Refusal::NotStopping,
+    }
+}
+
 fn finish_row(
     limit: u64,
     past: &[Entry],
@@ -93,7 +104,7 @@ fn finish_row(
                 return Err(Refusal::NotClaimer);
             }
             match outcome {
-                WorkOutcome::Stopped => Err(Refusal::NotStopping),
+                WorkOutcome::Stopped => Err(stopped_refusal(row.kind)),
                 WorkOutcome::Completed => entered(limit, past, Reply::Done),
                 WorkOutcome::Failed => entered(limit, past, Reply::Done),
             }

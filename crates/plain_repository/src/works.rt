@@ -49,6 +49,7 @@ fn add_handed(
                 work: WorkId::new(number),
                 execution: item.execution,
                 element,
+                kind: item.task.kind(),
                 claimer: who,
                 state: WorkState::Busy,
             })?;
@@ -137,6 +138,7 @@ fn in_states(alloc: Global, past: &[Entry], handed: &[WorkRow]) -> Result<Vec<Wo
             work: row.work,
             execution: row.execution,
             element: row.element.try_clone()?,
+            kind: row.kind,
             claimer: row.claimer,
             state: state_of(alloc, past, row.work)?,
         })?;

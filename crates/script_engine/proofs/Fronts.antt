@@ -5,7 +5,7 @@ use Rattle.jsl_model.specs.Jobs.{JobTree}
 use Rattle.batch_history.specs.Rows.{History}
 use Rattle.script_lines.specs.Cut.{grow, grow_whole, lines_of, whole_lines, at_least_one}
 use Rattle.script_lines.specs.Device.{Told, Held}
-use Rattle.script_text.specs.declared.fault.ReadFault.{ReadFault}
+use Rattle.jsl_json.specs.declared.fault.ReadFault.{ReadFault}
 use Rattle.script_text.specs.Faults.{fault_text}
 use Rattle.script_engine.specs.declared.summary.Summary.{Summary}
 use Rattle.script_engine.specs.declared.fault.EngineFault.{EngineFault}

@@ -9,8 +9,8 @@ use Rattle.script_lines.specs.Device.{Told, Held}
 use Rattle.script_lines.specs.Lines.{ShowsFirst, Took, PassedOn}
 use Rattle.script_lines.specs.Unread.{Unread, nothing_read}
 use Rattle.script_lines.proofs.Cutting.{Cutting, cut_first, cut_so_far, first_fault}
-use Rattle.script_text.specs.declared.fault.ReadFault.{ReadFault}
-use Rattle.script_text.specs.Catalogues.{is_out_of_memory}
+use Rattle.jsl_json.specs.declared.fault.ReadFault.{ReadFault}
+use Rattle.jsl_json.specs.Catalogues.{is_out_of_memory}
 use Rattle.script_text.specs.Faults.{fault_text}
 use Rattle.script_engine.specs.declared.fault.EngineFault.{EngineFault}
 use Rattle.script_engine.specs.declared.fault.EngineFault.TheVariants as faults

@@ -3,8 +3,8 @@ use Rattle.std.specs.Prelude.{◌≡◌, ℕ, ◌<◌, List, ◌∷◌, ◌++◌
 use Rattle.script_lines.specs.Device.{Told, Held}
 use Rattle.script_lines.specs.Cut.{whole_lines, script_lines}
 use Rattle.script_lines.specs.Lines.{IsReadFault}
-use Rattle.script_text.specs.declared.fault.ReadFault.{ReadFault}
-use Rattle.script_text.specs.Catalogues.{is_out_of_memory}
+use Rattle.jsl_json.specs.declared.fault.ReadFault.{ReadFault}
+use Rattle.jsl_json.specs.Catalogues.{is_out_of_memory}
 use Rattle.script_text.specs.Faults.{fault_text}
 use Rattle.script_engine.specs.declared.summary.Summary.{Summary}
 use Rattle.script_engine.specs.declared.fault.EngineFault.{EngineFault}

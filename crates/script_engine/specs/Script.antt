@@ -10,10 +10,10 @@ use Rattle.script_lines.specs.declared.line.TheConstants.{MAX_LINE}
 use Rattle.script_lines.specs.Cut.{script_lines}
 use Rattle.script_text.specs.declared.command.Command.{Command}
 use Rattle.script_text.specs.declared.command.Command.TheVariants.{BadLine, TextTooLong, Act, Ask}
-use Rattle.script_text.specs.declared.fault.ReadFault.{ReadFault}
-use Rattle.script_text.specs.declared.fault.ReadFault.TheVariants.{NotACatalogue}
+use Rattle.jsl_json.specs.declared.fault.ReadFault.{ReadFault}
+use Rattle.jsl_json.specs.declared.fault.ReadFault.TheVariants.{NotACatalogue}
 use Rattle.script_text.specs.Commands.{command_of}
-use Rattle.script_text.specs.Catalogues.{catalogue_of}
+use Rattle.jsl_json.specs.Catalogues.{catalogue_of}
 use Rattle.script_text.specs.Replies.{reply_text, answer_text, bad_line_text}
 use Rattle.script_text.specs.Faults.{fault_text}
 

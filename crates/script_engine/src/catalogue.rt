@@ -1,13 +1,14 @@
 ghost use Rattle.std.specs.Prelude.{◌≡◌, List, ℕ, [], false, Ok, Err, IfOk, IfErr};
 ghost use Rattle.script_lines.specs.Lines.{ShowsFirst};
-ghost use Rattle.script_text.specs.Catalogues.{is_out_of_memory};
+ghost use Rattle.jsl_json.specs.Catalogues.{is_out_of_memory};
 ghost use Rattle.script_engine.specs.Script.{catalogue_at};
 ghost use Rattle.script_engine.specs.Ran.{TellsFault};
 
 use crate::fault::EngineFault;
+use jsl_json::{ReadFault, read_catalogue};
 use jsl_model::Catalogue;
 use script_lines::{Line, Outbox, Sink};
-use script_text::{ReadFault, fault_text, read_catalogue};
+use script_text::fault_text;
 use std::alloc::Global;
 
 /// The catalogue that the first line is. Want of memory is `OutOfMemory`, in place of any answer.

@@ -2,8 +2,8 @@ ghost use Rattle.std.specs.Prelude.{◌≡◌};
 ghost use Rattle.script_engine.specs.declared.fault.EngineFault.TheVariants.{Write, OutOfMemory};
 ghost use Rattle.script_engine.specs.Faults.{engine_fault, is_of_writer};
 
+use jsl_json::ReadFault;
 use script_lines::{DeviceFault, LineFault};
-use script_text::ReadFault;
 use std::alloc::AllocError;
 use thiserror::Error;
 

@@ -8,10 +8,12 @@ mod run;
 mod summary;
 
 pub use fault::EngineFault;
+pub use jsl_json::ReadFault;
 pub use run::run_script;
 pub use script_lines::{Counted, DeviceFault, MAX_LINE, MAX_READS, Sink, Source};
-pub use script_text::ReadFault;
 pub use summary::Summary;
 
+#[cfg(test)]
+mod job_tests;
 #[cfg(test)]
 mod tests;

@@ -5,7 +5,7 @@ use std::io::{Error, ErrorKind, Read, Write};
 use std::test::Fail;
 
 // What is written for a script, and how its run ends.
-fn replies(alloc: Global, script: &[u8]) -> (Vec<u8>, Result<Summary, EngineFault>) {
+pub(crate) fn replies(alloc: Global, script: &[u8]) -> (Vec<u8>, Result<Summary, EngineFault>) {
     let mut out = Vec::new(alloc);
     let outcome = {
         let mut reader = Counted::new(script);

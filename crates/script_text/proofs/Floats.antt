@@ -10,8 +10,8 @@ use Rattle.batch_history.specs.declared.call.WorkTask.TheVariants.{Batchlet, Chu
 use Rattle.batch_history.specs.declared.query.JobExecution.{JobExecution as Described}
 use Rattle.batch_history.specs.declared.query.Answer.{Answer}
 use Rattle.batch_history.specs.declared.query.Answer.TheVariants.{JobExecution}
-use Rattle.script_text.specs.declared.fault.ReadFault.{ReadFault}
-use Rattle.script_text.specs.declared.fault.ReadFault.TheVariants.{NotJson, NotACatalogue, BadElement, InJob, OutOfMemory}
+use Rattle.jsl_json.specs.declared.fault.ReadFault.{ReadFault}
+use Rattle.jsl_json.specs.declared.fault.ReadFault.TheVariants.{NotJson, NotACatalogue, BadElement, InJob, OutOfMemory}
 use Rattle.script_text.specs.Faults.{fault_data}
 use Rattle.script_text.specs.Replies.{text_or_null, count_or_null, item_data, reply_data, execution_data, answer_data}
 

@@ -6,7 +6,7 @@ use Rattle.batch_ids.specs.declared.status.WorkOutcome.{WorkOutcome}
 use Rattle.batch_ids.specs.declared.status.WorkOutcome.TheVariants.{Completed, Failed, Stopped}
 use Rattle.batch_history.specs.declared.call.Call.{Call}
 use Rattle.batch_history.specs.declared.call.Call.TheVariants.{Start, Restart, Claim, Finish}
-use Rattle.script_text.specs.Chains.{◌>>=◌}
+use Rattle.json_members.specs.Chains.{◌>>=◌}
 
 -- the outcome of a work item by its name
 abbrev pub outcome_named : List ℕ → Option WorkOutcome

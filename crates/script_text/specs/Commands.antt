@@ -5,7 +5,7 @@ use Rattle.serde_json.specs.Data.{Data}
 use Rattle.json_members.specs.Members.{data_of, text_at, number_at}
 use Rattle.batch_history.specs.declared.call.Call.{Call}
 use Rattle.batch_history.specs.declared.call.Call.TheVariants.{Start, Restart, Claim, Finish}
-use Rattle.script_text.specs.Chains.{◌>>=◌}
+use Rattle.json_members.specs.Chains.{◌>>=◌}
 use Rattle.script_text.specs.CallRows.{call_named}
 use Rattle.script_text.specs.QueryRows.{query_named}
 use Rattle.script_text.specs.declared.command.Command.{Command}

@@ -1,18 +1,10 @@
 -- The text of a catalogue's faults.
 use Rattle.std.specs.Prelude.{ℕ, List, codes}
 use Rattle.serde_json.specs.Data.{Data, null, string, object, member, no_members}
-use Rattle.jsl_model.specs.Faults.{fault_name}
-use Rattle.script_text.specs.declared.fault.ReadFault.{ReadFault}
-use Rattle.script_text.specs.declared.fault.ReadFault.TheVariants.{NotJson, NotACatalogue, BadElement, InJob, OutOfMemory}
+use Rattle.jsl_json.specs.Faults.{read_fault_name}
+use Rattle.jsl_json.specs.declared.fault.ReadFault.{ReadFault}
+use Rattle.jsl_json.specs.declared.fault.ReadFault.TheVariants.{NotJson, NotACatalogue, BadElement, InJob, OutOfMemory}
 use Rattle.script_text.specs.Replies.{one, count, count_or_null, line_of}
-
--- the name that a fault prints as
-abbrev pub read_fault_name : ReadFault → List ℕ
-read_fault_name NotJson = codes "NotJson"
-read_fault_name NotACatalogue = codes "NotACatalogue"
-read_fault_name (BadElement job element) = codes "BadElement"
-read_fault_name (InJob job fault) = fault_name fault
-read_fault_name OutOfMemory = codes "OutOfMemory"
 
 -- a fault by its name, with the numbers of the job and of the element; want of memory has no text
 abbrev pub fault_data : ReadFault → Data

@@ -1,10 +1,6 @@
-pub mod Chains
 pub mod CallRows
 pub mod QueryRows
 pub mod Shapes
 pub mod Commands
 pub mod Replies
-pub mod JobRows
-pub mod JobTexts
-pub mod Catalogues
 pub mod Faults

@@ -1,6 +1,7 @@
 use crate::*;
 use batch_history::{Answer, Call, JobExecution, Query, Reply, WorkItem, WorkTask};
 use batch_ids::{BatchStatus, ExecutionId, InstanceId, Refusal, T256, WorkId, WorkOutcome};
+use jsl_json::ReadFault;
 use jsl_model::JobFault;
 use std::test::Fail;
 
@@ -124,56 +125,25 @@ fn the_answer_to_a_query(rt: HostRuntime) -> Result<(), Fail> {
 }
 
 #[test]
-fn the_first_fault_of_a_catalogue(rt: HostRuntime) -> Result<(), Fail> {
-    let bad = |job, element| ReadFault::BadElement { job, element };
-    let lines: [(&[u8], ReadFault); 8] = [
-        (br#""#, ReadFault::NotJson),
-        (br#"{"jobs":null}"#, ReadFault::NotACatalogue),
-        (br#"{"jobs":[],"x":1}"#, ReadFault::NotACatalogue),
+fn the_line_of_a_fault(rt: HostRuntime) -> Result<(), Fail> {
+    let bad = |element| ReadFault::BadElement { job: 0, element };
+    let looped = ReadFault::InJob {
+        job: 2,
+        fault: JobFault::Loop,
+    };
+    for (fault, line) in [
+        (ReadFault::NotJson, "{\"fault\":\"NotJson\"}\n"),
         (
-            br#"{"jobs":[{"id":"a","elements":[7]},8]}"#,
-            bad(0, Some(0)),
-        ),
-        (br#"{"jobs":[{"id":"a","elements":[7,7]}]}"#, bad(0, None)),
-        (
-            br#"{"jobs":[{"id":"a","elements":[],"restartable":true}]}"#,
-            bad(0, None),
+            bad(None),
+            "{\"element\":null,\"fault\":\"BadElement\",\"job\":0}\n",
         ),
         (
-            br#"{"jobs":[{"id":"a","elements":[{"kind":"flow","id":"b","batchlet":{"ref":"c"}}]}]}"#,
-            bad(0, Some(0)),
+            bad(Some(3)),
+            "{\"element\":3,\"fault\":\"BadElement\",\"job\":0}\n",
         ),
-        (
-            br#"{"jobs":[{"id":"a","elements":[]},0]}"#,
-            ReadFault::InJob {
-                job: 0,
-                fault: JobFault::Empty,
-            },
-        ),
-    ];
-    for (line, fault) in lines {
-        assert_eq!(rt; read_catalogue(rt.alloc(), line).err(), Some(fault));
+        (looped, "{\"fault\":\"Loop\",\"job\":2}\n"),
+    ] {
+        assert_eq!(rt; fault_text(rt.alloc(), &fault)?.as_slice(), line.as_bytes());
     }
-    Ok(())
-}
-
-#[test]
-fn a_catalogue(rt: HostRuntime) -> Result<(), Fail> {
-    let alloc = rt.alloc();
-    let line =
-        br#"{"jobs":[{"id":"a","elements":[{"kind":"step","id":"b","batchlet":{"ref":"c"}}]}]}"#;
-    let catalogue = read_catalogue(alloc, line)?;
-    assert!(rt; catalogue.job("a").ok_or("no job")?.restartable());
-    let fault = fault_text(
-        alloc,
-        &ReadFault::BadElement {
-            job: 0,
-            element: Some(3),
-        },
-    )?;
-    assert_eq!(rt;
-        fault.as_slice(),
-        b"{\"element\":3,\"fault\":\"BadElement\",\"job\":0}\n".as_slice()
-    );
     Ok(())
 }

@@ -7,5 +7,7 @@ mod repository;
 mod search;
 mod status;
 
-pub use batch_history::{Answer, Call, Entry, JobExecution, Query, Reply, WorkItem, WorkTask};
+pub use batch_history::{
+    Answer, Call, Entry, JobExecution, Query, Reply, WorkItem, WorkKind, WorkTask,
+};
 pub use repository::Repository;

@@ -191,7 +191,7 @@ impl<const LIMIT: u64> Repository<LIMIT> {
                     return Err(Refusal::NotClaimer);
                 }
                 match outcome {
-                    WorkOutcome::Stopped => Err(Refusal::NotStopping),
+                    WorkOutcome::Stopped => Err(status::stopped_refusal(row.kind)),
                     WorkOutcome::Completed => entered::<LIMIT>(self.count, Reply::Done),
                     WorkOutcome::Failed => entered::<LIMIT>(self.count, Reply::Done),
                 }
@@ -296,6 +296,7 @@ impl<const LIMIT: u64> Repository<LIMIT> {
             work: item.work,
             execution: x,
             element,
+            kind: item.task.kind(),
             claimer: who,
             state,
         })?;

@@ -1,5 +1,6 @@
 ghost use Rattle.std.specs.Prelude.{ℕ, ◌≡◌, ◌++◌, ◌∷◌, [], IfOk, find};
 ghost use Rattle.std.specs.Option.{option_copied};
+ghost use Rattle.batch_history.specs.declared.call.WorkKind.{WorkKind};
 ghost use Rattle.batch_history.specs.History.{change_first, is_work, over_as, fact_from, known_of, walk_of, walk_value, job_named, owner_of};
 ghost use Rattle.batch_history.specs.Rows.{is_execution, has_by};
 
@@ -80,8 +81,8 @@ pub(crate) fn known_handed(
     x: ExecutionId,
     element: &T256,
 ) -> Result<Vec<Known>, OutOfMemory>
-    ensures { (w claimer : ℕ) → IfOk result (λ known. known.items
-        ≡ known_of x (works.now ++ record { work = w; execution = x; element = element.now; claimer = claimer; state = WorkState.Busy } ∷ [])) }
+    ensures { (w claimer : ℕ) (kind : WorkKind) → IfOk result (λ known. known.items
+        ≡ known_of x (works.now ++ record { work = w; execution = x; element = element.now; kind = kind; claimer = claimer; state = WorkState.Busy } ∷ [])) }
 {
     let mut known = known_of(alloc, works, x)?;
     known.push(Known {

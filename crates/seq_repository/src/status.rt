@@ -1,9 +1,10 @@
 ghost use Rattle.std.specs.Prelude.{◌≡◌, IfOk};
 ghost use Rattle.std.specs.Option.{option_copied};
 ghost use Rattle.batch_history.specs.History.{is_at, is_finished, earliest, exit_given, status_from, exit_from, status_by, exit_by};
-ghost use Rattle.batch_history.specs.Rows.{first_ready};
+ghost use Rattle.batch_history.specs.Rows.{first_ready, stopped_refusal};
 
-use batch_ids::{BatchStatus, ExecutionId, Moment, OutOfMemory, T256, WorkOutcome};
+use batch_history::WorkKind;
+use batch_ids::{BatchStatus, ExecutionId, Moment, OutOfMemory, Refusal, T256, WorkOutcome};
 use job_walk::Value;
 use std::alloc::Global;
 
@@ -18,6 +19,17 @@ pub(crate) fn exit_given(
     match exit {
         Some(exit) => Ok(exit.try_clone()?),
         None => Ok(T256::within(alloc, outcome.status().name())?),
+    }
+}
+
+/// Why a work item is not finished STOPPED.
+pub(crate) fn stopped_refusal(kind: WorkKind) -> Refusal
+    ensures { result ≡ stopped_refusal kind }
+{
+    match kind {
+        WorkKind::Decision => Refusal::WrongOutcome,
+        WorkKind::Batchlet => Refusal::NotStopping,
+        WorkKind::Chunk => Refusal::NotStopping,
     }
 }
 

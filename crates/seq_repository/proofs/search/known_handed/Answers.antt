@@ -9,8 +9,8 @@ use Rattle.seq_repository.proofs.Changing.{known-more}
 use Rattle.seq_repository.proofs.search.known_handed.Goals as goal
 
 pub returns : goal.returns
-returns c = λ w claimer.
-    let r : WorkRow = record { work = w; execution = c.args.x; element = c.args.element.now; claimer = claimer; state = Busy } in
+returns c = λ w claimer kind.
+    let r : WorkRow = record { work = w; execution = c.args.x; element = c.args.element.now; kind = kind; claimer = claimer; state = Busy } in
     let k : List ℕ → Known = λ id. record { id = id; fact = FactBusy } in
     c.in_ok-push.ensures.items
     ∙ (ap (λ ks. ks ++ k c.in_ok-try_clone.field-0 ∷ []) c.in_ok-known.ensures

@@ -1,0 +1,6 @@
+use Rattle.std.proofs.Common.{◌≡◌, drop}
+use Rattle.job_walk.specs.Cursors.{is_among}
+use Rattle.job_walk.proofs.cursor.is_among.Given as goal
+
+abbrev pub invariant-loop-one : goal.invariant-loop-one
+invariant-loop-one l = is_among l.id (drop l.one-index l.ids) ≡ is_among l.id l.ids

@@ -1,0 +1,162 @@
+use crate::{Cursor, Plan, Value};
+use batch_ids::{Listed, OutOfMemory, Refusal, T256, WorkOutcome};
+use jsl_model::{BodyParts, ElementParts, Job, JobParts, SplitFlowParts, StepParts, TaskParts};
+use std::alloc::{AllocError, Global};
+use std::test::Fail;
+
+fn element(
+    alloc: Global,
+    id: &str,
+    next: Option<String>,
+    body: BodyParts,
+) -> Result<ElementParts, AllocError> {
+    Ok(ElementParts {
+        id: String::from_str(alloc, id)?,
+        next,
+        transitions: Listed::new(alloc),
+        body,
+    })
+}
+
+fn step(alloc: Global, id: &str, next: Option<String>) -> Result<ElementParts, AllocError> {
+    let step = StepParts {
+        start_limit: 0,
+        allow_start_if_complete: false,
+        task: TaskParts::Batchlet {
+            artifact: String::from_str(alloc, "ok")?,
+        },
+    };
+    element(alloc, id, next, BodyParts::Step(step))
+}
+
+fn flow_of(alloc: Global, id: &str, only: &str) -> Result<SplitFlowParts, AllocError> {
+    let mut elements = Listed::new(alloc);
+    elements.push(step(alloc, only, None)?)?;
+    Ok(SplitFlowParts {
+        id: String::from_str(alloc, id)?,
+        elements,
+    })
+}
+
+/// A step `a`, and then a split of a flow with `s1` and a flow with `s2`.
+fn parts(alloc: Global) -> Result<JobParts, AllocError> {
+    let mut flows = Listed::new(alloc);
+    flows.push(flow_of(alloc, "f1", "s1")?)?;
+    flows.push(flow_of(alloc, "f2", "s2")?)?;
+    let mut elements = Listed::new(alloc);
+    elements.push(step(alloc, "a", Some(String::from_str(alloc, "b")?))?)?;
+    elements.push(element(alloc, "b", None, BodyParts::Split(flows))?)?;
+    Ok(JobParts {
+        id: String::from_str(alloc, "j")?,
+        restartable: true,
+        elements,
+    })
+}
+
+fn plan_from(alloc: Global, from: &str) -> Result<Plan, Refusal> {
+    Ok(Plan {
+        from: T256::new(alloc, from)?,
+        carried: Listed::new(alloc),
+        barred: Listed::new(alloc),
+    })
+}
+
+fn add_ids(text: &mut String, ids: &[T256]) -> Result<(), AllocError> {
+    for id in ids {
+        text.push_str(" ")?;
+        text.push_str(id.as_str())?;
+    }
+    Ok(())
+}
+
+fn add_value(text: &mut String, value: &Value) -> Result<(), AllocError> {
+    match value {
+        Value::Open { ready, busy } => {
+            text.push_str("ready")?;
+            add_ids(text, ready.as_slice())?;
+            text.push_str(", busy")?;
+            add_ids(text, busy.as_slice())
+        }
+        Value::Done { exit } => {
+            text.push_str("done ")?;
+            text.push_str(exit.as_str())
+        }
+        Value::Ended { status, exit, .. } => {
+            text.push_str(status.name())?;
+            text.push_str(" ")?;
+            text.push_str(exit.as_str())
+        }
+    }
+}
+
+/// Takes a ready step, or reports a busy one with this outcome.
+fn act(
+    alloc: Global,
+    cursor: &mut Cursor,
+    id: &str,
+    outcome: Option<WorkOutcome>,
+) -> Result<(), OutOfMemory> {
+    match outcome {
+        None => if cursor.is_ready(id) {
+            cursor.take(id)?;
+        },
+        Some(outcome) => if cursor.is_busy(id) {
+            cursor.report(id, outcome, &T256::empty(alloc))?;
+        },
+    }
+    Ok(())
+}
+
+/// The value of the walk at first and after each act.
+fn told(
+    alloc: Global,
+    cursor: &mut Cursor,
+    acts: &[(&str, Option<WorkOutcome>)],
+) -> Result<String, AllocError> {
+    let mut text = String::new(alloc);
+    add_value(&mut text, cursor.value())?;
+    for (id, outcome) in acts {
+        act(alloc, cursor, id, *outcome)?;
+        text.push_str("; ")?;
+        add_value(&mut text, cursor.value())?;
+    }
+    Ok(text)
+}
+
+#[test]
+fn a_split_ends_once_both_flows_have(rt: HostRuntime) -> Result<(), Fail> {
+    let alloc = rt.alloc();
+    let job = Job::check(alloc, parts(alloc)?)?;
+    let plan = plan_from(alloc, "b")?;
+    assert!(rt; plan.begins_in(&job));
+    let mut cursor = Cursor::new(alloc, &job, &plan)?;
+    let mut copy = cursor.try_clone(alloc)?;
+    let acts = [
+        ("s1", None),
+        ("s2", None),
+        ("s1", Some(WorkOutcome::Failed)),
+        ("s2", Some(WorkOutcome::Completed)),
+    ];
+    let expected =
+        "ready s1 s2, busy; ready s2, busy s1; ready, busy s1 s2; ready, busy s2; FAILED FAILED";
+    assert_eq!(rt; told(alloc, &mut cursor, &acts)?.as_str(), expected);
+    assert_eq!(rt; told(alloc, &mut copy, &acts)?.as_str(), expected);
+    Ok(())
+}
+
+#[test]
+fn a_carried_step_is_passed_and_a_barred_one_fails(rt: HostRuntime) -> Result<(), Fail> {
+    let alloc = rt.alloc();
+    let job = Job::check(alloc, parts(alloc)?)?;
+    let mut plan = plan_from(alloc, "a")?;
+    plan.carried
+        .push((T256::new(alloc, "a")?, T256::new(alloc, "A")?))?;
+    plan.barred.push(T256::new(alloc, "a")?)?;
+    plan.barred.push(T256::new(alloc, "s2")?)?;
+    assert!(rt; plan.begins_in(&job));
+    let mut cursor = Cursor::new(alloc, &job, &plan)?;
+    let acts = [("s1", None), ("s1", Some(WorkOutcome::Completed))];
+    let expected = "ready s1, busy; ready, busy s1; FAILED FAILED";
+    assert_eq!(rt; told(alloc, &mut cursor, &acts)?.as_str(), expected);
+    Ok(())
+}

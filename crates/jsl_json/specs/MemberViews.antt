@@ -1,0 +1,29 @@
+-- What the own members that the code has read stand for.
+use Rattle.std.specs.Prelude.{map, string_bytes}
+use Rattle.serde_json.specs.View.{items_view}
+use Rattle.jsl_model.specs.Parts.{bytes_of_option, step_of, transition_of}
+use Rattle.jsl_json.specs.declared.members.ElementKind.{ElementKind}
+use Rattle.jsl_json.specs.declared.members.ElementKind.TheVariants.{Step, Flow, Split, Decision}
+use Rattle.jsl_json.specs.declared.members.ElementMembers.{ElementMembers}
+use Rattle.jsl_json.specs.declared.members.FlowMembers.{FlowMembers}
+use Rattle.jsl_json.specs.declared.members.JobMembers.{JobMembers}
+use Rattle.jsl_json.specs.Members.{Kind, step, flow, split, decision, Own, OwnFlow, OwnJob}
+
+-- what an element is
+abbrev pub kind_in : ElementKind → Kind
+kind_in (Step parts) = step (step_of parts)
+kind_in (Flow list) = flow (items_view list.now)
+kind_in (Split list) = split (items_view list.now)
+kind_in (Decision artifact) = decision (string_bytes artifact)
+
+-- an element's own members
+abbrev pub own_in : ElementMembers → Own
+own_in own = record { id = string_bytes own.id; next = bytes_of_option own.next; transitions = map transition_of own.transitions; kind = kind_in own.kind }
+
+-- those of a flow of a split
+abbrev pub own_flow_in : FlowMembers → OwnFlow
+own_flow_in own = record { id = own.id.now; elements = items_view own.elements.now }
+
+-- those of a job
+abbrev pub own_job_in : JobMembers → OwnJob
+own_job_in own = record { id = own.id.now; restartable = own.restartable; elements = items_view own.elements.now }

@@ -1,0 +1,128 @@
+-- The own members of elements, of the flows of splits, and of jobs: all that they have beside the elements inside. An object has the members that are listed, and no others.
+use Rattle.std.specs.Prelude.{ℕ, ◌≡◌, ◌&&◌, List, [], ◌∷◌, Bool, true, false, codes, Option, Some, None, option_map, if◌then◌else◌}
+use Rattle.serde_json.specs.Data.{Data, Items}
+use Rattle.json_members.specs.Members.{has_only, is_text, text_at, optional_text, list_at}
+use Rattle.jsl_model.specs.declared.element.Step.{Step as StepRecord}
+use Rattle.jsl_model.specs.declared.element.Transition.{Transition}
+use Rattle.json_members.specs.Chains.{◌>>=◌}
+use Rattle.jsl_json.specs.Tasks.{truth_or, count_or, task_at}
+use Rattle.jsl_json.specs.Transitions.{transitions_at}
+
+-- What an element is, what is inside it being values still
+
+-- a step, a flow with the values of its elements, a split with those of its flows, or a decision with its artifact
+pub data Kind : Type 0 where
+  step : StepRecord → Kind
+  flow : Items → Kind
+  split : Items → Kind
+  decision : List ℕ → Kind
+
+-- an element's own members
+pub record Own : Type 0 where
+  pub id : List ℕ
+  pub next : Option (List ℕ)
+  pub transitions : List Transition
+  pub kind : Kind
+
+-- the members that a step lists
+abbrev pub step_names : List (List ℕ)
+step_names = codes "kind" ∷ codes "id" ∷ codes "next" ∷ codes "start-limit" ∷ codes "allow-start-if-complete" ∷ codes "batchlet" ∷ codes "chunk" ∷ codes "transitions" ∷ []
+
+-- the members that a flow lists
+abbrev pub flow_names : List (List ℕ)
+flow_names = codes "kind" ∷ codes "id" ∷ codes "next" ∷ codes "elements" ∷ codes "transitions" ∷ []
+
+-- the members that a split lists
+abbrev pub split_names : List (List ℕ)
+split_names = codes "kind" ∷ codes "id" ∷ codes "next" ∷ codes "flows" ∷ []
+
+-- the members that a decision lists
+abbrev pub decision_names : List (List ℕ)
+decision_names = codes "kind" ∷ codes "id" ∷ codes "ref" ∷ codes "transitions" ∷ []
+
+-- the step that an object is; where it says nothing else it has no start limit, and is not started again once it is COMPLETED
+unfoldable pub step_of_data : Data → Option Kind
+step_of_data d =
+    if has_only step_names d
+    then (do
+      start_limit ← count_or (codes "start-limit") 0 d
+      again ← truth_or (codes "allow-start-if-complete") false d
+      task ← task_at d
+      Some (step (record { start_limit = start_limit; allow_start_if_complete = again; task = task })))
+    else None
+
+-- the flow that an object is
+abbrev pub flow_of_data : Data → Option Kind
+flow_of_data d = if has_only flow_names d then option_map flow (list_at (codes "elements") d) else None
+
+-- the split that an object is
+abbrev pub split_of_data : Data → Option Kind
+split_of_data d = if has_only split_names d then option_map split (list_at (codes "flows") d) else None
+
+-- the decision that an object is
+abbrev pub decision_of_data : Data → Option Kind
+decision_of_data d = if has_only decision_names d then option_map decision (text_at (codes "ref") d) else None
+
+-- what an element is, by its kind
+unfoldable pub kind_of : Data → Option Kind
+kind_of d =
+    if is_text (codes "kind") (codes "step") d then step_of_data d
+    else (if is_text (codes "kind") (codes "flow") d then flow_of_data d
+    else (if is_text (codes "kind") (codes "split") d then split_of_data d
+    else (if is_text (codes "kind") (codes "decision") d then decision_of_data d else None)))
+
+-- the values inside are those of the object's list of that name
+abbrev pub IsInside : Kind → Data → Type 0
+IsInside (step s) d = Unit {0}
+IsInside (flow ds) d = list_at (codes "elements") d ≡ Some ds
+IsInside (split ds) d = list_at (codes "flows") d ≡ Some ds
+IsInside (decision artifact) d = Unit {0}
+
+-- an element's own members, where none is wrong; a member that its kind does not list, as the `next` of a decision, counts as left out
+unfoldable pub own_of : Data → Option Own
+own_of d = do
+  kind ← kind_of d
+  id ← text_at (codes "id") d
+  next ← optional_text (codes "next") d
+  transitions ← transitions_at d
+  Some (record { id = id; next = next; transitions = transitions; kind = kind })
+
+-- a flow of a split: its id, and the values of its elements
+pub record OwnFlow : Type 0 where
+  pub id : List ℕ
+  pub elements : Items
+
+-- the members that a flow of a split lists
+abbrev pub split_flow_names : List (List ℕ)
+split_flow_names = codes "kind" ∷ codes "id" ∷ codes "elements" ∷ []
+
+-- the own members of a flow of a split, where none is wrong
+unfoldable pub own_flow_of : Data → Option OwnFlow
+own_flow_of d =
+    if has_only split_flow_names d && is_text (codes "kind") (codes "flow") d
+    then (do
+      id ← text_at (codes "id") d
+      elements ← list_at (codes "elements") d
+      Some (record { id = id; elements = elements }))
+    else None
+
+-- a job: its id, whether it may be restarted, and the values of its elements
+pub record OwnJob : Type 0 where
+  pub id : List ℕ
+  pub restartable : Bool
+  pub elements : Items
+
+-- the members that a job lists
+abbrev pub job_names : List (List ℕ)
+job_names = codes "id" ∷ codes "restartable" ∷ codes "elements" ∷ []
+
+-- the own members of a job, where none is wrong; it may be restarted where it says nothing else
+unfoldable pub own_job_of : Data → Option OwnJob
+own_job_of d =
+    if has_only job_names d
+    then (do
+      id ← text_at (codes "id") d
+      restartable ← truth_or (codes "restartable") true d
+      elements ← list_at (codes "elements") d
+      Some (record { id = id; restartable = restartable; elements = elements }))
+    else None

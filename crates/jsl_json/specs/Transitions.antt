@@ -1,0 +1,72 @@
+-- The transition elements of an element. An object has the members that are listed, and no others.
+use Rattle.std.specs.Prelude.{ℕ, List, [], ◌∷◌, codes, Option, Some, None, option_map, if◌then◌else◌}
+use Rattle.serde_json.specs.Data.{Data, Items, no_items, item}
+use Rattle.json_members.specs.Members.{has_only, is_text, text_at, optional_text, optional_list}
+use Rattle.jsl_model.specs.declared.element.Then.{Then}
+use Rattle.jsl_model.specs.declared.element.Then.TheVariants.{Next, End, Fail, Stop}
+use Rattle.jsl_model.specs.declared.element.Transition.{Transition}
+use Rattle.json_members.specs.Chains.{◌>>=◌}
+
+-- the members that a `next` lists
+abbrev pub next_names : List (List ℕ)
+next_names = codes "kind" ∷ codes "on" ∷ codes "to" ∷ []
+
+-- the members that an `end` or a `fail` lists
+abbrev pub end_names : List (List ℕ)
+end_names = codes "kind" ∷ codes "on" ∷ codes "exit-status" ∷ []
+
+-- the members that a `stop` lists
+abbrev pub stop_names : List (List ℕ)
+stop_names = codes "kind" ∷ codes "on" ∷ codes "exit-status" ∷ codes "restart" ∷ []
+
+-- on to the element that `to` names
+abbrev pub next_of : Data → Option Then
+next_of d = if has_only next_names d then option_map Next (text_at (codes "to") d) else None
+
+-- the exit status of an `end` or a `fail`
+abbrev pub exit_status_of : Data → Option (Option (List ℕ))
+exit_status_of d = if has_only end_names d then optional_text (codes "exit-status") d else None
+
+-- a stop, with its exit status and the element of a restart
+unfoldable pub stop_of : Data → Option Then
+stop_of d =
+    if has_only stop_names d
+    then (do
+      exit_status ← optional_text (codes "exit-status") d
+      restart ← optional_text (codes "restart") d
+      Some (Stop exit_status restart))
+    else None
+
+-- where a transition element leads, by its kind
+unfoldable pub then_of_data : Data → Option Then
+then_of_data d =
+    if is_text (codes "kind") (codes "next") d then next_of d
+    else (if is_text (codes "kind") (codes "end") d then option_map End (exit_status_of d)
+    else (if is_text (codes "kind") (codes "fail") d then option_map Fail (exit_status_of d)
+    else (if is_text (codes "kind") (codes "stop") d then stop_of d else None)))
+
+-- the transition element that a value is
+unfoldable pub transition_of_data : Data → Option Transition
+transition_of_data d = do
+  on ← text_at (codes "on") d
+  target ← then_of_data d
+  Some (record { on = on; then = target })
+
+-- the transition elements of a list
+abbrev pub transitions_of : Items → Option (List Transition)
+transitions_of no_items = Some []
+transitions_of (item d ds) = do
+  first ← transition_of_data d
+  rest ← transitions_of ds
+  Some (first ∷ rest)
+
+-- the transition elements of a list, none where it is left out
+abbrev pub transitions_if : Option Items → Option (List Transition)
+transitions_if None = Some []
+transitions_if (Some ds) = transitions_of ds
+
+-- the transition elements of an element
+unfoldable pub transitions_at : Data → Option (List Transition)
+transitions_at d = do
+  found ← optional_list (codes "transitions") d
+  transitions_if found

@@ -1,0 +1,152 @@
+ghost use Rattle.std.specs.Prelude.{◌≡◌, ◌+◌, false, Some, Ok, Err, map, IfOk, IfErr};
+ghost use Rattle.serde_json.specs.View.{view, items_view};
+ghost use Rattle.jsl_model.specs.Parts.{element_of, body_of, flow_of};
+ghost use Rattle.jsl_json.specs.MemberViews.{kind_in};
+ghost use Rattle.jsl_json.specs.Elements.{element_at, elements_at, flow_at, flows_at, body_at};
+ghost use Rattle.jsl_json.specs.Catalogues.{is_out_of_memory};
+
+use crate::fault::ReadFault;
+use crate::member_fault::MemberFault;
+use crate::members::{ElementKind, own_flow_of, own_of};
+use batch_ids::Listed;
+use jsl_model::{BodyParts, ElementParts, SplitFlowParts};
+use serde_json::Value;
+use std::alloc::Global;
+
+/// The elements of a list and what is inside them, and the number after the last one. The first of
+/// them has this number in its job.
+///
+/// Errors, the first as they are written: `BadElement` for an element with wrong members of its own,
+/// ahead of those inside it. `OutOfMemory` may stand in place of any answer.
+#[cycle(elements)]
+pub fn elements_at(
+    alloc: Global,
+    job: u64,
+    list: &[Value],
+    number: u64,
+) -> Result<(Listed<ElementParts>, u64), ReadFault>
+    ensures read { IfOk result (λ read. elements_at job (items_view list.now) number ≡ Ok (map element_of read.0, read.1)) }
+    ensures fault { IfErr result (λ fault. is_out_of_memory fault ≡ false → elements_at job (items_view list.now) number ≡ Err fault) }
+{
+    let mut elements = Vec::new(alloc);
+    let mut next = number;
+    for value in list {
+        let (element, after) = element_at(alloc, job, value, next)?;
+        elements.push(element)?;
+        next = after;
+    }
+    Ok((Listed::from_vec(elements), next))
+}
+
+#[cycle(elements)]
+fn element_at(
+    alloc: Global,
+    job: u64,
+    value: &Value,
+    number: u64,
+) -> Result<(ElementParts, u64), ReadFault>
+    ensures read { IfOk result (λ read. element_at job (view value.now) number ≡ Ok (element_of read.0, read.1)) }
+    ensures fault { IfErr result (λ fault. is_out_of_memory fault ≡ false → element_at job (view value.now) number ≡ Err fault) }
+{
+    let next = after(number)?;
+    let own = match own_of(alloc, value) {
+        Ok(own) => own,
+        Err(fault) => return Err(in_element(job, number, fault)),
+    };
+    let (body, next) = body_at(alloc, job, own.kind, next)?;
+    let element = ElementParts {
+        id: own.id,
+        next: own.next,
+        transitions: own.transitions,
+        body,
+    };
+    Ok((element, next))
+}
+
+#[cycle(elements)]
+fn body_at(
+    alloc: Global,
+    job: u64,
+    kind: ElementKind<'_>,
+    number: u64,
+) -> Result<(BodyParts, u64), ReadFault>
+    ensures read { IfOk result (λ read. body_at job (kind_in kind.entry) number ≡ Ok (body_of read.0, read.1)) }
+    ensures fault { IfErr result (λ fault. is_out_of_memory fault ≡ false → body_at job (kind_in kind.entry) number ≡ Err fault) }
+{
+    match kind {
+        ElementKind::Step(step) => Ok((BodyParts::Step(step), number)),
+        ElementKind::Flow(list) => {
+            let (elements, next) = elements_at(alloc, job, list, number)?;
+            Ok((BodyParts::Flow(elements), next))
+        }
+        ElementKind::Split(list) => {
+            let (flows, next) = flows_at(alloc, job, list, number)?;
+            Ok((BodyParts::Split(flows), next))
+        }
+        ElementKind::Decision(artifact) => Ok((BodyParts::Decision(artifact), number)),
+    }
+}
+
+#[cycle(elements)]
+fn flows_at(
+    alloc: Global,
+    job: u64,
+    list: &[Value],
+    number: u64,
+) -> Result<(Listed<SplitFlowParts>, u64), ReadFault>
+    ensures read { IfOk result (λ read. flows_at job (items_view list.now) number ≡ Ok (map flow_of read.0, read.1)) }
+    ensures fault { IfErr result (λ fault. is_out_of_memory fault ≡ false → flows_at job (items_view list.now) number ≡ Err fault) }
+{
+    let mut flows = Vec::new(alloc);
+    let mut next = number;
+    for value in list {
+        let (flow, after) = flow_at(alloc, job, value, next)?;
+        flows.push(flow)?;
+        next = after;
+    }
+    Ok((Listed::from_vec(flows), next))
+}
+
+#[cycle(elements)]
+fn flow_at(
+    alloc: Global,
+    job: u64,
+    value: &Value,
+    number: u64,
+) -> Result<(SplitFlowParts, u64), ReadFault>
+    ensures read { IfOk result (λ read. flow_at job (view value.now) number ≡ Ok (flow_of read.0, read.1)) }
+    ensures fault { IfErr result (λ fault. is_out_of_memory fault ≡ false → flow_at job (view value.now) number ≡ Err fault) }
+{
+    let next = after(number)?;
+    let Some(own) = own_flow_of(value) else {
+        return Err(in_element(job, number, MemberFault::Wrong));
+    };
+    let id = String::from_str(alloc, own.id)?;
+    let (elements, next) = elements_at(alloc, job, own.elements, next)?;
+    Ok((SplitFlowParts { id, elements }, next))
+}
+
+/// The number after this one. No memory holds as many elements as there are numbers.
+fn after(number: u64) -> Result<u64, ReadFault>
+    ensures next { IfOk result (λ next. next ≡ number + 1) }
+    ensures fault { IfErr result (λ fault. fault ≡ ReadFault.OutOfMemory) }
+{
+    match number.checked_add(1) {
+        Some(next) => Ok(next),
+        None => Err(ReadFault::OutOfMemory),
+    }
+}
+
+/// What stands for wrong members of the element of this number.
+fn in_element(job: u64, number: u64, fault: MemberFault) -> ReadFault
+    ensures wrong { fault ≡ MemberFault.Wrong → result ≡ ReadFault.BadElement job (Some number) }
+    ensures memory { fault ≡ MemberFault.OutOfMemory → result ≡ ReadFault.OutOfMemory }
+{
+    match fault {
+        MemberFault::Wrong => ReadFault::BadElement {
+            job,
+            element: Some(number),
+        },
+        MemberFault::OutOfMemory => ReadFault::OutOfMemory,
+    }
+}

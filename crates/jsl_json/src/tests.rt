@@ -1,0 +1,221 @@
+use crate::*;
+use jsl_model::{Body, Job, JobFault, Task, Then};
+use std::test::Fail;
+
+/// What `FORMS` says, in the order in which it is written.
+#[derive(Clone, Copy, Debug, PartialEq, Eq)]
+struct Facts<'j> {
+    restartable: bool,
+    start_limit: u32,
+    allow_start_if_complete: bool,
+    on: &'j str,
+    exit_status: &'j str,
+    restart: &'j str,
+    next: &'j str,
+    reader: &'j str,
+    item_count: u32,
+    flow_of_split: &'j str,
+    decision: &'j str,
+}
+
+/// A job with each kind of element, transition element and task.
+const FORMS: &[u8] = br#"{"jobs":[{"id":"j","restartable":false,"elements":[
+    {"kind":"step","id":"s","start-limit":4294967295,"allow-start-if-complete":true,
+     "batchlet":{"ref":"b"},"transitions":[
+        {"kind":"next","on":"N*","to":"d"},{"kind":"end","on":"E"},
+        {"kind":"fail","on":"F","exit-status":"x"},
+        {"kind":"stop","on":"S","exit-status":"y","restart":"f"}]},
+    {"kind":"flow","id":"f","next":"p","transitions":[],"elements":[
+        {"kind":"step","id":"c","chunk":{"reader":{"ref":"r"},"writer":{"ref":"w"}}}]},
+    {"kind":"split","id":"p","next":"d","flows":[
+        {"kind":"flow","id":"q","elements":[{"kind":"decision","id":"e","ref":"g"}]}]},
+    {"kind":"decision","id":"d","ref":"a"}]}]}"#;
+
+fn said_of(job: &Job) -> Option<Facts<'_>> {
+    let [first, second, third, ..] = job.elements() else {
+        return None;
+    };
+    let (Body::Step(step), Body::Flow(elements), Body::Split(flows)) = (
+        &first.body,
+        &second.body,
+        &third.body,
+    ) else {
+        return None;
+    };
+    let [.., last] = first.transitions.as_slice() else {
+        return None;
+    };
+    let Then::Stop {
+        exit_status,
+        restart,
+    } = &last.then
+    else {
+        return None;
+    };
+    let Body::Step(chunk) = &elements.get(0)?.body else {
+        return None;
+    };
+    let Task::Chunk {
+        reader,
+        item_count,
+        ..
+    } = &chunk.task
+    else {
+        return None;
+    };
+    let flow = flows.get(0)?;
+    let Body::Decision { artifact } = &flow.elements.get(0)?.body else {
+        return None;
+    };
+    Some(Facts {
+        restartable: job.restartable(),
+        start_limit: step.start_limit,
+        allow_start_if_complete: step.allow_start_if_complete,
+        on: last.on.as_str(),
+        exit_status: exit_status.as_ref()?.as_str(),
+        restart: restart.as_ref()?.as_str(),
+        next: second.next.as_ref()?.as_str(),
+        reader: reader.as_str(),
+        item_count: *item_count,
+        flow_of_split: flow.id.as_str(),
+        decision: artifact.as_str(),
+    })
+}
+
+#[test]
+fn a_job_of_each_form(rt: HostRuntime) -> Result<(), Fail> {
+    let catalogue = read_catalogue(rt.alloc(), FORMS)?;
+    let wanted = Facts {
+        restartable: false,
+        start_limit: 4_294_967_295,
+        allow_start_if_complete: true,
+        on: "S",
+        exit_status: "y",
+        restart: "f",
+        next: "p",
+        reader: "r",
+        item_count: 10,
+        flow_of_split: "q",
+        decision: "g",
+    };
+    assert_eq!(rt; catalogue.job("j").and_then(said_of), Some(wanted));
+    Ok(())
+}
+
+#[test]
+fn the_number_of_the_first_wrong_element(rt: HostRuntime) -> Result<(), Fail> {
+    // Each list of elements stands in one job.
+    let cases = [
+        // An element has its number ahead of those inside it.
+        (r#"{"kind":"flow","id":"f","elements":[7]}"#, 1),
+        (
+            r#"{"kind":"flow","id":"f","elements":[7],"transitions":[{}]}"#,
+            0,
+        ),
+        (
+            r#"{"kind":"flow","id":"f","elements":[{"kind":"decision","id":"d","ref":"a"}]},7"#,
+            2,
+        ),
+        // The flows of a split are counted: 1, with 2 inside, and 3.
+        (
+            r#"{"kind":"split","id":"p","flows":[{"kind":"flow","id":"q","elements":[{"kind":"decision","id":"d","ref":"a"}]},{}]}"#,
+            3,
+        ),
+        (
+            r#"{"kind":"split","id":"p","flows":[{"kind":"flow","id":"q","elements":[8]},{}]}"#,
+            2,
+        ),
+        (
+            r#"{"kind":"split","id":"p","flows":[],"transitions":[]}"#,
+            0,
+        ),
+        (r#"{"kind":"decision","id":"d","ref":"a","next":"s"}"#, 0),
+        (r#"{"kind":"job","id":"d","elements":[]}"#, 0),
+        (r#"{"kind":"step","id":"s"}"#, 0),
+        (
+            r#"{"kind":"step","id":"s","batchlet":{"ref":"b"},"chunk":null}"#,
+            0,
+        ),
+        (
+            r#"{"kind":"step","id":"s","batchlet":{"ref":"b"},"next":null}"#,
+            0,
+        ),
+        (
+            r#"{"kind":"step","id":"s","batchlet":{"ref":"b"},"start-limit":4294967296}"#,
+            0,
+        ),
+        (
+            r#"{"kind":"step","id":"s","batchlet":{"ref":"b"},"partitions":1}"#,
+            0,
+        ),
+        (
+            r#"{"kind":"step","id":"s","chunk":{"item-count":0,"reader":{"ref":"r"},"writer":{"ref":"w"}}}"#,
+            0,
+        ),
+        (
+            r#"{"kind":"step","id":"s","chunk":{"reader":{"ref":"r"},"writer":"w"}}"#,
+            0,
+        ),
+        (
+            r#"{"kind":"step","id":"s","batchlet":{"ref":"b"},"transitions":[{"kind":"end","on":"E","to":"s"}]}"#,
+            0,
+        ),
+    ];
+    let alloc = rt.alloc();
+    for (elements, number) in cases {
+        let text = format!(in alloc; r#"{{"jobs":[{{"id":"j","elements":[{elements}]}}]}}"#)?;
+        let fault = ReadFault::BadElement {
+            job: 0,
+            element: Some(number),
+        };
+        assert_eq!(rt;
+            read_catalogue(alloc, text.as_bytes()).err(),
+            Some(fault),
+            "{text}"
+        );
+    }
+    Ok(())
+}
+
+#[test]
+fn the_order_of_faults(rt: HostRuntime) -> Result<(), Fail> {
+    let of_job = |job| ReadFault::BadElement { job, element: None };
+    let in_job = |job, fault| ReadFault::InJob { job, fault };
+    let cases: [(&[u8], ReadFault); 8] = [
+        (br#"{"jobs":[8"#, ReadFault::NotJson),
+        (br#"{"jobs":[8],"job":0}"#, ReadFault::NotACatalogue),
+        (br#"{"jobs":{}}"#, ReadFault::NotACatalogue),
+        (br#"{"jobs":[8]}"#, of_job(0)),
+        (br#"{"jobs":[{"id":"j","elements":null}]}"#, of_job(0)),
+        (
+            br#"{"jobs":[{"id":"j","restartable":null,"elements":[8]}]}"#,
+            of_job(0),
+        ),
+        // The faults of a job come ahead of a wrong member of the next.
+        (
+            br#"{"jobs":[{"id":"j","elements":[]},8]}"#,
+            in_job(0, JobFault::Empty),
+        ),
+        (
+            br#"{"jobs":[{"id":"j","elements":[{"kind":"decision","id":"d","ref":"a"}]},{"id":"j","elements":[{"kind":"decision","id":"d","ref":"a"}]},8]}"#,
+            in_job(1, JobFault::DuplicateId),
+        ),
+    ];
+    for (text, fault) in cases {
+        assert_eq!(rt; read_catalogue(rt.alloc(), text).err(), Some(fault));
+    }
+    Ok(())
+}
+
+#[test]
+fn each_artifact_of_a_chunk_is_listed(rt: HostRuntime) -> Result<(), Fail> {
+    let text = br#"{"jobs":[{"id":"c","elements":[{"kind":"step","id":"s","chunk":{"item-count":2,
+        "reader":{"ref":"count:5"},"processor":{"ref":"odd"},"writer":{"ref":"sink"}}}]}]}"#;
+    let catalogue = read_catalogue(rt.alloc(), text)?;
+    let copy = catalogue.try_clone(rt.alloc())?;
+    for one in [&catalogue, &copy] {
+        let names = one.artifacts(rt.alloc())?;
+        assert_eq!(rt; names.as_slice(), ["count:5", "odd", "sink"].as_slice());
+    }
+    Ok(())
+}

@@ -1,0 +1,51 @@
+-- What has to be there and is empty: an id, an artifact name, a list of elements, the flows of a split, the items of a group.
+use Rattle.std.specs.Prelude.{ℕ, ◌||◌, Bool, false, Option, Some, None, List, map, nat_eq}
+use Rattle.jsl_model.specs.declared.element.Task.{Task}
+use Rattle.jsl_model.specs.declared.element.Task.TheVariants.{Batchlet, Chunk}
+use Rattle.jsl_model.specs.declared.element.Element.{Element, Element-F, fold-Element}
+use Rattle.jsl_model.specs.declared.element.SplitFlow.{SplitFlow, SplitFlow-F, fold-SplitFlow}
+use Rattle.jsl_model.specs.declared.element.Body.{Body, Body-F, fold-Body}
+use Rattle.jsl_model.specs.declared.element.Body.TheOpen.{Step, Flow, Split, Decision}
+use Rattle.jsl_model.specs.Trees.{is_empty, any_true}
+
+-- whether a name that may be left out is there and empty
+abbrev pub is_empty_option : Option (List ℕ) → Bool
+is_empty_option None = false
+is_empty_option (Some text) = is_empty text
+
+-- whether a list has no member, or a member in which something is empty
+abbrev pub is_lacking : List Bool → Bool
+is_lacking members = is_empty members || any_true members
+
+-- whether a task has an empty artifact name, or groups of no item
+abbrev pub task_has_empty : Task → Bool
+task_has_empty (Batchlet artifact) = is_empty artifact
+task_has_empty (Chunk reader processor writer item_count) =
+    is_empty reader || is_empty_option processor || is_empty writer || nat_eq item_count 0
+
+-- whether something is empty in a body, which is known of its members
+abbrev pub body_empty : Body-F Bool Bool Bool → Bool
+body_empty (Step step) = task_has_empty step.task
+body_empty (Flow elements) = is_lacking elements
+body_empty (Split flows) = is_lacking flows
+body_empty (Decision artifact) = is_empty artifact
+
+-- an element has something empty if its id is empty or its body has
+abbrev pub element_empty : Element-F Bool Bool Bool → Bool
+element_empty element = is_empty element.id || element.body
+
+-- a flow of a split has something empty if its id is empty, or its list lacks something
+abbrev pub flow_empty : SplitFlow-F Bool Bool Bool → Bool
+flow_empty flow = is_empty flow.id || is_lacking flow.elements
+
+-- whether an element has, at any depth, something empty that has to be there
+abbrev pub element_has_empty : Element → Bool
+element_has_empty = fold-Element Bool Bool Bool body_empty element_empty flow_empty
+
+-- the same of a body
+abbrev pub body_has_empty : Body → Bool
+body_has_empty = fold-Body Bool Bool Bool body_empty element_empty flow_empty
+
+-- the same of a flow of a split
+abbrev pub flow_has_empty : SplitFlow → Bool
+flow_has_empty = fold-SplitFlow Bool Bool Bool body_empty element_empty flow_empty

@@ -1,0 +1,125 @@
+-- The lists of elements of a job, what the elements of a list name, and the graph that this makes.
+use Rattle.std.specs.Prelude.{ℕ, ◌++◌, Bool, not, Option, Some, None, List, [], ◌∷◌, map, bytes_eq}
+use Rattle.std.specs.List.{filter_map, flat_map, list_any, position}
+use Rattle.std.specs.Option.{option_to_list}
+use Rattle.target_graph.specs.Graph.{IsRanked, has_cycle}
+use Rattle.jsl_model.specs.declared.element.Then.{Then}
+use Rattle.jsl_model.specs.declared.element.Then.TheVariants.{Next, End, Fail, Stop}
+use Rattle.jsl_model.specs.declared.element.Transition.{Transition}
+use Rattle.jsl_model.specs.declared.element.Element.{Element, Element-F, fold-Element}
+use Rattle.jsl_model.specs.declared.element.SplitFlow.{SplitFlow, SplitFlow-F, fold-SplitFlow}
+use Rattle.jsl_model.specs.declared.element.Body.{Body, Body-F, fold-Body}
+use Rattle.jsl_model.specs.declared.element.Body.TheOpen.{Step, Flow, Split, Decision}
+use Rattle.jsl_model.specs.Names.{are_among}
+
+-- ---- What an element names
+
+-- an element's id and the ids that it names by `next` and `to`, in written order
+pub record Item : Type 0 where
+  pub id : List ℕ
+  pub targets : List (List ℕ)
+
+-- the id that a transition element leads to, if it leads on
+abbrev pub named_by : Then → Option (List ℕ)
+named_by (Next to) = Some to
+named_by (End exit_status) = None
+named_by (Fail exit_status) = None
+named_by (Stop exit_status restart) = None
+
+-- the ids that a `next` and transition elements name
+abbrev pub named_in : Option (List ℕ) → List Transition → List (List ℕ)
+named_in next transitions = option_to_list next ++ filter_map (λ transition. named_by transition.then) transitions
+
+-- an element's item
+abbrev pub item_of : Element → Item
+item_of element = record { id = element.id; targets = named_in element.next element.transitions }
+
+-- the items of a list of elements
+abbrev pub outline : List Element → List Item
+outline elements = map item_of elements
+
+-- ---- The lists of a job
+
+-- an element's item, and the lists inside the element
+pub record Part : Type 0 where
+  pub item : Item
+  pub inside : List (List Item)
+
+-- the list that these parts make, and then the lists inside them
+abbrev pub lists_of_parts : List Part → List (List Item)
+lists_of_parts parts = map (λ part. part.item) parts ∷ flat_map (λ part. part.inside) parts
+
+-- the lists inside a body, whose members are known
+abbrev pub body_lists : Body-F (List (List Item)) Part (List (List Item)) → List (List Item)
+body_lists (Step step) = []
+body_lists (Flow parts) = lists_of_parts parts
+body_lists (Split flows) = flat_map (λ lists. lists) flows
+body_lists (Decision artifact) = []
+
+-- an element's part, whose body is known
+abbrev pub element_part : Element-F (List (List Item)) Part (List (List Item)) → Part
+element_part element = record { item = record { id = element.id; targets = named_in element.next element.transitions }; inside = element.body }
+
+-- the lists of a flow of a split, whose elements are known
+abbrev pub flow_lists : SplitFlow-F (List (List Item)) Part (List (List Item)) → List (List Item)
+flow_lists flow = lists_of_parts flow.elements
+
+-- an element's part
+abbrev pub part_of : Element → Part
+part_of = fold-Element (List (List Item)) Part (List (List Item)) body_lists element_part flow_lists
+
+-- the lists inside an element, in written order
+abbrev pub inside_of : Element → List (List Item)
+inside_of element = (part_of element).inside
+
+-- the lists of a flow of a split
+abbrev pub lists_of_flow : SplitFlow → List (List Item)
+lists_of_flow = fold-SplitFlow (List (List Item)) Part (List (List Item)) body_lists element_part flow_lists
+
+-- the lists inside a body
+abbrev pub inside_body : Body → List (List Item)
+inside_body = fold-Body (List (List Item)) Part (List (List Item)) body_lists element_part flow_lists
+
+-- all lists of a job: a list, and then those inside its elements, in written order
+abbrev pub lists_of : List Element → List (List Item)
+lists_of elements = outline elements ∷ flat_map inside_of elements
+
+-- ---- Targets that are not there
+
+-- the ids of a list
+abbrev pub ids : List Item → List (List ℕ)
+ids items = map (λ item. item.id) items
+
+-- all ids that are named in a list
+abbrev pub targets_in : List Item → List (List ℕ)
+targets_in items = flat_map (λ item. item.targets) items
+
+-- whether an id is named that no element of the list has
+abbrev pub lacks_target : List Item → Bool
+lacks_target items = not (are_among (ids items) (targets_in items))
+
+-- the same of a list of a job
+abbrev pub lacks_some_target : List Element → Bool
+lacks_some_target elements = list_any lacks_target (lists_of elements)
+
+-- ---- Loops
+
+-- the place of the first item with this id
+abbrev pub place_in : List (List ℕ) → List ℕ → Option ℕ
+place_in ids id = position (λ held. bytes_eq held id) ids
+
+-- the graph of a list: for each element the places of its targets; targets that are not there have none
+abbrev pub graph_of : List Item → List (List ℕ)
+graph_of items = map (λ item. filter_map (place_in (ids items)) item.targets) items
+
+-- whether the targets of a list form a cycle
+abbrev pub has_loop : List Item → Bool
+has_loop items = has_cycle (graph_of items)
+
+-- numbers of the places of a list that rise from each element to its targets
+abbrev pub HasRanks : List Item → Type 0
+HasRanks items = (ranks : List ℕ) × IsRanked ranks (graph_of items)
+
+-- whether the targets of a list of a job form a cycle
+abbrev pub has_some_loop : List Element → Bool
+has_some_loop elements = list_any has_loop (lists_of elements)

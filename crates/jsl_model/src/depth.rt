@@ -1,0 +1,44 @@
+ghost use Rattle.std.specs.Prelude.{◌≡◌, map, nat_lt};
+ghost use Rattle.jsl_model.specs.Trees.{greatest, depth, depth_of_body, depth_of_flow};
+
+use crate::element::{Body, Element, SplitFlow};
+
+#[cycle(depth)]
+#[tactic(auto, using(crate::proofs::Levels::greatest_more, crate::proofs::Levels::element_levels, crate::proofs::Levels::flow_levels))]
+fn is_body_deeper(body: &Body, most: usize) -> bool
+    ensures { result ≡ nat_lt most (depth_of_body body.now) }
+{
+    match body {
+        Body::Step(_) => false,
+        Body::Flow(elements) => is_deeper(elements.as_slice(), most),
+        Body::Split(flows) => are_flows_deeper(flows.as_slice(), most),
+        Body::Decision { .. } => false,
+    }
+}
+
+/// Whether an element stands deeper than so many levels, those of this list being at 1. It looks no deeper than that.
+#[cycle(depth)]
+#[tactic(auto, using(crate::proofs::Levels::greatest_more, crate::proofs::Levels::element_levels, crate::proofs::Levels::flow_levels))]
+pub fn is_deeper(elements: &[Element], most: usize) -> bool
+    ensures { result ≡ nat_lt most (depth elements.now) }
+{
+    for element in elements {
+        if most == 0 || is_body_deeper(&element.body, most - 1) {
+            return true;
+        }
+    }
+    false
+}
+
+#[cycle(depth)]
+#[tactic(auto, using(crate::proofs::Levels::greatest_more, crate::proofs::Levels::element_levels, crate::proofs::Levels::flow_levels))]
+fn are_flows_deeper(flows: &[SplitFlow], most: usize) -> bool
+    ensures { result ≡ nat_lt most (greatest (map depth_of_flow flows.now)) }
+{
+    for flow in flows {
+        if most == 0 || is_deeper(flow.elements.as_slice(), most - 1) {
+            return true;
+        }
+    }
+    false
+}

@@ -1,0 +1,72 @@
+ghost use Rattle.std.specs.Prelude.{◌≡◌, Bool, All, None, map, IfOk};
+ghost use Rattle.jsl_model.specs.Faults.{tree_fault, restarts};
+ghost use Rattle.jsl_model.specs.Members.{member};
+ghost use Rattle.jsl_model.specs.Names.{are_among};
+ghost use Rattle.jsl_model.specs.Targets.{outline, ids, lists_of, HasRanks};
+
+use crate::depth::is_deeper;
+use crate::element::Element;
+use crate::emptiness::is_list_lacking;
+use crate::job::JobFault;
+use crate::lists::lists_in;
+use crate::member::{Member, members_in};
+use crate::names::{are_among, has_twice};
+use crate::naming::{ids_of, own_ids, restarts_of};
+use crate::targets::{has_some_loop, lacks_some_target};
+use batch_ids::T256;
+use std::alloc::{AllocError, Global};
+
+/// How deep an element may stand.
+const MOST_DEEP: usize = 16;
+
+/// How many elements a job has at most, flows of splits included.
+const MOST_ELEMENTS: usize = 1000;
+
+/// The first fault of a job whose texts are short enough, each tested over the whole job.
+pub fn fault_in(
+    alloc: Global,
+    id: &T256,
+    elements: &[Element],
+) -> Result<Option<JobFault>, AllocError>
+    ensures ranked { IfOk result (λ found. found ≡ None → All HasRanks (lists_of elements.now)) }
+    ensures first { IfOk result (λ found. (restartable : Bool) → found ≡ tree_fault record { id = id.now; restartable = restartable; elements = elements.now }) }
+{
+    if id.as_str().is_empty() || is_list_lacking(elements) {
+        return Ok(Some(JobFault::Empty));
+    }
+    if is_deeper(elements, MOST_DEEP) {
+        return Ok(Some(JobFault::TooDeep));
+    }
+    let members = members_in(alloc, elements)?;
+    if members.len() > MOST_ELEMENTS {
+        return Ok(Some(JobFault::TooMany));
+    }
+    let ids = ids_of(alloc, members.as_slice())?;
+    if has_twice(alloc, ids.as_slice())? {
+        return Ok(Some(JobFault::DuplicateId));
+    }
+    let lists = lists_in(alloc, elements)?;
+    if lacks_some_target(alloc, lists.as_slice())? {
+        return Ok(Some(JobFault::NoSuchTarget));
+    }
+    if has_some_loop(alloc, lists.as_slice())? {
+        return Ok(Some(JobFault::Loop));
+    }
+    if !are_restarts_own(alloc, members.as_slice(), elements)? {
+        return Ok(Some(JobFault::RestartNotJobLevel));
+    }
+    Ok(None)
+}
+
+/// Whether each restart begins at one of these elements.
+fn are_restarts_own(
+    alloc: Global,
+    members: &[Member<'_>],
+    elements: &[Element],
+) -> Result<bool, AllocError>
+    ensures { IfOk result (λ own. own ≡ are_among (ids (outline elements.now)) (restarts (map member members.now))) }
+{
+    let restarts = restarts_of(alloc, members)?;
+    let own = own_ids(alloc, elements)?;
+    are_among(alloc, restarts.as_slice(), own.as_slice())
+}

@@ -1,0 +1,47 @@
+ghost use Rattle.std.specs.Prelude.{◌≡◌, ◌++◌, map, IfOk, OnOk};
+ghost use Rattle.jsl_model.specs.Targets.{outline, lists_of, inside_of};
+
+use crate::element::{Body, Element};
+use std::alloc::{AllocError, Global};
+
+/// All lists of a job, in written order: this one, and then those inside its elements, or
+/// `AllocError` where memory is refused. It costs time as there are elements at all depths, and
+/// memory as there are lists.
+pub fn lists_in<'a>(
+    alloc: Global,
+    elements: &'a [Element],
+) -> Result<Vec<&'a [Element]>, AllocError>
+    ensures { IfOk result (λ lists. map (λ list. outline list.now) lists.items ≡ lists_of elements.now) }
+{
+    let mut lists = Vec::new(alloc);
+    add_lists(&mut lists, elements)?;
+    Ok(lists)
+}
+
+#[cycle(listing)]
+fn add_lists<'a>(lists: &mut Vec<&'a [Element]>, elements: &'a [Element]) -> Result<(), AllocError>
+    ensures { OnOk result (map (λ list. outline list.now) lists.new.items ≡ map (λ list. outline list.now) lists.old.items ++ lists_of elements.now) }
+{
+    lists.push(elements)?;
+    for element in elements {
+        add_inside(lists, element)?;
+    }
+    Ok(())
+}
+
+#[cycle(listing)]
+fn add_inside<'a>(lists: &mut Vec<&'a [Element]>, element: &'a Element) -> Result<(), AllocError>
+    ensures { OnOk result (map (λ list. outline list.now) lists.new.items ≡ map (λ list. outline list.now) lists.old.items ++ inside_of element.now) }
+{
+    match &element.body {
+        Body::Step(_) => Ok(()),
+        Body::Decision { artifact: _ } => Ok(()),
+        Body::Flow(elements) => add_lists(lists, elements.as_slice()),
+        Body::Split(flows) => {
+            for flow in flows.as_slice() {
+                add_lists(lists, flow.elements.as_slice())?;
+            }
+            Ok(())
+        }
+    }
+}

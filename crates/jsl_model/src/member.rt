@@ -1,0 +1,73 @@
+ghost use Rattle.std.specs.Prelude.{◌≡◌, ◌++◌, map, OnOk, IfOk};
+ghost use Rattle.jsl_model.specs.Trees.{joined, members, members_of, inside, members_of_flow};
+ghost use Rattle.jsl_model.specs.Members.{member};
+
+use crate::element::{Body, Element, SplitFlow, Transition};
+use std::alloc::{AllocError, Global};
+
+/// An element, or a flow of a split, without what is inside it.
+#[derive(Clone, Copy)]
+pub struct Member<'a> {
+    pub id: &'a str,
+    pub transitions: &'a [Transition],
+    /// What it is; a flow of a split is nothing more.
+    pub body: Option<&'a Body>,
+}
+
+/// All elements of a list at all depths, flows of splits included, in written order.
+pub fn members_in(alloc: Global, elements: &[Element]) -> Result<Vec<Member<'_>>, AllocError>
+    ensures { IfOk result (λ found. map member found.items ≡ members elements.now) }
+{
+    let mut found = Vec::new(alloc);
+    add_all(elements, &mut found)?;
+    Ok(found)
+}
+
+#[cycle(adding)]
+fn add_element<'a>(element: &'a Element, found: &mut Vec<Member<'a>>) -> Result<(), AllocError>
+    ensures { OnOk result (map member found.new.items ≡ map member found.old.items ++ members_of element.now) }
+{
+    found.push(Member {
+        id: element.id.as_str(),
+        transitions: element.transitions.as_slice(),
+        body: Some(&element.body),
+    })?;
+    add_inside(&element.body, found)
+}
+
+#[cycle(adding)]
+fn add_inside<'a>(body: &'a Body, found: &mut Vec<Member<'a>>) -> Result<(), AllocError>
+    ensures { OnOk result (map member found.new.items ≡ map member found.old.items ++ (inside body.now).members) }
+{
+    match body {
+        Body::Step(_) => Ok(()),
+        Body::Flow(elements) => add_all(elements.as_slice(), found),
+        Body::Split(flows) => add_flows(flows.as_slice(), found),
+        Body::Decision { .. } => Ok(()),
+    }
+}
+
+#[cycle(adding)]
+fn add_all<'a>(elements: &'a [Element], found: &mut Vec<Member<'a>>) -> Result<(), AllocError>
+    ensures { OnOk result (map member found.new.items ≡ map member found.old.items ++ members elements.now) }
+{
+    for element in elements {
+        add_element(element, found)?;
+    }
+    Ok(())
+}
+
+#[cycle(adding)]
+fn add_flows<'a>(flows: &'a [SplitFlow], found: &mut Vec<Member<'a>>) -> Result<(), AllocError>
+    ensures { OnOk result (map member found.new.items ≡ map member found.old.items ++ joined (map members_of_flow flows.now)) }
+{
+    for flow in flows {
+        found.push(Member {
+            id: flow.id.as_str(),
+            transitions: &[],
+            body: None,
+        })?;
+        add_all(flow.elements.as_slice(), found)?;
+    }
+    Ok(())
+}

@@ -1,0 +1,98 @@
+ghost use Rattle.std.specs.Prelude.{◌≡◌, ◌++◌, map, OnOk, IfOk};
+ghost use Rattle.jsl_model.specs.Members.{member};
+ghost use Rattle.jsl_model.specs.Trees.{inside, task_artifacts};
+ghost use Rattle.jsl_model.specs.Targets.{outline, ids as own_ids};
+ghost use Rattle.jsl_model.specs.Faults.{ids, restarts, restarts_in};
+
+use crate::element::{Body, Element, Task, Then, Transition};
+use crate::member::Member;
+use std::alloc::{AllocError, Global};
+
+/// The ids of these members.
+pub fn ids_of<'a>(alloc: Global, members: &[Member<'a>]) -> Result<Vec<&'a str>, AllocError>
+    ensures { IfOk result (λ found. map (λ id. id.now) found.items ≡ ids (map member members.now)) }
+{
+    let mut ids = Vec::new(alloc);
+    for member in members {
+        ids.push(member.id)?;
+    }
+    Ok(ids)
+}
+
+/// The ids of a list's own elements.
+pub fn own_ids(alloc: Global, elements: &[Element]) -> Result<Vec<&str>, AllocError>
+    ensures { IfOk result (λ found. map (λ id. id.now) found.items ≡ own_ids (outline elements.now)) }
+{
+    let mut ids = Vec::new(alloc);
+    for element in elements {
+        ids.push(element.id.as_str())?;
+    }
+    Ok(ids)
+}
+
+/// The elements at which restarts begin, by all transition elements of these members.
+pub fn restarts_of<'a>(alloc: Global, members: &[Member<'a>]) -> Result<Vec<&'a str>, AllocError>
+    ensures { IfOk result (λ found. map (λ id. id.now) found.items ≡ restarts (map member members.now)) }
+{
+    let mut found = Vec::new(alloc);
+    for member in members {
+        add_restarts(member.transitions, &mut found)?;
+    }
+    Ok(found)
+}
+
+fn add_restarts<'a>(
+    transitions: &'a [Transition],
+    found: &mut Vec<&'a str>,
+) -> Result<(), AllocError>
+    ensures { OnOk result (map (λ id. id.now) found.new.items ≡ map (λ id. id.now) found.old.items ++ restarts_in transitions.now) }
+{
+    for transition in transitions {
+        if let Then::Stop {
+            restart: Some(restart),
+            ..
+        } = &transition.then
+        {
+            found.push(restart.as_str())?;
+        }
+    }
+    Ok(())
+}
+
+/// Adds the artifacts that a body names itself.
+pub fn add_artifacts<'a>(body: &'a Body, found: &mut Vec<&'a str>) -> Result<(), AllocError>
+    ensures { OnOk result (map (λ name. name.now) found.new.items ≡ map (λ name. name.now) found.old.items ++ (inside body.now).artifacts) }
+{
+    match body {
+        Body::Step(step) => add_task(&step.task, found),
+        Body::Flow(_) => Ok(()),
+        Body::Split(_) => Ok(()),
+        Body::Decision { artifact } => {
+            found.push(artifact.as_str())?;
+            Ok(())
+        }
+    }
+}
+
+fn add_task<'a>(task: &'a Task, found: &mut Vec<&'a str>) -> Result<(), AllocError>
+    ensures { OnOk result (map (λ name. name.now) found.new.items ≡ map (λ name. name.now) found.old.items ++ task_artifacts task.now) }
+{
+    match task {
+        Task::Batchlet { artifact } => {
+            found.push(artifact.as_str())?;
+        }
+        Task::Chunk {
+            reader,
+            processor,
+            writer,
+            ..
+        } => {
+            found.push(reader.as_str())?;
+            if let Some(processor) = processor {
+                found.push(processor.as_str())?;
+            }
+            found.push(writer.as_str())?;
+        }
+    }
+    Ok(())
+}

@@ -1,0 +1,40 @@
+//! Runs the scripts of `data/`, and says of each whether it is answered as the file beside it has it.
+#![tactic(auto)]
+
+use script_engine::{Counted, run_script};
+use std::rt::Files;
+use std::{fs, io};
+
+/// The scripts, each with its replies.
+const EXAMPLES: [(&str, &str); 3] = [
+    ("nightly_chain.script", "nightly_chain.replies"),
+    ("split_and_decision.script", "split_and_decision.replies"),
+    ("transition_elements.script", "transition_elements.replies"),
+];
+
+fn is_answered_so(
+    rt: &(impl Files + AllocGlobal),
+    script: &str,
+    replies: &str,
+) -> io::Result<bool> {
+    let script = fs::read(rt, script)?;
+    let wanted = fs::read(rt, replies)?;
+    let mut written = Vec::new(rt.alloc());
+    let outcome = {
+        let mut source = Counted::new(script.as_slice());
+        let mut sink = Counted::new(&mut written);
+        run_script(rt.alloc(), &mut source, &mut sink)
+    };
+    Ok(outcome.is_ok() && written.as_slice() == wanted.as_slice())
+}
+
+fn main(rt: HostRuntime) -> io::Result<()> {
+    for (script, replies) in EXAMPLES {
+        if is_answered_so(&rt, script, replies)? {
+            println!(rt; "{script}: answered as {replies} has it")?;
+        } else {
+            println!(rt; "{script}: answered otherwise")?;
+        }
+    }
+    Ok(())
+}

@@ -1,8 +1,0 @@
-use Rattle.std.proofs.Common.{◌≡◌, [], drop}
-use Rattle.serde_json.specs.View.{items_view}
-use Rattle.script_text.specs.Catalogues.{with_jobs}
-use Rattle.script_text.proofs.catalogue.catalogue_of_jobs.Given as goal
-
--- the jobs that are left, after those that were added, give what all give
-abbrev pub invariant-loop-value : goal.invariant-loop-value
-invariant-loop-value l = with_jobs l.catalogue (items_view (drop l.value-index l.jobs)) ≡ with_jobs [] (items_view l.jobs)

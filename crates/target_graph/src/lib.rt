@@ -1,0 +1,13 @@
+//! Ranks that rise along every target of a graph, or the answer that the graph has a cycle.
+#![tactic(auto)]
+
+mod graph;
+mod laws;
+mod search;
+
+pub use graph::Graph;
+pub use laws::{cycle_is_a_path, ranked_has_no_cycle};
+pub use search::ranks;
+
+#[cfg(test)]
+mod tests;
