@@ -53,12 +53,20 @@ fn parts(alloc: Global) -> Result<JobParts, AllocError> {
     })
 }
 
-fn plan_from(alloc: Global, from: &str) -> Result<Plan, Refusal> {
-    Ok(Plan {
+fn plan_of(alloc: Global, from: &str, carried: &[&str], barred: &[&str]) -> Result<Plan, Refusal> {
+    let mut plan = Plan {
         from: T256::new(alloc, from)?,
         carried: Listed::new(alloc),
         barred: Listed::new(alloc),
-    })
+    };
+    for id in carried {
+        let step = T256::new(alloc, id)?;
+        plan.carried.push((step, T256::empty(alloc)))?;
+    }
+    for id in barred {
+        plan.barred.push(T256::new(alloc, id)?)?;
+    }
+    Ok(plan)
 }
 
 fn add_ids(text: &mut String, ids: &[T256]) -> Result<(), AllocError> {
@@ -123,40 +131,64 @@ fn told(
     Ok(text)
 }
 
+fn begun(alloc: Global, job: &Job, plan: &Plan) -> Result<Option<Cursor>, OutOfMemory> {
+    if plan.begins_in(job) {
+        Ok(Some(Cursor::new(alloc, job, plan)?))
+    } else {
+        Ok(None)
+    }
+}
+
+/// What the walk tells, and then what a copy of it tells that was made before the acts.
+fn told_twice(
+    alloc: Global,
+    mut cursor: Cursor,
+    acts: &[(&str, Option<WorkOutcome>)],
+) -> Result<(String, String), OutOfMemory> {
+    let mut copy = cursor.try_clone(alloc)?;
+    let first = told(alloc, &mut cursor, acts)?;
+    let second = told(alloc, &mut copy, acts)?;
+    Ok((first, second))
+}
+
+/// What the walk by this plan and its copy tell.
+fn walked(
+    alloc: Global,
+    plan: &Plan,
+    acts: &[(&str, Option<WorkOutcome>)],
+) -> Result<(String, String), Fail> {
+    let job = Job::check(alloc, parts(alloc)?)?;
+    match begun(alloc, &job, plan)? {
+        Some(cursor) => Ok(told_twice(alloc, cursor, acts)?),
+        None => Ok((String::new(alloc), String::new(alloc))),
+    }
+}
+
 #[test]
 fn a_split_ends_once_both_flows_have(rt: HostRuntime) -> Result<(), Fail> {
-    let alloc = rt.alloc();
-    let job = Job::check(alloc, parts(alloc)?)?;
-    let plan = plan_from(alloc, "b")?;
-    assert!(rt; plan.begins_in(&job));
-    let mut cursor = Cursor::new(alloc, &job, &plan)?;
-    let mut copy = cursor.try_clone(alloc)?;
+    let plan = plan_of(rt.alloc(), "b", &[], &[])?;
     let acts = [
         ("s1", None),
         ("s2", None),
         ("s1", Some(WorkOutcome::Failed)),
         ("s2", Some(WorkOutcome::Completed)),
     ];
+    let (first, second) = walked(rt.alloc(), &plan, &acts)?;
     let expected =
         "ready s1 s2, busy; ready s2, busy s1; ready, busy s1 s2; ready, busy s2; FAILED FAILED";
-    assert_eq!(rt; told(alloc, &mut cursor, &acts)?.as_str(), expected);
-    assert_eq!(rt; told(alloc, &mut copy, &acts)?.as_str(), expected);
+    assert_eq!(rt; first.as_str(), expected);
+    assert_eq!(rt; second.as_str(), expected);
     Ok(())
 }
 
 #[test]
 fn a_carried_step_is_passed_and_a_barred_one_fails(rt: HostRuntime) -> Result<(), Fail> {
-    let alloc = rt.alloc();
-    let job = Job::check(alloc, parts(alloc)?)?;
-    let mut plan = plan_from(alloc, "a")?;
-    plan.carried
-        .push((T256::new(alloc, "a")?, T256::new(alloc, "A")?))?;
-    plan.barred.push(T256::new(alloc, "a")?)?;
-    plan.barred.push(T256::new(alloc, "s2")?)?;
-    assert!(rt; plan.begins_in(&job));
-    let mut cursor = Cursor::new(alloc, &job, &plan)?;
+    let plan = plan_of(rt.alloc(), "a", &["a"], &["a", "s2"])?;
     let acts = [("s1", None), ("s1", Some(WorkOutcome::Completed))];
-    let expected = "ready s1, busy; ready, busy s1; FAILED FAILED";
-    assert_eq!(rt; told(alloc, &mut cursor, &acts)?.as_str(), expected);
+    let (first, _) = walked(rt.alloc(), &plan, &acts)?;
+    assert_eq!(rt;
+        first.as_str(),
+        "ready s1, busy; ready, busy s1; FAILED FAILED"
+    );
     Ok(())
 }
