@@ -290,19 +290,40 @@ fn jobs(alloc: Global, before: u32) -> Result<String, AllocError> {
     Ok(text)
 }
 
+// What is written for a catalogue alone.
+fn told(alloc: Global, catalogue: &String) -> Vec<u8> {
+    replies(alloc, catalogue.as_str().as_bytes()).0
+}
+
 #[test]
-fn what_is_at_a_bound_is_taken_and_one_more_is_not(rt: HostRuntime) -> Result<(), Fail> {
-    let alloc = rt.alloc();
-    for (catalogue, fault) in [
-        (nested(alloc, 15)?, ""),
-        (nested(alloc, 16)?, "{\"fault\":\"TooDeep\",\"job\":0}\n"),
-        (steps(alloc, 1000)?, ""),
-        (steps(alloc, 1001)?, "{\"fault\":\"TooMany\",\"job\":0}\n"),
-        (jobs(alloc, 255)?, ""),
-        (jobs(alloc, 256)?, "{\"fault\":\"TooMany\",\"job\":256}\n"),
-    ] {
-        let (out, _) = replies(alloc, catalogue.as_str().as_bytes());
-        assert_eq!(rt; out.as_slice(), fault.as_bytes());
-    }
+fn a_step_stands_in_at_most_15_flows(rt: HostRuntime) -> Result<(), Fail> {
+    assert!(rt; told(rt.alloc(), &nested(rt.alloc(), 15)?).is_empty());
+    let fault = told(rt.alloc(), &nested(rt.alloc(), 16)?);
+    assert_eq!(rt;
+        fault.as_slice(),
+        b"{\"fault\":\"TooDeep\",\"job\":0}\n".as_slice()
+    );
+    Ok(())
+}
+
+#[test]
+fn a_job_has_at_most_1000_steps(rt: HostRuntime) -> Result<(), Fail> {
+    assert!(rt; told(rt.alloc(), &steps(rt.alloc(), 1000)?).is_empty());
+    let fault = told(rt.alloc(), &steps(rt.alloc(), 1001)?);
+    assert_eq!(rt;
+        fault.as_slice(),
+        b"{\"fault\":\"TooMany\",\"job\":0}\n".as_slice()
+    );
+    Ok(())
+}
+
+#[test]
+fn a_catalogue_holds_at_most_256_jobs(rt: HostRuntime) -> Result<(), Fail> {
+    assert!(rt; told(rt.alloc(), &jobs(rt.alloc(), 255)?).is_empty());
+    let fault = told(rt.alloc(), &jobs(rt.alloc(), 256)?);
+    assert_eq!(rt;
+        fault.as_slice(),
+        b"{\"fault\":\"TooMany\",\"job\":256}\n".as_slice()
+    );
     Ok(())
 }
