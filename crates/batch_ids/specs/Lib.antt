@@ -1,3 +1,5 @@
+pub mod Metrics
+pub mod Parameters
 pub mod Refusals
 pub mod Statuses
 pub mod Texts

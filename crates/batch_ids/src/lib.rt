@@ -1,8 +1,13 @@
-//! The identifiers, texts, statuses and refusals that every other crate of the job service speaks of.
+//! The identifiers, texts, parameters, metrics, statuses and refusals that every other crate of the
+//! job service speaks of.
 #![tactic(auto)]
 
 mod execution_id;
 mod instance_id;
+mod metric;
+mod metric_step;
+mod metrics;
+mod parameters;
 mod refusal;
 mod status;
 mod text;
@@ -10,6 +15,10 @@ mod work_id;
 
 pub use execution_id::ExecutionId;
 pub use instance_id::InstanceId;
+pub use metric::Metric;
+pub use metric_step::MetricStep;
+pub use metrics::Metrics;
+pub use parameters::{Parameter, Parameters};
 pub use refusal::{OutOfMemory, Refusal};
 pub use sqlite_items::Items as Listed;
 pub use status::{BatchStatus, Moment, WorkOutcome};

@@ -1,0 +1,71 @@
+-- The metrics of a step execution.
+use Rattle.std.specs.Prelude.{ℕ, ◌+◌, ◌<◌, ◌^◌, List, codes}
+use Rattle.batch_ids.specs.declared.metric.Metric.{Metric}
+use Rattle.batch_ids.specs.declared.metric.Metric.TheVariants.{ReadCount, WriteCount, CommitCount, RollbackCount, ReadSkipCount, ProcessSkipCount, FilterCount, WriteSkipCount}
+use Rattle.batch_ids.specs.declared.metrics.Metrics.{Metrics}
+use Rattle.batch_ids.specs.declared.metric_step.MetricStep.{MetricStep}
+
+-- the name of a metric
+abbrev pub metric_name : Metric → List ℕ
+metric_name ReadCount = codes "READ_COUNT"
+metric_name WriteCount = codes "WRITE_COUNT"
+metric_name CommitCount = codes "COMMIT_COUNT"
+metric_name RollbackCount = codes "ROLLBACK_COUNT"
+metric_name ReadSkipCount = codes "READ_SKIP_COUNT"
+metric_name ProcessSkipCount = codes "PROCESS_SKIP_COUNT"
+metric_name FilterCount = codes "FILTER_COUNT"
+metric_name WriteSkipCount = codes "WRITE_SKIP_COUNT"
+
+-- the count of a metric
+abbrev pub metric_count : Metrics → Metric → ℕ
+metric_count metrics ReadCount = metrics.read_count
+metric_count metrics WriteCount = metrics.write_count
+metric_count metrics CommitCount = metrics.commit_count
+metric_count metrics RollbackCount = metrics.rollback_count
+metric_count metrics ReadSkipCount = metrics.read_skip_count
+metric_count metrics ProcessSkipCount = metrics.process_skip_count
+metric_count metrics FilterCount = metrics.filter_count
+metric_count metrics WriteSkipCount = metrics.write_skip_count
+
+-- the step with another count of a metric
+abbrev pub step_with : MetricStep → Metric → ℕ → MetricStep
+step_with step ReadCount n = record step { read_count = n }
+step_with step WriteCount n = record step { write_count = n }
+step_with step CommitCount n = record step { commit_count = n }
+step_with step RollbackCount n = record step { rollback_count = n }
+step_with step ReadSkipCount n = record step { read_skip_count = n }
+step_with step ProcessSkipCount n = record step { process_skip_count = n }
+step_with step FilterCount n = record step { filter_count = n }
+step_with step WriteSkipCount n = record step { write_skip_count = n }
+
+-- the metrics of a step execution that begins: each count is 0
+abbrev pub zero_metrics : Metrics
+zero_metrics = record { read_count = 0; write_count = 0; commit_count = 0; rollback_count = 0; read_skip_count = 0; process_skip_count = 0; filter_count = 0; write_skip_count = 0 }
+
+-- the step that adds nothing
+abbrev pub zero_step : MetricStep
+zero_step = record { read_count = 0; write_count = 0; commit_count = 0; rollback_count = 0; read_skip_count = 0; process_skip_count = 0; filter_count = 0; write_skip_count = 0 }
+
+-- the metrics with each count of the step added to the same count
+abbrev pub added : Metrics → MetricStep → Metrics
+added metrics step = record {
+  read_count = metrics.read_count + step.read_count;
+  write_count = metrics.write_count + step.write_count;
+  commit_count = metrics.commit_count + step.commit_count;
+  rollback_count = metrics.rollback_count + step.rollback_count;
+  read_skip_count = metrics.read_skip_count + step.read_skip_count;
+  process_skip_count = metrics.process_skip_count + step.process_skip_count;
+  filter_count = metrics.filter_count + step.filter_count;
+  write_skip_count = metrics.write_skip_count + step.write_skip_count;
+}
+
+-- each sum is a number of 64 bits
+pub record HasRoom (metrics : Metrics) (step : MetricStep) : Type 0 where
+  pub read : metrics.read_count + step.read_count < 2 ^ 64
+  pub write : metrics.write_count + step.write_count < 2 ^ 64
+  pub commit : metrics.commit_count + step.commit_count < 2 ^ 64
+  pub rollback : metrics.rollback_count + step.rollback_count < 2 ^ 64
+  pub read_skip : metrics.read_skip_count + step.read_skip_count < 2 ^ 64
+  pub process_skip : metrics.process_skip_count + step.process_skip_count < 2 ^ 64
+  pub filter : metrics.filter_count + step.filter_count < 2 ^ 64
+  pub write_skip : metrics.write_skip_count + step.write_skip_count < 2 ^ 64

@@ -1,0 +1,215 @@
+ghost use Rattle.std.specs.Prelude.{◌≡◌, ◌||◌, ◌⊎◌, ◌↔◌, ◌<◌, ◌≤◌, ℕ, List, [], true, false, nat_lt, length, slice_set, option_copied, Err, IsTrue, IfOk, IfErr, OnOk, OnErr};
+ghost use Rattle.std.specs.List.{insert};
+ghost use Rattle.batch_ids.specs.Parameters.{AreParameters, with_pair, parameters_of, pairs_of, is_long, is_too_large, value_of};
+
+use crate::{OutOfMemory, Refusal, T256, Text};
+use std::alloc::Global;
+use std::cmp::Ordering;
+use std::marker::Model;
+
+/// How many parameters a job execution has at most.
+const MOST_PARAMETERS: usize = 64;
+
+/// One parameter of a job execution: a key of at most 256 bytes, and a value of at most 4,096.
+/// Contracts see the pair of them, in bytes.
+#[derive(PartialEq, Eq, Debug, Drop)]
+pub struct Parameter {
+    key: T256,
+    value: Text<4096>,
+}
+
+impl Model for Parameter {
+    ghost use Rattle.batch_ids.specs.Parameters.{Pair};
+
+    ghost Value = { Pair };
+
+    ghost view = { λ parameter. (parameter.key, parameter.value) };
+
+    ghost inverse = { λ pair. record { key = pair.0; value = pair.1 } };
+}
+
+impl Parameter {
+    /// The key, of at most 256 bytes.
+    pub fn key(&self) -> &T256
+        ensures { result.now ≡ self.now.0 }
+    {
+        &self.key
+    }
+
+    /// The value, of at most 4,096 bytes.
+    pub fn value(&self) -> &Text<4096>
+        ensures { result.now ≡ self.now.1 }
+    {
+        &self.value
+    }
+
+    fn try_clone(&self) -> Result<Parameter, OutOfMemory>
+        ensures { IfOk result (λ copy. copy ≡ self.now) }
+    {
+        Ok(Parameter {
+            key: self.key.try_clone()?,
+            value: self.value.try_clone()?,
+        })
+    }
+}
+
+/// The parameters of a job execution: at most 64, by rising keys, each key once. Contracts see the
+/// list of pairs. See Jakarta Batch 2.1, "JobOperator" (`start`, `getParameters`).
+#[derive(Debug, Drop)]
+pub struct Parameters {
+    held: Vec<Parameter>,
+}
+
+impl Model for Parameters {
+    ghost use Rattle.std.specs.Prelude.{List};
+    ghost use Rattle.batch_ids.specs.Parameters.{Pair, AreParameters};
+
+    ghost Value = { List Pair };
+
+    ghost view = { λ parameters. parameters.held.items };
+
+    ghost invariant = { λ parameters. AreParameters parameters.held.items };
+}
+
+impl Parameters {
+    /// The parameters that these pairs of a key and a value give. Of a key given twice the last value
+    /// counts.
+    ///
+    /// Errors: where a given key has more than 256 bytes, a given value more than 4,096, or more than
+    /// 64 different keys are given, `TextTooLong`, or `OutOfMemory` if memory is refused before that is
+    /// seen; else at most `OutOfMemory`. For each pair it copies the texts and compares at most 64 keys.
+    pub fn new(alloc: Global, given: Vec<(String, String)>) -> Result<Parameters, Refusal>
+        ensures same { IfOk result (λ made. made ≡ parameters_of (pairs_of given.items)) }
+        ensures fits { OnOk result (is_too_large (pairs_of given.items) ≡ false) }
+        ensures refused { is_too_large (pairs_of given.items) ≡ true
+            → (result ≡ Err Refusal.TextTooLong) ⊎ (result ≡ Err Refusal.OutOfMemory) }
+        ensures fault { IfErr result (λ refusal. (refusal ≡ Refusal.OutOfMemory)
+            ⊎ (refusal ≡ Refusal.TextTooLong × (is_too_large (pairs_of given.items) ≡ true))) }
+    {
+        let mut made = Parameters::none(alloc);
+        for pair in &given {
+            made.put(alloc, pair.0.as_str(), pair.1.as_str())?;
+        }
+        Ok(made)
+    }
+
+    /// No parameters. It takes no memory.
+    pub fn none(alloc: Global) -> Parameters
+        ensures { result ≡ [] }
+    {
+        Parameters {
+            held: Vec::new(alloc),
+        }
+    }
+
+    /// The value of this key, if there is one. It compares at most 64 keys.
+    pub fn get(&self, key: &str) -> Option<&str>
+        ensures { option_copied result ≡ value_of self.now key.now }
+    {
+        for parameter in self.held.as_slice() {
+            if parameter.key.as_str() == key {
+                return Some(parameter.value.as_str());
+            }
+        }
+        None
+    }
+
+    /// The parameters, by rising keys (in the order of their bytes).
+    pub fn pairs(&self) -> &[Parameter]
+        ensures same { result.now ≡ self.now }
+        ensures kept { AreParameters self.now }
+    {
+        self.held.as_slice()
+    }
+
+    /// How many there are, at most 64.
+    pub fn len(&self) -> usize
+        ensures number { result ≡ length self.now }
+        ensures few { result ≤ 64 }
+    {
+        self.held.len()
+    }
+
+    /// Whether there are none.
+    pub fn is_empty(&self) -> bool
+        ensures { IsTrue result ↔ (self.now ≡ []) }
+    {
+        self.held.is_empty()
+    }
+
+    /// Equal parameters, or `OutOfMemory`. It costs time and memory as their texts have bytes.
+    pub fn try_clone(&self) -> Result<Parameters, OutOfMemory>
+        ensures { IfOk result (λ copy. copy ≡ self.now) }
+    {
+        let mut held = Vec::new(*self.held.allocator());
+        for parameter in self.held.as_slice() {
+            held.push(parameter.try_clone()?)?;
+        }
+        Ok(Parameters { held })
+    }
+
+    /// Puts a pair in its place.
+    fn put(&mut self, alloc: Global, key: &str, value: &str) -> Result<(), Refusal>
+        ensures put { OnOk result (self.new ≡ with_pair self.old (key.now, value.now)) }
+        ensures few { OnOk result (length self.new ≤ 64) }
+        ensures fits { OnOk result (is_long (key.now, value.now) ≡ false) }
+        ensures fault { IfErr result (λ refusal. (refusal ≡ Refusal.OutOfMemory)
+            ⊎ (refusal ≡ Refusal.TextTooLong
+            × ((is_long (key.now, value.now) || nat_lt 64 (length (with_pair self.old (key.now, value.now)))) ≡ true))) }
+    {
+        let parameter = Parameter {
+            key: T256::new(alloc, key)?,
+            value: Text::new(alloc, value)?,
+        };
+        match self.place(key) {
+            Ok(at) => self.held[at] = parameter,
+            Err(at) => {
+                if self.len() >= MOST_PARAMETERS {
+                    return Err(Refusal::TextTooLong);
+                }
+                self.held.insert(at, parameter)?;
+            }
+        }
+        Ok(())
+    }
+
+    /// Where this key is, or where it would stand.
+    fn place(&self, key: &str) -> Result<usize, usize>
+        ensures held { IfOk result (λ at. (at < length self.now)
+            × ((value : List ℕ) → with_pair self.now (key.now, value) ≡ slice_set self.now at (key.now, value))) }
+        ensures absent { IfErr result (λ at. (at ≤ length self.now)
+            × ((value : List ℕ) → with_pair self.now (key.now, value) ≡ insert self.now at (key.now, value))) }
+        ensures kept { AreParameters self.now }
+    {
+        for (at, parameter) in self.held.iter().enumerate() {
+            match parameter.key.as_str().cmp(key) {
+                Ordering::Less => {}
+                Ordering::Equal => return Ok(at),
+                Ordering::Greater => return Err(at),
+            }
+        }
+        Err(self.len())
+    }
+}
+
+impl PartialEq for Parameters {
+    ghost use Rattle.std.specs.Prelude.{◌==◌, ◌&&◌};
+    ghost use Rattle.std.specs.Cmp.Lexicographic.{pointwise};
+    ghost use Rattle.std.specs.Cmp.Rules.{comparing};
+    ghost use Rattle.std.proofs.Common.{rules};
+
+    ghost eq = { pointwise (λ one other. pointwise ◌==◌ one.0 other.0 && pointwise ◌==◌ one.1 other.1) };
+
+    ghost laws = { Prim.search (comparing, rules) };
+
+    fn eq(&self, other: &Parameters) -> bool {
+        self.held.as_slice() == other.held.as_slice()
+    }
+}
+
+impl Eq for Parameters {
+    ghost use Rattle.std.specs.Cmp.Rules.{comparing};
+    ghost use Rattle.std.proofs.Common.{rules};
+
+    ghost laws = { Prim.search (comparing, rules) };
+}
