@@ -1,5 +1,5 @@
 use crate::*;
-use jsl_model::{Body, Job, JobFault, Task, Then};
+use jsl_model::{Body, Element, Job, JobFault, Step, Task, Then};
 use std::test::Fail;
 
 /// What `FORMS` says, in the order in which it is written.
@@ -31,54 +31,74 @@ const FORMS: &[u8] = br#"{"jobs":[{"id":"j","restartable":false,"elements":[
         {"kind":"flow","id":"q","elements":[{"kind":"decision","id":"e","ref":"g"}]}]},
     {"kind":"decision","id":"d","ref":"a"}]}]}"#;
 
+fn step_in(body: &Body) -> Option<&Step> {
+    match body {
+        Body::Step(step) => Some(step),
+        _ => None,
+    }
+}
+
+// The pattern, the exit status and the restart point of an element's last transition element.
+fn last_stop(element: &Element) -> Option<(&str, &str, &str)> {
+    let [.., last] = element.transitions.as_slice() else {
+        return None;
+    };
+    match &last.then {
+        Then::Stop {
+            exit_status: Some(exit_status),
+            restart: Some(restart),
+        } => Some((last.on.as_str(), exit_status.as_str(), restart.as_str())),
+        _ => None,
+    }
+}
+
+// The reader and the item count of the chunk that a flow begins with.
+fn chunk_in(body: &Body) -> Option<(&str, u32)> {
+    let Body::Flow(elements) = body else {
+        return None;
+    };
+    match &step_in(&elements.get(0)?.body)?.task {
+        Task::Chunk {
+            reader,
+            item_count,
+            ..
+        } => Some((reader.as_str(), *item_count)),
+        Task::Batchlet { .. } => None,
+    }
+}
+
+// A split's first flow, and the artifact of the decision that it begins with.
+fn decision_in(body: &Body) -> Option<(&str, &str)> {
+    let Body::Split(flows) = body else {
+        return None;
+    };
+    let flow = flows.get(0)?;
+    match &flow.elements.get(0)?.body {
+        Body::Decision { artifact } => Some((flow.id.as_str(), artifact.as_str())),
+        _ => None,
+    }
+}
+
 fn said_of(job: &Job) -> Option<Facts<'_>> {
     let [first, second, third, ..] = job.elements() else {
         return None;
     };
-    let (Body::Step(step), Body::Flow(elements), Body::Split(flows)) = (
-        &first.body,
-        &second.body,
-        &third.body,
-    ) else {
-        return None;
-    };
-    let [.., last] = first.transitions.as_slice() else {
-        return None;
-    };
-    let Then::Stop {
-        exit_status,
-        restart,
-    } = &last.then
-    else {
-        return None;
-    };
-    let Body::Step(chunk) = &elements.get(0)?.body else {
-        return None;
-    };
-    let Task::Chunk {
-        reader,
-        item_count,
-        ..
-    } = &chunk.task
-    else {
-        return None;
-    };
-    let flow = flows.get(0)?;
-    let Body::Decision { artifact } = &flow.elements.get(0)?.body else {
-        return None;
-    };
+    let step = step_in(&first.body)?;
+    let (on, exit_status, restart) = last_stop(first)?;
+    let (reader, item_count) = chunk_in(&second.body)?;
+    let (flow_of_split, decision) = decision_in(&third.body)?;
     Some(Facts {
         restartable: job.restartable(),
         start_limit: step.start_limit,
         allow_start_if_complete: step.allow_start_if_complete,
-        on: last.on.as_str(),
-        exit_status: exit_status.as_ref()?.as_str(),
-        restart: restart.as_ref()?.as_str(),
+        on,
+        exit_status,
+        restart,
         next: second.next.as_ref()?.as_str(),
-        reader: reader.as_str(),
-        item_count: *item_count,
-        flow_of_split: flow.id.as_str(),
-        decision: artifact.as_str(),
+        reader,
+        item_count,
+        flow_of_split,
+        decision,
     })
 }
 
@@ -102,67 +122,68 @@ fn a_job_of_each_form(rt: HostRuntime) -> Result<(), Fail> {
     Ok(())
 }
 
+// Elements of a job, and the number of the first that is wrong.
+const WRONG_ELEMENTS: [(&str, u64); 16] = [
+    // An element has its number ahead of those inside it.
+    (r#"{"kind":"flow","id":"f","elements":[7]}"#, 1),
+    (
+        r#"{"kind":"flow","id":"f","elements":[7],"transitions":[{}]}"#,
+        0,
+    ),
+    (
+        r#"{"kind":"flow","id":"f","elements":[{"kind":"decision","id":"d","ref":"a"}]},7"#,
+        2,
+    ),
+    // The flows of a split are counted: 1, with 2 inside, and 3.
+    (
+        r#"{"kind":"split","id":"p","flows":[{"kind":"flow","id":"q","elements":[{"kind":"decision","id":"d","ref":"a"}]},{}]}"#,
+        3,
+    ),
+    (
+        r#"{"kind":"split","id":"p","flows":[{"kind":"flow","id":"q","elements":[8]},{}]}"#,
+        2,
+    ),
+    (
+        r#"{"kind":"split","id":"p","flows":[],"transitions":[]}"#,
+        0,
+    ),
+    (r#"{"kind":"decision","id":"d","ref":"a","next":"s"}"#, 0),
+    (r#"{"kind":"job","id":"d","elements":[]}"#, 0),
+    (r#"{"kind":"step","id":"s"}"#, 0),
+    (
+        r#"{"kind":"step","id":"s","batchlet":{"ref":"b"},"chunk":null}"#,
+        0,
+    ),
+    (
+        r#"{"kind":"step","id":"s","batchlet":{"ref":"b"},"next":null}"#,
+        0,
+    ),
+    (
+        r#"{"kind":"step","id":"s","batchlet":{"ref":"b"},"start-limit":4294967296}"#,
+        0,
+    ),
+    (
+        r#"{"kind":"step","id":"s","batchlet":{"ref":"b"},"partitions":1}"#,
+        0,
+    ),
+    (
+        r#"{"kind":"step","id":"s","chunk":{"item-count":0,"reader":{"ref":"r"},"writer":{"ref":"w"}}}"#,
+        0,
+    ),
+    (
+        r#"{"kind":"step","id":"s","chunk":{"reader":{"ref":"r"},"writer":"w"}}"#,
+        0,
+    ),
+    (
+        r#"{"kind":"step","id":"s","batchlet":{"ref":"b"},"transitions":[{"kind":"end","on":"E","to":"s"}]}"#,
+        0,
+    ),
+];
+
 #[test]
 fn the_number_of_the_first_wrong_element(rt: HostRuntime) -> Result<(), Fail> {
-    // Each list of elements stands in one job.
-    let cases = [
-        // An element has its number ahead of those inside it.
-        (r#"{"kind":"flow","id":"f","elements":[7]}"#, 1),
-        (
-            r#"{"kind":"flow","id":"f","elements":[7],"transitions":[{}]}"#,
-            0,
-        ),
-        (
-            r#"{"kind":"flow","id":"f","elements":[{"kind":"decision","id":"d","ref":"a"}]},7"#,
-            2,
-        ),
-        // The flows of a split are counted: 1, with 2 inside, and 3.
-        (
-            r#"{"kind":"split","id":"p","flows":[{"kind":"flow","id":"q","elements":[{"kind":"decision","id":"d","ref":"a"}]},{}]}"#,
-            3,
-        ),
-        (
-            r#"{"kind":"split","id":"p","flows":[{"kind":"flow","id":"q","elements":[8]},{}]}"#,
-            2,
-        ),
-        (
-            r#"{"kind":"split","id":"p","flows":[],"transitions":[]}"#,
-            0,
-        ),
-        (r#"{"kind":"decision","id":"d","ref":"a","next":"s"}"#, 0),
-        (r#"{"kind":"job","id":"d","elements":[]}"#, 0),
-        (r#"{"kind":"step","id":"s"}"#, 0),
-        (
-            r#"{"kind":"step","id":"s","batchlet":{"ref":"b"},"chunk":null}"#,
-            0,
-        ),
-        (
-            r#"{"kind":"step","id":"s","batchlet":{"ref":"b"},"next":null}"#,
-            0,
-        ),
-        (
-            r#"{"kind":"step","id":"s","batchlet":{"ref":"b"},"start-limit":4294967296}"#,
-            0,
-        ),
-        (
-            r#"{"kind":"step","id":"s","batchlet":{"ref":"b"},"partitions":1}"#,
-            0,
-        ),
-        (
-            r#"{"kind":"step","id":"s","chunk":{"item-count":0,"reader":{"ref":"r"},"writer":{"ref":"w"}}}"#,
-            0,
-        ),
-        (
-            r#"{"kind":"step","id":"s","chunk":{"reader":{"ref":"r"},"writer":"w"}}"#,
-            0,
-        ),
-        (
-            r#"{"kind":"step","id":"s","batchlet":{"ref":"b"},"transitions":[{"kind":"end","on":"E","to":"s"}]}"#,
-            0,
-        ),
-    ];
     let alloc = rt.alloc();
-    for (elements, number) in cases {
+    for (elements, number) in WRONG_ELEMENTS {
         let text = format!(in alloc; r#"{{"jobs":[{{"id":"j","elements":[{elements}]}}]}}"#)?;
         let fault = ReadFault::BadElement {
             job: 0,

@@ -8,7 +8,7 @@ use Rattle.jsl_model.specs.declared.element.Then.TheVariants.{Next, End, Fail, S
 use Rattle.jsl_model.specs.declared.element.Transition.{Transition}
 use Rattle.jsl_model.specs.Trees.{is_empty, any_true, joined, Member, members, depth}
 use Rattle.jsl_model.specs.Names.{has_twice, are_among}
-use Rattle.jsl_model.specs.Targets.{outline, ids as own_ids, lists_of, lacks_some_target, has_some_loop, HasRanks}
+use Rattle.jsl_model.specs.Targets.{outline, ids, lists_of, lacks_some_target, has_some_loop, HasRanks}
 use Rattle.jsl_model.specs.LongTexts.{is_long, element_has_long}
 use Rattle.jsl_model.specs.Emptiness.{is_lacking, element_has_empty}
 use Rattle.jsl_model.specs.Jobs.{JobTree}
@@ -66,12 +66,12 @@ abbrev pub has_too_many : JobTree → Bool
 has_too_many job = nat_lt 1000 (length (members job.elements))
 
 -- the ids of these
-abbrev pub ids : List Member → List (List ℕ)
-ids all = map (λ (m : Member). m.id) all
+abbrev pub member_ids : List Member → List (List ℕ)
+member_ids all = map (λ (m : Member). m.id) all
 
 -- whether two elements, flows of splits included, have one id
 abbrev pub has_duplicate : JobTree → Bool
-has_duplicate job = has_twice (ids (members job.elements))
+has_duplicate job = has_twice (member_ids (members job.elements))
 
 -- the element at which a restart begins, where a stop names one
 abbrev pub restart_at : Then → Option (List ℕ)
@@ -90,7 +90,7 @@ restarts all = joined (map (λ (m : Member). restarts_in m.transitions) all)
 
 -- whether each restart begins at an element of the job's own list
 abbrev pub has_restarts : JobTree → Bool
-has_restarts job = are_among (own_ids (outline job.elements)) (restarts (members job.elements))
+has_restarts job = are_among (ids (outline job.elements)) (restarts (members job.elements))
 
 -- the first fault of a job whose texts are short enough, each tested over the whole job
 abbrev pub tree_fault : JobTree → Option JobFault

@@ -1,8 +1,8 @@
 ghost use Rattle.std.specs.Prelude.{◌≡◌, ◌++◌, map, OnOk, IfOk};
 ghost use Rattle.jsl_model.specs.Members.{member};
 ghost use Rattle.jsl_model.specs.Trees.{inside, task_artifacts};
-ghost use Rattle.jsl_model.specs.Targets.{outline, ids as own_ids};
-ghost use Rattle.jsl_model.specs.Faults.{ids, restarts, restarts_in};
+ghost use Rattle.jsl_model.specs.Targets.{outline, ids};
+ghost use Rattle.jsl_model.specs.Faults.{member_ids, restarts, restarts_in};
 
 use crate::element::{Body, Element, Task, Then, Transition};
 use crate::member::Member;
@@ -10,7 +10,7 @@ use std::alloc::{AllocError, Global};
 
 /// The ids of these members.
 pub fn ids_of<'a>(alloc: Global, members: &[Member<'a>]) -> Result<Vec<&'a str>, AllocError>
-    ensures { IfOk result (λ found. map (λ id. id.now) found.items ≡ ids (map member members.now)) }
+    ensures { IfOk result (λ found. map (λ id. id.now) found.items ≡ member_ids (map member members.now)) }
 {
     let mut ids = Vec::new(alloc);
     for member in members {
@@ -21,7 +21,7 @@ pub fn ids_of<'a>(alloc: Global, members: &[Member<'a>]) -> Result<Vec<&'a str>,
 
 /// The ids of a list's own elements.
 pub fn own_ids(alloc: Global, elements: &[Element]) -> Result<Vec<&str>, AllocError>
-    ensures { IfOk result (λ found. map (λ id. id.now) found.items ≡ own_ids (outline elements.now)) }
+    ensures { IfOk result (λ found. map (λ id. id.now) found.items ≡ ids (outline elements.now)) }
 {
     let mut ids = Vec::new(alloc);
     for element in elements {

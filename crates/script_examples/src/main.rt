@@ -1,7 +1,10 @@
 //! Runs the scripts of `data/`, and says of each whether it is answered as the file beside it has it.
 #![tactic(auto)]
 
-use script_engine::{Counted, run_script};
+ghost use Rattle.std.specs.Prelude.{◌≡◌, ◌&&◌, bytes_eq};
+ghost use Rattle.std.specs.Result.{is_ok};
+
+use script_engine::{Counted, EngineFault, Summary, run_script};
 use std::rt::Files;
 use std::{fs, io};
 
@@ -11,6 +14,13 @@ const EXAMPLES: [(&str, &str); 3] = [
     ("split_and_decision.script", "split_and_decision.replies"),
     ("transition_elements.script", "transition_elements.replies"),
 ];
+
+// Whether a script ran to its end, and these are the replies that it wants.
+fn is_as_wanted(outcome: &Result<Summary, EngineFault>, written: &[u8], wanted: &[u8]) -> bool
+    ensures { result ≡ (is_ok outcome.now && bytes_eq written.now wanted.now) }
+{
+    outcome.is_ok() && written == wanted
+}
 
 fn is_answered_so(
     rt: &(impl Files + AllocGlobal),
@@ -25,7 +35,7 @@ fn is_answered_so(
         let mut sink = Counted::new(&mut written);
         run_script(rt.alloc(), &mut source, &mut sink)
     };
-    Ok(outcome.is_ok() && written.as_slice() == wanted.as_slice())
+    Ok(is_as_wanted(&outcome, written.as_slice(), wanted.as_slice()))
 }
 
 fn main(rt: HostRuntime) -> io::Result<()> {
