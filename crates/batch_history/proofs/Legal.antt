@@ -1,25 +1,25 @@
 -- A legal history with one operation more.
 use Rattle.std.proofs.Common.{subst, ◌≡◌, ℕ, ◌+◌, ◌<◌, ◌≤◌, ◌==◌, Bool, true, false, cond, nat_lt, Option, None, Some, Result, Ok, Err, is_some, List, [], ◌∷◌, ◌++◌, length, find, reverse, ◌⊎◌, inl, inr, refl, sym, ◌∙◌, ap, arith}
+use Rattle.std.specs.List.{list_any}
 use Rattle.std.proofs.lemmas.List.{length-append, length-reverse}
 use Rattle.std.proofs.lemmas.Bool.{ltb-true}
 use Rattle.batch_ids.specs.declared.refusal.Refusal.{Refusal}
-use Rattle.batch_ids.specs.declared.refusal.Refusal.TheVariants.{JobStartException, NoSuchJobExecutionException, NoSuchWork, WorkNotRunning, NotClaimer, NotStopping, RepositoryFull}
+use Rattle.batch_ids.specs.declared.refusal.Refusal.TheVariants.{JobStartException, NoSuchJobExecutionException, JobExecutionNotRunningException, JobExecutionIsRunningException, RepositoryFull}
 use Rattle.batch_ids.specs.declared.status.WorkOutcome.{WorkOutcome}
 use Rattle.batch_ids.specs.declared.status.WorkOutcome.TheVariants.{Completed, Failed, Stopped}
 use Rattle.batch_history.specs.declared.call.Call.{Call}
-use Rattle.batch_history.specs.declared.call.Call.TheVariants.{Start, Restart, Claim, Finish}
+use Rattle.batch_history.specs.declared.call.Call.TheVariants.{Start, Restart, Stop, Abandon, Claim, Checkpoint, Finish}
 use Rattle.batch_history.specs.declared.call.Reply.{Reply}
 use Rattle.batch_history.specs.declared.call.Reply.TheVariants.{Execution as IsExecution, Nothing, Done}
 use Rattle.batch_history.specs.declared.call.WorkKind.{WorkKind}
+use Rattle.batch_history.specs.declared.call.WorkKind.TheVariants.{Batchlet, Chunk, Decision}
 use Rattle.batch_history.specs.declared.call.Entry.{Entry}
-use Rattle.batch_history.specs.declared.query.JobExecution.{JobExecution}
+use Rattle.batch_history.specs.declared.rows.ExecutionRow.{ExecutionRow}
 use Rattle.batch_history.specs.declared.rows.WorkRow.{WorkRow}
-use Rattle.batch_history.specs.declared.rows.WorkState.{WorkState}
-use Rattle.batch_history.specs.declared.rows.WorkState.TheVariants.{Busy, Over}
 use Rattle.jsl_model.specs.Jobs.{JobTree}
-use Rattle.batch_history.specs.History.{job_named, is_work}
+use Rattle.batch_history.specs.History.{job_named, is_work, is_finished}
 use Rattle.batch_history.specs.Replies.{is_nothing}
-use Rattle.batch_history.specs.Rows.{History, Rows, rows, reply, reply_by, entered, claimed, finished, finished_by, finished_as, has_something, is_execution, grown, after_call, StandsFor, IsLegal}
+use Rattle.batch_history.specs.Rows.{History, Rows, rows, reply, reply_by, row_status, is_running_in, entered, claimed, stopped, abandoned, going, marked_as, checkpointed, stopped_as, stopped_end, finished, finished_as, unheld_by, unless, stop_asked, has_something, is_execution, grown, after_call, StandsFor, IsLegal}
 
 -- What is entered has room
 
@@ -30,41 +30,78 @@ entered-room limit count given r e =
       | false ↦ λ s. cc
     ]) e)
 
-claimed-room : (limit : ℕ) (r : Rows) (found : Option JobExecution) (given : Reply) → claimed limit r found ≡ Ok given → is_nothing given ≡ false → r.count < limit
+claimed-room : (limit : ℕ) (r : Rows) (found : Option ExecutionRow) (given : Reply) → claimed limit r found ≡ Ok given → is_nothing given ≡ false → r.count < limit
 claimed-room limit r None given e n = cc
 claimed-room limit r (Some row) given e n = entered-room limit r.count _ given e
 
-as-room : (limit count : ℕ) (kind : WorkKind) (o : WorkOutcome) (given : Reply) → finished_as limit count kind o ≡ Ok given → count < limit
-as-room limit count kind Stopped given e = cc
-as-room limit count kind Completed given e = entered-room limit count Done given e
-as-room limit count kind Failed given e = entered-room limit count Done given e
+-- a reply behind a test has room if the reply has
+tested-room : (limit count : ℕ) (b : Bool) (refusal : Refusal) (reply : Result Reply Refusal) (given : Reply) → (reply ≡ Ok given → count < limit)
+    → cond b (Err refusal) reply ≡ Ok given → count < limit
+tested-room limit count true refusal reply given room e = cc
+tested-room limit count false refusal reply given room e = room e
 
-by-room : (limit count who : ℕ) (o : WorkOutcome) (claimer : ℕ) (kind : WorkKind) (state : WorkState) (given : Reply) → finished_by limit count who o claimer kind state ≡ Ok given → count < limit
-by-room limit count who o claimer kind (Over p exit) given e = cc
-by-room limit count who o claimer kind Busy given e =
-    (elim (claimer == who) as (λ b. cond b (finished_as limit count kind o) (Err NotClaimer) ≡ Ok given → count < limit) [
-      | true ↦ λ s. as-room limit count kind o given s
-      | false ↦ λ s. cc
-    ]) e
+stopped-room : (limit count : ℕ) (found : Option ExecutionRow) (given : Reply) → stopped limit count found ≡ Ok given → count < limit
+stopped-room limit count None given e = cc
+stopped-room limit count (Some row) given e =
+    tested-room limit count (is_finished (row_status row)) JobExecutionNotRunningException _ given (entered-room limit count Done given) e
 
-finished-room : (limit count who : ℕ) (o : WorkOutcome) (found : Option WorkRow) (given : Reply) → finished limit count who o found ≡ Ok given → count < limit
-finished-room limit count who o None given e = cc
-finished-room limit count who o (Some row) given e = by-room limit count who o row.claimer row.kind row.state given e
+abandoned-room : (limit : ℕ) (r : Rows) (found : Option ExecutionRow) (given : Reply) → abandoned limit r found ≡ Ok given → r.count < limit
+abandoned-room limit r None given e = cc
+abandoned-room limit r (Some row) given e =
+    tested-room limit r.count (list_any (is_running_in row.instance) r.executions) JobExecutionIsRunningException _ given
+    (entered-room limit r.count Done given) e
+
+unless-room : (limit count : ℕ) (refusal : Option Refusal) (reply : Result Reply Refusal) (given : Reply) → (reply ≡ Ok given → count < limit)
+    → unless refusal reply ≡ Ok given → count < limit
+unless-room limit count None reply given room e = room e
+unless-room limit count (Some refusal) reply given room e = cc
+
+marked-room : (limit count : ℕ) (stop : Bool) (kind : WorkKind) (given : Reply) → marked_as limit count stop kind ≡ Ok given → count < limit
+marked-room limit count stop Chunk given e = entered-room limit count (going stop) given e
+marked-room limit count stop Batchlet given e = cc
+marked-room limit count stop Decision given e = cc
+
+checkpointed-room : (limit : ℕ) (r : Rows) (who : ℕ) (found : Option WorkRow) (given : Reply) → checkpointed limit r who found ≡ Ok given → r.count < limit
+checkpointed-room limit r who None given e = cc
+checkpointed-room limit r who (Some row) given e =
+    unless-room limit r.count (unheld_by who row.claimer row.state) _ given (marked-room limit r.count (stop_asked r row.execution) row.kind given) e
+
+stop-room : (limit count : ℕ) (stop : Bool) (given : Reply) → stopped_as limit count stop ≡ Ok given → count < limit
+stop-room limit count true given e = entered-room limit count Done given e
+stop-room limit count false given e = cc
+
+end-room : (limit count : ℕ) (stop : Bool) (kind : WorkKind) (given : Reply) → stopped_end limit count stop kind ≡ Ok given → count < limit
+end-room limit count stop Decision given e = cc
+end-room limit count stop Batchlet given e = stop-room limit count stop given e
+end-room limit count stop Chunk given e = stop-room limit count stop given e
+
+as-room : (limit count : ℕ) (stop : Bool) (kind : WorkKind) (o : WorkOutcome) (given : Reply) → finished_as limit count stop kind o ≡ Ok given → count < limit
+as-room limit count stop kind Stopped given e = end-room limit count stop kind given e
+as-room limit count stop kind Completed given e = entered-room limit count Done given e
+as-room limit count stop kind Failed given e = entered-room limit count Done given e
+
+finished-room : (limit : ℕ) (r : Rows) (who : ℕ) (o : WorkOutcome) (found : Option WorkRow) (given : Reply) → finished limit r who o found ≡ Ok given → r.count < limit
+finished-room limit r who o None given e = cc
+finished-room limit r who o (Some row) given e =
+    unless-room limit r.count (unheld_by who row.claimer row.state) _ given (as-room limit r.count (stop_asked r row.execution) row.kind o given) e
 
 -- a reply that is entered has room
 pub reply-room : (limit : ℕ) (r : Rows) (who : ℕ) (call : Call) (given : Reply) → reply_by limit r who call ≡ Ok given → is_nothing given ≡ false → r.count < limit
-reply-room limit r who (Start job) given e n =
+reply-room limit r who (Start job parameters) given e n =
     (elim (is_some (job_named r.catalogue job)) as (λ b. cond b (entered limit r.count (IsExecution (length r.executions + 1))) (Err JobStartException) ≡ Ok given → r.count < limit) [
       | true ↦ λ s. entered-room limit r.count _ given s
       | false ↦ λ s. cc
     ]) e
-reply-room limit r who (Restart x) given e n =
+reply-room limit r who (Restart x parameters) given e n =
     (elim (is_some (find (is_execution x) r.executions)) as (λ b. cond b (entered limit r.count (IsExecution (length r.executions + 1))) (Err NoSuchJobExecutionException) ≡ Ok given → r.count < limit) [
       | true ↦ λ s. entered-room limit r.count _ given s
       | false ↦ λ s. cc
     ]) e
+reply-room limit r who (Stop x) given e n = stopped-room limit r.count (find (is_execution x) r.executions) given e
+reply-room limit r who (Abandon x) given e n = abandoned-room limit r (find (is_execution x) r.executions) given e
 reply-room limit r who Claim given e n = claimed-room limit r (find (has_something r) r.executions) given e n
-reply-room limit r who (Finish w o exit) given e n = finished-room limit r.count who o (find (is_work w) r.works) given e
+reply-room limit r who (Checkpoint w mark step) given e n = checkpointed-room limit r who (find (is_work w) r.works) given e
+reply-room limit r who (Finish w o exit step) given e n = finished-room limit r who o (find (is_work w) r.works) given e
 
 -- Where a list with one element more is cut
 

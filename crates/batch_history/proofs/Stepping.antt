@@ -1,24 +1,27 @@
 -- The rows of a past with one operation more: what each record is after it, by what it was before.
-use Rattle.std.proofs.Common.{◌≡◌, ◌≢◌, ℕ, zero, suc, ◌+◌, ◌==◌, ◌<◌, ◌≤◌, Bool, true, false, cond, Option, None, Some, List, [], ◌∷◌, ◌++◌, length, map, find, reverse, refl, sym, ◌∙◌, ap, arith, add-one}
+use Rattle.std.proofs.Common.{◌≡◌, ◌≢◌, ℕ, zero, suc, ◌+◌, ◌==◌, ◌<◌, ◌≤◌, ◌||◌, Bool, true, false, cond, Option, None, Some, List, [], ◌∷◌, ◌++◌, length, map, find, reverse, refl, sym, ◌∙◌, ap, arith, add-one}
 use Rattle.std.specs.Option.{option_map}
 use Rattle.std.proofs.lemmas.List.{map-append, length-map, length-append, reverse-append}
 use Rattle.std.proofs.lemmas.Bool.{eqb-true, eqb-false, eq-eqb, ne_eqb}
 use Rattle.job_walk.proofs.Following.{find-map}
 use Rattle.job_walk.specs.declared.facts.Known.{Known}
 use Rattle.job_walk.specs.declared.facts.Value.{Value}
+use Rattle.batch_ids.specs.Parameters.{Pair}
+use Rattle.batch_ids.specs.declared.metric_step.MetricStep.{MetricStep}
 use Rattle.batch_ids.specs.declared.status.WorkOutcome.{WorkOutcome}
 use Rattle.jsl_model.specs.Jobs.{JobTree}
 use Rattle.batch_history.specs.declared.call.Call.{Call}
-use Rattle.batch_history.specs.declared.call.Call.TheVariants.{Start, Restart, Claim, Finish}
+use Rattle.batch_history.specs.declared.call.Call.TheVariants.{Start, Restart, Stop, Abandon, Claim, Checkpoint, Finish}
 use Rattle.batch_history.specs.declared.call.Reply.{Reply}
-use Rattle.batch_history.specs.declared.call.Reply.TheVariants.{Execution as IsExecution, Work, Closed, Nothing, Done}
+use Rattle.batch_history.specs.declared.call.Reply.TheVariants.{Execution as IsExecution, Work, Closed, Nothing, Done, Go, StopAsked}
 use Rattle.batch_history.specs.declared.call.Entry.{Entry}
-use Rattle.batch_history.specs.declared.query.JobExecution.{JobExecution}
+use Rattle.batch_history.specs.declared.rows.ExecutionRow.{ExecutionRow}
 use Rattle.batch_history.specs.declared.rows.WorkRow.{WorkRow}
-use Rattle.batch_history.specs.History.{Made, made, remade, is_made, makes, change_first, is_at, instances_of, works_of, works_after, handed_out, over, fact_from, known_of, walk_of, job_named, taken, taken_by, touched, earliest, start_of, updated_of, end_of, value_after, status_of, status_from, is_finished}
+use Rattle.batch_history.specs.declared.rows.CheckpointRow.{CheckpointRow}
+use Rattle.batch_history.specs.History.{Made, Place, made, remade, is_made, makes, change_first, is_at, instances_of, works_of, works_after, handed_out, reported, over, fact_from, known_of, walk_of, job_named, taken, taken_by, asked, given_up, touched, earliest, start_of, stop_of, abandoned_of, updated_of, end_of, value_after, bare_of, status_from, is_finished, place_by, place_of, instance_made, checkpoints_of, checkpoints_after, put_mark, marks_left, is_work}
 use Rattle.batch_history.specs.Replies.{is_nothing}
 use Rattle.batch_history.specs.Rows.{after_call, History, Rows, row_with, execution_row, rows_of, rows, grown, is_execution, StandsFor}
-use Rattle.batch_history.specs.Steps.{refreshed, refreshed_at, fresh_row, again_row, rows_after, executions_after}
+use Rattle.batch_history.specs.Steps.{Effect, effect_on, refreshed, refreshed_by, refreshed_at, fresh_row, again_row, instance_in, place_in, rows_after, executions_after}
 
 -- What an operation that is not on an execution leaves of it
 
@@ -28,41 +31,82 @@ known-append x (w ∷ ws) r h =
     let k : Known = record { id = w.element; fact = fact_from w.state } in
     ap (λ (ks : List Known). cond (w.execution == x) (k ∷ ks) ks) (known-append x ws r h)
 
-known-change : (x : ℕ) (p : WorkRow → Bool) (o : WorkOutcome) (t : Option (List ℕ)) (works : List WorkRow)
+known-change : (x : ℕ) (p : WorkRow → Bool) (o : WorkOutcome) (t : Option (List ℕ)) (step : MetricStep) (at : ℕ) (works : List WorkRow)
     → is_at x (option_map (λ row. row.execution) (find p works)) ≡ false
-    → known_of x (change_first p (over o t) works) ≡ known_of x works
-known-change x p o t [] h = refl
-known-change x p o t (w ∷ ws) h =
+    → known_of x (change_first p (over o t step at) works) ≡ known_of x works
+known-change x p o t step at [] h = refl
+known-change x p o t step at (w ∷ ws) h =
     let k : Known = record { id = w.element; fact = fact_from w.state } in
     (elim (p w) as (λ b. is_at x (option_map (λ row. row.execution) (cond b (Some w) (find p ws))) ≡ false
-    → known_of x (cond b (over o t w ∷ ws) (w ∷ change_first p (over o t) ws)) ≡ known_of x (w ∷ ws)) [
+    → known_of x (cond b (over o t step at w ∷ ws) (w ∷ change_first p (over o t step at) ws)) ≡ known_of x (w ∷ ws)) [
       | true ↦ λ e. rw e refl
-      | false ↦ λ e. ap (λ (ks : List Known). cond (w.execution == x) (k ∷ ks) ks) (known-change x p o t ws e)
+      | false ↦ λ e. ap (λ (ks : List Known). cond (w.execution == x) (k ∷ ks) ks) (known-change x p o t step at ws e)
     ]) h
 
-known-handed : (x who : ℕ) (reply : Reply) (works : List WorkRow) → is_at x (taken_by reply) ≡ false
-    → known_of x (handed_out who reply works) ≡ known_of x works
-known-handed x who (Work item) works h = known-append x works _ h
-known-handed x who (IsExecution y) works h = refl
-known-handed x who (Closed y) works h = refl
-known-handed x who Nothing works h = refl
-known-handed x who Done works h = refl
+-- what is reported of a work item says nothing of its element
+known-reported : (x : ℕ) (p : WorkRow → Bool) (step : MetricStep) (works : List WorkRow)
+    → known_of x (change_first p (reported step) works) ≡ known_of x works
+known-reported x p step [] = refl
+known-reported x p step (w ∷ ws) =
+    let k : Known = record { id = w.element; fact = fact_from w.state } in
+    elim (p w) as (λ b. known_of x (cond b (reported step w ∷ ws) (w ∷ change_first p (reported step) ws)) ≡ known_of x (w ∷ ws)) [
+      | true ↦ refl
+      | false ↦ ap (λ (ks : List Known). cond (w.execution == x) (k ∷ ks) ks) (known-reported x p step ws)
+    ]
+
+known-handed : (x who at : ℕ) (reply : Reply) (works : List WorkRow) → is_at x (taken_by reply) ≡ false
+    → known_of x (handed_out who at reply works) ≡ known_of x works
+known-handed x who at (Work item) works h = known-append x works _ h
+known-handed x who at (IsExecution y) works h = refl
+known-handed x who at (Closed y) works h = refl
+known-handed x who at Nothing works h = refl
+known-handed x who at Done works h = refl
+known-handed x who at Go works h = refl
+known-handed x who at StopAsked works h = refl
 
 -- its work is as it was
-known-same : (x who : ℕ) (call : Call) (reply : Reply) (works : List WorkRow) → is_at x (touched works call reply) ≡ false
-    → known_of x (works_after who call reply works) ≡ known_of x works
-known-same x who (Start job) reply works h = refl
-known-same x who (Restart y) reply works h = refl
-known-same x who Claim reply works h = known-handed x who reply works h
-known-same x who (Finish w o t) reply works h = known-change x _ o t works h
+known-same : (x who at : ℕ) (call : Call) (reply : Reply) (works : List WorkRow) → is_at x (touched works call reply) ≡ false
+    → known_of x (works_after who at call reply works) ≡ known_of x works
+known-same x who at (Start job parameters) reply works h = refl
+known-same x who at (Restart y parameters) reply works h = refl
+known-same x who at (Stop y) reply works h = refl
+known-same x who at (Abandon y) reply works h = refl
+known-same x who at Claim reply works h = known-handed x who at reply works h
+known-same x who at (Checkpoint w mark step) reply works h = known-reported x _ step works
+known-same x who at (Finish w o t step) reply works h = known-change x _ o t step at works h
 
 -- who is taken up is touched
 taken-touched : (x : ℕ) (call : Call) (reply : Reply) (works : List WorkRow) → is_at x (touched works call reply) ≡ false
     → is_at x (taken call reply) ≡ false
-taken-touched x (Start job) reply works h = refl
-taken-touched x (Restart y) reply works h = refl
+taken-touched x (Start job parameters) reply works h = refl
+taken-touched x (Restart y parameters) reply works h = refl
+taken-touched x (Stop y) reply works h = refl
+taken-touched x (Abandon y) reply works h = refl
 taken-touched x Claim reply works h = h
-taken-touched x (Finish w o t) reply works h = refl
+taken-touched x (Checkpoint w mark step) reply works h = refl
+taken-touched x (Finish w o t step) reply works h = refl
+
+-- who is asked to stop is touched
+asked-touched : (x : ℕ) (call : Call) (reply : Reply) (works : List WorkRow) → is_at x (touched works call reply) ≡ false
+    → is_at x (asked call) ≡ false
+asked-touched x (Start job parameters) reply works h = refl
+asked-touched x (Restart y parameters) reply works h = refl
+asked-touched x (Stop y) reply works h = h
+asked-touched x (Abandon y) reply works h = refl
+asked-touched x Claim reply works h = refl
+asked-touched x (Checkpoint w mark step) reply works h = refl
+asked-touched x (Finish w o t step) reply works h = refl
+
+-- who is given up is touched
+given-touched : (x : ℕ) (call : Call) (reply : Reply) (works : List WorkRow) → is_at x (touched works call reply) ≡ false
+    → is_at x (given_up call) ≡ false
+given-touched x (Start job parameters) reply works h = refl
+given-touched x (Restart y parameters) reply works h = refl
+given-touched x (Stop y) reply works h = refl
+given-touched x (Abandon y) reply works h = h
+given-touched x Claim reply works h = refl
+given-touched x (Checkpoint w mark step) reply works h = refl
+given-touched x (Finish w o t step) reply works h = refl
 
 earliest-false : (o : Option ℕ) (at : ℕ) → earliest o false at ≡ o
 earliest-false None at = refl
@@ -73,75 +117,103 @@ earliest-twice (Some t) b at later = refl
 earliest-twice None true at later = refl
 earliest-twice None false at later = refl
 
+or-false : (b : Bool) → (b || false) ≡ b
+or-false true = refl
+or-false false = refl
+
 -- the end stands once it is finished
 settled : (catalogue : List JobTree) (past : List Entry) (m : Made) (at : ℕ)
-    → earliest (end_of catalogue past m) (is_finished (status_of catalogue past m)) at ≡ end_of catalogue past m
+    → earliest (end_of catalogue past m) (is_finished (bare_of catalogue past m)) at ≡ end_of catalogue past m
 settled catalogue [] m at = refl
 settled catalogue (e ∷ older) m at =
     let ended : Option ℕ = end_of catalogue older m in
     let value : Value = value_after catalogue (e ∷ older) m in
     let begun : Option ℕ = earliest (start_of older m.execution) (is_at m.execution (taken e.call e.reply)) e.at in
+    let stop : Bool = stop_of older m.execution || is_at m.execution (asked e.call) in
     elim (makes (length (made older)) m.execution e.call) as (λ b.
-    earliest (cond b None (earliest ended (is_finished (status_from (cond b None begun) value)) e.at)) (is_finished (status_from (cond b None begun) value)) at
-    ≡ cond b None (earliest ended (is_finished (status_from (cond b None begun) value)) e.at)) [
+    earliest (cond b None (earliest ended (is_finished (status_from (cond b false stop) (cond b None begun) value)) e.at))
+    (is_finished (status_from (cond b false stop) (cond b None begun) value)) at
+    ≡ cond b None (earliest ended (is_finished (status_from (cond b false stop) (cond b None begun) value)) e.at)) [
       | true ↦ refl
-      | false ↦ earliest-twice ended (is_finished (status_from begun value)) e.at at
+      | false ↦ earliest-twice ended (is_finished (status_from stop begun value)) e.at at
     ]
 
 begun-by : (past : List Entry) (e : Entry) (x : ℕ) → makes (length (made past)) x e.call ≡ false
     → start_of (e ∷ past) x ≡ earliest (start_of past x) (is_at x (taken e.call e.reply)) e.at
 begun-by past e x made_no = ap (λ b. cond b None (earliest (start_of past x) (is_at x (taken e.call e.reply)) e.at)) made_no
 
+stop-by : (past : List Entry) (e : Entry) (x : ℕ) → makes (length (made past)) x e.call ≡ false
+    → stop_of (e ∷ past) x ≡ (stop_of past x || is_at x (asked e.call))
+stop-by past e x made_no = ap (λ b. cond b false (stop_of past x || is_at x (asked e.call))) made_no
+
+given-by : (past : List Entry) (e : Entry) (x : ℕ) → makes (length (made past)) x e.call ≡ false
+    → abandoned_of (e ∷ past) x ≡ (abandoned_of past x || is_at x (given_up e.call))
+given-by past e x made_no = ap (λ b. cond b false (abandoned_of past x || is_at x (given_up e.call))) made_no
+
 ended-by : (catalogue : List JobTree) (past : List Entry) (e : Entry) (m : Made) → makes (length (made past)) m.execution e.call ≡ false
-    → end_of catalogue (e ∷ past) m ≡ earliest (end_of catalogue past m) (is_finished (status_of catalogue (e ∷ past) m)) e.at
+    → end_of catalogue (e ∷ past) m ≡ earliest (end_of catalogue past m) (is_finished (bare_of catalogue (e ∷ past) m)) e.at
 ended-by catalogue past e m made_no =
-    ap (λ b. cond b None (earliest (end_of catalogue past m) (is_finished (status_of catalogue (e ∷ past) m)) e.at)) made_no
+    ap (λ b. cond b None (earliest (end_of catalogue past m) (is_finished (bare_of catalogue (e ∷ past) m)) e.at)) made_no
 
 updated-by : (past : List Entry) (e : Entry) (x : ℕ) → makes (length (made past)) x e.call ≡ false
     → updated_of (e ∷ past) x ≡ cond (is_at x (touched (works_of past) e.call e.reply)) e.at (updated_of past x)
 updated-by past e x made_no =
     ap (λ b. cond b e.at (cond (is_at x (touched (works_of past) e.call e.reply)) e.at (updated_of past x))) made_no
 
-same_row : (m : Made) (s1 s2 : Option ℕ) (v1 v2 : Value) (e1 e2 : Option ℕ) (u1 u2 : ℕ) → s1 ≡ s2 → v1 ≡ v2 → e1 ≡ e2 → u1 ≡ u2
-    → row_with m s1 v1 e1 u1 ≡ row_with m s2 v2 e2 u2
-same_row m s1 s2 v1 v2 e1 e2 u1 u2 s v e u =
-    ap (λ x. row_with m x v1 e1 u1) s ∙ (ap (λ x. row_with m s2 x e1 u1) v
-    ∙ (ap (λ x. row_with m s2 v2 x u1) e ∙ ap (λ x. row_with m s2 v2 e2 x) u))
+same_row : (m : Made) (p1 p2 a1 a2 : Bool) (s1 s2 : Option ℕ) (v1 v2 : Value) (e1 e2 : Option ℕ) (u1 u2 : ℕ)
+    → p1 ≡ p2 → a1 ≡ a2 → s1 ≡ s2 → v1 ≡ v2 → e1 ≡ e2 → u1 ≡ u2
+    → row_with m p1 a1 s1 v1 e1 u1 ≡ row_with m p2 a2 s2 v2 e2 u2
+same_row m p1 p2 a1 a2 s1 s2 v1 v2 e1 e2 u1 u2 p a s v e u =
+    ap (λ x. row_with m x a1 s1 v1 e1 u1) p ∙ (ap (λ x. row_with m p2 x s1 v1 e1 u1) a
+    ∙ (ap (λ x. row_with m p2 a2 x v1 e1 u1) s ∙ (ap (λ x. row_with m p2 a2 s2 x e1 u1) v
+    ∙ (ap (λ x. row_with m p2 a2 s2 v2 x u1) e ∙ ap (λ x. row_with m p2 a2 s2 v2 e2 x) u))))
 
--- the record of a job execution that an operation neither makes nor is on
+same_status : (p1 p2 : Bool) (s1 s2 : Option ℕ) (v1 v2 : Value) → p1 ≡ p2 → s1 ≡ s2 → v1 ≡ v2 → status_from p1 s1 v1 ≡ status_from p2 s2 v2
+same_status p1 p2 s1 s2 v1 v2 p s v =
+    ap (λ x. status_from x s1 v1) p ∙ (ap (λ x. status_from p2 x v1) s ∙ ap (λ x. status_from p2 s2 x) v)
+
+-- the row of a job execution that an operation neither makes nor is on
 pub untouched : (catalogue : List JobTree) (past : List Entry) (e : Entry) (m : Made) → makes (length (made past)) m.execution e.call ≡ false
     → is_at m.execution (touched (works_of past) e.call e.reply) ≡ false
     → execution_row catalogue (e ∷ past) m ≡ execution_row catalogue past m
 untouched catalogue past e m made_no off =
     let x : ℕ = m.execution in
+    let works : List WorkRow = works_of past in
+    let p : stop_of (e ∷ past) x ≡ stop_of past x =
+    stop-by past e x made_no ∙ (ap (λ b. stop_of past x || b) (asked-touched x e.call e.reply works off) ∙ or-false (stop_of past x)) in
+    let a : abandoned_of (e ∷ past) x ≡ abandoned_of past x =
+    given-by past e x made_no ∙ (ap (λ b. abandoned_of past x || b) (given-touched x e.call e.reply works off) ∙ or-false (abandoned_of past x)) in
     let s : start_of (e ∷ past) x ≡ start_of past x =
     begun-by past e x made_no
-    ∙ (ap (λ b. earliest (start_of past x) b e.at) (taken-touched x e.call e.reply (works_of past) off) ∙ earliest-false (start_of past x) e.at) in
+    ∙ (ap (λ b. earliest (start_of past x) b e.at) (taken-touched x e.call e.reply works off) ∙ earliest-false (start_of past x) e.at) in
     let v : value_after catalogue (e ∷ past) m ≡ value_after catalogue past m =
-    ap (λ k. walk_of k (job_named catalogue m.job)) (known-same x e.who e.call e.reply (works_of past) off) in
+    ap (λ k. walk_of k (job_named catalogue m.job)) (known-same x e.who e.at e.call e.reply works off) in
     let n : end_of catalogue (e ∷ past) m ≡ end_of catalogue past m =
     ended-by catalogue past e m made_no
-    ∙ (ap (λ b. earliest (end_of catalogue past m) (is_finished (status_from b (value_after catalogue (e ∷ past) m))) e.at) s
-    ∙ (ap (λ b. earliest (end_of catalogue past m) (is_finished (status_from (start_of past x) b)) e.at) v
-    ∙ settled catalogue past m e.at)) in
+    ∙ (ap (λ b. earliest (end_of catalogue past m) (is_finished b) e.at) (same_status _ _ _ _ _ _ p s v)
+    ∙ settled catalogue past m e.at) in
     let u : updated_of (e ∷ past) x ≡ updated_of past x =
     updated-by past e x made_no ∙ ap (λ b. cond b e.at (updated_of past x)) off in
-    same_row m _ _ _ _ _ _ _ _ s v n u
+    same_row m _ _ _ _ _ _ _ _ _ _ _ _ p a s v n u
 
--- the record of a job execution that an operation is on
+-- the row of a job execution that an operation is on
 pub refreshed-by : (catalogue : List JobTree) (past : List Entry) (e : Entry) (m : Made) → makes (length (made past)) m.execution e.call ≡ false
     → is_at m.execution (touched (works_of past) e.call e.reply) ≡ true
-    → execution_row catalogue (e ∷ past) m ≡ refreshed catalogue (works_of (e ∷ past)) (taken e.call e.reply) e.at (execution_row catalogue past m)
+    → execution_row catalogue (e ∷ past) m ≡ refreshed_by catalogue (works_of (e ∷ past)) e.at e.call e.reply (execution_row catalogue past m)
 refreshed-by catalogue past e m made_no on =
     let x : ℕ = m.execution in
+    let value : Value = value_after catalogue (e ∷ past) m in
     let begun : Option ℕ = earliest (start_of past x) (is_at x (taken e.call e.reply)) e.at in
+    let stop : Bool = stop_of past x || is_at x (asked e.call) in
+    let p : stop_of (e ∷ past) x ≡ stop = stop-by past e x made_no in
+    let a : abandoned_of (e ∷ past) x ≡ (abandoned_of past x || is_at x (given_up e.call)) = given-by past e x made_no in
     let s : start_of (e ∷ past) x ≡ begun = begun-by past e x made_no in
-    let n : end_of catalogue (e ∷ past) m ≡ earliest (end_of catalogue past m) (is_finished (status_from begun (value_after catalogue (e ∷ past) m))) e.at =
+    let n : end_of catalogue (e ∷ past) m ≡ earliest (end_of catalogue past m) (is_finished (status_from stop begun value)) e.at =
     ended-by catalogue past e m made_no
-    ∙ ap (λ b. earliest (end_of catalogue past m) (is_finished (status_from b (value_after catalogue (e ∷ past) m))) e.at) s in
+    ∙ ap (λ b. earliest (end_of catalogue past m) (is_finished b) e.at) (same_status _ _ _ _ value value p s refl) in
     let u : updated_of (e ∷ past) x ≡ e.at =
     updated-by past e x made_no ∙ ap (λ b. cond b e.at (updated_of past x)) on in
-    same_row m _ _ (value_after catalogue (e ∷ past) m) _ _ _ _ _ s refl n u
+    same_row m _ _ _ _ _ _ value value _ _ _ _ p a s refl n u
 
 -- Job executions are numbered from one on
 
@@ -153,30 +225,33 @@ numbered-append : (k : ℕ) (ms : List Made) (m : Made) → AreNumbered k ms →
 numbered-append k [] m h e = (omega (arith, e), tt)
 numbered-append k (n ∷ ms) m h e = (h.0, numbered-append (k + 1) ms m h.1 (omega (arith, e)))
 
-remade-number : (x at : ℕ) (o : Option Made) → (remade x at o).execution ≡ x
-remade-number x at None = refl
-remade-number x at (Some m) = refl
+remade-number : (x at : ℕ) (parameters : List Pair) (o : Option Made) → (remade x parameters at o).execution ≡ x
+remade-number x at parameters None = refl
+remade-number x at parameters (Some m) = refl
 
 numbered-after : (past : List Entry) (at : ℕ) (call : Call) (reply : Reply) (who : ℕ) → AreNumbered 1 (made past)
     → AreNumbered 1 (made (record { who = who; call = call; at = at; reply = reply } ∷ past))
-numbered-after past at (Start job) reply who h = numbered-append 1 (made past) _ h refl
-numbered-after past at (Restart y) reply who h = numbered-append 1 (made past) _ h (remade-number _ at (find (is_made y) (made past)))
+numbered-after past at (Start job parameters) reply who h = numbered-append 1 (made past) _ h refl
+numbered-after past at (Restart y parameters) reply who h = numbered-append 1 (made past) _ h (remade-number _ at parameters (find (is_made y) (made past)))
+numbered-after past at (Stop y) reply who h = h
+numbered-after past at (Abandon y) reply who h = h
 numbered-after past at Claim reply who h = h
-numbered-after past at (Finish w o t) reply who h = h
+numbered-after past at (Checkpoint w mark step) reply who h = h
+numbered-after past at (Finish w o t step) reply who h = h
 
 pub numbered : (past : List Entry) → AreNumbered 1 (made past)
 numbered [] = tt
 numbered (e ∷ past) = numbered-after past e.at e.call e.reply e.who (numbered past)
 
 -- what is alike below a number
-map-below : (f g : Made → JobExecution) (n k : ℕ) (ms : List Made) → AreNumbered k ms → length ms + k ≤ n
+map-below : (f g : Made → ExecutionRow) (n k : ℕ) (ms : List Made) → AreNumbered k ms → length ms + k ≤ n
     → ((m : Made) → m.execution < n → g m ≡ f m) → map g ms ≡ map f ms
 map-below f g n k [] h lt same = refl
 map-below f g n k (m ∷ ms) h lt same =
     let here : m.execution < n = omega (arith, h.0) in
     ap (λ x. x ∷ map g ms) (same m here) ∙ ap (λ xs. f m ∷ xs) (map-below f g n (k + 1) ms h.1 (omega arith) same)
 
-map-above : (f g : Made → JobExecution) (x k : ℕ) (ms : List Made) → AreNumbered k ms → x < k
+map-above : (f g : Made → ExecutionRow) (x k : ℕ) (ms : List Made) → AreNumbered k ms → x < k
     → ((m : Made) → (m.execution == x) ≡ false → g m ≡ f m) → map g ms ≡ map f ms
 map-above f g x k [] h lt same = refl
 map-above f g x k (m ∷ ms) h lt same =
@@ -184,7 +259,7 @@ map-above f g x k (m ∷ ms) h lt same =
     ap (λ y. y ∷ map g ms) (same m other) ∙ ap (λ ys. f m ∷ ys) (map-above f g x (k + 1) ms h.1 (omega arith) same)
 
 -- one is changed and the others are alike
-map-change : (f g : Made → JobExecution) (c : JobExecution → JobExecution) (x k : ℕ) (ms : List Made) → AreNumbered k ms
+map-change : (f g : Made → ExecutionRow) (c : ExecutionRow → ExecutionRow) (x k : ℕ) (ms : List Made) → AreNumbered k ms
     → ((m : Made) → (f m).execution ≡ m.execution)
     → ((m : Made) → (m.execution == x) ≡ false → g m ≡ f m) → ((m : Made) → (m.execution == x) ≡ true → g m ≡ c (f m))
     → map g ms ≡ change_first (is_execution x) c (map f ms)
@@ -205,7 +280,7 @@ is_at-Some x y false e = ne_eqb y x (λ s. eqb-false x y e (sym s))
 refreshed-rows : (catalogue : List JobTree) (past : List Entry) (e : Entry) (t : Option ℕ) → touched (works_of past) e.call e.reply ≡ t
     → ((m : Made) → makes (length (made past)) m.execution e.call ≡ false)
     → map (execution_row catalogue (e ∷ past)) (made past)
-    ≡ refreshed_at catalogue (works_of (e ∷ past)) (taken e.call e.reply) e.at t (map (execution_row catalogue past) (made past))
+    ≡ refreshed_at catalogue (works_of (e ∷ past)) e.at e.call e.reply t (map (execution_row catalogue past) (made past))
 refreshed-rows catalogue past e None is made_no =
     map-below (execution_row catalogue past) (execution_row catalogue (e ∷ past)) (length (made past) + 1) 1 (made past) (numbered past) (omega arith)
     (λ m lt. untouched catalogue past e m (made_no m) (ap (is_at m.execution) is))
@@ -228,45 +303,85 @@ not-made n x lt = ne_eqb (n + 1) x (λ e. omega arith)
 
 -- a row that an operation makes
 made-row : (catalogue : List JobTree) (past : List Entry) (e : Entry) (m : Made) → makes (length (made past)) m.execution e.call ≡ true
-    → m.create ≡ e.at → execution_row catalogue (e ∷ past) m ≡ fresh_row m.execution m.instance e.at m.job
+    → m.create ≡ e.at → execution_row catalogue (e ∷ past) m ≡ fresh_row m.execution m.instance e.at m.job m.parameters
 made-row catalogue past e m made_yes at = rw made_yes (rw at refl)
 
-remade-row : (catalogue : List JobTree) (past : List Entry) (x at : ℕ) (o : Option Made)
-    → fresh_row (remade x at o).execution (remade x at o).instance at (remade x at o).job ≡ again_row x at (option_map (execution_row catalogue past) o)
-remade-row catalogue past x at None = refl
-remade-row catalogue past x at (Some m) = refl
+remade-row : (catalogue : List JobTree) (past : List Entry) (x at : ℕ) (parameters : List Pair) (o : Option Made)
+    → fresh_row (remade x parameters at o).execution (remade x parameters at o).instance at (remade x parameters at o).job (remade x parameters at o).parameters
+    ≡ again_row x at parameters (option_map (execution_row catalogue past) o)
+remade-row catalogue past x at parameters None = refl
+remade-row catalogue past x at parameters (Some m) = refl
 
-remade-create : (x at : ℕ) (o : Option Made) → (remade x at o).create ≡ at
-remade-create x at None = refl
-remade-create x at (Some m) = refl
+remade-create : (x at : ℕ) (parameters : List Pair) (o : Option Made) → (remade x parameters at o).create ≡ at
+remade-create x at parameters None = refl
+remade-create x at parameters (Some m) = refl
 
 executions-step : (catalogue : List JobTree) (past : List Entry) (who at : ℕ) (call : Call) (reply : Reply)
     → (rows_of catalogue (record { who = who; call = call; at = at; reply = reply } ∷ past)).executions
-    ≡ executions_after (rows_of catalogue past) (works_after who call reply (works_of past)) at call reply
-executions-step catalogue past who at (Start job) reply =
-    let e : Entry = record { who = who; call = Start job; at = at; reply = reply } in
+    ≡ executions_after (rows_of catalogue past) (works_after who at call reply (works_of past)) at call reply
+executions-step catalogue past who at (Start job parameters) reply =
+    let e : Entry = record { who = who; call = Start job parameters; at = at; reply = reply } in
     let n : ℕ = length (made past) in
-    let m : Made = record { execution = n + 1; instance = length (instances_of past) + 1; job = job; create = at } in
+    let m : Made = record { execution = n + 1; instance = length (instances_of past) + 1; job = job; parameters = parameters; create = at } in
     map-append (execution_row catalogue (e ∷ past)) (made past) (m ∷ [])
     ∙ (ap (λ xs. xs ++ execution_row catalogue (e ∷ past) m ∷ []) (older-rows catalogue past e (λ x lt. not-made n x.execution lt) refl)
     ∙ (ap (λ y. map (execution_row catalogue past) (made past) ++ y ∷ []) (made-row catalogue past e m (eq-eqb (n + 1) (n + 1) refl) refl)
-    ∙ ap (λ k. map (execution_row catalogue past) (made past) ++ fresh_row (k + 1) (length (instances_of past) + 1) at job ∷ []) (sym (length-map (made past) (execution_row catalogue past)))))
-executions-step catalogue past who at (Restart y) reply =
-    let e : Entry = record { who = who; call = Restart y; at = at; reply = reply } in
+    ∙ ap (λ k. map (execution_row catalogue past) (made past) ++ fresh_row (k + 1) (length (instances_of past) + 1) at job parameters ∷ []) (sym (length-map (made past) (execution_row catalogue past)))))
+executions-step catalogue past who at (Restart y parameters) reply =
+    let e : Entry = record { who = who; call = Restart y parameters; at = at; reply = reply } in
     let n : ℕ = length (made past) in
     let o : Option Made = find (is_made y) (made past) in
-    let m : Made = remade (n + 1) at o in
-    let old : List JobExecution = map (execution_row catalogue past) (made past) in
+    let m : Made = remade (n + 1) parameters at o in
+    let old : List ExecutionRow = map (execution_row catalogue past) (made past) in
     map-append (execution_row catalogue (e ∷ past)) (made past) (m ∷ [])
     ∙ (ap (λ xs. xs ++ execution_row catalogue (e ∷ past) m ∷ []) (older-rows catalogue past e (λ x lt. not-made n x.execution lt) refl)
-    ∙ (ap (λ r. old ++ r ∷ []) (made-row catalogue past e m (eq-eqb (n + 1) m.execution (sym (remade-number (n + 1) at o))) (remade-create (n + 1) at o))
-    ∙ (ap (λ r. old ++ r ∷ []) (remade-row catalogue past (n + 1) at o)
-    ∙ (ap (λ r. old ++ again_row (n + 1) at r ∷ []) (sym (find-map (execution_row catalogue past) (is_execution y) (is_made y) (λ x. refl) (made past)))
-    ∙ ap (λ k. old ++ again_row (k + 1) at (find (is_execution y) old) ∷ []) (sym (length-map (made past) (execution_row catalogue past)))))))
+    ∙ (ap (λ r. old ++ r ∷ []) (made-row catalogue past e m (eq-eqb (n + 1) m.execution (sym (remade-number (n + 1) at parameters o))) (remade-create (n + 1) at parameters o))
+    ∙ (ap (λ r. old ++ r ∷ []) (remade-row catalogue past (n + 1) at parameters o)
+    ∙ (ap (λ r. old ++ again_row (n + 1) at parameters r ∷ []) (sym (find-map (execution_row catalogue past) (is_execution y) (is_made y) (λ x. refl) (made past)))
+    ∙ ap (λ k. old ++ again_row (k + 1) at parameters (find (is_execution y) old) ∷ []) (sym (length-map (made past) (execution_row catalogue past)))))))
+executions-step catalogue past who at (Stop y) reply =
+    refreshed-rows catalogue past (record { who = who; call = Stop y; at = at; reply = reply }) (Some y) refl (λ m. refl)
+executions-step catalogue past who at (Abandon y) reply =
+    refreshed-rows catalogue past (record { who = who; call = Abandon y; at = at; reply = reply }) (Some y) refl (λ m. refl)
 executions-step catalogue past who at Claim reply =
     refreshed-rows catalogue past (record { who = who; call = Claim; at = at; reply = reply }) (taken_by reply) refl (λ m. refl)
-executions-step catalogue past who at (Finish w o t) reply =
-    refreshed-rows catalogue past (record { who = who; call = Finish w o t; at = at; reply = reply }) (touched (works_of past) (Finish w o t) reply) refl (λ m. refl)
+executions-step catalogue past who at (Checkpoint w mark step) reply =
+    let call : Call = Checkpoint w mark step in
+    refreshed-rows catalogue past (record { who = who; call = call; at = at; reply = reply }) (touched (works_of past) call reply) refl (λ m. refl)
+executions-step catalogue past who at (Finish w o t step) reply =
+    let call : Call = Finish w o t step in
+    refreshed-rows catalogue past (record { who = who; call = call; at = at; reply = reply }) (touched (works_of past) call reply) refl (λ m. refl)
+
+-- the step of a work item in its job instance stands in the rows
+place-by-same : (one other : ℕ → Option ℕ) (row : Option WorkRow) → ((x : ℕ) → one x ≡ other x) → place_by one row ≡ place_by other row
+place-by-same one other None same = refl
+place-by-same one other (Some row) same =
+    ap (λ (i : Option ℕ). option_map (λ n. record { instance = n; step = row.element }) i) (same row.execution)
+
+option-map-map : {A B C : Type 0} (f : A → B) (g : B → C) (o : Option A) → option_map g (option_map f o) ≡ option_map (λ x. g (f x)) o
+option-map-map f g None = refl
+option-map-map f g (Some x) = refl
+
+instance-in : (catalogue : List JobTree) (past : List Entry) (x : ℕ)
+    → instance_in (map (execution_row catalogue past) (made past)) x ≡ instance_made (made past) x
+instance-in catalogue past x =
+    ap (λ (o : Option ExecutionRow). option_map (λ row. row.instance) o) (find-map (execution_row catalogue past) (is_execution x) (is_made x) (λ m. refl) (made past))
+    ∙ option-map-map (execution_row catalogue past) (λ row. row.instance) (find (is_made x) (made past))
+
+pub place-in : (catalogue : List JobTree) (past : List Entry) (w : ℕ) → place_of past w ≡ place_in (rows_of catalogue past) w
+place-in catalogue past w =
+    place-by-same (instance_made (made past)) (instance_in (map (execution_row catalogue past) (made past))) (find (is_work w) (works_of past))
+    (λ x. sym (instance-in catalogue past x))
+
+checkpoints-step : (catalogue : List JobTree) (past : List Entry) (call : Call)
+    → checkpoints_after (place_of past) call (checkpoints_of past) ≡ checkpoints_after (place_in (rows_of catalogue past)) call (checkpoints_of past)
+checkpoints-step catalogue past (Start job parameters) = refl
+checkpoints-step catalogue past (Restart y parameters) = refl
+checkpoints-step catalogue past (Stop y) = refl
+checkpoints-step catalogue past (Abandon y) = refl
+checkpoints-step catalogue past Claim = refl
+checkpoints-step catalogue past (Checkpoint w mark step) = ap (λ p. put_mark p mark (checkpoints_of past)) (place-in catalogue past w)
+checkpoints-step catalogue past (Finish w o t step) = ap (λ p. marks_left o p (checkpoints_of past)) (place-in catalogue past w)
 
 -- the rows of a past with one operation more
 pub rows-step : (catalogue : List JobTree) (past : List Entry) (e : Entry) → rows_of catalogue (e ∷ past) ≡ rows_after (rows_of catalogue past) e
@@ -274,13 +389,18 @@ rows-step catalogue past e =
     let old : Rows = rows_of catalogue past in
     let new : Rows = rows_after old e in
     ap (λ (n : ℕ). record (rows_of catalogue (e ∷ past)) { count = n }) (sym (add-one (length past)))
-    ∙ ap (λ (xs : List JobExecution). record new { executions = xs }) (executions-step catalogue past e.who e.at e.call e.reply)
+    ∙ (ap (λ (xs : List CheckpointRow). record new { executions = (rows_of catalogue (e ∷ past)).executions; checkpoints = xs }) (checkpoints-step catalogue past e.call)
+    ∙ ap (λ (xs : List ExecutionRow). record new { executions = xs }) (executions-step catalogue past e.who e.at e.call e.reply))
 
 -- what stands for a history, changed by an operation, stands for the history with it
-pub stands-after : (r : Rows) (h : History) (e : Entry) → StandsFor r h → StandsFor (rows_after r e) (grown h e)
-stands-after r h e stands =
+pub stands_after : (r : Rows) (h : History) (e : Entry) → StandsFor r h → StandsFor (rows_after r e) (grown h e)
+stands_after r h e stands =
     ap (λ (x : Rows). rows_after x e) stands
     ∙ (sym (rows-step h.catalogue (reverse h.log) e) ∙ ap (rows_of h.catalogue) (sym (reverse-append h.log (e ∷ []))))
+
+-- the rows of a history with one operation more
+pub rows_grown : (h : History) (e : Entry) → rows (grown h e) ≡ rows_after (rows h) e
+rows_grown h e = sym (stands_after (rows h) h e refl)
 
 -- what stands for a history stands, after a call, for the history after the call
 pub stands_call : (r new : Rows) (h : History) (who : ℕ) (call : Call) (at : ℕ) (reply : Reply) → StandsFor r h
@@ -290,5 +410,5 @@ stands_call r new h who call at reply stands is =
     let e : Entry = record { who = who; call = call; at = at; reply = reply } in
     (elim (is_nothing reply) as (λ b. new ≡ cond b r (rows_after r e) → StandsFor new (cond b h (grown h e))) [
       | true ↦ λ s. s ∙ stands
-      | false ↦ λ s. s ∙ stands-after r h e stands
+      | false ↦ λ s. s ∙ stands_after r h e stands
     ]) is

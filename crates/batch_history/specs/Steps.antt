@@ -1,71 +1,115 @@
 -- How one operation changes the rows.
-use Rattle.std.specs.Prelude.{ℕ, ◌+◌, Bool, Option, Some, None, List, [], ◌∷◌, ◌++◌, length, find}
+use Rattle.std.specs.Prelude.{ℕ, ◌+◌, ◌||◌, Bool, false, Option, Some, None, List, [], ◌∷◌, ◌++◌, length, find}
+use Rattle.std.specs.Option.{option_map}
+use Rattle.batch_ids.specs.Parameters.{Pair}
 use Rattle.batch_ids.specs.declared.status.BatchStatus.{BatchStatus}
 use Rattle.batch_ids.specs.declared.status.BatchStatus.TheVariants.{Starting}
 use Rattle.jsl_model.specs.Jobs.{JobTree}
 use Rattle.job_walk.specs.declared.facts.Value.{Value}
 use Rattle.batch_history.specs.declared.call.Call.{Call}
-use Rattle.batch_history.specs.declared.call.Call.TheVariants.{Start, Restart, Claim, Finish}
+use Rattle.batch_history.specs.declared.call.Call.TheVariants.{Start, Restart, Stop, Abandon, Claim, Checkpoint, Finish}
 use Rattle.batch_history.specs.declared.call.Reply.{Reply}
 use Rattle.batch_history.specs.declared.call.Entry.{Entry}
-use Rattle.batch_history.specs.declared.query.JobExecution.{JobExecution}
+use Rattle.batch_history.specs.declared.rows.ExecutionRow.{ExecutionRow}
 use Rattle.batch_history.specs.declared.rows.WorkRow.{WorkRow}
-use Rattle.batch_history.specs.History.{change_first, is_at, instances_after, works_after, taken, touched, earliest, walk_value, status_from, exit_from, is_finished}
+use Rattle.batch_history.specs.History.{Place, change_first, is_at, instances_after, works_after, checkpoints_after, place_by, is_work, taken, asked, given_up, touched, earliest, walk_value, status_from, exit_from, is_finished}
 use Rattle.batch_history.specs.Rows.{Rows, is_execution}
 
--- the record of a job execution that was just made
-abbrev pub fresh_row : ℕ → ℕ → ℕ → List ℕ → JobExecution
-fresh_row x instance at job =
-    record { execution = x; instance = instance; job = job; status = Starting; create = at; start = None; end = None; exit = None; updated = at }
+-- the row of a job execution that was just made
+abbrev pub fresh_row : ℕ → ℕ → ℕ → List ℕ → List Pair → ExecutionRow
+fresh_row x instance at job parameters =
+    record {
+      execution = x;
+      instance = instance;
+      job = job;
+      parameters = parameters;
+      stop = false;
+      abandoned = false;
+      bare = Starting;
+      create = at;
+      start = None;
+      end = None;
+      exit = None;
+      updated = at;
+    }
 
 -- the same, made of an earlier one
-abbrev pub again_row : ℕ → ℕ → Option JobExecution → JobExecution
-again_row x at None = fresh_row x 0 at []
-again_row x at (Some row) = fresh_row x row.instance at row.job
+abbrev pub again_row : ℕ → ℕ → List Pair → Option ExecutionRow → ExecutionRow
+again_row x at parameters None = fresh_row x 0 at [] parameters
+again_row x at parameters (Some row) = fresh_row x row.instance at row.job parameters
 
--- the record anew, with this start and this value of the walk
-abbrev pub renewed : Option ℕ → Value → ℕ → JobExecution → JobExecution
-renewed start value at row =
+-- the row anew, with this start, these marks and this value of the walk
+abbrev pub renewed : Bool → Bool → Option ℕ → Value → ℕ → ExecutionRow → ExecutionRow
+renewed stop abandoned start value at row =
     record {
       execution = row.execution;
       instance = row.instance;
       job = row.job;
-      status = status_from start value;
+      parameters = row.parameters;
+      stop = stop;
+      abandoned = abandoned;
+      bare = status_from stop start value;
       create = row.create;
       start = start;
-      end = earliest row.end (is_finished (status_from start value)) at;
-      exit = exit_from start value;
+      end = earliest row.end (is_finished (status_from stop start value)) at;
+      exit = exit_from stop start value;
       updated = at;
     }
 
--- the record after an operation on its job execution, `works` being the work items after it
-abbrev pub refreshed : List JobTree → List WorkRow → Option ℕ → ℕ → JobExecution → JobExecution
-refreshed catalogue works takes at row =
-    renewed (earliest row.start (is_at row.execution takes) at) (walk_value catalogue works row.execution row.job) at row
+-- what an operation does to the job execution that it is on: it asks it to stop, gives it up, or takes it up
+pub record Effect : Type 0 where
+  pub asks : Bool
+  pub gives_up : Bool
+  pub takes : Bool
 
-abbrev pub refreshed_at : List JobTree → List WorkRow → Option ℕ → ℕ → Option ℕ → List JobExecution → List JobExecution
-refreshed_at catalogue works takes at None rows = rows
-refreshed_at catalogue works takes at (Some x) rows = change_first (is_execution x) (refreshed catalogue works takes at) rows
+abbrev pub effect_on : ℕ → Call → Reply → Effect
+effect_on x call reply = record { asks = is_at x (asked call); gives_up = is_at x (given_up call); takes = is_at x (taken call reply) }
+
+-- the row after an operation on its job execution, `value` being that of the walk after it
+abbrev pub refreshed : Effect → Value → ℕ → ExecutionRow → ExecutionRow
+refreshed effect value at row =
+    renewed (row.stop || effect.asks) (row.abandoned || effect.gives_up) (earliest row.start effect.takes at) value at row
+
+-- the same, `works` being the work items after it
+abbrev pub refreshed_by : List JobTree → List WorkRow → ℕ → Call → Reply → ExecutionRow → ExecutionRow
+refreshed_by catalogue works at call reply row =
+    refreshed (effect_on row.execution call reply) (walk_value catalogue works row.execution row.job) at row
+
+abbrev pub refreshed_at : List JobTree → List WorkRow → ℕ → Call → Reply → Option ℕ → List ExecutionRow → List ExecutionRow
+refreshed_at catalogue works at call reply None rows = rows
+refreshed_at catalogue works at call reply (Some x) rows = change_first (is_execution x) (refreshed_by catalogue works at call reply) rows
 
 -- the job executions after an operation, `works` being the work items after it
-abbrev pub executions_after : Rows → List WorkRow → ℕ → Call → Reply → List JobExecution
-executions_after r works at (Start job) reply =
-    r.executions ++ fresh_row (length r.executions + 1) (length r.instances + 1) at job ∷ []
-executions_after r works at (Restart y) reply =
-    r.executions ++ again_row (length r.executions + 1) at (find (is_execution y) r.executions) ∷ []
-executions_after r works at Claim reply =
-    refreshed_at r.catalogue works (taken Claim reply) at (touched r.works Claim reply) r.executions
-executions_after r works at (Finish w outcome exit) reply =
-    refreshed_at r.catalogue works None at (touched r.works (Finish w outcome exit) reply) r.executions
+abbrev pub executions_after : Rows → List WorkRow → ℕ → Call → Reply → List ExecutionRow
+executions_after r works at (Start job parameters) reply =
+    r.executions ++ fresh_row (length r.executions + 1) (length r.instances + 1) at job parameters ∷ []
+executions_after r works at (Restart y parameters) reply =
+    r.executions ++ again_row (length r.executions + 1) at parameters (find (is_execution y) r.executions) ∷ []
+executions_after r works at (Stop y) reply = refreshed_at r.catalogue works at (Stop y) reply (Some y) r.executions
+executions_after r works at (Abandon y) reply = refreshed_at r.catalogue works at (Abandon y) reply (Some y) r.executions
+executions_after r works at Claim reply = refreshed_at r.catalogue works at Claim reply (touched r.works Claim reply) r.executions
+executions_after r works at (Checkpoint w mark step) reply =
+    refreshed_at r.catalogue works at (Checkpoint w mark step) reply (touched r.works (Checkpoint w mark step) reply) r.executions
+executions_after r works at (Finish w outcome exit step) reply =
+    refreshed_at r.catalogue works at (Finish w outcome exit step) reply (touched r.works (Finish w outcome exit step) reply) r.executions
+
+-- the job instance of a job execution, by its row
+abbrev pub instance_in : List ExecutionRow → ℕ → Option ℕ
+instance_in rows x = option_map (λ row. row.instance) (find (is_execution x) rows)
+
+-- the step of a work item in its job instance, by the rows
+abbrev pub place_in : Rows → ℕ → Option Place
+place_in r w = place_by (instance_in r.executions) (find (is_work w) r.works)
 
 -- the rows after an operation
 abbrev pub rows_after : Rows → Entry → Rows
 rows_after r e =
-    let works = works_after e.who e.call e.reply r.works in
+    let works = works_after e.who e.at e.call e.reply r.works in
     record {
       catalogue = r.catalogue;
       count = r.count + 1;
       instances = instances_after e.call r.instances;
       executions = executions_after r works e.at e.call e.reply;
       works = works;
+      checkpoints = checkpoints_after (place_in r) e.call r.checkpoints;
     }

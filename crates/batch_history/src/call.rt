@@ -3,25 +3,49 @@ ghost use Rattle.batch_history.specs.History.{kind_of};
 ghost use Rattle.batch_history.specs.Replies.{is_nothing};
 
 use batch_ids::{
-    ExecutionId, Moment, OutOfMemory, T256, Text, WorkId, WorkOutcome, try_clone_option,
+    ExecutionId, MetricStep, Moment, OutOfMemory, Parameters, T256, Text, WorkId, WorkOutcome,
+    try_clone_option,
 };
 
-/// An operation on the job repository (Jakarta Batch 2.1, "JobOperator"; claim and finish are this
-/// service's own, for its workers).
+/// An operation on the job repository (Jakarta Batch 2.1, "JobOperator"; claim, checkpoint and
+/// finish are this service's own, for its workers).
 #[derive(PartialEq, Eq, Debug, Drop)]
 pub enum Call {
     /// Makes a job instance of this job, and its first job execution.
     Start {
         /// The job's id.
         job: T256,
+        /// The parameters of the job execution.
+        parameters: Parameters,
     },
     /// Makes a further job execution of a job instance.
     Restart {
         /// A job execution of that job instance.
         execution: ExecutionId,
+        /// The parameters of the further job execution.
+        parameters: Parameters,
+    },
+    /// Asks a job execution to stop.
+    Stop {
+        /// The job execution.
+        execution: ExecutionId,
+    },
+    /// Gives a finished job execution up, so that it is ABANDONED.
+    Abandon {
+        /// The job execution.
+        execution: ExecutionId,
     },
     /// Asks for a work item.
     Claim,
+    /// Reports how far the chunk of a work item is.
+    Checkpoint {
+        /// The work item.
+        work: WorkId,
+        /// Where its reader goes on after a restart.
+        mark: Text<65536>,
+        /// What is added to its metrics.
+        step: MetricStep,
+    },
     /// Ends a work item.
     Finish {
         /// The work item.
@@ -30,6 +54,8 @@ pub enum Call {
         outcome: WorkOutcome,
         /// The exit status of the step or decision; without one it is the outcome's name.
         exit: Option<T256>,
+        /// What is added to its metrics.
+        step: MetricStep,
     },
 }
 
@@ -98,6 +124,10 @@ pub enum Reply {
     Nothing,
     /// It is done.
     Done,
+    /// The checkpoint is kept, and the chunk goes on.
+    Go,
+    /// The checkpoint is kept, and the job execution was asked to stop.
+    StopAsked,
 }
 
 /// An accepted operation.
@@ -119,22 +149,46 @@ impl Call {
         ensures { IfOk result (λ copy. copy ≡ self.now) }
     {
         match self {
-            Call::Start { job } => Ok(Call::Start {
-                job: job.try_clone()?,
+            Call::Start { job, parameters } => {
+                Ok(Call::Start {
+                    job: job.try_clone()?,
+                    parameters: parameters.try_clone()?,
+                })
+            }
+            Call::Restart {
+                execution,
+                parameters,
+            } => {
+                Ok(Call::Restart {
+                    execution: *execution,
+                    parameters: parameters.try_clone()?,
+                })
+            }
+            Call::Stop { execution } => Ok(Call::Stop {
+                execution: *execution,
             }),
-            Call::Restart { execution } => Ok(Call::Restart {
+            Call::Abandon { execution } => Ok(Call::Abandon {
                 execution: *execution,
             }),
             Call::Claim => Ok(Call::Claim),
+            Call::Checkpoint { work, mark, step } => {
+                Ok(Call::Checkpoint {
+                    work: *work,
+                    mark: mark.try_clone()?,
+                    step: *step,
+                })
+            }
             Call::Finish {
                 work,
                 outcome,
                 exit,
+                step,
             } => {
                 Ok(Call::Finish {
                     work: *work,
                     outcome: *outcome,
                     exit: try_clone_option(exit)?,
+                    step: *step,
                 })
             }
         }
@@ -214,6 +268,8 @@ impl Reply {
             Reply::Closed(execution) => Ok(Reply::Closed(*execution)),
             Reply::Nothing => Ok(Reply::Nothing),
             Reply::Done => Ok(Reply::Done),
+            Reply::Go => Ok(Reply::Go),
+            Reply::StopAsked => Ok(Reply::StopAsked),
         }
     }
 

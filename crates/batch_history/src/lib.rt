@@ -3,9 +3,11 @@
 #![tactic(auto)]
 
 mod call;
+mod law;
 mod query;
 mod rows;
 
 pub use call::{Call, Entry, Reply, WorkItem, WorkKind, WorkTask};
-pub use query::{Answer, JobExecution, Query};
-pub use rows::{InstanceRow, WorkRow, WorkState};
+pub use law::{legal_histories_grow, one_operation_more};
+pub use query::{Answer, CountsByStatus, JobExecution, Query, StepExecution};
+pub use rows::{CheckpointRow, ExecutionRow, JobInstance, WorkRow, WorkState};

@@ -1,17 +1,63 @@
-ghost use Rattle.std.specs.Prelude.{◌≡◌, IfOk};
+ghost use Rattle.std.specs.Prelude.{◌≡◌, ◌+◌, ◌<◌, ◌^◌};
+ghost use Rattle.batch_history.specs.Answers.{no_counts, counted, total};
 
+use crate::rows::JobInstance;
 use batch_ids::{
-    BatchStatus, ExecutionId, InstanceId, Moment, OutOfMemory, T256, try_clone_option,
+    BatchStatus, ExecutionId, InstanceId, Listed, Metrics, Moment, Parameters, T256, WorkId,
 };
 
-/// A question to the job repository (Jakarta Batch 2.1, "JobOperator").
+/// A question to the job repository (Jakarta Batch 2.1, "JobOperator"; the counts of job executions
+/// are this service's own).
 #[derive(PartialEq, Eq, Debug, Drop)]
 pub enum Query {
+    /// The names of the jobs that have a job instance, in order of first start.
+    JobNames,
+    /// How many job instances a job has.
+    JobInstanceCount {
+        /// The job's id.
+        job: T256,
+    },
+    /// The job instances of a job, the newest first.
+    JobInstances {
+        /// The job's id.
+        job: T256,
+        /// How many of the newest are left out.
+        start: u64,
+        /// How many there are at most.
+        count: u64,
+    },
+    /// The unfinished job executions of a job.
+    RunningExecutions {
+        /// The job's id.
+        job: T256,
+    },
+    /// The parameters of a job execution.
+    Parameters {
+        /// Its number.
+        execution: ExecutionId,
+    },
+    /// The job instance of a job execution.
+    JobInstance {
+        /// The job execution's number.
+        execution: ExecutionId,
+    },
+    /// The records of the job executions of a job instance, the newest first.
+    JobExecutions {
+        /// The job instance's number.
+        instance: InstanceId,
+    },
     /// The record of a job execution.
     JobExecution {
         /// Its number.
         execution: ExecutionId,
     },
+    /// The records of the step executions of a job execution.
+    StepExecutions {
+        /// The job execution's number.
+        execution: ExecutionId,
+    },
+    /// How many job executions have each batch status.
+    StatusCounts,
 }
 
 /// The record of a job execution (Jakarta Batch 2.1, "JobExecution").
@@ -37,30 +83,101 @@ pub struct JobExecution {
     pub updated: Moment,
 }
 
-/// What a question is answered.
+/// The record of a step execution (Jakarta Batch 2.1, "StepExecution").
 #[derive(PartialEq, Eq, Debug, Drop)]
-pub enum Answer {
-    /// The record of a job execution.
-    JobExecution(JobExecution),
+pub struct StepExecution {
+    /// Its number, which is that of its work item.
+    pub work: WorkId,
+    /// The job execution that it belongs to.
+    pub execution: ExecutionId,
+    /// The id of the step.
+    pub step: T256,
+    /// Its batch status.
+    pub status: BatchStatus,
+    /// The moment of the claim that handed it out.
+    pub start: Moment,
+    /// The moment of the operation that ended it, if it is over.
+    pub end: Option<Moment>,
+    /// Its exit status, if it is over.
+    pub exit: Option<T256>,
+    /// The sums of all that was reported of it.
+    pub metrics: Metrics,
 }
 
-impl JobExecution {
-    /// An equal record, or `OutOfMemory`.
-    pub fn try_clone(&self) -> Result<JobExecution, OutOfMemory>
-        ensures { IfOk result (λ copy. copy ≡ self.now) }
+/// How many job executions have each batch status.
+#[derive(Clone, Copy, PartialEq, Eq, Debug)]
+pub struct CountsByStatus {
+    /// Those that are STARTING.
+    pub starting: u64,
+    /// Those that are STARTED.
+    pub started: u64,
+    /// Those that are STOPPING.
+    pub stopping: u64,
+    /// Those that are STOPPED.
+    pub stopped: u64,
+    /// Those that are FAILED.
+    pub failed: u64,
+    /// Those that are COMPLETED.
+    pub completed: u64,
+    /// Those that are ABANDONED.
+    pub abandoned: u64,
+}
+
+/// What a question is answered.
+#[derive(Debug, Drop)]
+pub enum Answer {
+    /// Names of jobs, in order of first start.
+    JobNames(Listed<T256>),
+    /// A number of job instances.
+    JobInstanceCount(u64),
+    /// Job instances, the newest first.
+    JobInstances(Listed<JobInstance>),
+    /// The numbers of job executions, rising.
+    RunningExecutions(Listed<ExecutionId>),
+    /// The parameters of a job execution.
+    Parameters(Parameters),
+    /// The job instance of a job execution.
+    JobInstance(JobInstance),
+    /// The records of job executions, the newest first.
+    JobExecutions(Listed<JobExecution>),
+    /// The record of a job execution.
+    JobExecution(JobExecution),
+    /// The records of step executions, by rising number.
+    StepExecutions(Listed<StepExecution>),
+    /// How many job executions have each batch status.
+    StatusCounts(CountsByStatus),
+}
+
+impl CountsByStatus {
+    /// No job execution has any status.
+    pub fn zero() -> CountsByStatus
+        ensures { result ≡ no_counts }
     {
-        let job = self.job.try_clone()?;
-        let exit = try_clone_option(&self.exit)?;
-        Ok(JobExecution {
-            execution: self.execution,
-            instance: self.instance,
-            job,
-            status: self.status,
-            create: self.create,
-            start: self.start,
-            end: self.end,
-            exit,
-            updated: self.updated,
-        })
+        CountsByStatus {
+            starting: 0,
+            started: 0,
+            stopping: 0,
+            stopped: 0,
+            failed: 0,
+            completed: 0,
+            abandoned: 0,
+        }
+    }
+
+    /// Counts a job execution of this status. The caller sees to it that fewer than 2^64 - 1 are
+    /// counted.
+    pub fn add(&mut self, status: BatchStatus)
+        requires { total self.old + 1 < 2 ^ 64 }
+        ensures { self.new ≡ counted status self.old }
+    {
+        match status {
+            BatchStatus::Starting => self.starting += 1,
+            BatchStatus::Started => self.started += 1,
+            BatchStatus::Stopping => self.stopping += 1,
+            BatchStatus::Stopped => self.stopped += 1,
+            BatchStatus::Failed => self.failed += 1,
+            BatchStatus::Completed => self.completed += 1,
+            BatchStatus::Abandoned => self.abandoned += 1,
+        }
     }
 }

@@ -1,13 +1,50 @@
-use crate::call::WorkKind;
-use batch_ids::{ExecutionId, InstanceId, T256, WorkId, WorkOutcome};
+ghost use Rattle.std.specs.Prelude.{◌≡◌, IfOk};
+ghost use Rattle.batch_history.specs.Answers.{record_of, step_execution, shown_step, state_status};
+ghost use Rattle.batch_history.specs.Rows.{row_status};
 
-/// What a repository keeps of a job instance.
+use crate::call::WorkKind;
+use crate::query::{JobExecution, StepExecution};
+use batch_ids::{
+    BatchStatus, ExecutionId, InstanceId, Metrics, Moment, OutOfMemory, Parameters, T256, Text,
+    WorkId, WorkOutcome, try_clone_option,
+};
+
+/// A job instance (Jakarta Batch 2.1, "JobInstance").
 #[derive(PartialEq, Eq, Debug, Drop)]
-pub struct InstanceRow {
+pub struct JobInstance {
     /// Its number.
     pub instance: InstanceId,
     /// The job's id.
     pub job: T256,
+}
+
+/// What a repository keeps of a job execution.
+#[derive(PartialEq, Eq, Debug, Drop)]
+pub struct ExecutionRow {
+    /// Its number.
+    pub execution: ExecutionId,
+    /// The job instance that it belongs to.
+    pub instance: InstanceId,
+    /// The job's id.
+    pub job: T256,
+    /// The parameters that it was started or restarted with.
+    pub parameters: Parameters,
+    /// Whether it was asked to stop.
+    pub stop: bool,
+    /// Whether it was abandoned.
+    pub abandoned: bool,
+    /// Its batch status, abandonment aside.
+    pub bare: BatchStatus,
+    /// The moment of the start or restart that made it.
+    pub create: Moment,
+    /// The moment of the claim that took it up, if one did.
+    pub start: Option<Moment>,
+    /// The moment of the first operation after which it was finished, if it is.
+    pub end: Option<Moment>,
+    /// Its exit status, if it is finished.
+    pub exit: Option<T256>,
+    /// The moment of the last operation on it.
+    pub updated: Moment,
 }
 
 /// How far a work item is.
@@ -34,4 +71,110 @@ pub struct WorkRow {
     pub claimer: u64,
     /// How far it is.
     pub state: WorkState,
+    /// The moment of the claim that was answered with it.
+    pub start: Moment,
+    /// The moment of the finish that ended it, if it is over.
+    pub end: Option<Moment>,
+    /// What was reported of it so far.
+    pub metrics: Metrics,
+}
+
+/// What a repository keeps of a step of a job instance that has a checkpoint.
+#[derive(PartialEq, Eq, Debug, Drop)]
+pub struct CheckpointRow {
+    /// The job instance.
+    pub instance: InstanceId,
+    /// The id of the step.
+    pub step: T256,
+    /// Where its reader goes on.
+    pub mark: Text<65536>,
+}
+
+impl JobInstance {
+    /// An equal job instance, or `OutOfMemory`.
+    pub fn try_clone(&self) -> Result<JobInstance, OutOfMemory>
+        ensures { IfOk result (λ copy. copy ≡ self.now) }
+    {
+        Ok(JobInstance {
+            instance: self.instance,
+            job: self.job.try_clone()?,
+        })
+    }
+}
+
+impl ExecutionRow {
+    /// Its batch status: ABANDONED once it was abandoned.
+    pub fn status(&self) -> BatchStatus
+        ensures { result ≡ row_status self.now }
+    {
+        if self.abandoned {
+            BatchStatus::Abandoned
+        } else {
+            self.bare
+        }
+    }
+
+    /// The record of it that is shown, or `OutOfMemory`.
+    pub fn record(&self) -> Result<JobExecution, OutOfMemory>
+        ensures { IfOk result (λ shown. shown ≡ record_of self.now) }
+    {
+        let job = self.job.try_clone()?;
+        let exit = try_clone_option(&self.exit)?;
+        Ok(JobExecution {
+            execution: self.execution,
+            instance: self.instance,
+            job,
+            status: self.status(),
+            create: self.create,
+            start: self.start,
+            end: self.end,
+            exit,
+            updated: self.updated,
+        })
+    }
+}
+
+impl WorkRow {
+    /// The step execution that it is, if it is a step's, or `OutOfMemory`.
+    pub fn step_execution(&self) -> Result<Option<StepExecution>, OutOfMemory>
+        ensures { IfOk result (λ shown. shown ≡ step_execution self.now) }
+    {
+        match self.kind {
+            WorkKind::Decision => Ok(None),
+            WorkKind::Batchlet => Ok(Some(self.shown()?)),
+            WorkKind::Chunk => Ok(Some(self.shown()?)),
+        }
+    }
+
+    fn shown(&self) -> Result<StepExecution, OutOfMemory>
+        ensures { IfOk result (λ shown. shown ≡ shown_step self.now) }
+    {
+        let step = self.element.try_clone()?;
+        let exit = match &self.state {
+            WorkState::Busy => None,
+            WorkState::Over(_, exit) => Some(exit.try_clone()?),
+        };
+        Ok(StepExecution {
+            work: self.work,
+            execution: self.execution,
+            step,
+            status: self.state.status(),
+            start: self.start,
+            end: self.end,
+            exit,
+            metrics: self.metrics,
+        })
+    }
+}
+
+impl WorkState {
+    /// The batch status of a step execution whose work item is so far: STARTED until it is over.
+    pub fn status(&self) -> BatchStatus
+        ensures { result ≡ state_status self.now }
+    {
+        match self {
+            WorkState::Busy => BatchStatus::Started,
+            WorkState::Over(outcome, _) => outcome.status(),
+        }
+    }
 }

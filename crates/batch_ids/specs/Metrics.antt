@@ -1,5 +1,5 @@
 -- The metrics of a step execution.
-use Rattle.std.specs.Prelude.{ℕ, ◌+◌, ◌<◌, ◌^◌, List, codes}
+use Rattle.std.specs.Prelude.{ℕ, ◌+◌, ◌*◌, ◌<◌, ◌≤◌, ◌^◌, List, codes}
 use Rattle.batch_ids.specs.declared.metric.Metric.{Metric}
 use Rattle.batch_ids.specs.declared.metric.Metric.TheVariants.{ReadCount, WriteCount, CommitCount, RollbackCount, ReadSkipCount, ProcessSkipCount, FilterCount, WriteSkipCount}
 use Rattle.batch_ids.specs.declared.metrics.Metrics.{Metrics}
@@ -69,3 +69,18 @@ pub record HasRoom (metrics : Metrics) (step : MetricStep) : Type 0 where
   pub process_skip : metrics.process_skip_count + step.process_skip_count < 2 ^ 64
   pub filter : metrics.filter_count + step.filter_count < 2 ^ 64
   pub write_skip : metrics.write_skip_count + step.write_skip_count < 2 ^ 64
+
+-- what a count comes to at most after so many steps, each of which adds at most 4,294,967,295
+abbrev pub most_after : ℕ → ℕ
+most_after steps = steps * 4294967295
+
+-- each count is at most this
+pub record IsWithin (most : ℕ) (metrics : Metrics) : Type 0 where
+  pub read : metrics.read_count ≤ most
+  pub write : metrics.write_count ≤ most
+  pub commit : metrics.commit_count ≤ most
+  pub rollback : metrics.rollback_count ≤ most
+  pub read_skip : metrics.read_skip_count ≤ most
+  pub process_skip : metrics.process_skip_count ≤ most
+  pub filter : metrics.filter_count ≤ most
+  pub write_skip : metrics.write_skip_count ≤ most

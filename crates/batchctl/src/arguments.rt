@@ -16,15 +16,36 @@ const SCRIPT_HELP: &str =
 line is a command or a query. An empty line has no reply; every other line has one, written to
 standard output before the next line is waited for.
 
-Commands (`by` is the session's number from 1, `at` the moment in milliseconds):
-  {"do":"start","by":N,"at":N,"job":T}           makes a job instance and its first execution
-  {"do":"restart","by":N,"at":N,"execution":N}   makes a further execution of its job instance
-  {"do":"claim","by":N,"at":N}                   asks for a work item
-  {"do":"finish","by":N,"at":N,"work":N,"outcome":O}
-                                                 ends a work item; O is COMPLETED, FAILED or
-                                                 STOPPED, and an "exit":T may be given
+Commands (`by` is the session's number from 1, `at` the moment in milliseconds; what stands in
+brackets may be left out):
+  {"do":"start","by":N,"at":N,"job":T[,"parameters":{T:T,..}]}
+                                   makes a job instance and its first execution
+  {"do":"restart","by":N,"at":N,"execution":N[,"parameters":{T:T,..}]}
+                                   makes a further execution of its job instance
+  {"do":"stop","by":N,"at":N,"execution":N}
+                                   asks an unfinished execution to stop
+  {"do":"abandon","by":N,"at":N,"execution":N}
+                                   gives a finished execution up
+  {"do":"claim","by":N,"at":N}     asks for a work item
+  {"do":"checkpoint","by":N,"at":N,"work":N,"data":T[,"metrics":{M:N,..}]}
+                                   keeps where the chunk of a work item goes on
+  {"do":"finish","by":N,"at":N,"work":N,"outcome":O[,"exit":T][,"metrics":{M:N,..}]}
+                                   ends a work item; O is COMPLETED, FAILED or STOPPED
+M is READ_COUNT, WRITE_COUNT, COMMIT_COUNT, ROLLBACK_COUNT, READ_SKIP_COUNT, PROCESS_SKIP_COUNT,
+FILTER_COUNT or WRITE_SKIP_COUNT; its number, up to 4294967295, is added to the work item's.
+
 Queries:
-  {"ask":"job_execution","execution":N}          the record of a job execution
+  {"ask":"job_names"}              the jobs that were started
+  {"ask":"job_instance_count","job":T}
+  {"ask":"job_instances","job":T,"start":N,"count":N}
+                                   the newest first, the first "start" of them left out
+  {"ask":"running_executions","job":T}
+  {"ask":"parameters","execution":N}
+  {"ask":"job_instance","execution":N}
+  {"ask":"job_executions","instance":N}
+  {"ask":"job_execution","execution":N}
+  {"ask":"step_executions","execution":N}
+  {"ask":"status_counts"}          how many executions have each status
 
 A line that is none of these is answered {"refused":"BadLine"}; a refusal is {"refused":NAME}, and
 changes nothing.

@@ -1,7 +1,8 @@
 ghost use Rattle.std.specs.Prelude.{◌≡◌, ◌≤◌, ◌<◌, ◌-◌, [], length, slice_get, IfOk, OnErr, None};
 ghost use Rattle.std.specs.Option.{option_copied};
-ghost use Rattle.batch_history.specs.Rows.{reply, answer, after_call, IsLegal};
-ghost use Rattle.seq_repository.specs.Due.{IsDue};
+ghost use Rattle.batch_history.specs.Answers.{answer};
+ghost use Rattle.batch_history.specs.Due.{IsDue};
+ghost use Rattle.batch_history.specs.Rows.{reply, after_call, IsLegal};
 
 use batch_ids::{Moment, OutOfMemory, Refusal};
 use jsl_model::Catalogue;

@@ -5,7 +5,8 @@ mod book;
 
 pub use book::Book;
 pub use seq_repository::{
-    Answer, Call, Entry, JobExecution, Query, Reply, Repository, WorkItem, WorkTask,
+    Answer, Call, CountsByStatus, Entry, JobExecution, JobInstance, Query, Reply, Repository,
+    StepExecution, WorkItem, WorkKind, WorkTask,
 };
 
 #[cfg(test)]

@@ -1,7 +1,10 @@
 ghost use Rattle.std.specs.Prelude.{◌≤◌};
 
 use crate::{Answer, Book, Call, Query, Reply};
-use batch_ids::{BatchStatus, ExecutionId, Listed, Refusal, T256, WorkId, WorkOutcome};
+use batch_ids::{
+    BatchStatus, ExecutionId, Listed, MetricStep, Moment, Parameters, Refusal, T256, WorkId,
+    WorkOutcome,
+};
 use jsl_model::{BodyParts, Catalogue, ElementParts, Job, JobParts, StepParts, TaskParts};
 use std::alloc::Global;
 use std::test::Fail;
@@ -40,64 +43,117 @@ fn one_job<const LIMIT: u64>(alloc: Global) -> Result<Book<LIMIT>, Fail>
 fn start(alloc: Global, job: &str) -> Result<Call, Refusal> {
     Ok(Call::Start {
         job: T256::new(alloc, job)?,
+        parameters: Parameters::none(alloc),
     })
+}
+
+fn restart(alloc: Global, x: u64) -> Call {
+    Call::Restart {
+        execution: ExecutionId::new(x),
+        parameters: Parameters::none(alloc),
+    }
+}
+
+fn failed(w: u64) -> Call {
+    Call::Finish {
+        work: WorkId::new(w),
+        outcome: WorkOutcome::Failed,
+        exit: None,
+        step: MetricStep::zero(),
+    }
+}
+
+/// Whether a call is answered with this job execution.
+fn makes<const LIMIT: u64>(
+    alloc: Global,
+    book: &mut Book<LIMIT>,
+    call: Call,
+    at: Moment,
+    x: u64,
+) -> bool {
+    book.act(alloc, 1, call, at) == Ok(Reply::Execution(ExecutionId::new(x)))
+}
+
+/// Whether a call is refused so.
+fn refuses<const LIMIT: u64>(
+    alloc: Global,
+    book: &mut Book<LIMIT>,
+    call: Call,
+    refusal: Refusal,
+) -> bool {
+    book.act(alloc, 1, call, 0) == Err(refusal)
+}
+
+/// Whether the record of a job execution that was just made is shown so.
+fn is_fresh<const LIMIT: u64>(alloc: Global, book: &Book<LIMIT>, x: u64, at: Moment) -> bool {
+    let execution = ExecutionId::new(x);
+    match book.ask(alloc, &Query::JobExecution { execution }) {
+        Ok(Answer::JobExecution(row)) => {
+            row.status == BatchStatus::Starting
+                && (row.create, row.start, row.end) == (at, None, None)
+                && (row.instance.value(), row.updated) == (1, at)
+        }
+        _ => false,
+    }
 }
 
 #[test]
 fn a_failed_execution_is_restarted(rt: HostRuntime) -> Result<(), Fail> {
     let alloc = rt.alloc();
     let mut book = one_job::<9>(alloc)?;
-    assert_eq!(rt;
-        book.act(alloc, 1, start(alloc, "zz")?, 0),
-        Err(Refusal::JobStartException)
+    assert!(rt;
+        refuses(
+            alloc,
+            &mut book,
+            start(alloc, "zz")?,
+            Refusal::JobStartException
+        )
     );
-    assert_eq!(rt;
-        book.act(alloc, 1, start(alloc, "a")?, 10),
-        Ok(Reply::Execution(ExecutionId::new(1)))
-    );
-    assert!(rt; matches!(book.act(alloc, 2, Call::Claim, 20)?, Reply::Work(_)));
-    let finish = Call::Finish {
-        work: WorkId::new(1),
-        outcome: WorkOutcome::Failed,
-        exit: None,
-    };
-    assert_eq!(rt; book.act(alloc, 2, finish, 30), Ok(Reply::Done));
-    let restart = Call::Restart {
-        execution: ExecutionId::new(1),
-    };
-    assert_eq!(rt;
-        book.act(alloc, 1, restart, 40),
-        Ok(Reply::Execution(ExecutionId::new(2)))
-    );
-    let query = Query::JobExecution {
-        execution: ExecutionId::new(2),
-    };
-    let Answer::JobExecution(second) = book.ask(alloc, &query)?;
-    assert_eq!(rt; second.status, BatchStatus::Starting);
-    assert_eq!(rt; (second.create, second.start, second.end), (40, None, None));
-    assert_eq!(rt;
-        (second.instance.value(), second.updated, book.len()),
-        (1, 40, 4)
-    );
+    assert!(rt; makes(alloc, &mut book, start(alloc, "a")?, 10, 1));
+    book.act(alloc, 1, Call::Claim, 20)?;
+    book.act(alloc, 1, failed(1), 30)?;
+    assert!(rt; makes(alloc, &mut book, restart(alloc, 1), 40, 2));
+    assert!(rt; is_fresh(alloc, &book, 2, 40));
+    assert_eq!(rt; book.len(), 4);
     Ok(())
+}
+
+/// A book that is full after two starts.
+fn full(alloc: Global) -> Result<Book<2>, Fail> {
+    let mut book = one_job::<2>(alloc)?;
+    book.act(alloc, 1, start(alloc, "a")?, 0)?;
+    book.act(alloc, 1, start(alloc, "a")?, 0)?;
+    Ok(book)
 }
 
 #[test]
 fn a_full_log_refuses_what_would_be_entered(rt: HostRuntime) -> Result<(), Fail> {
     let alloc = rt.alloc();
-    let mut book = one_job::<2>(alloc)?;
-    book.act(alloc, 1, start(alloc, "a")?, 0)?;
-    book.act(alloc, 1, start(alloc, "a")?, 0)?;
-    assert_eq!(rt;
-        book.act(alloc, 1, start(alloc, "a")?, 0),
-        Err(Refusal::RepositoryFull)
+    let mut book = full(alloc)?;
+    assert!(rt;
+        refuses(
+            alloc,
+            &mut book,
+            start(alloc, "a")?,
+            Refusal::RepositoryFull
+        )
     );
-    assert_eq!(rt;
-        book.act(alloc, 1, Call::Claim, 0),
-        Err(Refusal::RepositoryFull)
-    );
+    assert!(rt; refuses(alloc, &mut book, Call::Claim, Refusal::RepositoryFull));
     assert!(rt; book.entry(2).is_some());
     assert!(rt; book.entry(3).is_none());
+    Ok(())
+}
+
+#[test]
+fn a_full_log_refuses_after_the_call_itself(rt: HostRuntime) -> Result<(), Fail> {
+    let alloc = rt.alloc();
+    let mut book = full(alloc)?;
+    let execution = ExecutionId::new(9);
+    let stop = Call::Stop { execution };
+    assert!(rt; refuses(alloc, &mut book, stop, Refusal::NoSuchJobExecutionException));
+    let job = T256::new(alloc, "a")?;
+    let count = book.ask(alloc, &Query::JobInstanceCount { job })?;
+    assert!(rt; matches!(count, Answer::JobInstanceCount(2)));
     Ok(())
 }
 

@@ -1,20 +1,21 @@
--- Work items: the w-th reply of work, in the state that its Finish gives it, is the one that the rows have.
-use Rattle.std.proofs.Common.{subst, ◌≡◌, ℕ, suc, ◌+◌, ◌==◌, ◌<◌, ◌≤◌, true, false, cond, Option, None, Some, is_some, List, [], ◌∷◌, ◌++◌, length, map, find, refl, sym, ◌∙◌, ap, arith}
+-- Work items: the w-th reply of work, with the progress that the entries which name it give it, is the one that the rows
+-- have.
+use Rattle.std.proofs.Common.{subst, ◌≡◌, ℕ, suc, ◌+◌, ◌==◌, ◌<◌, ◌≤◌, Bool, true, false, cond, Option, None, Some, is_some, List, [], ◌∷◌, ◌++◌, length, map, find, refl, sym, ◌∙◌, ap, arith}
 use Rattle.std.proofs.lemmas.List.{length-append, length-map, map-append, append-nil}
 use Rattle.std.proofs.lemmas.Bool.{eqb-true, eqb-false, eq-eqb, ne_eqb}
+use Rattle.batch_ids.specs.Metrics.{zero_metrics}
+use Rattle.batch_ids.specs.declared.metric_step.MetricStep.{MetricStep}
 use Rattle.batch_ids.specs.declared.status.WorkOutcome.{WorkOutcome}
 use Rattle.job_walk.proofs.Following.{find-map}
 use Rattle.batch_history.specs.declared.call.Call.{Call}
-use Rattle.batch_history.specs.declared.call.Call.TheVariants.{Start, Restart, Claim, Finish}
+use Rattle.batch_history.specs.declared.call.Call.TheVariants.{Start, Restart, Stop, Abandon, Claim, Checkpoint, Finish}
 use Rattle.batch_history.specs.declared.call.Reply.{Reply}
-use Rattle.batch_history.specs.declared.call.Reply.TheVariants.{Execution as IsExecution, Work, Closed, Nothing, Done}
+use Rattle.batch_history.specs.declared.call.Reply.TheVariants.{Execution as IsExecution, Work, Closed, Nothing, Done, Go, StopAsked}
 use Rattle.batch_history.specs.declared.call.Entry.{Entry}
 use Rattle.batch_history.specs.declared.rows.WorkRow.{WorkRow}
-use Rattle.batch_history.specs.declared.rows.WorkState.{WorkState}
-use Rattle.batch_history.specs.declared.rows.WorkState.TheVariants.{Busy, Over}
-use Rattle.batch_history.specs.History.{kind_of, made, works_of, works_after, is_work, change_first, over, exit_given}
-use Rattle.plain_repository.specs.Searches.{works_in, hands_out, handed_by, handed_out, finishes, finish_entry, state_by, state_of, in_state, works_found}
-use Rattle.plain_repository.proofs.Counting.{counted, one-more, map-same, some-map}
+use Rattle.batch_history.specs.History.{made, works_of, works_after, is_work, change_first, handed_to, reported, over, taken_by}
+use Rattle.plain_repository.specs.Searches.{works_in, hands_out, handed_by, handed_out, finish_entry, with_counts, metrics_found, Progress, progress_by, progress_of, in_progress, works_found}
+use Rattle.plain_repository.proofs.Counting.{counted, one-more, some-map}
 use Rattle.plain_repository.proofs.Pasts.{Fits, FitsClaim, AllFit}
 
 -- Work items as they were handed out are numbered from one on
@@ -30,30 +31,33 @@ rows-append k (r ∷ rows) row h e = (h.0, rows-append (k + 1) rows row h.1 (ome
 length-step : (older : List Entry) (who at : ℕ) (call : Call) (reply : Reply) → length (handed_out older) ≡ works_in older
     → length (handed_out (record { who = who; call = call; at = at; reply = reply } ∷ older)) ≡ works_in (record { who = who; call = call; at = at; reply = reply } ∷ older)
 length-step older who at call (Work item) h =
-    one-more (handed_out older) (record { work = works_in older + 1; execution = item.execution; element = item.element; kind = kind_of item.task; claimer = who; state = Busy })
+    one-more (handed_out older) (record (handed_to who at item) { work = works_in older + 1 })
     ∙ (ap suc h ∙ sym (counted (λ (e : Entry). hands_out e.reply) (record { who = who; call = call; at = at; reply = Work item }) older refl))
 length-step older who at call (IsExecution x) h = ap length (append-nil (handed_out older)) ∙ h
 length-step older who at call (Closed x) h = ap length (append-nil (handed_out older)) ∙ h
 length-step older who at call Nothing h = ap length (append-nil (handed_out older)) ∙ h
 length-step older who at call Done h = ap length (append-nil (handed_out older)) ∙ h
+length-step older who at call Go h = ap length (append-nil (handed_out older)) ∙ h
+length-step older who at call StopAsked h = ap length (append-nil (handed_out older)) ∙ h
 
 -- there are as many as replies of work
 pub handed-length : (past : List Entry) → length (handed_out past) ≡ works_in past
 handed-length [] = refl
 handed-length (e ∷ older) = length-step older e.who e.at e.call e.reply (handed-length older)
 
-rows-step : (w who : ℕ) (reply : Reply) (rows : List WorkRow) → AreRows 1 rows → w ≡ length rows + 1 → AreRows 1 (rows ++ handed_by w who reply)
-rows-step w who (Work item) rows h e =
-    rows-append 1 rows (record { work = w; execution = item.execution; element = item.element; kind = kind_of item.task; claimer = who; state = Busy }) h e
-rows-step w who (IsExecution x) rows h e = subst (AreRows 1) (sym (append-nil rows)) h
-rows-step w who (Closed x) rows h e = subst (AreRows 1) (sym (append-nil rows)) h
-rows-step w who Nothing rows h e = subst (AreRows 1) (sym (append-nil rows)) h
-rows-step w who Done rows h e = subst (AreRows 1) (sym (append-nil rows)) h
+rows-step : (w who at : ℕ) (reply : Reply) (rows : List WorkRow) → AreRows 1 rows → w ≡ length rows + 1 → AreRows 1 (rows ++ handed_by w who at reply)
+rows-step w who at (Work item) rows h e = rows-append 1 rows (record (handed_to who at item) { work = w }) h e
+rows-step w who at (IsExecution x) rows h e = subst (AreRows 1) (sym (append-nil rows)) h
+rows-step w who at (Closed x) rows h e = subst (AreRows 1) (sym (append-nil rows)) h
+rows-step w who at Nothing rows h e = subst (AreRows 1) (sym (append-nil rows)) h
+rows-step w who at Done rows h e = subst (AreRows 1) (sym (append-nil rows)) h
+rows-step w who at Go rows h e = subst (AreRows 1) (sym (append-nil rows)) h
+rows-step w who at StopAsked rows h e = subst (AreRows 1) (sym (append-nil rows)) h
 
 handed-numbered : (past : List Entry) → AreRows 1 (handed_out past)
 handed-numbered [] = tt
 handed-numbered (e ∷ older) =
-    rows-step (works_in older + 1) e.who e.reply (handed_out older) (handed-numbered older) (ap (λ n. n + 1) (sym (handed-length older)))
+    rows-step (works_in older + 1) e.who e.at e.reply (handed_out older) (handed-numbered older) (ap (λ n. n + 1) (sym (handed-length older)))
 
 rows-within : (v k : ℕ) (rows : List WorkRow) → AreRows k rows → is_some (find (is_work v) rows) ≡ true → v < length rows + k
 rows-within v k [] h e = cc
@@ -63,112 +67,151 @@ rows-within v k (row ∷ rows) h e =
       | false ↦ λ is s. omega (arith, rows-within v (k + 1) rows h.1 s)
     ]) refl e
 
--- One state is changed
+-- who takes nobody up hands nothing out
+handed-none : (w who at : ℕ) (reply : Reply) → taken_by reply ≡ None → handed_by w who at reply ≡ []
+handed-none w who at (Work item) none = cc
+handed-none w who at (IsExecution x) none = refl
+handed-none w who at (Closed x) none = refl
+handed-none w who at Nothing none = refl
+handed-none w who at Done none = refl
+handed-none w who at Go none = refl
+handed-none w who at StopAsked none = refl
 
-same-state : (s t : ℕ → WorkState) (row : WorkRow) → s row.work ≡ t row.work → in_state s row ≡ in_state t row
-same-state s t row e =
-    ap (λ (x : WorkState). record { work = row.work; execution = row.execution; element = row.element; kind = row.kind; claimer = row.claimer; state = x }) e
+-- The progress of one is changed
 
-states-above : (s t : ℕ → WorkState) (v k : ℕ) (rows : List WorkRow) → AreRows k rows → v < k
-    → ((w : ℕ) → (v == w) ≡ false → s w ≡ t w) → map (in_state s) rows ≡ map (in_state t) rows
-states-above s t v k [] h lt same = refl
-states-above s t v k (row ∷ rows) h lt same =
+-- a work item with this progress
+abbrev with_progress : WorkRow → Progress → WorkRow
+with_progress row p = record row { state = p.state; end = p.end; metrics = p.metrics }
+
+progress-above : (s t : ℕ → Progress) (v k : ℕ) (rows : List WorkRow) → AreRows k rows → v < k
+    → ((w : ℕ) → (v == w) ≡ false → s w ≡ t w) → map (in_progress s) rows ≡ map (in_progress t) rows
+progress-above s t v k [] h lt same = refl
+progress-above s t v k (row ∷ rows) h lt same =
     let off : (v == row.work) ≡ false = ne_eqb v row.work (λ e. omega (arith, h.0, e)) in
-    ap (λ y. y ∷ map (in_state s) rows) (same-state s t row (same row.work off))
-    ∙ ap (λ ys. in_state t row ∷ ys) (states-above s t v (k + 1) rows h.1 (omega arith) same)
+    ap (λ p. with_progress row p ∷ map (in_progress s) rows) (same row.work off)
+    ∙ ap (λ ys. in_progress t row ∷ ys) (progress-above s t v (k + 1) rows h.1 (omega arith) same)
 
-state-change : (s t : ℕ → WorkState) (v : ℕ) (o : WorkOutcome) (exit : Option (List ℕ)) (k : ℕ) (rows : List WorkRow) → AreRows k rows
-    → ((w : ℕ) → (v == w) ≡ false → s w ≡ t w) → s v ≡ Over o (exit_given o exit)
-    → map (in_state s) rows ≡ change_first (is_work v) (over o exit) (map (in_state t) rows)
-state-change s t v o exit k [] h same here = refl
-state-change s t v o exit k (row ∷ rows) h same here =
-    (elim (row.work == v) as (λ b. (row.work == v) ≡ b → in_state s row ∷ map (in_state s) rows
-    ≡ cond b (over o exit (in_state t row) ∷ map (in_state t) rows) (in_state t row ∷ change_first (is_work v) (over o exit) (map (in_state t) rows))) [
+progress-change : (s t : ℕ → Progress) (v : ℕ) (f : WorkRow → WorkRow) (k : ℕ) (rows : List WorkRow) → AreRows k rows
+    → ((w : ℕ) → (v == w) ≡ false → s w ≡ t w)
+    → ((row : WorkRow) → (v == row.work) ≡ true → in_progress s row ≡ f (in_progress t row))
+    → map (in_progress s) rows ≡ change_first (is_work v) f (map (in_progress t) rows)
+progress-change s t v f k [] h same here = refl
+progress-change s t v f k (row ∷ rows) h same here =
+    (elim (row.work == v) as (λ b. (row.work == v) ≡ b → in_progress s row ∷ map (in_progress s) rows
+    ≡ cond b (f (in_progress t row) ∷ map (in_progress t) rows) (in_progress t row ∷ change_first (is_work v) f (map (in_progress t) rows))) [
       | true ↦ λ e. let is : row.work ≡ v = eqb-true row.work v e in
-          ap (λ y. y ∷ map (in_state s) rows) (same-state s (λ w. Over o (exit_given o exit)) row (ap s is ∙ here))
-          ∙ ap (λ ys. over o exit (in_state t row) ∷ ys) (states-above s t v (k + 1) rows h.1 (omega (arith, h.0, is)) same)
+          ap (λ y. y ∷ map (in_progress s) rows) (here row (eq-eqb v row.work (sym is)))
+          ∙ ap (λ ys. f (in_progress t row) ∷ ys) (progress-above s t v (k + 1) rows h.1 (omega (arith, h.0, is)) same)
       | false ↦ λ e. let off : (v == row.work) ≡ false = ne_eqb v row.work (λ i. eqb-false row.work v e (sym i)) in
-          ap (λ y. y ∷ map (in_state s) rows) (same-state s t row (same row.work off))
-          ∙ ap (λ ys. in_state t row ∷ ys) (state-change s t v o exit (k + 1) rows h.1 same here)
+          ap (λ p. with_progress row p ∷ map (in_progress s) rows) (same row.work off)
+          ∙ ap (λ ys. in_progress t row ∷ ys) (progress-change s t v f (k + 1) rows h.1 same here)
     ]) refl
 
 -- What is found
 
--- a past whose work items are those of the rows, and in which no entry finishes one that was not handed out
+-- the progress of a work item that was just handed out
+abbrev fresh : Progress
+fresh = progress_by None zero_metrics
+
+-- a past whose work items are those of the rows, and in which no entry names one that was not handed out
 record WorksAgree (past : List Entry) : Type 0 where
   same : works_found past ≡ works_of past
-  later : (w : ℕ) → works_in past < w → finish_entry past w ≡ None
+  later : (w : ℕ) → works_in past < w → progress_of past w ≡ fresh
 
-finish-within : (older : List Entry) (v : ℕ) → works_found older ≡ works_of older → is_some (find (is_work v) (works_of older)) ≡ true → v ≤ works_in older
-finish-within older v same some =
+-- who is there was handed out
+within : (older : List Entry) (v : ℕ) → works_found older ≡ works_of older → is_some (find (is_work v) (works_of older)) ≡ true → v ≤ works_in older
+within older v same some =
     let handed : List WorkRow = handed_out older in
     let there : is_some (find (is_work v) handed) ≡ true =
-    sym (ap is_some (find-map (in_state (state_of older)) (is_work v) (is_work v) (λ row. refl) handed)
-    ∙ some-map (in_state (state_of older)) (find (is_work v) handed))
+    sym (ap is_some (find-map (in_progress (progress_of older)) (is_work v) (is_work v) (λ row. refl) handed)
+    ∙ some-map (in_progress (progress_of older)) (find (is_work v) handed))
     ∙ (ap (λ rows. is_some (find (is_work v) rows)) same ∙ some) in
     omega (arith, rows-within v 1 handed (handed-numbered older) there, handed-length older)
 
--- an entry that hands out nothing and finishes nothing
-same-works : (older : List Entry) (e : Entry) → handed_by (works_in older + 1) e.who e.reply ≡ [] → ((w : ℕ) → finishes w e.call ≡ false)
-    → works_found (e ∷ older) ≡ works_found older
-same-works older e none off =
-    ap (λ rows. map (in_state (state_of (e ∷ older))) (handed_out older ++ rows)) none
-    ∙ (ap (map (in_state (state_of (e ∷ older)))) (append-nil (handed_out older))
-    ∙ map-same (in_state (state_of (e ∷ older))) (in_state (state_of older)) (handed_out older)
-    (λ row. same-state (state_of (e ∷ older)) (state_of older) row (ap (λ b. state_by (cond b (Some e) (finish_entry older row.work))) (off row.work))))
+-- an entry that hands out nothing
+same-handed : (older : List Entry) (e : Entry) → taken_by e.reply ≡ None
+    → works_found (e ∷ older) ≡ map (in_progress (progress_of (e ∷ older))) (handed_out older)
+same-handed older e none =
+    ap (λ rows. map (in_progress (progress_of (e ∷ older))) (handed_out older ++ rows)) (handed-none (works_in older + 1) e.who e.at e.reply none)
+    ∙ ap (map (in_progress (progress_of (e ∷ older)))) (append-nil (handed_out older))
 
 claim-works : (older : List Entry) (who at : ℕ) (reply : Reply) → FitsClaim (length (works_of older)) (length (made older)) reply → WorksAgree older
-    → works_found (record { who = who; call = Claim; at = at; reply = reply } ∷ older) ≡ works_after who Claim reply (works_of older)
+    → works_found (record { who = who; call = Claim; at = at; reply = reply } ∷ older) ≡ works_after who at Claim reply (works_of older)
 claim-works older who at (Work item) fits before =
     let count : length (works_of older) ≡ works_in older =
-    ap length (sym before.same) ∙ (length-map (handed_out older) (in_state (state_of older)) ∙ handed-length older) in
-    let number : works_in older + 1 ≡ item.work = ap (λ n. n + 1) (sym count) ∙ sym fits.0 in
-    let busy : state_of older (works_in older + 1) ≡ Busy = ap state_by (before.later (works_in older + 1) (omega arith)) in
-    let row : ℕ → WorkState → WorkRow = λ w s. record { work = w; execution = item.execution; element = item.element; kind = kind_of item.task; claimer = who; state = s } in
-    map-append (in_state (state_of older)) (handed_out older) (row (works_in older + 1) Busy ∷ [])
-    ∙ (ap (λ rows. rows ++ row (works_in older + 1) (state_of older (works_in older + 1)) ∷ []) before.same
-    ∙ (ap (λ s. works_of older ++ row (works_in older + 1) s ∷ []) busy
-    ∙ ap (λ w. works_of older ++ row w Busy ∷ []) number))
-claim-works older who at (Closed x) fits before =
-    same-works older (record { who = who; call = Claim; at = at; reply = Closed x }) refl (λ w. refl) ∙ before.same
-claim-works older who at Nothing fits before =
-    same-works older (record { who = who; call = Claim; at = at; reply = Nothing }) refl (λ w. refl) ∙ before.same
+    ap length (sym before.same) ∙ (length-map (handed_out older) (in_progress (progress_of older)) ∙ handed-length older) in
+    let n : ℕ = works_in older + 1 in
+    let number : n ≡ item.work = ap (λ k. k + 1) (sym count) ∙ sym fits.0 in
+    let row : ℕ → Progress → WorkRow = λ w p. with_progress (record (handed_to who at item) { work = w }) p in
+    map-append (in_progress (progress_of older)) (handed_out older) (row n fresh ∷ [])
+    ∙ (ap (λ rows. rows ++ row n (progress_of older n) ∷ []) before.same
+    ∙ (ap (λ p. works_of older ++ row n p ∷ []) (before.later n (omega arith))
+    ∙ ap (λ w. works_of older ++ row w fresh ∷ []) number))
+claim-works older who at (Closed x) fits before = ap (map (in_progress (progress_of older))) (append-nil (handed_out older)) ∙ before.same
+claim-works older who at Nothing fits before = ap (map (in_progress (progress_of older))) (append-nil (handed_out older)) ∙ before.same
 claim-works older who at (IsExecution x) fits before = absurd fits
 claim-works older who at Done fits before = absurd fits
+claim-works older who at Go fits before = absurd fits
+claim-works older who at StopAsked fits before = absurd fits
 
-finish-works : (older : List Entry) (who at v : ℕ) (o : WorkOutcome) (exit : Option (List ℕ)) (reply : Reply) → reply ≡ Done → WorksAgree older
-    → works_found (record { who = who; call = Finish v o exit; at = at; reply = reply } ∷ older) ≡ change_first (is_work v) (over o exit) (works_of older)
-finish-works older who at v o exit reply done before =
-    let e : Entry = record { who = who; call = Finish v o exit; at = at; reply = reply } in
-    ap (λ r. map (in_state (state_of (e ∷ older))) (handed_out older ++ handed_by (works_in older + 1) who r)) done
-    ∙ (ap (map (in_state (state_of (e ∷ older)))) (append-nil (handed_out older))
-    ∙ (state-change (state_of (e ∷ older)) (state_of older) v o exit 1 (handed_out older) (handed-numbered older)
-    (λ w off. ap (λ b. state_by (cond b (Some e) (finish_entry older w))) off)
-    (ap (λ b. state_by (cond b (Some e) (finish_entry older v))) (eq-eqb v v refl))
-    ∙ ap (change_first (is_work v) (over o exit)) before.same))
+-- the counts of a call that names a work item
+abbrev counts_of : MetricStep → Bool → Option MetricStep
+counts_of step b = cond b (Some step) None
+
+checkpoint-works : (older : List Entry) (who at v : ℕ) (mark : List ℕ) (step : MetricStep) (reply : Reply) → taken_by reply ≡ None → WorksAgree older
+    → works_found (record { who = who; call = Checkpoint v mark step; at = at; reply = reply } ∷ older) ≡ change_first (is_work v) (reported step) (works_of older)
+checkpoint-works older who at v mark step reply none before =
+    let e : Entry = record { who = who; call = Checkpoint v mark step; at = at; reply = reply } in
+    let p : ℕ → Bool → Progress = λ w b. progress_by (finish_entry older w) (with_counts (counts_of step b) (metrics_found older w)) in
+    same-handed older e none
+    ∙ (progress-change (progress_of (e ∷ older)) (progress_of older) v (reported step) 1 (handed_out older) (handed-numbered older)
+    (λ w off. ap (p w) off) (λ row on. ap (λ b. with_progress row (p row.work b)) on)
+    ∙ ap (change_first (is_work v) (reported step)) before.same)
+
+finish-works : (older : List Entry) (who at v : ℕ) (o : WorkOutcome) (exit : Option (List ℕ)) (step : MetricStep) (reply : Reply) → taken_by reply ≡ None → WorksAgree older
+    → works_found (record { who = who; call = Finish v o exit step; at = at; reply = reply } ∷ older) ≡ change_first (is_work v) (over o exit step at) (works_of older)
+finish-works older who at v o exit step reply none before =
+    let e : Entry = record { who = who; call = Finish v o exit step; at = at; reply = reply } in
+    let p : ℕ → Bool → Progress = λ w b. progress_by (cond b (Some e) (finish_entry older w)) (with_counts (counts_of step b) (metrics_found older w)) in
+    same-handed older e none
+    ∙ (progress-change (progress_of (e ∷ older)) (progress_of older) v (over o exit step at) 1 (handed_out older) (handed-numbered older)
+    (λ w off. ap (p w) off) (λ row on. ap (λ b. with_progress row (p row.work b)) on)
+    ∙ ap (change_first (is_work v) (over o exit step at)) before.same)
 
 works-step : (older : List Entry) (who at : ℕ) (call : Call) (reply : Reply) → Fits older call reply → WorksAgree older
-    → works_found (record { who = who; call = call; at = at; reply = reply } ∷ older) ≡ works_after who call reply (works_of older)
-works-step older who at (Start job) reply fits before =
-    same-works older (record { who = who; call = Start job; at = at; reply = reply }) (ap (handed_by (works_in older + 1) who) fits) (λ w. refl) ∙ before.same
-works-step older who at (Restart y) reply fits before =
-    same-works older (record { who = who; call = Restart y; at = at; reply = reply }) (ap (handed_by (works_in older + 1) who) fits.0) (λ w. refl) ∙ before.same
+    → works_found (record { who = who; call = call; at = at; reply = reply } ∷ older) ≡ works_after who at call reply (works_of older)
+works-step older who at (Start job parameters) reply fits before =
+    same-handed older (record { who = who; call = Start job parameters; at = at; reply = reply }) fits ∙ before.same
+works-step older who at (Restart y parameters) reply fits before =
+    same-handed older (record { who = who; call = Restart y parameters; at = at; reply = reply }) fits.0 ∙ before.same
+works-step older who at (Stop y) reply fits before =
+    same-handed older (record { who = who; call = Stop y; at = at; reply = reply }) fits.0 ∙ before.same
+works-step older who at (Abandon y) reply fits before =
+    same-handed older (record { who = who; call = Abandon y; at = at; reply = reply }) fits.0 ∙ before.same
 works-step older who at Claim reply fits before = claim-works older who at reply fits before
-works-step older who at (Finish v o exit) reply fits before = finish-works older who at v o exit reply fits.0 before
+works-step older who at (Checkpoint v mark step) reply fits before = checkpoint-works older who at v mark step reply fits.0 before
+works-step older who at (Finish v o exit step) reply fits before = finish-works older who at v o exit step reply fits.0 before
 
 more-works : (older : List Entry) (e : Entry) → works_in older ≤ works_in (e ∷ older)
 more-works older e =
-    omega (arith, sym (handed-length older), sym (handed-length (e ∷ older)), length-append (handed_out older) (handed_by (works_in older + 1) e.who e.reply))
+    omega (arith, sym (handed-length older), sym (handed-length (e ∷ older)), length-append (handed_out older) (handed_by (works_in older + 1) e.who e.at e.reply))
 
 later-step : (older : List Entry) (who at : ℕ) (call : Call) (reply : Reply) → Fits older call reply → WorksAgree older → (w : ℕ) → works_in older < w
-    → finish_entry (record { who = who; call = call; at = at; reply = reply } ∷ older) w ≡ None
-later-step older who at (Start job) reply fits before w lt = before.later w lt
-later-step older who at (Restart y) reply fits before w lt = before.later w lt
+    → progress_of (record { who = who; call = call; at = at; reply = reply } ∷ older) w ≡ fresh
+later-step older who at (Start job parameters) reply fits before w lt = before.later w lt
+later-step older who at (Restart y parameters) reply fits before w lt = before.later w lt
+later-step older who at (Stop y) reply fits before w lt = before.later w lt
+later-step older who at (Abandon y) reply fits before w lt = before.later w lt
 later-step older who at Claim reply fits before w lt = before.later w lt
-later-step older who at (Finish v o exit) reply fits before w lt =
-    let e : Entry = record { who = who; call = Finish v o exit; at = at; reply = reply } in
-    let there : v ≤ works_in older = finish-within older v before.same fits.1 in
-    ap (λ b. cond b (Some e) (finish_entry older w)) (ne_eqb v w (λ is. omega arith)) ∙ before.later w lt
+later-step older who at (Checkpoint v mark step) reply fits before w lt =
+    let there : v ≤ works_in older = within older v before.same fits.1 in
+    ap (λ b. progress_by (finish_entry older w) (with_counts (counts_of step b) (metrics_found older w))) (ne_eqb v w (λ is. omega arith))
+    ∙ before.later w lt
+later-step older who at (Finish v o exit step) reply fits before w lt =
+    let e : Entry = record { who = who; call = Finish v o exit step; at = at; reply = reply } in
+    let there : v ≤ works_in older = within older v before.same fits.1 in
+    ap (λ b. progress_by (cond b (Some e) (finish_entry older w)) (with_counts (counts_of step b) (metrics_found older w))) (ne_eqb v w (λ is. omega arith))
+    ∙ before.later w lt
 
 works-agree : (past : List Entry) → AllFit past → WorksAgree past
 works-agree [] fits = record { same = refl; later = λ w lt. refl }
@@ -182,8 +225,3 @@ works-agree (e ∷ older) fits =
 -- the work items are those that the rows have
 pub works-law : (past : List Entry) → AllFit past → works_found past ≡ works_of past
 works-law past fits = (works-agree past fits).same
-
--- there are as many replies of work as the rows have work items
-pub works-count : (past : List Entry) → AllFit past → works_in past ≡ length (works_of past)
-works-count past fits =
-    sym (ap length (sym (works-law past fits)) ∙ (length-map (handed_out past) (in_state (state_of past)) ∙ handed-length past))

@@ -1,8 +1,11 @@
 pub mod Counting
-pub mod Least
 pub mod Pasts
 pub mod Origins
 pub mod Items
 pub mod Times
+pub mod Standing
 pub mod Agreeing
 pub mod Legality
+pub mod Numbers
+pub mod Claimed
+pub mod Lists

@@ -1,16 +1,20 @@
--- Job executions: the x-th Start or Restart, found by search, is the one that the rows have under this number.
-use Rattle.std.proofs.Common.{◌≡◌, ℕ, suc, ◌+◌, ◌==◌, ◌≤◌, true, false, cond, Option, None, Some, is_some, List, [], ◌∷◌, ◌++◌, length, find, refl, sym, ◌∙◌, ap, arith}
+-- Job instances and job executions: the i-th Start, and the x-th Start or Restart, found by search, are those that the
+-- rows have under these numbers.
+use Rattle.std.proofs.Common.{◌≡◌, ℕ, suc, ◌+◌, ◌==◌, ◌≤◌, ◌<◌, true, false, cond, Option, None, Some, is_some, List, [], ◌∷◌, ◌++◌, length, find, refl, sym, ◌∙◌, ap, arith}
 use Rattle.std.specs.Option.{option_map, option_or}
+use Rattle.std.proofs.lemmas.List.{append-nil}
 use Rattle.std.proofs.lemmas.List.Folds.{find-append}
 use Rattle.std.proofs.lemmas.Bool.{eqb-true, ne_eqb}
+use Rattle.batch_ids.specs.Parameters.{Pair}
 use Rattle.batch_history.specs.declared.call.Call.{Call}
-use Rattle.batch_history.specs.declared.call.Call.TheVariants.{Start, Restart, Claim, Finish}
+use Rattle.batch_history.specs.declared.call.Call.TheVariants.{Start, Restart, Stop, Abandon, Claim, Checkpoint, Finish}
 use Rattle.batch_history.specs.declared.call.Reply.{Reply}
 use Rattle.batch_history.specs.declared.call.Entry.{Entry}
-use Rattle.batch_history.specs.History.{Made, made, made_after, remade, is_made, makes, instances_of}
+use Rattle.batch_history.specs.declared.rows.JobInstance.{JobInstance}
+use Rattle.batch_history.specs.History.{Made, made, made_after, remade, is_made, makes, instances_of, instances_after, instance_made}
 use Rattle.batch_history.proofs.Stepping.{AreNumbered, numbered}
 use Rattle.plain_repository.specs.declared.origin.Origin.{Origin}
-use Rattle.plain_repository.specs.Searches.{makes_execution, makes_instance, executions_in, instances_in, is_making, made_again, origin_given, origin_of}
+use Rattle.plain_repository.specs.Searches.{makes_execution, makes_instance, begun_by, instances_found, executions_in, instances_in, is_making, made_again, made_as, origin_given, origin_of, instance_found}
 use Rattle.plain_repository.proofs.Counting.{counted, one-more}
 use Rattle.plain_repository.proofs.Pasts.{Fits, AllFit}
 
@@ -18,14 +22,17 @@ use Rattle.plain_repository.proofs.Pasts.{Fits, AllFit}
 
 executions-step : (older : List Entry) (who at : ℕ) (call : Call) (reply : Reply) → executions_in older ≡ length (made older)
     → executions_in (record { who = who; call = call; at = at; reply = reply } ∷ older) ≡ length (made_after (instances_of older) at call (made older))
-executions-step older who at (Start job) reply h =
-    counted (λ (e : Entry). makes_execution e.call) (record { who = who; call = Start job; at = at; reply = reply }) older refl
-    ∙ (ap suc h ∙ sym (one-more (made older) (record { execution = length (made older) + 1; instance = length (instances_of older) + 1; job = job; create = at })))
-executions-step older who at (Restart y) reply h =
-    counted (λ (e : Entry). makes_execution e.call) (record { who = who; call = Restart y; at = at; reply = reply }) older refl
-    ∙ (ap suc h ∙ sym (one-more (made older) (remade (length (made older) + 1) at (find (is_made y) (made older)))))
+executions-step older who at (Start job parameters) reply h =
+    counted (λ (e : Entry). makes_execution e.call) (record { who = who; call = Start job parameters; at = at; reply = reply }) older refl
+    ∙ (ap suc h ∙ sym (one-more (made older) (record { execution = length (made older) + 1; instance = length (instances_of older) + 1; job = job; parameters = parameters; create = at })))
+executions-step older who at (Restart y parameters) reply h =
+    counted (λ (e : Entry). makes_execution e.call) (record { who = who; call = Restart y parameters; at = at; reply = reply }) older refl
+    ∙ (ap suc h ∙ sym (one-more (made older) (remade (length (made older) + 1) parameters at (find (is_made y) (made older)))))
+executions-step older who at (Stop y) reply h = h
+executions-step older who at (Abandon y) reply h = h
 executions-step older who at Claim reply h = h
-executions-step older who at (Finish w o t) reply h = h
+executions-step older who at (Checkpoint w mark step) reply h = h
+executions-step older who at (Finish w o t step) reply h = h
 
 -- there are as many as the rows have
 pub executions-made : (past : List Entry) → executions_in past ≡ length (made past)
@@ -33,36 +40,66 @@ executions-made [] = refl
 executions-made (e ∷ older) = executions-step older e.who e.at e.call e.reply (executions-made older)
 
 instances-step : (older : List Entry) (who at : ℕ) (call : Call) (reply : Reply) → instances_in older ≡ length (instances_of older)
-    → instances_in (record { who = who; call = call; at = at; reply = reply } ∷ older) ≡ length (instances_of (record { who = who; call = call; at = at; reply = reply } ∷ older))
-instances-step older who at (Start job) reply h =
-    counted (λ (e : Entry). makes_instance e.call) (record { who = who; call = Start job; at = at; reply = reply }) older refl
+    → instances_in (record { who = who; call = call; at = at; reply = reply } ∷ older) ≡ length (instances_after call (instances_of older))
+instances-step older who at (Start job parameters) reply h =
+    counted (λ (e : Entry). makes_instance e.call) (record { who = who; call = Start job parameters; at = at; reply = reply }) older refl
     ∙ (ap suc h ∙ sym (one-more (instances_of older) (record { instance = length (instances_of older) + 1; job = job })))
-instances-step older who at (Restart y) reply h = h
+instances-step older who at (Restart y parameters) reply h = h
+instances-step older who at (Stop y) reply h = h
+instances-step older who at (Abandon y) reply h = h
 instances-step older who at Claim reply h = h
-instances-step older who at (Finish w o t) reply h = h
+instances-step older who at (Checkpoint w mark step) reply h = h
+instances-step older who at (Finish w o t step) reply h = h
 
 instances-made : (past : List Entry) → instances_in past ≡ length (instances_of past)
 instances-made [] = refl
 instances-made (e ∷ older) = instances-step older e.who e.at e.call e.reply (instances-made older)
 
+begun-after : (older : List Entry) (call : Call) → instances_of older ++ begun_by (instances_in older + 1) call ≡ instances_after call (instances_of older)
+begun-after older (Start job parameters) =
+    ap (λ (n : ℕ). instances_of older ++ record { instance = n + 1; job = job } ∷ []) (instances-made older)
+begun-after older (Restart y parameters) = append-nil (instances_of older)
+begun-after older (Stop y) = append-nil (instances_of older)
+begun-after older (Abandon y) = append-nil (instances_of older)
+begun-after older Claim = append-nil (instances_of older)
+begun-after older (Checkpoint w mark step) = append-nil (instances_of older)
+begun-after older (Finish w o t step) = append-nil (instances_of older)
+
+-- the job instances are those that the rows have
+pub instances-law : (past : List Entry) → instances_found past ≡ instances_of past
+instances-law [] = refl
+instances-law (e ∷ older) =
+    ap (λ (rows : List JobInstance). rows ++ begun_by (instances_in older + 1) e.call) (instances-law older) ∙ begun-after older e.call
+
 -- which entry makes one
 pub making : (older : List Entry) (x : ℕ) (call : Call) → makes (length (made older)) x call ≡ is_making older x call
-making older x (Start job) = ap (λ n. n + 1 == x) (sym (executions-made older))
-making older x (Restart y) = ap (λ n. n + 1 == x) (sym (executions-made older))
+making older x (Start job parameters) = ap (λ n. n + 1 == x) (sym (executions-made older))
+making older x (Restart y parameters) = ap (λ n. n + 1 == x) (sym (executions-made older))
+making older x (Stop y) = refl
+making older x (Abandon y) = refl
 making older x Claim = refl
-making older x (Finish w o t) = refl
+making older x (Checkpoint w mark step) = refl
+making older x (Finish w o t step) = refl
 
 -- What is found
-
--- a job execution as it was made, by where it comes from
-abbrev pub made_as : ℕ → Origin → Made
-made_as x o = record { execution = x; instance = o.instance; job = o.job; create = o.create }
 
 find-past : (x k : ℕ) (ms : List Made) → AreNumbered k ms → length ms + k ≤ x → find (is_made x) ms ≡ None
 find-past x k [] h le = refl
 find-past x k (m ∷ ms) h le =
     let off : (m.execution == x) ≡ false = ne_eqb m.execution x (λ e. omega (arith, h.0, e)) in
     rw off (find-past x (k + 1) ms h.1 (omega arith))
+
+made-among : (y k : ℕ) (ms : List Made) → AreNumbered k ms → is_some (find (is_made y) ms) ≡ true → y < length ms + k
+made-among y k [] h e = cc
+made-among y k (m ∷ ms) h e =
+    (elim (m.execution == y) as (λ b. (m.execution == y) ≡ b → is_some (cond b (Some m) (find (is_made y) ms)) ≡ true → y < length (m ∷ ms) + k) [
+      | true ↦ λ is s. let here : m.execution ≡ y = eqb-true m.execution y is in omega (arith, h.0, here)
+      | false ↦ λ is s. omega (arith, made-among y (k + 1) ms h.1 s)
+    ]) refl e
+
+-- who was made is numbered within
+pub made-within : (older : List Entry) (y : ℕ) → is_some (find (is_made y) (made older)) ≡ true → y ≤ executions_in older
+made-within older y some = omega (arith, made-among y 1 (made older) (numbered older) some, executions-made older)
 
 or-none : {X : Type 0} (o : Option X) → option_or o None ≡ o
 or-none None = refl
@@ -82,38 +119,50 @@ find-more x ms m old new h number before here =
       | false ↦ λ e. or-none (find (is_made x) ms) ∙ before
     ]) refl)
 
-remade-number : (x at : ℕ) (o : Option Made) → (remade x at o).execution ≡ x
-remade-number x at None = refl
-remade-number x at (Some m) = refl
+remade-number : (x at : ℕ) (parameters : List Pair) (o : Option Made) → (remade x parameters at o).execution ≡ x
+remade-number x at parameters None = refl
+remade-number x at parameters (Some m) = refl
 
-remade-found : (x y at : ℕ) (found : Option Made) (earlier : Option Origin) → found ≡ option_map (made_as y) earlier → is_some found ≡ true
-    → Some (remade x at found) ≡ option_map (made_as x) (made_again at earlier)
-remade-found x y at found None is some = cc
-remade-found x y at found (Some o) is some = ap (λ (f : Option Made). Some (remade x at f)) is
+remade-found : (x y at : ℕ) (parameters : List Pair) (found : Option Made) (earlier : Option Origin) → found ≡ option_map (made_as y) earlier → is_some found ≡ true
+    → Some (remade x parameters at found) ≡ option_map (made_as x) (made_again parameters at earlier)
+remade-found x y at parameters found None is some = cc
+remade-found x y at parameters found (Some o) is some = ap (λ (f : Option Made). Some (remade x parameters at f)) is
 
 origin-step : (older : List Entry) (at : ℕ) (call : Call) (reply : Reply) (x : ℕ) → Fits older call reply
     → ((y : ℕ) → find (is_made y) (made older) ≡ option_map (made_as y) (origin_of older y))
     → find (is_made x) (made_after (instances_of older) at call (made older))
     ≡ option_map (made_as x) (cond (is_making older x call) (origin_given (instances_in older) at (origin_of older) call) (origin_of older x))
-origin-step older at (Start job) reply x fits before =
+origin-step older at (Start job parameters) reply x fits before =
     let n : ℕ = length (made older) in
-    let new : Option Origin = Some record { instance = instances_in older + 1; job = job; create = at } in
-    find-more x (made older) (record { execution = n + 1; instance = length (instances_of older) + 1; job = job; create = at })
+    let new : Option Origin = Some record { instance = instances_in older + 1; job = job; parameters = parameters; create = at } in
+    find-more x (made older) (record { execution = n + 1; instance = length (instances_of older) + 1; job = job; parameters = parameters; create = at })
     (origin_of older x) new (numbered older) refl (before x)
-    (λ is. ap (λ k. Some record { execution = k; instance = length (instances_of older) + 1; job = job; create = at }) (sym is)
-    ∙ ap (λ k. Some record { execution = x; instance = k + 1; job = job; create = at }) (sym (instances-made older)))
+    (λ is. ap (λ k. Some record { execution = k; instance = length (instances_of older) + 1; job = job; parameters = parameters; create = at }) (sym is)
+    ∙ ap (λ k. Some record { execution = x; instance = k + 1; job = job; parameters = parameters; create = at }) (sym (instances-made older)))
     ∙ ap (λ k. option_map (made_as x) (cond (k + 1 == x) new (origin_of older x))) (sym (executions-made older))
-origin-step older at (Restart y) reply x fits before =
+origin-step older at (Restart y parameters) reply x fits before =
     let n : ℕ = length (made older) in
     let found : Option Made = find (is_made y) (made older) in
-    let new : Option Origin = made_again at (origin_of older y) in
-    find-more x (made older) (remade (n + 1) at found) (origin_of older x) new (numbered older) (remade-number (n + 1) at found) (before x)
-    (λ is. ap (λ k. Some (remade k at found)) (sym is) ∙ remade-found x y at found (origin_of older y) (before y) fits.1)
+    let new : Option Origin = made_again parameters at (origin_of older y) in
+    find-more x (made older) (remade (n + 1) parameters at found) (origin_of older x) new (numbered older) (remade-number (n + 1) at parameters found) (before x)
+    (λ is. ap (λ k. Some (remade k parameters at found)) (sym is) ∙ remade-found x y at parameters found (origin_of older y) (before y) fits.1)
     ∙ ap (λ k. option_map (made_as x) (cond (k + 1 == x) new (origin_of older x))) (sym (executions-made older))
+origin-step older at (Stop y) reply x fits before = before x
+origin-step older at (Abandon y) reply x fits before = before x
 origin-step older at Claim reply x fits before = before x
-origin-step older at (Finish w o t) reply x fits before = before x
+origin-step older at (Checkpoint w mark step) reply x fits before = before x
+origin-step older at (Finish w o t step) reply x fits before = before x
 
 -- job execution x, if there is one, is the one that the rows have
 pub origin-law : (past : List Entry) → AllFit past → (x : ℕ) → find (is_made x) (made past) ≡ option_map (made_as x) (origin_of past x)
 origin-law [] fits x = refl
 origin-law (e ∷ older) fits x = origin-step older e.at e.call e.reply x fits.0 (λ y. origin-law older fits.1 y)
+
+instance-as : (x : ℕ) (o : Option Origin) → option_map (λ (m : Made). m.instance) (option_map (made_as x) o) ≡ option_map (λ (o : Origin). o.instance) o
+instance-as x None = refl
+instance-as x (Some o) = refl
+
+-- its job instance is the one that the rows have
+pub instance-law : (past : List Entry) → AllFit past → (x : ℕ) → instance_made (made past) x ≡ instance_found past x
+instance-law past fits x =
+    ap (λ (o : Option Made). option_map (λ m. m.instance) o) (origin-law past fits x) ∙ instance-as x (origin_of past x)

@@ -1,24 +1,25 @@
 -- Legal pasts: each entry has the reply that its call was due after the entries before it, and what that tells of it.
-use Rattle.std.proofs.Common.{subst, ◌≡◌, ℕ, ◌+◌, ◌==◌, ◌<◌, ◌≤◌, Bool, true, false, cond, nat_lt, Option, None, Some, is_some, Ok, Err, List, [], ◌∷◌, ◌++◌, length, map, find, reverse, refl, sym, ◌∙◌, ap, arith, append_assoc}
-use Rattle.std.proofs.lemmas.List.{reverse-reverse, length-map, append-nil}
+use Rattle.std.proofs.Common.{subst, ◌≡◌, ℕ, ◌+◌, ◌<◌, ◌≤◌, Bool, true, false, cond, nat_lt, Option, None, Some, is_some, Result, Ok, Err, List, [], ◌∷◌, ◌++◌, length, map, find, reverse, refl, sym, ◌∙◌, ap, arith, append_assoc}
+use Rattle.std.specs.List.{list_any}
+use Rattle.std.proofs.lemmas.List.{reverse-reverse, append-nil}
 use Rattle.std.proofs.lemmas.Grind.{reverse_onto}
 use Rattle.job_walk.proofs.Following.{find-map}
-use Rattle.batch_ids.specs.declared.refusal.Refusal.TheVariants.{JobStartException, NoSuchJobExecutionException, NotClaimer, RepositoryFull}
+use Rattle.batch_ids.specs.declared.refusal.Refusal.{Refusal}
+use Rattle.batch_ids.specs.declared.refusal.Refusal.TheVariants.{JobStartException, NoSuchJobExecutionException, JobExecutionNotRunningException, JobExecutionIsRunningException, RepositoryFull}
 use Rattle.batch_ids.specs.declared.status.WorkOutcome.{WorkOutcome}
 use Rattle.batch_ids.specs.declared.status.WorkOutcome.TheVariants.{Completed, Failed, Stopped}
 use Rattle.jsl_model.specs.Jobs.{JobTree}
 use Rattle.batch_history.specs.declared.call.Call.{Call}
-use Rattle.batch_history.specs.declared.call.Call.TheVariants.{Start, Restart, Claim, Finish}
+use Rattle.batch_history.specs.declared.call.Call.TheVariants.{Start, Restart, Stop, Abandon, Claim, Checkpoint, Finish}
 use Rattle.batch_history.specs.declared.call.Reply.{Reply}
-use Rattle.batch_history.specs.declared.call.Reply.TheVariants.{Execution as IsExecution, Work, Closed, Nothing, Done}
+use Rattle.batch_history.specs.declared.call.Reply.TheVariants.{Execution as IsExecution, Work, Closed, Nothing, Done, Go, StopAsked}
 use Rattle.batch_history.specs.declared.call.WorkKind.{WorkKind}
+use Rattle.batch_history.specs.declared.call.WorkKind.TheVariants.{Batchlet, Chunk, Decision}
 use Rattle.batch_history.specs.declared.call.Entry.{Entry}
-use Rattle.batch_history.specs.declared.query.JobExecution.{JobExecution}
+use Rattle.batch_history.specs.declared.rows.ExecutionRow.{ExecutionRow}
 use Rattle.batch_history.specs.declared.rows.WorkRow.{WorkRow}
-use Rattle.batch_history.specs.declared.rows.WorkState.{WorkState}
-use Rattle.batch_history.specs.declared.rows.WorkState.TheVariants.{Busy, Over}
-use Rattle.batch_history.specs.History.{Made, made, is_made, works_of, is_work, job_named}
-use Rattle.batch_history.specs.Rows.{History, Rows, rows_of, reply_by, entered, claimed, claim_reply, finished, finished_by, finished_as, first_ready, walk_in, has_something, is_execution, execution_row, IsLegal}
+use Rattle.batch_history.specs.History.{Made, made, is_made, works_of, is_work, job_named, taken_by, is_finished}
+use Rattle.batch_history.specs.Rows.{History, Rows, rows_of, reply_by, row_status, is_running_in, entered, claimed, claim_reply, stopped, abandoned, going, marked_as, checkpointed, stopped_as, stopped_end, finished, finished_as, unheld_by, unless, stop_asked, first_ready, walk_in, has_something, is_execution, execution_row, IsLegal}
 use Rattle.batch_history.proofs.Stepping.{AreNumbered, numbered}
 use Rattle.plain_repository.proofs.Counting.{some-map}
 
@@ -29,13 +30,26 @@ FitsClaim works executions (Closed x) = x ≤ executions
 FitsClaim works executions Nothing = Unit {0}
 FitsClaim works executions (IsExecution x) = ⊥
 FitsClaim works executions Done = ⊥
+FitsClaim works executions Go = ⊥
+FitsClaim works executions StopAsked = ⊥
+
+-- no job execution is taken up, and this one was made before
+abbrev pub IsMadeBefore : List Entry → ℕ → Reply → Type 0
+IsMadeBefore older y given = (taken_by given ≡ None) × (is_some (find (is_made y) (made older)) ≡ true)
+
+-- no job execution is taken up, and this work item was handed out before
+abbrev pub IsHandedBefore : List Entry → ℕ → Reply → Type 0
+IsHandedBefore older w given = (taken_by given ≡ None) × (is_some (find (is_work w) (works_of older)) ≡ true)
 
 -- what the due reply of a call tells, after an older past
 abbrev pub Fits : List Entry → Call → Reply → Type 0
-Fits older (Start job) given = given ≡ IsExecution (length (made older) + 1)
-Fits older (Restart y) given = (given ≡ IsExecution (length (made older) + 1)) × (is_some (find (is_made y) (made older)) ≡ true)
+Fits older (Start job parameters) given = taken_by given ≡ None
+Fits older (Restart y parameters) given = IsMadeBefore older y given
+Fits older (Stop y) given = IsMadeBefore older y given
+Fits older (Abandon y) given = IsMadeBefore older y given
 Fits older Claim given = FitsClaim (length (works_of older)) (length (made older)) given
-Fits older (Finish w outcome exit) given = (given ≡ Done) × (is_some (find (is_work w) (works_of older)) ≡ true)
+Fits older (Checkpoint w mark step) given = IsHandedBefore older w given
+Fits older (Finish w outcome exit step) given = IsHandedBefore older w given
 
 -- a past each entry of which fits what is older
 abbrev pub AllFit : List Entry → Type 0
@@ -51,7 +65,22 @@ entered-is limit count given r e =
       | false ↦ λ s. cc
     ]) e
 
-found-within : (f : Made → JobExecution) (p : JobExecution → Bool) (k : ℕ) (ms : List Made) (row : JobExecution) → AreNumbered k ms
+-- a reply that takes nobody up, where it is entered
+entered-none : (limit count : ℕ) (reply given : Reply) → taken_by reply ≡ None → entered limit count reply ≡ Ok given → taken_by given ≡ None
+entered-none limit count reply given none e = ap taken_by (entered-is limit count reply given e) ∙ none
+
+-- the same behind a test
+tested-none : (b : Bool) (refusal : Refusal) (reply : Result Reply Refusal) (given : Reply) → (reply ≡ Ok given → taken_by given ≡ None)
+    → cond b (Err refusal) reply ≡ Ok given → taken_by given ≡ None
+tested-none true refusal reply given none e = cc
+tested-none false refusal reply given none e = none e
+
+unless-none : (refusal : Option Refusal) (reply : Result Reply Refusal) (given : Reply) → (reply ≡ Ok given → taken_by given ≡ None)
+    → unless refusal reply ≡ Ok given → taken_by given ≡ None
+unless-none None reply given none e = none e
+unless-none (Some refusal) reply given none e = cc
+
+found-within : (f : Made → ExecutionRow) (p : ExecutionRow → Bool) (k : ℕ) (ms : List Made) (row : ExecutionRow) → AreNumbered k ms
     → ((m : Made) → (f m).execution ≡ m.execution) → find p (map f ms) ≡ Some row → row.execution < length ms + k
 found-within f p k [] row h named e = cc
 found-within f p k (m ∷ ms) row h named e =
@@ -60,66 +89,106 @@ found-within f p k (m ∷ ms) row h named e =
       | false ↦ λ s. omega (arith, found-within f p (k + 1) ms row h.1 named s)
     ]) e
 
-claim-fits : (works executions x : ℕ) (job : Option JobTree) (ready : Option (List ℕ)) → x ≤ executions
-    → FitsClaim works executions (claim_reply (works + 1) x job ready)
-claim-fits works executions x job None le = le
-claim-fits works executions x job (Some id) le = (refl, le)
+claim-fits : (r : Rows) (executions : ℕ) (row : ExecutionRow) (ready : Option (List ℕ)) → row.execution ≤ executions
+    → FitsClaim (length r.works) executions (claim_reply r row ready)
+claim-fits r executions row None le = le
+claim-fits r executions row (Some id) le = (refl, le)
 
-claimed-fits : (limit : ℕ) (r : Rows) (executions : ℕ) (found : Option JobExecution) (given : Reply) → claimed limit r found ≡ Ok given
-    → ((row : JobExecution) → found ≡ Some row → row.execution ≤ executions) → FitsClaim (length r.works) executions given
+claimed-fits : (limit : ℕ) (r : Rows) (executions : ℕ) (found : Option ExecutionRow) (given : Reply) → claimed limit r found ≡ Ok given
+    → ((row : ExecutionRow) → found ≡ Some row → row.execution ≤ executions) → FitsClaim (length r.works) executions given
 claimed-fits limit r executions None given e below = let is : Nothing ≡ given = cc in subst (FitsClaim (length r.works) executions) is tt
 claimed-fits limit r executions (Some row) given e below =
-    let reply : Reply = claim_reply (length r.works + 1) row.execution (job_named r.catalogue row.job) (first_ready (walk_in r row)) in
+    let reply : Reply = claim_reply r row (first_ready (walk_in r row)) in
     subst (FitsClaim (length r.works) executions) (sym (entered-is limit r.count reply given e))
-    (claim-fits (length r.works) executions row.execution (job_named r.catalogue row.job) (first_ready (walk_in r row)) (below row refl))
+    (claim-fits r executions row (first_ready (walk_in r row)) (below row refl))
 
-as-is : (limit count : ℕ) (kind : WorkKind) (o : WorkOutcome) (given : Reply) → finished_as limit count kind o ≡ Ok given → given ≡ Done
-as-is limit count kind Stopped given e = cc
-as-is limit count kind Completed given e = entered-is limit count Done given e
-as-is limit count kind Failed given e = entered-is limit count Done given e
+stopped-fits : (limit count : ℕ) (found : Option ExecutionRow) (given : Reply) → stopped limit count found ≡ Ok given
+    → (taken_by given ≡ None) × (is_some found ≡ true)
+stopped-fits limit count None given e = cc
+stopped-fits limit count (Some row) given e =
+    (tested-none (is_finished (row_status row)) JobExecutionNotRunningException _ given (entered-none limit count Done given refl) e, refl)
 
-by-is : (limit count who : ℕ) (o : WorkOutcome) (claimer : ℕ) (kind : WorkKind) (state : WorkState) (given : Reply) → finished_by limit count who o claimer kind state ≡ Ok given → given ≡ Done
-by-is limit count who o claimer kind (Over p exit) given e = cc
-by-is limit count who o claimer kind Busy given e =
-    (elim (claimer == who) as (λ b. cond b (finished_as limit count kind o) (Err NotClaimer) ≡ Ok given → given ≡ Done) [
-      | true ↦ λ s. as-is limit count kind o given s
-      | false ↦ λ s. cc
-    ]) e
+abandoned-fits : (limit : ℕ) (r : Rows) (found : Option ExecutionRow) (given : Reply) → abandoned limit r found ≡ Ok given
+    → (taken_by given ≡ None) × (is_some found ≡ true)
+abandoned-fits limit r None given e = cc
+abandoned-fits limit r (Some row) given e =
+    (tested-none (list_any (is_running_in row.instance) r.executions) JobExecutionIsRunningException _ given (entered-none limit r.count Done given refl) e, refl)
 
-finished-fits : (limit count who : ℕ) (o : WorkOutcome) (found : Option WorkRow) (given : Reply) → finished limit count who o found ≡ Ok given
-    → (given ≡ Done) × (is_some found ≡ true)
-finished-fits limit count who o None given e = cc
-finished-fits limit count who o (Some row) given e = (by-is limit count who o row.claimer row.kind row.state given e, refl)
+going-none : (stop : Bool) → taken_by (going stop) ≡ None
+going-none true = refl
+going-none false = refl
+
+marked-none : (limit count : ℕ) (stop : Bool) (kind : WorkKind) (given : Reply) → marked_as limit count stop kind ≡ Ok given → taken_by given ≡ None
+marked-none limit count stop Chunk given e = entered-none limit count (going stop) given (going-none stop) e
+marked-none limit count stop Batchlet given e = cc
+marked-none limit count stop Decision given e = cc
+
+checkpointed-fits : (limit : ℕ) (r : Rows) (who : ℕ) (found : Option WorkRow) (given : Reply) → checkpointed limit r who found ≡ Ok given
+    → (taken_by given ≡ None) × (is_some found ≡ true)
+checkpointed-fits limit r who None given e = cc
+checkpointed-fits limit r who (Some row) given e =
+    (unless-none (unheld_by who row.claimer row.state) _ given (marked-none limit r.count (stop_asked r row.execution) row.kind given) e, refl)
+
+stop-none : (limit count : ℕ) (stop : Bool) (given : Reply) → stopped_as limit count stop ≡ Ok given → taken_by given ≡ None
+stop-none limit count true given e = entered-none limit count Done given refl e
+stop-none limit count false given e = cc
+
+ending-none : (limit count : ℕ) (stop : Bool) (kind : WorkKind) (given : Reply) → stopped_end limit count stop kind ≡ Ok given → taken_by given ≡ None
+ending-none limit count stop Decision given e = cc
+ending-none limit count stop Batchlet given e = stop-none limit count stop given e
+ending-none limit count stop Chunk given e = stop-none limit count stop given e
+
+as-none : (limit count : ℕ) (stop : Bool) (kind : WorkKind) (o : WorkOutcome) (given : Reply) → finished_as limit count stop kind o ≡ Ok given → taken_by given ≡ None
+as-none limit count stop kind Stopped given e = ending-none limit count stop kind given e
+as-none limit count stop kind Completed given e = entered-none limit count Done given refl e
+as-none limit count stop kind Failed given e = entered-none limit count Done given refl e
+
+finished-fits : (limit : ℕ) (r : Rows) (who : ℕ) (o : WorkOutcome) (found : Option WorkRow) (given : Reply) → finished limit r who o found ≡ Ok given
+    → (taken_by given ≡ None) × (is_some found ≡ true)
+finished-fits limit r who o None given e = cc
+finished-fits limit r who o (Some row) given e =
+    (unless-none (unheld_by who row.claimer row.state) _ given (as-none limit r.count (stop_asked r row.execution) row.kind o given) e, refl)
+
+-- a job execution has a row where it was made
+there : (catalogue : List JobTree) (older : List Entry) (y : ℕ)
+    → is_some (find (is_execution y) (map (execution_row catalogue older) (made older))) ≡ is_some (find (is_made y) (made older))
+there catalogue older y =
+    ap is_some (find-map (execution_row catalogue older) (is_execution y) (is_made y) (λ x. refl) (made older))
+    ∙ some-map (execution_row catalogue older) (find (is_made y) (made older))
 
 -- an entry whose reply is due fits what is older
 pub due-fits : (limit : ℕ) (catalogue : List JobTree) (older : List Entry) (who : ℕ) (call : Call) (given : Reply)
     → reply_by limit (rows_of catalogue older) who call ≡ Ok given → Fits older call given
-due-fits limit catalogue older who (Start job) given e =
+due-fits limit catalogue older who (Start job parameters) given e =
     let r : Rows = rows_of catalogue older in
-    let count : length r.executions ≡ length (made older) = length-map (made older) (execution_row catalogue older) in
-    (elim (is_some (job_named catalogue job)) as (λ b. cond b (entered limit r.count (IsExecution (length r.executions + 1))) (Err JobStartException) ≡ Ok given → given ≡ IsExecution (length (made older) + 1)) [
-      | true ↦ λ s. entered-is limit r.count (IsExecution (length r.executions + 1)) given s ∙ ap (λ n. IsExecution (n + 1)) count
+    let n : ℕ = length r.executions + 1 in
+    (elim (is_some (job_named catalogue job)) as (λ b. cond b (entered limit r.count (IsExecution n)) (Err JobStartException) ≡ Ok given → taken_by given ≡ None) [
+      | true ↦ λ s. entered-none limit r.count (IsExecution n) given refl s
       | false ↦ λ s. cc
     ]) e
-due-fits limit catalogue older who (Restart y) given e =
+due-fits limit catalogue older who (Restart y parameters) given e =
     let r : Rows = rows_of catalogue older in
-    let ms : List Made = made older in
-    let count : length r.executions ≡ length ms = length-map ms (execution_row catalogue older) in
-    let same : is_some (find (is_execution y) r.executions) ≡ is_some (find (is_made y) ms) =
-    ap is_some (find-map (execution_row catalogue older) (is_execution y) (is_made y) (λ x. refl) ms)
-    ∙ some-map (execution_row catalogue older) (find (is_made y) ms) in
+    let n : ℕ = length r.executions + 1 in
     (elim (is_some (find (is_execution y) r.executions)) as (λ b. is_some (find (is_execution y) r.executions) ≡ b
-    → cond b (entered limit r.count (IsExecution (length r.executions + 1))) (Err NoSuchJobExecutionException) ≡ Ok given
-    → (given ≡ IsExecution (length ms + 1)) × (is_some (find (is_made y) ms) ≡ true)) [
-      | true ↦ λ is s. (entered-is limit r.count (IsExecution (length r.executions + 1)) given s ∙ ap (λ n. IsExecution (n + 1)) count, sym same ∙ is)
+    → cond b (entered limit r.count (IsExecution n)) (Err NoSuchJobExecutionException) ≡ Ok given
+    → (taken_by given ≡ None) × (is_some (find (is_made y) (made older)) ≡ true)) [
+      | true ↦ λ is s. (entered-none limit r.count (IsExecution n) given refl s, sym (there catalogue older y) ∙ is)
       | false ↦ λ is s. cc
     ]) refl e
+due-fits limit catalogue older who (Stop y) given e =
+    let fits = stopped-fits limit (length older) (find (is_execution y) (map (execution_row catalogue older) (made older))) given e in
+    (fits.0, sym (there catalogue older y) ∙ fits.1)
+due-fits limit catalogue older who (Abandon y) given e =
+    let fits = abandoned-fits limit (rows_of catalogue older) (find (is_execution y) (map (execution_row catalogue older) (made older))) given e in
+    (fits.0, sym (there catalogue older y) ∙ fits.1)
 due-fits limit catalogue older who Claim given e =
     let r : Rows = rows_of catalogue older in
     claimed-fits limit r (length (made older)) (find (has_something r) r.executions) given e
     (λ row is. omega (arith, found-within (execution_row catalogue older) (has_something r) 1 (made older) row (numbered older) (λ m. refl) is))
-due-fits limit catalogue older who (Finish w o exit) given e =
-    finished-fits limit (length older) who o (find (is_work w) (works_of older)) given e
+due-fits limit catalogue older who (Checkpoint w mark step) given e =
+    checkpointed-fits limit (rows_of catalogue older) who (find (is_work w) (works_of older)) given e
+due-fits limit catalogue older who (Finish w o exit step) given e =
+    finished-fits limit (rows_of catalogue older) who o (find (is_work w) (works_of older)) given e
 
 -- where a history is cut before an entry of its past
 pub cut-before : (log older rest : List Entry) (e : Entry) → log ≡ reverse (e ∷ older) ++ rest → log ≡ reverse older ++ e ∷ rest

@@ -1,7 +1,8 @@
 ghost use Rattle.std.specs.Prelude.{ℕ, ◌≡◌, ◌↔◌};
 ghost use Rattle.batch_history.specs.declared.call.Call.{Call};
 ghost use Rattle.batch_history.specs.declared.query.Query.{Query};
-ghost use Rattle.batch_history.specs.Rows.{History, IsLegal, reply, answer};
+ghost use Rattle.batch_history.specs.Answers.{answer};
+ghost use Rattle.batch_history.specs.Rows.{History, IsLegal, reply};
 ghost use Rattle.plain_repository.specs.Found.{reply_found, answer_found, IsLegalFound};
 
 /// In every legal history the searches over all of it say what its rows say: each call has the same

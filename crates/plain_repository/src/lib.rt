@@ -2,8 +2,11 @@
 //! accepted operations.
 #![tactic(auto)]
 
+mod answers;
 mod claiming;
+mod executions;
 mod law;
+mod marks;
 mod moments;
 mod origin;
 mod replies;

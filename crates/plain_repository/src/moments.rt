@@ -1,26 +1,93 @@
-ghost use Rattle.std.specs.Prelude.{◌≡◌, ◌<◌, ◌+◌, ◌^◌, length, IfOk};
-ghost use Rattle.batch_history.specs.History.{status_by, exit_by, is_at, earliest, is_finished};
-ghost use Rattle.plain_repository.specs.Searches.{takes_up, start_found, status_found, exit_found, end_found, finishes_of, is_on, updated_found, record_with, record_found};
+ghost use Rattle.std.specs.Prelude.{◌≡◌, ◌≤◌, length, IfOk};
+ghost use Rattle.batch_ids.specs.Statuses.{status_name};
+ghost use Rattle.batch_history.specs.History.{is_at, taken_by, asked, given_up, touched, earliest, stopping, status_by, status_from, stopping_exit, exit_by, exit_from, is_finished};
+ghost use Rattle.plain_repository.specs.Searches.{stop_found, abandoned_found, start_found, bare_found, end_found, is_on, updated_found};
 
-use crate::origin::{Origin, is_making, origin_of};
+use crate::origin::is_making;
 use crate::walking::walk_found;
-use crate::works::{owner_of, works_of};
-use batch_history::{Call, Entry, JobExecution, Reply};
+use crate::works::{owner_of, works_found};
+use batch_history::{Call, Entry, Reply, WorkRow};
 use batch_ids::{BatchStatus, ExecutionId, Moment, OutOfMemory, T256};
 use job_walk::Value;
 use jsl_model::Catalogue;
 use std::alloc::Global;
 
-fn takes_up(x: ExecutionId, reply: &Reply) -> bool
-    ensures { result ≡ takes_up x reply.now }
+fn is_at(x: ExecutionId, other: Option<ExecutionId>) -> bool
+    ensures { result ≡ is_at x other }
+{
+    match other {
+        None => false,
+        Some(y) => y == x,
+    }
+}
+
+/// The job execution that a reply takes up: it is its work, or closes it.
+fn taken_by(reply: &Reply) -> Option<ExecutionId>
+    ensures { result ≡ taken_by reply.now }
 {
     match reply {
-        Reply::Work(item) => item.execution == x,
-        Reply::Closed(y) => *y == x,
-        Reply::Execution(_) => false,
-        Reply::Nothing => false,
-        Reply::Done => false,
+        Reply::Work(item) => Some(item.execution),
+        Reply::Closed(y) => Some(*y),
+        Reply::Execution(_) => None,
+        Reply::Nothing => None,
+        Reply::Done => None,
+        Reply::Go => None,
+        Reply::StopAsked => None,
     }
+}
+
+/// The job execution that a call asks to stop.
+fn asked(call: &Call) -> Option<ExecutionId>
+    ensures { result ≡ asked call.now }
+{
+    match call {
+        Call::Stop { execution } => Some(*execution),
+        Call::Start { .. } => None,
+        Call::Restart { .. } => None,
+        Call::Abandon { .. } => None,
+        Call::Claim => None,
+        Call::Checkpoint { .. } => None,
+        Call::Finish { .. } => None,
+    }
+}
+
+/// The job execution that a call gives up.
+fn given_up(call: &Call) -> Option<ExecutionId>
+    ensures { result ≡ given_up call.now }
+{
+    match call {
+        Call::Abandon { execution } => Some(*execution),
+        Call::Start { .. } => None,
+        Call::Restart { .. } => None,
+        Call::Stop { .. } => None,
+        Call::Claim => None,
+        Call::Checkpoint { .. } => None,
+        Call::Finish { .. } => None,
+    }
+}
+
+/// Whether some entry is a Stop that names the job execution.
+pub(crate) fn stop_found(past: &[Entry], x: ExecutionId) -> bool
+    ensures { result ≡ stop_found past.now x }
+{
+    for entry in past {
+        if is_at(x, asked(&entry.call)) {
+            return true;
+        }
+    }
+    false
+}
+
+/// Whether some entry is an Abandon that names the job execution.
+pub(crate) fn abandoned_found(past: &[Entry], x: ExecutionId) -> bool
+    ensures { result ≡ abandoned_found past.now x }
+{
+    for entry in past {
+        if is_at(x, given_up(&entry.call)) {
+            return true;
+        }
+    }
+    false
 }
 
 /// The earlier moment where there is one, else this one if it counts.
@@ -33,74 +100,126 @@ fn earliest(earlier: Option<Moment>, counts: bool, at: Moment) -> Option<Moment>
     }
 }
 
-fn start_found(past: &[Entry], x: ExecutionId) -> Option<Moment>
+/// The moment of the first entry that takes the job execution up.
+pub(crate) fn start_found(past: &[Entry], x: ExecutionId) -> Option<Moment>
     ensures { result ≡ start_found past.now x }
 {
     match past.split_first() {
         None => None,
         Some((entry, older)) => {
             let earlier = start_found(older, x);
-            earliest(earlier, takes_up(x, &entry.reply), entry.at)
+            earliest(earlier, is_at(x, taken_by(&entry.reply)), entry.at)
         }
     }
 }
 
-fn status_by(value: &Value) -> BatchStatus
-    ensures { result ≡ status_by value.now }
+fn stopping(busy: &[T256]) -> BatchStatus
+    ensures { result ≡ stopping busy.now }
+{
+    match busy.first() {
+        None => BatchStatus::Stopped,
+        Some(_) => BatchStatus::Stopping,
+    }
+}
+
+fn status_by(stop: bool, value: &Value) -> BatchStatus
+    ensures { result ≡ status_by stop value.now }
 {
     match value {
-        Value::Open { .. } => BatchStatus::Started,
+        Value::Open { busy, .. } => {
+            if stop {
+                stopping(busy.as_slice())
+            } else {
+                BatchStatus::Started
+            }
+        }
         Value::Done { .. } => BatchStatus::Completed,
         Value::Ended { status, .. } => *status,
     }
 }
 
-/// The status of a job execution.
-pub(crate) fn status_found(
+/// The status of a job execution, abandonment aside, by what was found of it.
+pub(crate) fn status_from(stop: bool, start: Option<Moment>, value: &Value) -> BatchStatus
+    ensures { result ≡ status_from stop start value.now }
+{
+    match start {
+        None => if stop {
+            BatchStatus::Stopped
+        } else {
+            BatchStatus::Starting
+        },
+        Some(_) => status_by(stop, value),
+    }
+}
+
+/// The status of a job execution, abandonment aside.
+fn bare_found(
     alloc: Global,
     catalogue: &Catalogue,
     past: &[Entry],
     x: ExecutionId,
 ) -> Result<BatchStatus, OutOfMemory>
-    ensures { IfOk result (λ status. status ≡ status_found catalogue.now past.now x) }
+    requires { length past.now ≤ 1000000 }
+    ensures { IfOk result (λ status. status ≡ bare_found catalogue.now past.now x) }
 {
-    match start_found(past, x) {
-        None => Ok(BatchStatus::Starting),
-        Some(_) => {
-            let value = walk_found(alloc, catalogue, past, x)?;
-            Ok(status_by(&value))
-        }
+    let value = walk_found(alloc, catalogue, past, x)?;
+    Ok(status_from(stop_found(past, x), start_found(past, x), &value))
+}
+
+fn status_text(alloc: Global, status: BatchStatus) -> Result<T256, OutOfMemory>
+    ensures { IfOk result (λ text. text ≡ status_name status) }
+{
+    T256::within(alloc, status.name())
+}
+
+fn stopping_exit(alloc: Global, busy: &[T256]) -> Result<Option<T256>, OutOfMemory>
+    ensures { IfOk result (λ exit. exit ≡ stopping_exit busy.now) }
+{
+    match busy.first() {
+        None => Ok(Some(status_text(alloc, BatchStatus::Stopped)?)),
+        Some(_) => Ok(None),
     }
 }
 
-fn exit_by(alloc: Global, value: Value) -> Result<Option<T256>, OutOfMemory>
-    ensures { IfOk result (λ exit. exit ≡ exit_by value) }
+fn exit_by(alloc: Global, stop: bool, value: Value) -> Result<Option<T256>, OutOfMemory>
+    ensures { IfOk result (λ exit. exit ≡ exit_by stop value) }
 {
     match value {
-        Value::Open { .. } => Ok(None),
-        Value::Done { .. } => Ok(Some(T256::within(alloc, BatchStatus::Completed.name())?)),
+        Value::Open { busy, .. } => {
+            if stop {
+                stopping_exit(alloc, busy.as_slice())
+            } else {
+                Ok(None)
+            }
+        }
+        Value::Done { .. } => Ok(Some(status_text(alloc, BatchStatus::Completed)?)),
         Value::Ended { exit, .. } => Ok(Some(exit)),
     }
 }
 
-fn exit_found(
+/// The exit status of a job execution, by what was found of it.
+pub(crate) fn exit_from(
     alloc: Global,
-    catalogue: &Catalogue,
-    past: &[Entry],
-    x: ExecutionId,
+    stop: bool,
+    start: Option<Moment>,
+    value: Value,
 ) -> Result<Option<T256>, OutOfMemory>
-    ensures { IfOk result (λ exit. exit ≡ exit_found catalogue.now past.now x) }
+    ensures { IfOk result (λ exit. exit ≡ exit_from stop start value) }
 {
-    match start_found(past, x) {
-        None => Ok(None),
-        Some(_) => {
-            let value = walk_found(alloc, catalogue, past, x)?;
-            exit_by(alloc, value)
+    match start {
+        None => {
+            if stop {
+                Ok(Some(status_text(alloc, BatchStatus::Stopped)?))
+            } else {
+                Ok(None)
+            }
         }
+        Some(_) => exit_by(alloc, stop, value),
     }
 }
 
-fn is_finished(status: BatchStatus) -> bool
+/// Whether a job execution of this status is over.
+pub(crate) fn is_finished(status: BatchStatus) -> bool
     ensures { result ≡ is_finished status }
 {
     if status.is_unfinished() { false } else { true }
@@ -115,18 +234,21 @@ fn end_after(
     earlier: Option<Moment>,
     at: Moment,
 ) -> Result<Option<Moment>, OutOfMemory>
-    ensures { IfOk result (λ end. end ≡ earliest earlier (is_finished (status_found catalogue.now past.now x)) at) }
+    requires { length past.now ≤ 1000000 }
+    ensures { IfOk result (λ end. end ≡ earliest earlier (is_finished (bare_found catalogue.now past.now x)) at) }
 {
-    let status = status_found(alloc, catalogue, past, x)?;
+    let status = bare_found(alloc, catalogue, past, x)?;
     Ok(earliest(earlier, is_finished(status), at))
 }
 
-fn end_found(
+/// The moment of the first entry after which the job execution was finished.
+pub(crate) fn end_found(
     alloc: Global,
     catalogue: &Catalogue,
     past: &[Entry],
     x: ExecutionId,
 ) -> Result<Option<Moment>, OutOfMemory>
+    requires { length past.now ≤ 1000000 }
     ensures { IfOk result (λ end. end ≡ end_found catalogue.now past.now x) }
 {
     match past.split_first() {
@@ -138,50 +260,40 @@ fn end_found(
     }
 }
 
-fn is_at(x: ExecutionId, other: Option<ExecutionId>) -> bool
-    ensures { result ≡ is_at x other }
-{
-    match other {
-        None => false,
-        Some(y) => y == x,
-    }
-}
-
-/// Whether a call finishes work of the job execution.
-fn finishes_of(
-    alloc: Global,
-    older: &[Entry],
-    x: ExecutionId,
-    call: &Call,
-) -> Result<bool, OutOfMemory>
-    ensures { IfOk result (λ is. is ≡ finishes_of older.now x call.now) }
+/// The job execution that an operation is on, beside the one that it makes.
+fn touched(works: &[WorkRow], call: &Call, reply: &Reply) -> Option<ExecutionId>
+    ensures { result ≡ touched works.now call.now reply.now }
 {
     match call {
-        Call::Finish { work, .. } => {
-            let works = works_of(alloc, older)?;
-            Ok(is_at(x, owner_of(works.as_slice(), *work)))
-        }
-        Call::Start { .. } => Ok(false),
-        Call::Restart { .. } => Ok(false),
-        Call::Claim => Ok(false),
+        Call::Claim => taken_by(reply),
+        Call::Checkpoint { work, .. } => owner_of(works, *work),
+        Call::Finish { work, .. } => owner_of(works, *work),
+        Call::Stop { execution } => Some(*execution),
+        Call::Abandon { execution } => Some(*execution),
+        Call::Start { .. } => None,
+        Call::Restart { .. } => None,
     }
 }
 
 /// Whether an entry is on the job execution.
 fn is_on(alloc: Global, older: &[Entry], x: ExecutionId, entry: &Entry) -> Result<bool, OutOfMemory>
-    requires { length older.now + 1 < 2 ^ 64 }
+    requires { length older.now ≤ 1000000 }
     ensures { IfOk result (λ is. is ≡ is_on older.now x entry.now) }
 {
     if is_making(older, x, &entry.call) {
         return Ok(true);
     }
-    if takes_up(x, &entry.reply) {
-        return Ok(true);
-    }
-    finishes_of(alloc, older, x, &entry.call)
+    let works = works_found(alloc, older)?;
+    Ok(is_at(x, touched(works.as_slice(), &entry.call, &entry.reply)))
 }
 
-fn updated_found(alloc: Global, past: &[Entry], x: ExecutionId) -> Result<Moment, OutOfMemory>
+/// The moment of the last entry on the job execution.
+pub(crate) fn updated_found(
+    alloc: Global,
+    past: &[Entry],
+    x: ExecutionId,
+) -> Result<Moment, OutOfMemory>
+    requires { length past.now ≤ 1000000 }
     ensures { IfOk result (λ at. at ≡ updated_found past.now x) }
 {
     match past.split_first() {
@@ -193,46 +305,5 @@ fn updated_found(alloc: Global, past: &[Entry], x: ExecutionId) -> Result<Moment
                 updated_found(alloc, older, x)
             }
         }
-    }
-}
-
-fn record_with(
-    alloc: Global,
-    catalogue: &Catalogue,
-    past: &[Entry],
-    x: ExecutionId,
-    origin: Origin,
-) -> Result<JobExecution, OutOfMemory>
-    ensures { IfOk result (λ row. row ≡ record_with catalogue.now past.now x origin) }
-{
-    let status = status_found(alloc, catalogue, past, x)?;
-    let end = end_found(alloc, catalogue, past, x)?;
-    let exit = exit_found(alloc, catalogue, past, x)?;
-    let updated = updated_found(alloc, past, x)?;
-    Ok(JobExecution {
-        execution: x,
-        instance: origin.instance,
-        job: origin.job,
-        status,
-        create: origin.create,
-        start: start_found(past, x),
-        end,
-        exit,
-        updated,
-    })
-}
-
-/// The record of a job execution, if there is one.
-pub(crate) fn record_found(
-    alloc: Global,
-    catalogue: &Catalogue,
-    past: &[Entry],
-    x: ExecutionId,
-) -> Result<Option<JobExecution>, OutOfMemory>
-    ensures { IfOk result (λ row. row ≡ record_found catalogue.now past.now x) }
-{
-    match origin_of(past, x)? {
-        None => Ok(None),
-        Some(origin) => Ok(Some(record_with(alloc, catalogue, past, x, origin)?)),
     }
 }

@@ -1,23 +1,24 @@
-ghost use Rattle.std.specs.Prelude.{◌≡◌, ◌≤◌, ◌<◌, ◌+◌, ◌^◌, length, find, IfOk, OnOk, false};
+ghost use Rattle.std.specs.Prelude.{◌≡◌, ◌≤◌, ◌<◌, ◌+◌, [], length, find, IfOk, OnOk, false};
+ghost use Rattle.std.specs.List.{list_any};
+ghost use Rattle.batch_history.specs.Due.{IsDue};
 ghost use Rattle.batch_history.specs.History.{is_work};
 ghost use Rattle.batch_history.specs.Replies.{is_nothing};
-ghost use Rattle.batch_history.specs.Rows.{entered, finished, stopped_refusal};
-ghost use Rattle.seq_repository.specs.Due.{IsDue};
+ghost use Rattle.batch_history.specs.Rows.{entered, checkpointed, finished, is_execution, is_running_in, has_stop, unheld_by, going, marked_as, stopped_as, stopped_end, finished_as};
 ghost use Rattle.plain_repository.specs.Searches.{works_found};
-ghost use Rattle.plain_repository.specs.Found.{reply_over, answer_over};
+ghost use Rattle.plain_repository.specs.Found.{rows_found, reply_over};
 
-use crate::claiming::{claim_found, least_found};
-use crate::moments::record_found;
-use crate::origin::{executions_in, origin_of};
-use crate::works::{find_work, works_of};
-use batch_history::{Answer, Call, Entry, Query, Reply, WorkKind, WorkRow, WorkState};
-use batch_ids::{ExecutionId, Refusal, T256, WorkId, WorkOutcome};
+use crate::claiming::claim;
+use crate::executions::{executions_found, find_execution};
+use crate::moments::is_finished;
+use crate::works::{find_work, works_found};
+use batch_history::{Call, Entry, ExecutionRow, Reply, WorkKind, WorkRow, WorkState};
+use batch_ids::{ExecutionId, InstanceId, Refusal, T256, WorkId, WorkOutcome};
 use jsl_model::Catalogue;
 use std::alloc::Global;
 
 /// The reply, or the refusal where the history is full.
-fn entered(limit: u64, past: &[Entry], reply: Reply) -> Result<Reply, Refusal>
-    requires { length past.now < 2 ^ 63 }
+pub(crate) fn entered(limit: u64, past: &[Entry], reply: Reply) -> Result<Reply, Refusal>
+    requires { length past.now ≤ 1000000 }
     ensures same { result ≡ entered limit (length past.now) reply }
     ensures room { OnOk result (length past.now < limit) }
 {
@@ -28,104 +29,249 @@ fn entered(limit: u64, past: &[Entry], reply: Reply) -> Result<Reply, Refusal>
     }
 }
 
-fn start(limit: u64, catalogue: &Catalogue, past: &[Entry], job: &T256) -> Result<Reply, Refusal>
-    requires { length past.now < 2 ^ 63 }
-    ensures same { result ≡ reply_over limit catalogue.now past.now 0 (Call.Start job.now) }
+/// The next job execution.
+fn next_execution(limit: u64, past: &[Entry], executions: &[ExecutionRow]) -> Result<Reply, Refusal>
+    requires { length past.now ≤ 1000000 }
+    ensures same { result ≡ entered limit (length past.now) (Reply.Execution (length executions.now + 1)) }
+    ensures room { OnOk result (length past.now < limit) }
+{
+    let x = ExecutionId::new(executions.len() as u64 + 1);
+    entered(limit, past, Reply::Execution(x))
+}
+
+fn start(
+    alloc: Global,
+    limit: u64,
+    catalogue: &Catalogue,
+    past: &[Entry],
+    job: &T256,
+) -> Result<Reply, Refusal>
+    requires { length past.now ≤ 1000000 }
+    ensures due { IsDue result (reply_over limit catalogue.now past.now 0 (Call.Start job.now [])) }
     ensures room { OnOk result (length past.now < limit) }
 {
     if catalogue.job(job.as_str()).is_none() {
         return Err(Refusal::JobStartException);
     }
-    let x = ExecutionId::new(executions_in(past) + 1);
-    entered(limit, past, Reply::Execution(x))
+    let executions = executions_found(alloc, catalogue, past)?;
+    next_execution(limit, past, executions.as_slice())
 }
 
 fn restart(
+    alloc: Global,
     limit: u64,
     catalogue: &Catalogue,
     past: &[Entry],
     x: ExecutionId,
 ) -> Result<Reply, Refusal>
-    requires { length past.now < 2 ^ 63 }
-    ensures due { IsDue result (reply_over limit catalogue.now past.now 0 (Call.Restart x)) }
+    requires { length past.now ≤ 1000000 }
+    ensures due { IsDue result (reply_over limit catalogue.now past.now 0 (Call.Restart x [])) }
     ensures room { OnOk result (length past.now < limit) }
 {
-    if origin_of(past, x)?.is_none() {
+    let executions = executions_found(alloc, catalogue, past)?;
+    if find_execution(executions.as_slice(), x).is_none() {
         return Err(Refusal::NoSuchJobExecutionException);
     }
-    let x = ExecutionId::new(executions_in(past) + 1);
-    entered(limit, past, Reply::Execution(x))
+    next_execution(limit, past, executions.as_slice())
 }
 
-fn claim(alloc: Global, limit: u64, catalogue: &Catalogue, past: &[Entry]) -> Result<Reply, Refusal>
-    requires { length past.now < 2 ^ 63 }
-    ensures due { IsDue result (reply_over limit catalogue.now past.now 0 Call.Claim) }
-    ensures room { IfOk result (λ reply. is_nothing reply ≡ false → length past.now < limit) }
-{
-    match least_found(alloc, catalogue, past)? {
-        None => Ok(Reply::Nothing),
-        Some(x) => {
-            let reply = claim_found(alloc, catalogue, past, x)?;
-            entered(limit, past, reply)
-        }
-    }
-}
-
-/// Why a work item is not finished STOPPED.
-fn stopped_refusal(kind: WorkKind) -> Refusal
-    ensures { result ≡ stopped_refusal kind }
-{
-    match kind {
-        WorkKind::Decision => Refusal::WrongOutcome,
-        WorkKind::Batchlet => Refusal::NotStopping,
-        WorkKind::Chunk => Refusal::NotStopping,
-    }
-}
-
-fn finish_row(
+fn stop(
+    alloc: Global,
     limit: u64,
+    catalogue: &Catalogue,
     past: &[Entry],
-    who: u64,
-    outcome: WorkOutcome,
-    works: &[WorkRow],
-    w: WorkId,
+    x: ExecutionId,
 ) -> Result<Reply, Refusal>
-    requires { length past.now < 2 ^ 63 }
-    ensures same { result ≡ finished limit (length past.now) who outcome (find (is_work w) works.now) }
+    requires { length past.now ≤ 1000000 }
+    ensures due { IsDue result (reply_over limit catalogue.now past.now 0 (Call.Stop x)) }
     ensures room { OnOk result (length past.now < limit) }
 {
-    let Some(row) = find_work(works, w) else {
-        return Err(Refusal::NoSuchWork);
-    };
-    match &row.state {
-        WorkState::Over(_, _) => Err(Refusal::WorkNotRunning),
-        WorkState::Busy => {
-            if row.claimer != who {
-                return Err(Refusal::NotClaimer);
-            }
-            match outcome {
-                WorkOutcome::Stopped => Err(stopped_refusal(row.kind)),
-                WorkOutcome::Completed => entered(limit, past, Reply::Done),
-                WorkOutcome::Failed => entered(limit, past, Reply::Done),
+    let executions = executions_found(alloc, catalogue, past)?;
+    match find_execution(executions.as_slice(), x) {
+        None => Err(Refusal::NoSuchJobExecutionException),
+        Some(row) => {
+            if is_finished(row.status()) {
+                Err(Refusal::JobExecutionNotRunningException)
+            } else {
+                entered(limit, past, Reply::Done)
             }
         }
+    }
+}
+
+/// Whether a job execution of this job instance is unfinished.
+fn is_any_running(executions: &[ExecutionRow], instance: InstanceId) -> bool
+    ensures { result ≡ list_any (is_running_in instance) executions.now }
+{
+    for row in executions {
+        if row.instance == instance && row.status().is_unfinished() {
+            return true;
+        }
+    }
+    false
+}
+
+fn abandon(
+    alloc: Global,
+    limit: u64,
+    catalogue: &Catalogue,
+    past: &[Entry],
+    x: ExecutionId,
+) -> Result<Reply, Refusal>
+    requires { length past.now ≤ 1000000 }
+    ensures due { IsDue result (reply_over limit catalogue.now past.now 0 (Call.Abandon x)) }
+    ensures room { OnOk result (length past.now < limit) }
+{
+    let executions = executions_found(alloc, catalogue, past)?;
+    match find_execution(executions.as_slice(), x) {
+        None => Err(Refusal::NoSuchJobExecutionException),
+        Some(row) => {
+            if is_any_running(executions.as_slice(), row.instance) {
+                Err(Refusal::JobExecutionIsRunningException)
+            } else {
+                entered(limit, past, Reply::Done)
+            }
+        }
+    }
+}
+
+/// Whether a job execution was asked to stop.
+fn stop_asked(executions: &[ExecutionRow], x: ExecutionId) -> bool
+    ensures { result ≡ has_stop (find (is_execution x) executions.now) }
+{
+    match find_execution(executions, x) {
+        None => false,
+        Some(row) => row.stop,
+    }
+}
+
+/// Why a session may not report of a work item, if it may not.
+fn unheld_by(who: u64, row: &WorkRow) -> Option<Refusal>
+    ensures { result ≡ unheld_by who row.now.claimer row.now.state }
+{
+    match &row.state {
+        WorkState::Over(_, _) => Some(Refusal::WorkNotRunning),
+        WorkState::Busy => {
+            if row.claimer == who {
+                None
+            } else {
+                Some(Refusal::NotClaimer)
+            }
+        }
+    }
+}
+
+fn going(stop: bool) -> Reply
+    ensures { result ≡ going stop }
+{
+    if stop { Reply::StopAsked } else { Reply::Go }
+}
+
+fn marked_as(limit: u64, past: &[Entry], stop: bool, kind: WorkKind) -> Result<Reply, Refusal>
+    requires { length past.now ≤ 1000000 }
+    ensures same { result ≡ marked_as limit (length past.now) stop kind }
+    ensures room { OnOk result (length past.now < limit) }
+{
+    match kind {
+        WorkKind::Chunk => entered(limit, past, going(stop)),
+        WorkKind::Batchlet => Err(Refusal::WrongOutcome),
+        WorkKind::Decision => Err(Refusal::WrongOutcome),
+    }
+}
+
+fn checkpoint(
+    alloc: Global,
+    limit: u64,
+    catalogue: &Catalogue,
+    past: &[Entry],
+    who: u64,
+    w: WorkId,
+) -> Result<Reply, Refusal>
+    requires { length past.now ≤ 1000000 }
+    ensures due { IsDue result (checkpointed limit (rows_found catalogue.now past.now) who (find (is_work w) (works_found past.now))) }
+    ensures room { OnOk result (length past.now < limit) }
+{
+    let executions = executions_found(alloc, catalogue, past)?;
+    let works = works_found(alloc, past)?;
+    match find_work(works.as_slice(), w) {
+        None => Err(Refusal::NoSuchWork),
+        Some(row) => match unheld_by(who, row) {
+            Some(refusal) => Err(refusal),
+            None => {
+                let stop = stop_asked(executions.as_slice(), row.execution);
+                marked_as(limit, past, stop, row.kind)
+            }
+        },
+    }
+}
+
+fn stopped_as(limit: u64, past: &[Entry], stop: bool) -> Result<Reply, Refusal>
+    requires { length past.now ≤ 1000000 }
+    ensures same { result ≡ stopped_as limit (length past.now) stop }
+    ensures room { OnOk result (length past.now < limit) }
+{
+    if stop {
+        entered(limit, past, Reply::Done)
+    } else {
+        Err(Refusal::NotStopping)
+    }
+}
+
+fn stopped_end(limit: u64, past: &[Entry], stop: bool, kind: WorkKind) -> Result<Reply, Refusal>
+    requires { length past.now ≤ 1000000 }
+    ensures same { result ≡ stopped_end limit (length past.now) stop kind }
+    ensures room { OnOk result (length past.now < limit) }
+{
+    match kind {
+        WorkKind::Decision => Err(Refusal::WrongOutcome),
+        WorkKind::Batchlet => stopped_as(limit, past, stop),
+        WorkKind::Chunk => stopped_as(limit, past, stop),
+    }
+}
+
+fn finished_as(
+    limit: u64,
+    past: &[Entry],
+    stop: bool,
+    kind: WorkKind,
+    outcome: WorkOutcome,
+) -> Result<Reply, Refusal>
+    requires { length past.now ≤ 1000000 }
+    ensures same { result ≡ finished_as limit (length past.now) stop kind outcome }
+    ensures room { OnOk result (length past.now < limit) }
+{
+    match outcome {
+        WorkOutcome::Stopped => stopped_end(limit, past, stop, kind),
+        WorkOutcome::Completed => entered(limit, past, Reply::Done),
+        WorkOutcome::Failed => entered(limit, past, Reply::Done),
     }
 }
 
 fn finish(
     alloc: Global,
     limit: u64,
+    catalogue: &Catalogue,
     past: &[Entry],
     who: u64,
     w: WorkId,
     outcome: WorkOutcome,
 ) -> Result<Reply, Refusal>
-    requires { length past.now < 2 ^ 63 }
-    ensures due { IsDue result (finished limit (length past.now) who outcome (find (is_work w) (works_found past.now))) }
+    requires { length past.now ≤ 1000000 }
+    ensures due { IsDue result (finished limit (rows_found catalogue.now past.now) who outcome (find (is_work w) (works_found past.now))) }
     ensures room { OnOk result (length past.now < limit) }
 {
-    let works = works_of(alloc, past)?;
-    finish_row(limit, past, who, outcome, works.as_slice(), w)
+    let executions = executions_found(alloc, catalogue, past)?;
+    let works = works_found(alloc, past)?;
+    match find_work(works.as_slice(), w) {
+        None => Err(Refusal::NoSuchWork),
+        Some(row) => match unheld_by(who, row) {
+            Some(refusal) => Err(refusal),
+            None => {
+                let stop = stop_asked(executions.as_slice(), row.execution);
+                finished_as(limit, past, stop, row.kind, outcome)
+            }
+        },
+    }
 }
 
 /// What a call is answered after a past.
@@ -137,37 +283,19 @@ pub(crate) fn reply_over(
     who: u64,
     call: &Call,
 ) -> Result<Reply, Refusal>
-    requires { length past.now < 2 ^ 63 }
+    requires { length past.now ≤ 1000000 }
     ensures due { IsDue result (reply_over limit catalogue.now past.now who call.now) }
     ensures room { IfOk result (λ reply. is_nothing reply ≡ false → length past.now < limit) }
 {
     match call {
-        Call::Start { job } => start(limit, catalogue, past, job),
-        Call::Restart { execution } => restart(limit, catalogue, past, *execution),
+        Call::Start { job, .. } => start(alloc, limit, catalogue, past, job),
+        Call::Restart { execution, .. } => restart(alloc, limit, catalogue, past, *execution),
+        Call::Stop { execution } => stop(alloc, limit, catalogue, past, *execution),
+        Call::Abandon { execution } => abandon(alloc, limit, catalogue, past, *execution),
         Call::Claim => claim(alloc, limit, catalogue, past),
-        Call::Finish {
-            work,
-            outcome,
-            exit: _,
-        } => finish(alloc, limit, past, who, *work, *outcome),
-    }
-}
-
-/// What a query is answered after a past.
-pub(crate) fn answer_over(
-    alloc: Global,
-    catalogue: &Catalogue,
-    past: &[Entry],
-    query: &Query,
-) -> Result<Answer, Refusal>
-    ensures { IsDue result (answer_over catalogue.now past.now query.now) }
-{
-    match query {
-        Query::JobExecution { execution } => {
-            match record_found(alloc, catalogue, past, *execution)? {
-                None => Err(Refusal::NoSuchJobExecutionException),
-                Some(row) => Ok(Answer::JobExecution(row)),
-            }
+        Call::Checkpoint { work, .. } => checkpoint(alloc, limit, catalogue, past, who, *work),
+        Call::Finish { work, outcome, .. } => {
+            finish(alloc, limit, catalogue, past, who, *work, *outcome)
         }
     }
 }

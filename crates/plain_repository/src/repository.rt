@@ -1,9 +1,10 @@
-ghost use Rattle.std.specs.Prelude.{◌≡◌, ◌≤◌, [], IfOk, OnErr};
+ghost use Rattle.std.specs.Prelude.{◌≡◌, ◌≤◌, ◌<◌, [], length, IfOk, OnErr, false};
+ghost use Rattle.batch_history.specs.Replies.{is_nothing};
 ghost use Rattle.batch_history.specs.Rows.{after_call};
-ghost use Rattle.seq_repository.specs.Due.{IsDue};
+ghost use Rattle.batch_history.specs.Due.{IsDue};
 ghost use Rattle.plain_repository.specs.Found.{reply_found, answer_found};
 
-use crate::replies;
+use crate::{answers, replies};
 use batch_history::{Answer, Call, Entry, Query, Reply};
 use batch_ids::{Moment, OutOfMemory, Refusal};
 use jsl_model::Catalogue;
@@ -13,8 +14,8 @@ use std::marker::Model;
 /// A job repository that keeps nothing but its history, of at most `LIMIT` accepted operations, and
 /// searches all of it anew for each answer. Contracts see the history.
 ///
-/// It is the reference for repositories that keep rows, and slow: an answer takes time up to the cube
-/// of the number of operations. In a legal history the two answer alike, which
+/// It is the reference for repositories that keep rows, and slow: an answer takes time up to the
+/// fourth power of the number of operations. In a legal history the two answer alike, which
 /// `searches_say_what_rows_say` states. See Jakarta Batch 2.1, "JobRepository" and "JobOperator".
 #[derive(Debug, Drop)]
 pub struct PlainRepository<const LIMIT: u64> {
@@ -59,6 +60,14 @@ impl<const LIMIT: u64> PlainRepository<LIMIT> {
     pub fn reply(&self, alloc: Global, who: u64, call: &Call) -> Result<Reply, Refusal>
         ensures { IsDue result (reply_found LIMIT self.now who call.now) }
     {
+        self.due(alloc, who, call)
+    }
+
+    /// The same, and that there is room for what is to be entered.
+    fn due(&self, alloc: Global, who: u64, call: &Call) -> Result<Reply, Refusal>
+        ensures due { IsDue result (reply_found LIMIT self.now who call.now) }
+        ensures room { IfOk result (λ reply. is_nothing reply ≡ false → length self.now.log < LIMIT) }
+    {
         let past = self.past.as_slice();
         replies::reply_over(alloc, LIMIT, &self.catalogue, past, who, call)
     }
@@ -78,8 +87,7 @@ impl<const LIMIT: u64> PlainRepository<LIMIT> {
         ensures after { IfOk result (λ reply. self.new ≡ after_call self.old who call at reply) }
         ensures refused { OnErr result (self.new ≡ self.old) }
     {
-        let past = self.past.as_slice();
-        let reply = replies::reply_over(alloc, LIMIT, &self.catalogue, past, who, &call)?;
+        let reply = self.due(alloc, who, &call)?;
         if reply.is_nothing() {
             return Ok(reply);
         }
@@ -100,6 +108,6 @@ impl<const LIMIT: u64> PlainRepository<LIMIT> {
     pub fn answer(&self, alloc: Global, query: &Query) -> Result<Answer, Refusal>
         ensures { IsDue result (answer_found self.now query.now) }
     {
-        replies::answer_over(alloc, &self.catalogue, self.past.as_slice(), query)
+        answers::answer_over(alloc, &self.catalogue, self.past.as_slice(), query)
     }
 }

@@ -1,11 +1,11 @@
-ghost use Rattle.std.specs.Prelude.{◌≡◌, IfOk};
+ghost use Rattle.std.specs.Prelude.{◌≡◌, ◌≤◌, length, IfOk};
 ghost use Rattle.std.specs.Option.{option_copied};
-ghost use Rattle.batch_history.specs.History.{fact_from, known_of, walk_of, job_named};
+ghost use Rattle.batch_history.specs.History.{fact_from, known_of, walk_of, walk_value, job_named};
 ghost use Rattle.batch_history.specs.Rows.{first_ready};
 ghost use Rattle.plain_repository.specs.Searches.{walk_found};
 
 use crate::origin::origin_of;
-use crate::works::works_of;
+use crate::works::works_found;
 use batch_history::{Entry, WorkRow, WorkState};
 use batch_ids::{ExecutionId, OutOfMemory, T256};
 use job_walk::{Fact, Known, Value};
@@ -61,6 +61,20 @@ fn walk_of(
     }
 }
 
+/// What the walk of a job execution of this job comes to, after this work.
+pub(crate) fn walk_value(
+    alloc: Global,
+    catalogue: &Catalogue,
+    works: &[WorkRow],
+    x: ExecutionId,
+    job: &T256,
+) -> Result<Value, OutOfMemory>
+    ensures { IfOk result (λ value. value ≡ walk_value catalogue.now works.now x job.now) }
+{
+    let known = known_of(alloc, works, x)?;
+    walk_of(alloc, catalogue, known.as_slice(), job)
+}
+
 /// What the walk of a job execution comes to.
 pub(crate) fn walk_found(
     alloc: Global,
@@ -68,6 +82,7 @@ pub(crate) fn walk_found(
     past: &[Entry],
     x: ExecutionId,
 ) -> Result<Value, OutOfMemory>
+    requires { length past.now ≤ 1000000 }
     ensures { IfOk result (λ value. value ≡ walk_found catalogue.now past.now x) }
 {
     match origin_of(past, x)? {
@@ -75,9 +90,8 @@ pub(crate) fn walk_found(
             exit: T256::empty(alloc),
         }),
         Some(origin) => {
-            let works = works_of(alloc, past)?;
-            let known = known_of(alloc, works.as_slice(), x)?;
-            walk_of(alloc, catalogue, known.as_slice(), &origin.job)
+            let works = works_found(alloc, past)?;
+            walk_value(alloc, catalogue, works.as_slice(), x, &origin.job)
         }
     }
 }

@@ -5,7 +5,8 @@ use Rattle.batch_ids.specs.declared.refusal.Refusal.TheVariants as refusals
 use Rattle.jsl_model.specs.Jobs.{JobTree}
 use Rattle.batch_history.specs.declared.call.Call.{Call}
 use Rattle.batch_history.specs.declared.call.Reply.{Reply}
-use Rattle.batch_history.specs.Rows.{History, reply, answer, after_call}
+use Rattle.batch_history.specs.Answers.{answer}
+use Rattle.batch_history.specs.Rows.{History, reply, after_call}
 use Rattle.script_lines.specs.declared.line.TheConstants.{MAX_LINE}
 use Rattle.script_lines.specs.Cut.{script_lines}
 use Rattle.script_text.specs.declared.command.Command.{Command}
@@ -14,7 +15,8 @@ use Rattle.jsl_json.specs.declared.fault.ReadFault.{ReadFault}
 use Rattle.jsl_json.specs.declared.fault.ReadFault.TheVariants.{NotACatalogue}
 use Rattle.script_text.specs.Commands.{command_of}
 use Rattle.jsl_json.specs.Catalogues.{catalogue_of}
-use Rattle.script_text.specs.Replies.{reply_text, answer_text, bad_line_text}
+use Rattle.script_text.specs.Answers.{answer_text}
+use Rattle.script_text.specs.Replies.{reply_text, bad_line_text}
 use Rattle.script_text.specs.Faults.{fault_text}
 
 -- how many operations a log may have

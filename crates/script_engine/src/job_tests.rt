@@ -4,7 +4,7 @@ use std::alloc::{AllocError, Global};
 use std::test::Fail;
 
 // A script, and the replies to it.
-const SCRIPTS: [(&str, &str); 11] = [
+pub(crate) const SCRIPTS: [(&str, &str); 11] = [
     // The first written match counts, not the longest pattern.
     (
         r#"{"jobs":[{"id":"a","elements":[{"kind":"step","id":"s","transitions":[{"kind":"fail","on":"*"},{"kind":"end","on":"OK"}],"batchlet":{"ref":"ok"}}]}]}

@@ -14,6 +14,10 @@ pub use script_lines::{Counted, DeviceFault, MAX_LINE, MAX_READS, Sink, Source};
 pub use summary::Summary;
 
 #[cfg(test)]
+mod call_tests;
+#[cfg(test)]
 mod job_tests;
+#[cfg(test)]
+mod plain_tests;
 #[cfg(test)]
 mod tests;

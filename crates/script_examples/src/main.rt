@@ -9,9 +9,10 @@ use std::rt::Files;
 use std::{fs, io};
 
 /// The scripts, each with its replies.
-const EXAMPLES: [(&str, &str); 3] = [
+const EXAMPLES: [(&str, &str); 4] = [
     ("nightly_chain.script", "nightly_chain.replies"),
     ("split_and_decision.script", "split_and_decision.replies"),
+    ("stopped_chunk.script", "stopped_chunk.replies"),
     ("transition_elements.script", "transition_elements.replies"),
 ];
 

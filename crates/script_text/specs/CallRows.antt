@@ -5,8 +5,10 @@ use Rattle.json_members.specs.Members.{has_only, text_at, number_at, optional_te
 use Rattle.batch_ids.specs.declared.status.WorkOutcome.{WorkOutcome}
 use Rattle.batch_ids.specs.declared.status.WorkOutcome.TheVariants.{Completed, Failed, Stopped}
 use Rattle.batch_history.specs.declared.call.Call.{Call}
-use Rattle.batch_history.specs.declared.call.Call.TheVariants.{Start, Restart, Claim, Finish}
+use Rattle.batch_history.specs.declared.call.Call.TheVariants.{Start, Restart, Stop, Abandon, Claim, Checkpoint, Finish}
 use Rattle.json_members.specs.Chains.{◌>>=◌}
+use Rattle.script_text.specs.Parameters.{parameters_at}
+use Rattle.script_text.specs.Metrics.{metrics_at}
 
 -- the outcome of a work item by its name
 abbrev pub outcome_named : List ℕ → Option WorkOutcome
@@ -15,34 +17,66 @@ outcome_named name =
     else (if bytes_eq name (codes "FAILED") then Some Failed
     else (if bytes_eq name (codes "STOPPED") then Some Stopped else None))
 
--- start: the name of a job
+-- start: the name of a job, and parameters, which may be left out
 unfoldable pub start_of : Data → Option Call
 start_of d =
-    if has_only (codes "do" ∷ codes "by" ∷ codes "at" ∷ codes "job" ∷ []) d
-    then option_map Start (text_at (codes "job") d)
+    if has_only (codes "do" ∷ codes "by" ∷ codes "at" ∷ codes "job" ∷ codes "parameters" ∷ []) d
+    then (do
+      job ← text_at (codes "job") d
+      parameters ← parameters_at d
+      Some (Start job parameters))
     else None
 
--- restart: a job execution
+-- restart: a job execution, and parameters, which may be left out
 unfoldable pub restart_of : Data → Option Call
 restart_of d =
+    if has_only (codes "do" ∷ codes "by" ∷ codes "at" ∷ codes "execution" ∷ codes "parameters" ∷ []) d
+    then (do
+      execution ← number_at (codes "execution") d
+      parameters ← parameters_at d
+      Some (Restart execution parameters))
+    else None
+
+-- stop: a job execution
+unfoldable pub stop_of : Data → Option Call
+stop_of d =
     if has_only (codes "do" ∷ codes "by" ∷ codes "at" ∷ codes "execution" ∷ []) d
-    then option_map Restart (number_at (codes "execution") d)
+    then option_map Stop (number_at (codes "execution") d)
+    else None
+
+-- abandon: a job execution
+unfoldable pub abandon_of : Data → Option Call
+abandon_of d =
+    if has_only (codes "do" ∷ codes "by" ∷ codes "at" ∷ codes "execution" ∷ []) d
+    then option_map Abandon (number_at (codes "execution") d)
     else None
 
 -- claim: nothing more
 unfoldable pub claim_of : Data → Option Call
 claim_of d = if has_only (codes "do" ∷ codes "by" ∷ codes "at" ∷ []) d then Some Claim else None
 
--- finish: a work item, its outcome, and its exit status, which may be left out
+-- checkpoint: a work item, where its reader goes on, and metrics, which may be left out
+unfoldable pub checkpoint_of : Data → Option Call
+checkpoint_of d =
+    if has_only (codes "do" ∷ codes "by" ∷ codes "at" ∷ codes "work" ∷ codes "data" ∷ codes "metrics" ∷ []) d
+    then (do
+      work ← number_at (codes "work") d
+      mark ← text_at (codes "data") d
+      step ← metrics_at d
+      Some (Checkpoint work mark step))
+    else None
+
+-- finish: a work item, its outcome, its exit status and metrics, which may both be left out
 unfoldable pub finish_of : Data → Option Call
 finish_of d =
-    if has_only (codes "do" ∷ codes "by" ∷ codes "at" ∷ codes "work" ∷ codes "outcome" ∷ codes "exit" ∷ []) d
+    if has_only (codes "do" ∷ codes "by" ∷ codes "at" ∷ codes "work" ∷ codes "outcome" ∷ codes "exit" ∷ codes "metrics" ∷ []) d
     then (do
       work ← number_at (codes "work") d
       name ← text_at (codes "outcome") d
       outcome ← outcome_named name
       exit ← optional_text (codes "exit") d
-      Some (Finish work outcome exit))
+      step ← metrics_at d
+      Some (Finish work outcome exit step))
     else None
 
 -- the call of a line whose `do` is this word
@@ -50,5 +84,8 @@ unfoldable pub call_named : List ℕ → Data → Option Call
 call_named word d =
     if bytes_eq word (codes "start") then start_of d
     else (if bytes_eq word (codes "restart") then restart_of d
+    else (if bytes_eq word (codes "stop") then stop_of d
+    else (if bytes_eq word (codes "abandon") then abandon_of d
     else (if bytes_eq word (codes "claim") then claim_of d
-    else (if bytes_eq word (codes "finish") then finish_of d else None)))
+    else (if bytes_eq word (codes "checkpoint") then checkpoint_of d
+    else (if bytes_eq word (codes "finish") then finish_of d else None))))))

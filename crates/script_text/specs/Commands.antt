@@ -1,23 +1,20 @@
 -- The lines of a script: which command each of them is.
-use Rattle.std.specs.Prelude.{ℕ, ◌==◌, List, Bool, true, length, nat_le, codes, Option, Some, None, option_map, unwrap_or, if◌then◌else◌}
+use Rattle.std.specs.Prelude.{ℕ, ◌==◌, List, codes, Option, Some, None, option_map, unwrap_or, if◌then◌else◌}
 use Rattle.std.specs.Option.{option_or}
 use Rattle.serde_json.specs.Data.{Data}
 use Rattle.json_members.specs.Members.{data_of, text_at, number_at}
-use Rattle.batch_history.specs.declared.call.Call.{Call}
-use Rattle.batch_history.specs.declared.call.Call.TheVariants.{Start, Restart, Claim, Finish}
 use Rattle.json_members.specs.Chains.{◌>>=◌}
 use Rattle.script_text.specs.CallRows.{call_named}
 use Rattle.script_text.specs.QueryRows.{query_named}
+use Rattle.script_text.specs.Bounds.{call_within, query_within}
 use Rattle.script_text.specs.declared.command.Command.{Command}
 use Rattle.script_text.specs.declared.command.Command.TheVariants.{BadLine, TextTooLong, Act, Ask}
-
--- Commands whose texts may be of any length
 
 -- the session that gives a command: a number from 1
 abbrev pub session_at : Data → Option ℕ
 session_at d = number_at (codes "by") d >>= λ by. if by == 0 then None else Some by
 
--- a call, the session that makes it, and its moment
+-- a call, the session that makes it, and its moment; its texts may be of any length
 unfoldable pub act_of : Data → Option Command
 act_of d = do
   word ← text_at (codes "do") d
@@ -26,38 +23,23 @@ act_of d = do
   at ← number_at (codes "at") d
   Some (Act by at call)
 
--- a query
+-- a query; its texts may be of any length
 unfoldable pub question_of : Data → Option Command
 question_of d = do
   word ← text_at (codes "ask") d
   query ← query_named word d
   Some (Ask query)
 
--- The bounds of the texts
-
--- a text of at most 256 bytes
-abbrev pub is_short : List ℕ → Bool
-is_short text = nat_le (length text) 256
-
--- whether each text of a call is within its bound
-abbrev pub fits_call : Call → Bool
-fits_call (Start job) = is_short job
-fits_call (Restart execution) = true
-fits_call Claim = true
-fits_call (Finish work outcome exit) = unwrap_or (option_map is_short exit) true
-
--- a command whose texts are within their bounds, else TextTooLong
-abbrev pub within_bounds : Command → Command
-within_bounds (Act by at call) = if fits_call call then Act by at call else TextTooLong
-within_bounds (Ask query) = Ask query
-within_bounds TextTooLong = TextTooLong
-within_bounds BadLine = BadLine
-
--- Lines
-
 -- the command that a value is, its texts of any length, if it is one of the table
 unfoldable pub row_of : Data → Option Command
 row_of d = option_or (act_of d) (question_of d)
+
+-- a command whose texts are within their bounds, else TextTooLong
+abbrev pub within_bounds : Command → Command
+within_bounds (Act by at call) = unwrap_or (option_map (Act by at) (call_within call)) TextTooLong
+within_bounds (Ask query) = unwrap_or (option_map Ask (query_within query)) TextTooLong
+within_bounds TextTooLong = TextTooLong
+within_bounds BadLine = BadLine
 
 -- the command that a value is
 unfoldable pub command_of_data : Data → Command

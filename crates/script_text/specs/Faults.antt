@@ -4,7 +4,7 @@ use Rattle.serde_json.specs.Data.{Data, null, string, object, member, no_members
 use Rattle.jsl_json.specs.Faults.{read_fault_name}
 use Rattle.jsl_json.specs.declared.fault.ReadFault.{ReadFault}
 use Rattle.jsl_json.specs.declared.fault.ReadFault.TheVariants.{NotJson, NotACatalogue, BadElement, InJob, OutOfMemory}
-use Rattle.script_text.specs.Replies.{one, count, count_or_null, line_of}
+use Rattle.script_text.specs.Written.{one, count, count_or_null, line_of}
 
 -- a fault by its name, with the numbers of the job and of the element; want of memory has no text
 abbrev pub fault_data : ReadFault → Data

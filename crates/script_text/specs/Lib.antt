@@ -1,6 +1,11 @@
+pub mod Written
+pub mod Parameters
+pub mod Metrics
 pub mod CallRows
 pub mod QueryRows
 pub mod Shapes
+pub mod Bounds
 pub mod Commands
 pub mod Replies
+pub mod Answers
 pub mod Faults

@@ -1,18 +1,34 @@
 ghost use Rattle.std.specs.Prelude.{◌≡◌, IfOk};
 ghost use Rattle.serde_json.specs.View.{view};
-ghost use Rattle.script_text.specs.Replies.{execution_data, answer_data, answer_text};
+ghost use Rattle.script_text.specs.Answers.{answer_data, answer_text};
 
-use crate::written::{count_or_null, line_of, refused, text_or_null};
-use batch_history::{Answer, JobExecution};
+use crate::lists::{executions_value, instances_value, names_value, numbers_value, steps_value};
+use crate::parameters::parameters_value;
+use crate::records::{execution_value, instance_value, status_counts_value};
+use crate::written::{line_of, one, refused};
+use batch_history::Answer;
 use batch_ids::Refusal;
-use serde_json::{Value, json};
+use serde_json::Value;
 use std::alloc::{AllocError, Global};
 
 /// The line that answers a query, with its line feed: compact JSON, the members of each object in
 /// rising order of their names, null for none.
 ///
-/// It is `{"job_execution":{..}}` with the members `create`, `end`, `execution`, `exit`, `instance`,
-/// `job`, `start`, `status` and `updated` (Jakarta Batch 2.1, "JobExecution"), or `{"refused":NAME}`.
+/// It is, by the query (Jakarta Batch 2.1, "JobOperator"; `status_counts` is this service's own):
+/// - `job_names`: `{"names":[..]}`;
+/// - `job_instance_count`: `{"count":N}`;
+/// - `job_instances`: `{"instances":[..]}`, `job_instance`: one of them alone, each with the members
+///   `instance` and `job`;
+/// - `running_executions`: `{"running":[..]}`, a list of numbers;
+/// - `parameters`: `{"parameters":{..}}`;
+/// - `job_executions`: `{"job_executions":[..]}`, `job_execution`: `{"job_execution":{..}}`, each with
+///   the members `create`, `end`, `execution`, `exit`, `instance`, `job`, `start`, `status` and
+///   `updated` ("JobExecution");
+/// - `step_executions`: `{"step_executions":[..]}`, each with the members `end`, `execution`, `exit`,
+///   `metrics`, `start`, `status`, `step` and `work` ("StepExecution");
+/// - `status_counts`: `{"counts":{..}}`, by the names of the statuses;
+///
+/// or `{"refused":NAME}`. In `metrics` and `counts` a count of 0 is left out.
 ///
 /// Errors: only want of memory.
 #[tactic(auto, using(crate::proofs::Floats::answer_has_no_float))]
@@ -27,27 +43,34 @@ fn answer_value(alloc: Global, answer: &Result<Answer, Refusal>) -> Result<Value
     ensures { IfOk result (λ value. view value ≡ answer_data answer.now) }
 {
     match answer {
+        Ok(Answer::JobNames(names)) => { one(alloc, "names", names_value(alloc, names)?) }
+        Ok(Answer::JobInstanceCount(count)) => one(alloc, "count", Value::from(*count)),
+        Ok(Answer::JobInstances(instances)) => {
+            one(alloc, "instances", instances_value(alloc, instances)?)
+        }
+        Ok(Answer::RunningExecutions(executions)) => {
+            one(alloc, "running", numbers_value(alloc, executions)?)
+        }
+        Ok(Answer::Parameters(parameters)) => {
+            one(alloc, "parameters", parameters_value(alloc, parameters)?)
+        }
+        Ok(Answer::JobInstance(instance)) => instance_value(alloc, instance),
+        Ok(Answer::JobExecutions(executions)) => {
+            one(
+                alloc,
+                "job_executions",
+                executions_value(alloc, executions)?,
+            )
+        }
         Ok(Answer::JobExecution(execution)) => {
-            let value = execution_value(alloc, execution)?;
-            json!(in alloc; {"job_execution": value})
+            one(alloc, "job_execution", execution_value(alloc, execution)?)
+        }
+        Ok(Answer::StepExecutions(steps)) => {
+            one(alloc, "step_executions", steps_value(alloc, steps)?)
+        }
+        Ok(Answer::StatusCounts(counts)) => {
+            one(alloc, "counts", status_counts_value(alloc, counts)?)
         }
         Err(refusal) => refused(alloc, refusal.name()),
     }
-}
-
-fn execution_value(alloc: Global, execution: &JobExecution) -> Result<Value, AllocError>
-    ensures { IfOk result (λ value. view value ≡ execution_data execution.now) }
-{
-    let exit = text_or_null(alloc, &execution.exit)?;
-    json!(in alloc; {
-        "create": execution.create,
-        "end": count_or_null(execution.end),
-        "execution": execution.execution.value(),
-        "exit": exit,
-        "instance": execution.instance.value(),
-        "job": execution.job.as_str(),
-        "start": count_or_null(execution.start),
-        "status": execution.status.name(),
-        "updated": execution.updated
-    })
 }

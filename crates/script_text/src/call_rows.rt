@@ -1,9 +1,11 @@
 // The calls of a script, a row of the table each.
 ghost use Rattle.std.specs.Prelude.{◌≡◌, option_map};
 ghost use Rattle.serde_json.specs.View.{view};
-ghost use Rattle.script_text.specs.CallRows.{outcome_named, start_of, restart_of, claim_of, finish_of, call_named};
+ghost use Rattle.script_text.specs.CallRows.{outcome_named, start_of, restart_of, stop_of, abandon_of, claim_of, checkpoint_of, finish_of, call_named};
 ghost use Rattle.script_text.specs.Shapes.{call_in};
 
+use crate::metrics::metrics_at;
+use crate::parameters::parameters_at;
 use crate::shape::CallShape;
 use batch_ids::WorkOutcome;
 use json_members::{has_only, number_at, optional_text, text_at};
@@ -20,8 +22,17 @@ pub fn call_named<'v>(word: &str, value: &'v Value) -> Option<CallShape<'v>>
     if word == "restart" {
         return restart_of(value);
     }
+    if word == "stop" {
+        return stop_of(value);
+    }
+    if word == "abandon" {
+        return abandon_of(value);
+    }
     if word == "claim" {
         return claim_of(value);
+    }
+    if word == "checkpoint" {
+        return checkpoint_of(value);
     }
     if word == "finish" {
         return finish_of(value);
@@ -33,22 +44,49 @@ pub fn call_named<'v>(word: &str, value: &'v Value) -> Option<CallShape<'v>>
 fn start_of(value: &Value) -> Option<CallShape<'_>>
     ensures { option_map call_in result ≡ start_of (view value.now) }
 {
-    if !has_only(value, &["do", "by", "at", "job"]) {
+    if !has_only(value, &["do", "by", "at", "job", "parameters"]) {
         return None;
     }
     let job = text_at(value, "job")?;
-    Some(CallShape::Start { job })
+    let parameters = parameters_at(value)?;
+    Some(CallShape::Start { job, parameters })
 }
 
 #[tactic(auto, unfolding(crate::specs::CallRows::restart_of))]
 fn restart_of(value: &Value) -> Option<CallShape<'_>>
     ensures { option_map call_in result ≡ restart_of (view value.now) }
 {
+    if !has_only(value, &["do", "by", "at", "execution", "parameters"]) {
+        return None;
+    }
+    let execution = number_at(value, "execution")?;
+    let parameters = parameters_at(value)?;
+    Some(CallShape::Restart {
+        execution,
+        parameters,
+    })
+}
+
+#[tactic(auto, unfolding(crate::specs::CallRows::stop_of))]
+fn stop_of(value: &Value) -> Option<CallShape<'_>>
+    ensures { option_map call_in result ≡ stop_of (view value.now) }
+{
     if !has_only(value, &["do", "by", "at", "execution"]) {
         return None;
     }
     let execution = number_at(value, "execution")?;
-    Some(CallShape::Restart { execution })
+    Some(CallShape::Stop { execution })
+}
+
+#[tactic(auto, unfolding(crate::specs::CallRows::abandon_of))]
+fn abandon_of(value: &Value) -> Option<CallShape<'_>>
+    ensures { option_map call_in result ≡ abandon_of (view value.now) }
+{
+    if !has_only(value, &["do", "by", "at", "execution"]) {
+        return None;
+    }
+    let execution = number_at(value, "execution")?;
+    Some(CallShape::Abandon { execution })
 }
 
 #[tactic(auto, unfolding(crate::specs::CallRows::claim_of))]
@@ -61,21 +99,37 @@ fn claim_of(value: &Value) -> Option<CallShape<'_>>
     Some(CallShape::Claim)
 }
 
+#[tactic(auto, unfolding(crate::specs::CallRows::checkpoint_of))]
+fn checkpoint_of(value: &Value) -> Option<CallShape<'_>>
+    ensures { option_map call_in result ≡ checkpoint_of (view value.now) }
+{
+    if !has_only(value, &["do", "by", "at", "work", "data", "metrics"]) {
+        return None;
+    }
+    let work = number_at(value, "work")?;
+    let mark = text_at(value, "data")?;
+    let step = metrics_at(value)?;
+    Some(CallShape::Checkpoint { work, mark, step })
+}
+
 #[tactic(auto, unfolding(crate::specs::CallRows::finish_of))]
 fn finish_of(value: &Value) -> Option<CallShape<'_>>
     ensures { option_map call_in result ≡ finish_of (view value.now) }
 {
-    if !has_only(value, &["do", "by", "at", "work", "outcome", "exit"]) {
+    let names = ["do", "by", "at", "work", "outcome", "exit", "metrics"];
+    if !has_only(value, &names) {
         return None;
     }
     let work = number_at(value, "work")?;
     let name = text_at(value, "outcome")?;
     let outcome = outcome_named(name)?;
     let exit = optional_text(value, "exit")?;
+    let step = metrics_at(value)?;
     Some(CallShape::Finish {
         work,
         outcome,
         exit,
+        step,
     })
 }
 

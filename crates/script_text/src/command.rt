@@ -1,18 +1,15 @@
-ghost use Rattle.std.specs.Prelude.{◌≡◌, IsTrue, IfOk};
+ghost use Rattle.std.specs.Prelude.{◌≡◌, IfOk};
 ghost use Rattle.serde_json.specs.View.{view};
-ghost use Rattle.script_text.specs.Commands.{command_of, command_of_data, within_bounds, fits_call, is_short};
-ghost use Rattle.script_text.specs.declared.command.Command.TheVariants.{Act};
-ghost use Rattle.script_text.specs.Shapes.{call_in, query_in};
+ghost use Rattle.script_text.specs.Commands.{command_of, command_of_data, within_bounds};
+ghost use Rattle.script_text.specs.Shapes.{command_in};
 
-use crate::shape::{CallShape, QueryShape, Shape, shape_of};
+use crate::bounds::{call_within, query_within};
+use crate::shape::{Shape, shape_of};
 use batch_history::{Call, Query};
-use batch_ids::{ExecutionId, Moment, T256, WorkId};
+use batch_ids::Moment;
 use json_members::read_value;
 use serde_json::Value;
 use std::alloc::{AllocError, Global};
-
-/// How many bytes a name or an exit status has at most.
-const MOST_BYTES: usize = 256;
 
 /// What a line of a script is.
 #[derive(Debug, PartialEq, Eq, Drop)]
@@ -38,19 +35,30 @@ pub enum Command {
 
 /// The command that a line is, the line feed left out.
 ///
-/// Calls (Jakarta Batch 2.1, "JobOperator"; claim and finish are this service's own) have the
-/// members `do`, `by` (the session's number, from 1), `at` (the moment, in milliseconds) and:
-/// - `"do":"start"`: `job`, a text of at most 256 bytes;
-/// - `"do":"restart"`: `execution`, a number;
+/// Calls (Jakarta Batch 2.1, "JobOperator"; claim, checkpoint and finish are this service's own) have
+/// the members `do`, `by` (the session's number, from 1), `at` (the moment, in milliseconds) and:
+/// - `"do":"start"`: `job`, a text of at most 256 bytes, and `parameters`;
+/// - `"do":"restart"`: `execution`, a number, and `parameters`;
+/// - `"do":"stop"`, `"do":"abandon"`: `execution`;
 /// - `"do":"claim"`: nothing more;
-/// - `"do":"finish"`: `work`, a number, `outcome`, which is `COMPLETED`, `FAILED` or `STOPPED`, and
-///   `exit`, a text of at most 256 bytes, which may be left out.
+/// - `"do":"checkpoint"`: `work`, a number, `data`, a text of at most 65,536 bytes, and `metrics`;
+/// - `"do":"finish"`: `work`, `outcome`, which is `COMPLETED`, `FAILED` or `STOPPED`, `exit`, a text
+///   of at most 256 bytes, which may be left out, and `metrics`.
+///
+/// `parameters`, an object of at most 64 texts, with keys of at most 256 bytes and values of at most
+/// 4,096, and `metrics`, an object of numbers up to 4,294,967,295 by the metrics' names, may be left
+/// out; so may any metric, which is then 0.
 ///
 /// Queries have the member `ask` and:
-/// - `"ask":"job_execution"`: `execution`, a number.
+/// - `job_names`, `status_counts`: nothing more;
+/// - `job_instance_count`, `running_executions`: `job`, a text of at most 256 bytes;
+/// - `job_instances`: `job`, and the numbers `start` and `count`;
+/// - `parameters`, `job_instance`, `job_execution`, `step_executions`: `execution`, a number;
+/// - `job_executions`: `instance`, a number.
 ///
-/// Numbers are whole, 0 to 2^64 - 1, without sign, point or exponent. Any other line is `BadLine`,
-/// which is decided over the whole line before any text's length: a text above its bound makes it
+/// Numbers are whole, 0 to 2^64 - 1, without sign, point or exponent; null is no left-out member. Of
+/// a member that comes twice the last counts. Any other line is `BadLine`, which is decided over the
+/// whole line before any text's length: a text above its bound, or too many parameters, makes it
 /// `TextTooLong` only then. The time is that of reading the JSON; a text is copied only where the
 /// line is a command.
 ///
@@ -71,89 +79,26 @@ fn command_of_value(alloc: Global, value: &Value) -> Result<Command, AllocError>
     ensures { IfOk result (λ command. command ≡ command_of_data (view value.now)) }
 {
     match shape_of(value) {
-        Some(Shape::Act { by, at, call }) => act_within(alloc, by, at, &call),
-        Some(Shape::Ask(query)) => Ok(Command::Ask(query_of(query))),
+        Some(shape) => command_within(alloc, &shape),
         None => Ok(Command::BadLine),
     }
 }
 
-fn act_within(
-    alloc: Global,
-    by: u64,
-    at: Moment,
-    call: &CallShape<'_>,
-) -> Result<Command, AllocError>
-    ensures { IfOk result (λ command. command ≡ within_bounds (Act by at (call_in call.now))) }
+fn command_within(alloc: Global, shape: &Shape<'_>) -> Result<Command, AllocError>
+    ensures { IfOk result (λ command. command ≡ within_bounds (command_in shape.now)) }
 {
-    if !fits(call) {
-        return Ok(Command::TextTooLong);
-    }
-    let call = call_of(alloc, call)?;
-    Ok(Command::Act { by, at, call })
-}
-
-/// Whether each text of a call is within its bound.
-fn fits(call: &CallShape<'_>) -> bool
-    ensures { result ≡ fits_call (call_in call.now) }
-{
-    match call {
-        CallShape::Start { job } => is_short(job),
-        CallShape::Restart { .. } => true,
-        CallShape::Claim => true,
-        CallShape::Finish {
-            exit: Some(exit),
-            ..
-        } => is_short(exit),
-        CallShape::Finish { exit: None, .. } => true,
-    }
-}
-
-fn is_short(text: &str) -> bool
-    ensures { result ≡ is_short text.now }
-{
-    text.len() <= MOST_BYTES
-}
-
-/// The call of a shape, with copies of its texts.
-fn call_of(alloc: Global, call: &CallShape<'_>) -> Result<Call, AllocError>
-    requires { IsTrue (fits_call (call_in call.now)) }
-    ensures { IfOk result (λ made. made ≡ call_in call.now) }
-{
-    match call {
-        CallShape::Start { job } => Ok(Call::Start {
-            job: T256::within(alloc, job)?,
-        }),
-        CallShape::Restart { execution } => Ok(Call::Restart {
-            execution: ExecutionId::new(*execution),
-        }),
-        CallShape::Claim => Ok(Call::Claim),
-        CallShape::Finish {
-            work,
-            outcome,
-            exit: Some(exit),
-        } => Ok(Call::Finish {
-            work: WorkId::new(*work),
-            outcome: *outcome,
-            exit: Some(T256::within(alloc, exit)?),
-        }),
-        CallShape::Finish {
-            work,
-            outcome,
-            exit: None,
-        } => Ok(Call::Finish {
-            work: WorkId::new(*work),
-            outcome: *outcome,
-            exit: None,
-        }),
-    }
-}
-
-fn query_of(query: QueryShape) -> Query
-    ensures { result ≡ query_in query }
-{
-    match query {
-        QueryShape::JobExecution { execution } => Query::JobExecution {
-            execution: ExecutionId::new(execution),
+    match shape {
+        Shape::Act { by, at, call } => match call_within(alloc, call)? {
+            Some(call) => Ok(Command::Act {
+                by: *by,
+                at: *at,
+                call,
+            }),
+            None => Ok(Command::TextTooLong),
+        },
+        Shape::Ask(query) => match query_within(alloc, query)? {
+            Some(query) => Ok(Command::Ask(query)),
+            None => Ok(Command::TextTooLong),
         },
     }
 }

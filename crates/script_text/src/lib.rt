@@ -2,10 +2,15 @@
 #![tactic(auto)]
 
 mod answer;
+mod bounds;
 mod call_rows;
 mod command;
 mod fault;
+mod lists;
+mod metrics;
+mod parameters;
 mod query_rows;
+mod records;
 mod reply;
 mod shape;
 mod written;
@@ -13,6 +18,7 @@ mod written;
 pub use answer::answer_text;
 pub use command::{Command, read_command};
 pub use fault::fault_text;
+pub use metrics::metrics_value;
 pub use reply::{bad_line_text, reply_text};
 
 #[cfg(test)]

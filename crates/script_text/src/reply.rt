@@ -1,9 +1,8 @@
-ghost use Rattle.std.specs.Prelude.{◌≡◌, codes, IfOk};
+ghost use Rattle.std.specs.Prelude.{◌≡◌, IfOk};
 ghost use Rattle.serde_json.specs.View.{view};
-ghost use Rattle.batch_history.specs.declared.call.WorkTask.TheVariants.{Chunk};
-ghost use Rattle.script_text.specs.Replies.{one, item_data, single_data, reply_data, reply_text, bad_line_text};
+ghost use Rattle.script_text.specs.Replies.{item_data, single_data, reply_data, reply_text, bad_line_text};
 
-use crate::written::{line_of, refused, text_or_null};
+use crate::written::{line_of, one, refused, text_or_null};
 use batch_history::{Reply, WorkItem, WorkTask};
 use batch_ids::{Refusal, T256, Text};
 use serde_json::{Value, json};
@@ -12,10 +11,10 @@ use std::alloc::{AllocError, Global};
 /// The line that replies to a call, with its line feed: compact JSON, the members of each object in
 /// rising order of their names.
 ///
-/// It is `{"execution":N}`, `{"work":{..}}`, `{"closed":N}`, `{"nothing":true}`, `{"done":true}` or
-/// `{"refused":NAME}`. A work item has the members `element`, `execution`, `kind`, `work` and, for a
-/// batchlet or a decision, `ref`; for a chunk `checkpoint` and `processor` (null for none),
-/// `item-count`, `reader` and `writer`.
+/// It is `{"execution":N}`, `{"work":{..}}`, `{"closed":N}`, `{"nothing":true}`, `{"done":true}`,
+/// `{"go":true}`, `{"stop":true}` or `{"refused":NAME}`. A work item has the members `element`,
+/// `execution`, `kind`, `work` and, for a batchlet or a decision, `ref`; for a chunk `checkpoint` and
+/// `processor` (null for none), `item-count`, `reader` and `writer`.
 ///
 /// Errors: only want of memory.
 #[tactic(auto, using(crate::proofs::Floats::reply_has_no_float))]
@@ -41,19 +40,14 @@ fn reply_value(alloc: Global, reply: &Result<Reply, Refusal>) -> Result<Value, A
 {
     match reply {
         Ok(Reply::Execution(execution)) => json!(in alloc; {"execution": execution.value()}),
-        Ok(Reply::Work(item)) => work_value(alloc, item),
+        Ok(Reply::Work(item)) => one(alloc, "work", item_value(alloc, item)?),
         Ok(Reply::Closed(execution)) => json!(in alloc; {"closed": execution.value()}),
         Ok(Reply::Nothing) => json!(in alloc; {"nothing": true}),
         Ok(Reply::Done) => json!(in alloc; {"done": true}),
+        Ok(Reply::Go) => json!(in alloc; {"go": true}),
+        Ok(Reply::StopAsked) => json!(in alloc; {"stop": true}),
         Err(refusal) => refused(alloc, refusal.name()),
     }
-}
-
-fn work_value(alloc: Global, item: &WorkItem) -> Result<Value, AllocError>
-    ensures { IfOk result (λ value. view value ≡ one (codes "work") (item_data item.now.task item.now)) }
-{
-    let value = item_value(alloc, item)?;
-    json!(in alloc; {"work": value})
 }
 
 fn item_value(alloc: Global, item: &WorkItem) -> Result<Value, AllocError>

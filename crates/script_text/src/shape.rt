@@ -5,7 +5,7 @@ ghost use Rattle.script_text.specs.Shapes.{command_in};
 
 use crate::call_rows::call_named;
 use crate::query_rows::query_named;
-use batch_ids::{Moment, WorkOutcome};
+use batch_ids::{MetricStep, Moment, WorkOutcome};
 use json_members::{number_at, text_at};
 use serde_json::Value;
 
@@ -17,30 +17,71 @@ pub enum Shape<'a> {
         at: Moment,
         call: CallShape<'a>,
     },
-    Ask(QueryShape),
+    Ask(QueryShape<'a>),
 }
 
-/// A call as its line spells it.
+/// A call as its line spells it. Its parameters are an object of texts.
 #[derive(Clone, Copy)]
 pub enum CallShape<'a> {
     Start {
         job: &'a str,
+        parameters: Option<&'a Value>,
     },
     Restart {
         execution: u64,
+        parameters: Option<&'a Value>,
+    },
+    Stop {
+        execution: u64,
+    },
+    Abandon {
+        execution: u64,
     },
     Claim,
+    Checkpoint {
+        work: u64,
+        mark: &'a str,
+        step: MetricStep,
+    },
     Finish {
         work: u64,
         outcome: WorkOutcome,
         exit: Option<&'a str>,
+        step: MetricStep,
     },
 }
 
 /// A query as its line spells it.
 #[derive(Clone, Copy)]
-pub enum QueryShape {
-    JobExecution { execution: u64 },
+pub enum QueryShape<'a> {
+    JobNames,
+    JobInstanceCount {
+        job: &'a str,
+    },
+    JobInstances {
+        job: &'a str,
+        start: u64,
+        count: u64,
+    },
+    RunningExecutions {
+        job: &'a str,
+    },
+    Parameters {
+        execution: u64,
+    },
+    JobInstance {
+        execution: u64,
+    },
+    JobExecutions {
+        instance: u64,
+    },
+    JobExecution {
+        execution: u64,
+    },
+    StepExecutions {
+        execution: u64,
+    },
+    StatusCounts,
 }
 
 /// The command that a value is, if it is one of the table.

@@ -1,14 +1,14 @@
-ghost use Rattle.std.specs.Prelude.{◌≡◌, false, IfOk};
+ghost use Rattle.std.specs.Prelude.{◌≡◌, false, map, IfOk};
 ghost use Rattle.serde_json.specs.View.{view};
 ghost use Rattle.serde_json.specs.Written.{has_float};
-ghost use Rattle.script_text.specs.Replies.{line_of, text_or_null, count_or_null, refused};
+ghost use Rattle.script_text.specs.Written.{line_of, one, text_or_null, count_or_null, counts_data, refused};
 
 use batch_ids::Text;
-use serde_json::{Value, json};
+use serde_json::{Map, Value, json, put};
 use std::alloc::{AllocError, Global};
 
 /// The line of a value, with its line feed.
-#[tactic(auto, unfolding(crate::specs::Replies::line_of))]
+#[tactic(auto, unfolding(crate::specs::Written::line_of))]
 pub fn line_of(alloc: Global, value: &Value) -> Result<Vec<u8>, AllocError>
     requires { has_float (view value.now) ≡ false }
     ensures { IfOk result (λ text. text.items ≡ line_of (view value.now)) }
@@ -16,6 +16,13 @@ pub fn line_of(alloc: Global, value: &Value) -> Result<Vec<u8>, AllocError>
     let mut text = value.to_vec(alloc)?;
     text.push(b'\n')?;
     Ok(text)
+}
+
+/// An object of one member.
+pub fn one(alloc: Global, name: &str, value: Value) -> Result<Value, AllocError>
+    ensures { IfOk result (λ made. view made ≡ one name.now (view value)) }
+{
+    json!(in alloc; {name: value})
 }
 
 /// A text that may be none, which is null.
@@ -46,4 +53,17 @@ pub fn refused(alloc: Global, name: &str) -> Result<Value, AllocError>
     ensures { IfOk result (λ value. view value ≡ refused name.now) }
 {
     json!(in alloc; {"refused": name})
+}
+
+/// An object of counts by their names; a count of 0 is left out.
+pub fn counts_value(alloc: Global, counts: &[(&str, u64)]) -> Result<Value, AllocError>
+    ensures { IfOk result (λ value. view value ≡ counts_data (map (λ named. (named.0.now, named.1)) counts.now)) }
+{
+    let mut members = Map::new(alloc);
+    for (name, count) in counts {
+        if *count != 0 {
+            put(&mut members, alloc, name, Value::from(*count))?;
+        }
+    }
+    Ok(Value::Object(members))
 }

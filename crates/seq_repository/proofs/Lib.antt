@@ -1,1 +1,6 @@
-pub mod Changing
+pub mod Entries
+pub mod Knowing
+pub mod Lists
+pub mod Metering
+pub mod Pages
+pub mod Replying

@@ -2,12 +2,19 @@
 //! operations, kept in rows.
 #![tactic(auto)]
 
-mod records;
+mod answers;
+mod entering;
+mod replies;
 mod repository;
+mod rows;
 mod search;
 mod status;
 
 pub use batch_history::{
-    Answer, Call, Entry, JobExecution, Query, Reply, WorkItem, WorkKind, WorkTask,
+    Answer, Call, CountsByStatus, Entry, JobExecution, JobInstance, Query, Reply, StepExecution,
+    WorkItem, WorkKind, WorkTask,
 };
 pub use repository::Repository;
+
+#[cfg(test)]
+mod tests;

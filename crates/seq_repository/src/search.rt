@@ -1,48 +1,38 @@
 ghost use Rattle.std.specs.Prelude.{ℕ, ◌≡◌, ◌++◌, ◌∷◌, [], IfOk, find};
+ghost use Rattle.std.specs.List.{list_any};
 ghost use Rattle.std.specs.Option.{option_copied};
-ghost use Rattle.batch_history.specs.declared.call.WorkKind.{WorkKind};
-ghost use Rattle.batch_history.specs.History.{change_first, is_work, over_as, fact_from, known_of, walk_of, walk_value, job_named, owner_of};
-ghost use Rattle.batch_history.specs.Rows.{is_execution, has_by};
+ghost use Rattle.batch_ids.specs.declared.metric_step.MetricStep.{MetricStep as Step};
+ghost use Rattle.batch_history.specs.History.{change_first, is_work, over_as, fact_from, known_of, walk_of, walk_value, job_named, handed_to};
+ghost use Rattle.batch_history.specs.Rows.{is_running_in};
+ghost use Rattle.seq_repository.specs.Searches.{has_ready};
 
 use crate::status::first_ready;
-use batch_history::{JobExecution, WorkRow, WorkState};
-use batch_ids::{BatchStatus, ExecutionId, OutOfMemory, T256, WorkId, WorkOutcome};
+use batch_history::{ExecutionRow, WorkItem, WorkRow, WorkState};
+use batch_ids::{BatchStatus, ExecutionId, InstanceId, OutOfMemory, T256, WorkId, WorkOutcome};
 use job_walk::{Fact, Known, Value};
 use jsl_model::Catalogue;
 use std::alloc::Global;
 
-/// The record of a job execution.
-pub(crate) fn find_execution(rows: &[JobExecution], x: ExecutionId) -> Option<&JobExecution>
-    ensures { option_copied result ≡ find (is_execution x) rows.now }
+fn is_running_in(i: InstanceId, row: &ExecutionRow) -> bool
+    ensures { result ≡ is_running_in i row.now }
 {
-    for row in rows {
-        if row.execution == x {
-            return Some(row);
-        }
+    if row.instance == i {
+        row.status().is_unfinished()
+    } else {
+        false
     }
-    None
 }
 
-/// The row of a work item.
-pub(crate) fn find_work(rows: &[WorkRow], w: WorkId) -> Option<&WorkRow>
-    ensures { option_copied result ≡ find (is_work w) rows.now }
+/// Whether a job execution of this job instance is unfinished.
+pub(crate) fn is_running(rows: &[ExecutionRow], i: InstanceId) -> bool
+    ensures { result ≡ list_any (is_running_in i) rows.now }
 {
     for row in rows {
-        if row.work == w {
-            return Some(row);
+        if is_running_in(i, row) {
+            return true;
         }
     }
-    None
-}
-
-/// The job execution of a work item.
-pub(crate) fn owner_of(rows: &[WorkRow], w: WorkId) -> Option<ExecutionId>
-    ensures { result ≡ owner_of rows.now w }
-{
-    match find_work(rows, w) {
-        None => None,
-        Some(row) => Some(row.execution),
-    }
+    false
 }
 
 fn fact_from(state: &WorkState) -> Result<Fact, OutOfMemory>
@@ -74,19 +64,17 @@ pub(crate) fn known_of(
     Ok(known)
 }
 
-/// What is known of the elements of a job execution once this element is handed out.
+/// What is known of the elements of the job execution of a work item, once it is handed out.
 pub(crate) fn known_handed(
     alloc: Global,
     works: &[WorkRow],
-    x: ExecutionId,
-    element: &T256,
+    item: &WorkItem,
 ) -> Result<Vec<Known>, OutOfMemory>
-    ensures { (w claimer : ℕ) (kind : WorkKind) → IfOk result (λ known. known.items
-        ≡ known_of x (works.now ++ record { work = w; execution = x; element = element.now; kind = kind; claimer = claimer; state = WorkState.Busy } ∷ [])) }
+    ensures { (who at : ℕ) → IfOk result (λ known. known.items ≡ known_of item.now.execution (works.now ++ handed_to who at item.now ∷ [])) }
 {
-    let mut known = known_of(alloc, works, x)?;
+    let mut known = known_of(alloc, works, item.execution)?;
     known.push(Known {
-        id: element.try_clone()?,
+        id: item.element.try_clone()?,
         fact: Fact::Busy,
     })?;
     Ok(known)
@@ -101,7 +89,7 @@ pub(crate) fn known_over(
     outcome: WorkOutcome,
     exit: &T256,
 ) -> Result<Vec<Known>, OutOfMemory>
-    ensures { IfOk result (λ known. known.items ≡ known_of x (change_first (is_work w) (over_as outcome exit.now) works.now)) }
+    ensures { (step : Step) (at : ℕ) → IfOk result (λ known. known.items ≡ known_of x (change_first (is_work w) (over_as outcome exit.now step at) works.now)) }
 {
     let mut known = Vec::new(alloc);
     let mut met = false;
@@ -154,7 +142,7 @@ pub(crate) fn walk_value(
     alloc: Global,
     catalogue: &Catalogue,
     works: &[WorkRow],
-    row: &JobExecution,
+    row: &ExecutionRow,
 ) -> Result<Value, OutOfMemory>
     ensures { IfOk result (λ value. value ≡ walk_value catalogue.now works.now row.now.execution row.now.job) }
 {
@@ -166,11 +154,11 @@ fn has_something(
     alloc: Global,
     catalogue: &Catalogue,
     works: &[WorkRow],
-    row: &JobExecution,
+    row: &ExecutionRow,
 ) -> Result<bool, OutOfMemory>
-    ensures { IfOk result (λ has. has ≡ has_by row.now.status (walk_value catalogue.now works.now row.now.execution row.now.job)) }
+    ensures { IfOk result (λ has. has ≡ has_ready catalogue.now works.now row.now) }
 {
-    match row.status {
+    match row.status() {
         BatchStatus::Starting => Ok(true),
         BatchStatus::Started => {
             let value = walk_value(alloc, catalogue, works, row)?;
@@ -189,10 +177,9 @@ pub(crate) fn find_ready<'a>(
     alloc: Global,
     catalogue: &Catalogue,
     works: &[WorkRow],
-    rows: &'a [JobExecution],
-) -> Result<Option<&'a JobExecution>, OutOfMemory>
-    ensures { IfOk result (λ found. option_copied found
-        ≡ find (λ row. has_by row.status (walk_value catalogue.now works.now row.execution row.job)) rows.now) }
+    rows: &'a [ExecutionRow],
+) -> Result<Option<&'a ExecutionRow>, OutOfMemory>
+    ensures { IfOk result (λ found. option_copied found ≡ find (has_ready catalogue.now works.now) rows.now) }
 {
     for row in rows {
         if has_something(alloc, catalogue, works, row)? {

@@ -1,10 +1,9 @@
 ghost use Rattle.std.specs.Prelude.{◌≡◌, IfOk};
 ghost use Rattle.std.specs.Option.{option_copied};
-ghost use Rattle.batch_history.specs.History.{is_at, is_finished, earliest, exit_given, status_from, exit_from, status_by, exit_by};
-ghost use Rattle.batch_history.specs.Rows.{first_ready, stopped_refusal};
+ghost use Rattle.batch_history.specs.History.{is_finished, earliest, exit_given, status_from, exit_from, status_by, exit_by, stopping, stop_exit, stopping_exit};
+ghost use Rattle.batch_history.specs.Rows.{first_ready};
 
-use batch_history::WorkKind;
-use batch_ids::{BatchStatus, ExecutionId, Moment, OutOfMemory, Refusal, T256, WorkOutcome};
+use batch_ids::{BatchStatus, Listed, Moment, OutOfMemory, T256, WorkOutcome};
 use job_walk::Value;
 use std::alloc::Global;
 
@@ -22,17 +21,6 @@ pub(crate) fn exit_given(
     }
 }
 
-/// Why a work item is not finished STOPPED.
-pub(crate) fn stopped_refusal(kind: WorkKind) -> Refusal
-    ensures { result ≡ stopped_refusal kind }
-{
-    match kind {
-        WorkKind::Decision => Refusal::WrongOutcome,
-        WorkKind::Batchlet => Refusal::NotStopping,
-        WorkKind::Chunk => Refusal::NotStopping,
-    }
-}
-
 /// The first ready element of a walk.
 pub(crate) fn first_ready(value: &Value) -> Option<&T256>
     ensures { option_copied result ≡ first_ready value.now }
@@ -44,6 +32,7 @@ pub(crate) fn first_ready(value: &Value) -> Option<&T256>
     }
 }
 
+/// Whether a job execution of this status is over.
 pub(crate) fn is_finished(status: BatchStatus) -> bool
     ensures { result ≡ is_finished status }
 {
@@ -60,56 +49,86 @@ pub(crate) fn earliest(earlier: Option<Moment>, counts: bool, at: Moment) -> Opt
     }
 }
 
-/// Whether it is this job execution.
-pub(crate) fn is_at(x: ExecutionId, other: Option<ExecutionId>) -> bool
-    ensures { result ≡ is_at x other }
+/// The status of a job execution that was asked to stop, by what is being run.
+fn stopping(busy: &Listed<T256>) -> BatchStatus
+    ensures { result ≡ stopping busy.now }
 {
-    match other {
-        None => false,
-        Some(y) => y == x,
+    match busy.as_slice().first() {
+        None => BatchStatus::Stopped,
+        Some(_) => BatchStatus::Stopping,
     }
 }
 
-fn status_by(value: &Value) -> BatchStatus
-    ensures { result ≡ status_by value.now }
+fn status_by(stop: bool, value: &Value) -> BatchStatus
+    ensures { result ≡ status_by stop value.now }
 {
     match value {
-        Value::Open { .. } => BatchStatus::Started,
+        Value::Open { busy, .. } => if stop {
+            stopping(busy)
+        } else {
+            BatchStatus::Started
+        },
         Value::Done { .. } => BatchStatus::Completed,
         Value::Ended { status, .. } => *status,
     }
 }
 
-/// The status of a job execution, by its start and its walk.
-pub(crate) fn status_from(start: Option<Moment>, value: &Value) -> BatchStatus
-    ensures { result ≡ status_from start value.now }
+/// The status of a job execution, abandonment aside: by whether it was asked to stop, its start and
+/// its walk.
+pub(crate) fn status_from(stop: bool, start: Option<Moment>, value: &Value) -> BatchStatus
+    ensures { result ≡ status_from stop start value.now }
 {
     match start {
-        None => BatchStatus::Starting,
-        Some(_) => status_by(value),
+        None => if stop {
+            BatchStatus::Stopped
+        } else {
+            BatchStatus::Starting
+        },
+        Some(_) => status_by(stop, value),
     }
 }
 
-fn exit_by(alloc: Global, value: Value) -> Result<Option<T256>, OutOfMemory>
-    ensures { IfOk result (λ exit. exit ≡ exit_by value) }
+/// The exit status of a job execution that a stop ended.
+fn stop_exit(alloc: Global) -> Result<Option<T256>, OutOfMemory>
+    ensures { IfOk result (λ exit. exit ≡ stop_exit) }
+{
+    Ok(Some(T256::within(alloc, BatchStatus::Stopped.name())?))
+}
+
+fn stopping_exit(alloc: Global, busy: &Listed<T256>) -> Result<Option<T256>, OutOfMemory>
+    ensures { IfOk result (λ exit. exit ≡ stopping_exit busy.now) }
+{
+    match busy.as_slice().first() {
+        None => stop_exit(alloc),
+        Some(_) => Ok(None),
+    }
+}
+
+fn exit_by(alloc: Global, stop: bool, value: Value) -> Result<Option<T256>, OutOfMemory>
+    ensures { IfOk result (λ exit. exit ≡ exit_by stop value) }
 {
     match value {
-        Value::Open { .. } => Ok(None),
+        Value::Open { busy, .. } => if stop {
+            stopping_exit(alloc, &busy)
+        } else {
+            Ok(None)
+        },
         Value::Done { .. } => Ok(Some(T256::within(alloc, BatchStatus::Completed.name())?)),
         Value::Ended { exit, .. } => Ok(Some(exit)),
     }
 }
 
-/// The exit status of a job execution, by its start and its walk.
+/// The exit status of a job execution, by the same.
 pub(crate) fn exit_from(
     alloc: Global,
+    stop: bool,
     start: Option<Moment>,
     value: Value,
 ) -> Result<Option<T256>, OutOfMemory>
-    ensures { IfOk result (λ exit. exit ≡ exit_from start value) }
+    ensures { IfOk result (λ exit. exit ≡ exit_from stop start value) }
 {
     match start {
-        None => Ok(None),
-        Some(_) => exit_by(alloc, value),
+        None => if stop { stop_exit(alloc) } else { Ok(None) },
+        Some(_) => exit_by(alloc, stop, value),
     }
 }

@@ -1,0 +1,157 @@
+-- What queries are answered after a history.
+use Rattle.std.specs.Prelude.{ℕ, ◌+◌, ◌==◌, ◌&&◌, Bool, true, false, Option, Some, None, Result, Ok, Err, List, [], ◌∷◌, length, map, find, filter, filter_map, reverse, take, drop, if◌then◌else◌}
+use Rattle.std.specs.Option.{option_map}
+use Rattle.std.specs.List.{list_any}
+use Rattle.batch_ids.specs.Texts.{is_text}
+use Rattle.batch_ids.specs.Statuses.{is_unfinished, outcome_status}
+use Rattle.batch_ids.specs.declared.status.BatchStatus.{BatchStatus}
+use Rattle.batch_ids.specs.declared.status.BatchStatus.TheVariants.{Starting, Started, Stopping, Stopped, Failed, Completed, Abandoned}
+use Rattle.batch_ids.specs.declared.refusal.Refusal.{Refusal}
+use Rattle.batch_ids.specs.declared.refusal.Refusal.TheVariants.{NoSuchJobException, NoSuchJobInstanceException, NoSuchJobExecutionException}
+use Rattle.jsl_model.specs.Names.{distinct}
+use Rattle.batch_history.specs.declared.call.WorkKind.{WorkKind}
+use Rattle.batch_history.specs.declared.call.WorkKind.TheVariants.{Batchlet, Chunk, Decision}
+use Rattle.batch_history.specs.declared.query.JobExecution.{JobExecution}
+use Rattle.batch_history.specs.declared.query.StepExecution.{StepExecution}
+use Rattle.batch_history.specs.declared.query.CountsByStatus.{CountsByStatus}
+use Rattle.batch_history.specs.declared.query.Query.{Query}
+use Rattle.batch_history.specs.declared.query.Query.TheVariants.{JobNames, JobInstanceCount, JobInstances, RunningExecutions, Parameters, JobInstance as AskJobInstance, JobExecutions, JobExecution as AskJobExecution, StepExecutions, StatusCounts}
+use Rattle.batch_history.specs.declared.query.Answer.{Answer}
+use Rattle.batch_history.specs.declared.query.Answer.TheVariants.{JobNames as AreNames, JobInstanceCount as IsCount, JobInstances as AreInstances, RunningExecutions as AreRunning, Parameters as AreParameters, JobInstance as IsJobInstance, JobExecutions as AreJobExecutions, JobExecution as IsJobExecution, StepExecutions as AreStepExecutions, StatusCounts as AreCounts}
+use Rattle.batch_history.specs.declared.rows.JobInstance.{JobInstance}
+use Rattle.batch_history.specs.declared.rows.ExecutionRow.{ExecutionRow}
+use Rattle.batch_history.specs.declared.rows.WorkRow.{WorkRow}
+use Rattle.batch_history.specs.declared.rows.WorkState.{WorkState}
+use Rattle.batch_history.specs.declared.rows.WorkState.TheVariants.{Busy, Over}
+use Rattle.batch_history.specs.Rows.{History, Rows, rows, is_execution, row_status}
+
+-- ---- Records as they are shown
+
+-- the record of a job execution
+abbrev pub record_of : ExecutionRow → JobExecution
+record_of row =
+    record {
+      execution = row.execution;
+      instance = row.instance;
+      job = row.job;
+      status = row_status row;
+      create = row.create;
+      start = row.start;
+      end = row.end;
+      exit = row.exit;
+      updated = row.updated;
+    }
+
+-- a step execution is STARTED until it is over, and then its outcome
+abbrev pub state_status : WorkState → BatchStatus
+state_status Busy = Started
+state_status (Over outcome exit) = outcome_status outcome
+
+abbrev pub state_exit : WorkState → Option (List ℕ)
+state_exit Busy = None
+state_exit (Over outcome exit) = Some exit
+
+abbrev pub shown_step : WorkRow → StepExecution
+shown_step row =
+    record {
+      work = row.work;
+      execution = row.execution;
+      step = row.element;
+      status = state_status row.state;
+      start = row.start;
+      end = row.end;
+      exit = state_exit row.state;
+      metrics = row.metrics;
+    }
+
+-- a decision is no step
+abbrev pub if_step : WorkKind → StepExecution → Option StepExecution
+if_step Batchlet step = Some step
+if_step Chunk step = Some step
+if_step Decision step = None
+
+-- the step execution that a work item is, if it is a step's
+abbrev pub step_execution : WorkRow → Option StepExecution
+step_execution row = if_step row.kind (shown_step row)
+
+-- ---- Answers by the rows
+
+-- the job instances of a job
+abbrev pub named : List ℕ → List JobInstance → List JobInstance
+named name instances = filter (λ i. is_text i.job name) instances
+
+-- the answer about a job that has a job instance
+abbrev pub answered_of : List JobInstance → Answer → Result Answer Refusal
+answered_of [] answer = Err NoSuchJobException
+answered_of (i ∷ rest) answer = Ok answer
+
+-- at most so many, without the first ones
+abbrev pub page : {A : Type 0} → ℕ → ℕ → List A → List A
+page start count all = take count (drop start all)
+
+-- whether it is an unfinished job execution of this job
+abbrev pub is_running_of : List ℕ → ExecutionRow → Bool
+is_running_of name row = is_text row.job name && is_unfinished (row_status row)
+
+abbrev pub running_of : List ℕ → List ExecutionRow → List ℕ
+running_of name executions = map (λ row. row.execution) (filter (is_running_of name) executions)
+
+-- the answer about a job execution
+abbrev pub answered_with : Option ExecutionRow → (ExecutionRow → Answer) → Result Answer Refusal
+answered_with None answer = Err NoSuchJobExecutionException
+answered_with (Some row) answer = Ok (answer row)
+
+abbrev pub instance_shown : ExecutionRow → JobInstance
+instance_shown row = record { instance = row.instance; job = row.job }
+
+-- the records of the job executions of a job instance, the newest first
+abbrev pub records_of : ℕ → List ExecutionRow → List JobExecution
+records_of i executions = map record_of (reverse (filter (λ row. row.instance == i) executions))
+
+-- the records of the step executions of a job execution
+abbrev pub steps_of : ℕ → List WorkRow → List StepExecution
+steps_of x works = filter_map step_execution (filter (λ row. row.execution == x) works)
+
+abbrev pub no_counts : CountsByStatus
+no_counts = record { starting = 0; started = 0; stopping = 0; stopped = 0; failed = 0; completed = 0; abandoned = 0 }
+
+-- the counts with one more of this status
+abbrev pub counted : BatchStatus → CountsByStatus → CountsByStatus
+counted Starting counts = record counts { starting = counts.starting + 1 }
+counted Started counts = record counts { started = counts.started + 1 }
+counted Stopping counts = record counts { stopping = counts.stopping + 1 }
+counted Stopped counts = record counts { stopped = counts.stopped + 1 }
+counted Failed counts = record counts { failed = counts.failed + 1 }
+counted Completed counts = record counts { completed = counts.completed + 1 }
+counted Abandoned counts = record counts { abandoned = counts.abandoned + 1 }
+
+-- how many are counted
+abbrev pub total : CountsByStatus → ℕ
+total counts =
+    counts.starting + counts.started + counts.stopping + counts.stopped + counts.failed + counts.completed + counts.abandoned
+
+-- how many of these job executions have each status
+abbrev pub counts_of : List ExecutionRow → CountsByStatus
+counts_of [] = no_counts
+counts_of (row ∷ rest) = counted (row_status row) (counts_of rest)
+
+-- what a query is answered by these rows
+abbrev pub answer_by : Rows → Query → Result Answer Refusal
+answer_by r JobNames = Ok (AreNames (distinct (map (λ i. i.job) r.instances)))
+answer_by r (JobInstanceCount name) = answered_of (named name r.instances) (IsCount (length (named name r.instances)))
+answer_by r (JobInstances name start count) =
+    answered_of (named name r.instances) (AreInstances (page start count (reverse (named name r.instances))))
+answer_by r (RunningExecutions name) = answered_of (named name r.instances) (AreRunning (running_of name r.executions))
+answer_by r (Parameters x) = answered_with (find (is_execution x) r.executions) (λ row. AreParameters row.parameters)
+answer_by r (AskJobInstance x) = answered_with (find (is_execution x) r.executions) (λ row. IsJobInstance (instance_shown row))
+answer_by r (JobExecutions i) =
+    if list_any (λ instance. instance.instance == i) r.instances
+    then Ok (AreJobExecutions (records_of i r.executions))
+    else Err NoSuchJobInstanceException
+answer_by r (AskJobExecution x) = answered_with (find (is_execution x) r.executions) (λ row. IsJobExecution (record_of row))
+answer_by r (StepExecutions x) = answered_with (find (is_execution x) r.executions) (λ row. AreStepExecutions (steps_of x r.works))
+answer_by r StatusCounts = Ok (AreCounts (counts_of r.executions))
+
+-- THE ANSWER: what a query is answered after a history
+abbrev pub answer : History → Query → Result Answer Refusal
+answer h query = answer_by (rows h) query

@@ -1,0 +1,8 @@
+use Rattle.std.proofs.Common.{◌≡◌, drop}
+use Rattle.batch_history.specs.History.{mark_at}
+use Rattle.records.proofs.records.Records.checkpoint.Given as goal
+
+abbrev pub invariant-loop-row : goal.invariant-loop-row
+invariant-loop-row l =
+    mark_at (drop l.row-index l.row-items) record { instance = l.i; step = l.step }
+    ≡ mark_at l.row-items record { instance = l.i; step = l.step }

@@ -1,0 +1,42 @@
+-- The rows of a job repository: four finite maps.
+use Rattle.std.specs.Prelude.{ℕ, zero, suc, ◌≡◌, ◌+◌, ◌==◌, Bool, Option, Some, None, List, [], ◌∷◌, map}
+use Rattle.std.specs.List.{slice_get}
+use Rattle.batch_history.specs.declared.rows.JobInstance.{JobInstance}
+use Rattle.batch_history.specs.declared.rows.ExecutionRow.{ExecutionRow}
+use Rattle.batch_history.specs.declared.rows.WorkRow.{WorkRow}
+use Rattle.batch_history.specs.declared.rows.CheckpointRow.{CheckpointRow}
+use Rattle.batch_history.specs.History.{Place, with_mark, without_mark}
+
+-- the job instances, the job executions and the work items by their numbers, and the checkpoints by job instance and step
+pub record Maps : Type 0 where
+  pub instances : List JobInstance
+  pub executions : List ExecutionRow
+  pub works : List WorkRow
+  pub checkpoints : List CheckpointRow
+
+abbrev pub no_rows : Maps
+no_rows = record { instances = []; executions = []; works = []; checkpoints = [] }
+
+-- the numbers go up by one from here
+abbrev pub IsNumberedFrom : ℕ → List ℕ → Type 0
+IsNumberedFrom n [] = Unit {0}
+IsNumberedFrom n (number ∷ rest) = (number ≡ n) × IsNumberedFrom (n + 1) rest
+
+-- job instances, job executions and work items are each numbered from 1 upwards, without gaps
+pub record AreNumbered (maps : Maps) : Type 0 where
+  pub instances : IsNumberedFrom 1 (map (λ (row : JobInstance). row.instance) maps.instances)
+  pub executions : IsNumberedFrom 1 (map (λ (row : ExecutionRow). row.execution) maps.executions)
+  pub works : IsNumberedFrom 1 (map (λ (row : WorkRow). row.work) maps.works)
+
+abbrev pub is_instance : ℕ → JobInstance → Bool
+is_instance i row = row.instance == i
+
+-- the checkpoints with this mark at a place, or without one there
+abbrev pub marks_with : Place → Option (List ℕ) → List CheckpointRow → List CheckpointRow
+marks_with p (Some mark) rows = with_mark p mark rows
+marks_with p None rows = without_mark p rows
+
+-- the row that stands at a number
+abbrev pub at_number : {R : Type 0} → ℕ → List R → Option R
+at_number zero rows = None
+at_number (suc place) rows = slice_get rows place

@@ -1,0 +1,11 @@
+//! The rows of a job repository: job instances, job executions, work items and checkpoints.
+#![tactic(auto)]
+
+mod readers;
+mod records;
+
+pub use readers::{ExecutionsOf, InstancesOf, Names, WorksOf};
+pub use records::Records;
+
+#[cfg(test)]
+mod tests;

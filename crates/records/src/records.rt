@@ -1,0 +1,286 @@
+ghost use Rattle.std.specs.Prelude.{◌≡◌, ◌+◌, ◌-◌, ◌<◌, ◌≤◌, ◌++◌, ◌∷◌, [], ℕ, List, None, true, length, find, slice_set, is_some, option_copied, IsOk, IfSome, IfNone, OnOk, OnErr};
+ghost use Rattle.jsl_model.specs.Names.{distinct};
+ghost use Rattle.batch_history.specs.History.{change_first, is_work, is_place, is_elsewhere, with_mark, without_mark, mark_at};
+ghost use Rattle.batch_history.specs.Rows.{is_execution};
+ghost use Rattle.batch_history.specs.Answers.{named};
+ghost use Rattle.records.specs.Maps.{no_rows, is_instance, marks_with, at_number};
+ghost use Rattle.records.specs.Left.{job_names, names_left, instances_left, executions_of, executions_left, works_of, works_left};
+
+use crate::readers::{ExecutionsOf, InstancesOf, Names, WorksOf};
+use batch_history::{CheckpointRow, ExecutionRow, JobInstance, WorkRow};
+use batch_ids::{ExecutionId, InstanceId, OutOfMemory, T256, Text, WorkId};
+use std::alloc::Global;
+use std::marker::Model;
+
+/// The rows of a job repository (Jakarta Batch 2.1, "JobRepository"): a row for each job instance, job
+/// execution and work item, by its number, and one for each step of a job instance that has a
+/// checkpoint.
+///
+/// Job instances, job executions and work items are each numbered from 1 upwards, without gaps.
+#[derive(Debug, Drop)]
+pub struct Records {
+    instances: Vec<JobInstance>,
+    executions: Vec<ExecutionRow>,
+    works: Vec<WorkRow>,
+    checkpoints: Vec<CheckpointRow>,
+}
+
+impl Model for Records {
+    ghost use Rattle.records.specs.Maps.{Maps, AreNumbered};
+
+    ghost Value = { Maps };
+
+    ghost view = { λ r. record { instances = r.instances.items; executions = r.executions.items; works = r.works.items; checkpoints = r.checkpoints.items } };
+
+    ghost invariant = { λ r. AreNumbered record { instances = r.instances.items; executions = r.executions.items; works = r.works.items; checkpoints = r.checkpoints.items } };
+}
+
+impl Records {
+    /// No rows. It takes no memory.
+    pub fn new(alloc: Global) -> Records
+        ensures { result ≡ no_rows }
+    {
+        Records {
+            instances: Vec::new(alloc),
+            executions: Vec::new(alloc),
+            works: Vec::new(alloc),
+            checkpoints: Vec::new(alloc),
+        }
+    }
+
+    /// The job instances, by rising number.
+    pub fn instances(&self) -> &[JobInstance]
+        ensures { result.now ≡ self.now.instances }
+    {
+        self.instances.as_slice()
+    }
+
+    /// The job executions, by rising number.
+    pub fn executions(&self) -> &[ExecutionRow]
+        ensures { result.now ≡ self.now.executions }
+    {
+        self.executions.as_slice()
+    }
+
+    /// The work items, by rising number.
+    pub fn works(&self) -> &[WorkRow]
+        ensures { result.now ≡ self.now.works }
+    {
+        self.works.as_slice()
+    }
+
+    /// The job instance of this number, if there is one, in constant time.
+    #[tactic(auto, using(crate::proofs::Numbered::instance_found))]
+    pub fn instance(&self, i: InstanceId) -> Option<&JobInstance>
+        ensures { option_copied result ≡ find (is_instance i) self.now.instances }
+    {
+        at_number(self.instances.as_slice(), i.value())
+    }
+
+    /// The job execution of this number, if there is one, in constant time.
+    #[tactic(auto, using(crate::proofs::Numbered::execution_found))]
+    pub fn execution(&self, x: ExecutionId) -> Option<&ExecutionRow>
+        ensures { option_copied result ≡ find (is_execution x) self.now.executions }
+    {
+        at_number(self.executions.as_slice(), x.value())
+    }
+
+    /// The work item of this number, if there is one, in constant time.
+    #[tactic(auto, using(crate::proofs::Numbered::work_found))]
+    pub fn work(&self, w: WorkId) -> Option<&WorkRow>
+        ensures { option_copied result ≡ find (is_work w) self.now.works }
+    {
+        at_number(self.works.as_slice(), w.value())
+    }
+
+    /// The checkpoint of a step of a job instance, if there is one, in time proportional to the number of
+    /// checkpoints.
+    pub fn checkpoint(&self, i: InstanceId, step: &T256) -> Option<&Text<65536>>
+        ensures { option_copied result ≡ mark_at self.now.checkpoints record { instance = i; step = step.now } }
+    {
+        for row in self.checkpoints.as_slice() {
+            if is_place(i, step, row) {
+                return Some(&row.mark);
+            }
+        }
+        None
+    }
+
+    /// The names of the jobs that have a job instance, in order of first start. It takes no memory.
+    pub fn names(&self) -> Names<'_>
+        ensures { names_left result ≡ distinct (job_names self.now.instances) }
+    {
+        Names::new(self.instances.as_slice())
+    }
+
+    /// The job instances of this name, by rising number. It takes no memory.
+    pub fn instances_of<'r>(&'r self, name: &'r str) -> InstancesOf<'r>
+        ensures { instances_left result ≡ named name.now self.now.instances }
+    {
+        InstancesOf::new(self.instances.as_slice(), name)
+    }
+
+    /// The job executions of this job instance, by rising number. It takes no memory.
+    pub fn executions_of(&self, i: InstanceId) -> ExecutionsOf<'_>
+        ensures { executions_left result ≡ executions_of i self.now.executions }
+    {
+        ExecutionsOf::new(self.executions.as_slice(), i)
+    }
+
+    /// The work items of this job execution, by rising number. It takes no memory.
+    pub fn works_of(&self, x: ExecutionId) -> WorksOf<'_>
+        ensures { works_left result ≡ works_of x self.now.works }
+    {
+        WorksOf::new(self.works.as_slice(), x)
+    }
+
+    /// Adds a job instance with its first job execution, both with the next number.
+    ///
+    /// Errors: `OutOfMemory` alone, and then nothing has changed.
+    #[tactic(auto, using(crate::proofs::Numbered::instance_pushed, crate::proofs::Numbered::execution_pushed))]
+    pub fn add_instance(
+        &mut self,
+        instance: JobInstance,
+        first: ExecutionRow,
+    ) -> Result<(), OutOfMemory>
+        requires instance { instance.instance ≡ length self.old.instances + 1 }
+        requires first { first.execution ≡ length self.old.executions + 1 }
+        ensures added { OnOk result (self.new ≡ record self.old { instances = self.old.instances ++ instance ∷ []; executions = self.old.executions ++ first ∷ [] }) }
+        ensures unchanged { OnErr result (self.new ≡ self.old) }
+    {
+        self.instances.reserve(1)?;
+        self.executions.push(first)?;
+        match self.instances.push(instance) {
+            Ok(()) => Ok(()),
+            Err(_) => unreachable!(),
+        }
+    }
+
+    /// Adds a job execution with the next number.
+    ///
+    /// Errors: `OutOfMemory` alone, and then nothing has changed.
+    #[tactic(auto, using(crate::proofs::Numbered::execution_pushed))]
+    pub fn add_execution(&mut self, row: ExecutionRow) -> Result<(), OutOfMemory>
+        requires { row.execution ≡ length self.old.executions + 1 }
+        ensures added { OnOk result (self.new ≡ record self.old { executions = self.old.executions ++ row ∷ [] }) }
+        ensures unchanged { OnErr result (self.new ≡ self.old) }
+    {
+        self.executions.push(row)?;
+        Ok(())
+    }
+
+    /// Adds a work item with the next number.
+    ///
+    /// Errors: `OutOfMemory` alone, and then nothing has changed.
+    #[tactic(auto, using(crate::proofs::Numbered::work_pushed))]
+    pub fn add_work(&mut self, row: WorkRow) -> Result<(), OutOfMemory>
+        requires { row.work ≡ length self.old.works + 1 }
+        ensures added { OnOk result (self.new ≡ record self.old { works = self.old.works ++ row ∷ [] }) }
+        ensures unchanged { OnErr result (self.new ≡ self.old) }
+    {
+        self.works.push(row)?;
+        Ok(())
+    }
+
+    /// Changes the row of a job execution. It takes no memory.
+    #[tactic(auto, using(crate::proofs::Numbered::execution_within, crate::proofs::Numbered::execution_changed, crate::proofs::Numbered::execution_kept))]
+    pub fn change_execution(&mut self, x: ExecutionId, row: ExecutionRow)
+        requires there { is_some (find (is_execution x) self.old.executions) ≡ true }
+        requires same { row.execution ≡ x }
+        ensures { self.new ≡ record self.old { executions = change_first (is_execution x) (λ old. row) self.old.executions } }
+    {
+        self.executions[(x.value() - 1) as usize] = row;
+    }
+
+    /// Changes the row of a work item. It takes no memory.
+    #[tactic(auto, using(crate::proofs::Numbered::work_within, crate::proofs::Numbered::work_changed, crate::proofs::Numbered::work_kept))]
+    pub fn change_work(&mut self, w: WorkId, row: WorkRow)
+        requires there { is_some (find (is_work w) self.old.works) ≡ true }
+        requires same { row.work ≡ w }
+        ensures { self.new ≡ record self.old { works = change_first (is_work w) (λ old. row) self.old.works } }
+    {
+        self.works[(w.value() - 1) as usize] = row;
+    }
+
+    /// Sets the checkpoint of a step of a job instance, or clears it where there is no mark.
+    ///
+    /// Errors: `OutOfMemory` alone, and then nothing has changed. Clearing takes no memory.
+    pub fn set_checkpoint(
+        &mut self,
+        i: InstanceId,
+        step: T256,
+        mark: Option<Text<65536>>,
+    ) -> Result<(), OutOfMemory>
+        ensures set { OnOk result (self.new ≡ record self.old { checkpoints = marks_with record { instance = i; step = step } mark self.old.checkpoints }) }
+        ensures unchanged { OnErr result (self.new ≡ self.old) }
+        ensures cleared { mark ≡ None → IsOk result }
+    {
+        match mark {
+            Some(mark) => self.put_checkpoint(CheckpointRow {
+                instance: i,
+                step,
+                mark,
+            }),
+            None => {
+                self.clear_checkpoint(i, &step);
+                Ok(())
+            }
+        }
+    }
+
+    fn put_checkpoint(&mut self, row: CheckpointRow) -> Result<(), OutOfMemory>
+        ensures set { OnOk result (self.new ≡ record self.old { checkpoints = with_mark record { instance = row.instance; step = row.step } row.mark self.old.checkpoints }) }
+        ensures unchanged { OnErr result (self.new ≡ self.old) }
+    {
+        match self.checkpoint_place(row.instance, &row.step) {
+            Some(place) => self.checkpoints[place] = row,
+            None => self.checkpoints.push(row)?,
+        }
+        Ok(())
+    }
+
+    fn clear_checkpoint(&mut self, i: InstanceId, step: &T256)
+        ensures { self.new ≡ record self.old { checkpoints = without_mark record { instance = i; step = step.now } self.old.checkpoints } }
+    {
+        self.checkpoints.retain(|row| is_elsewhere(i, step, row));
+    }
+
+    fn checkpoint_place(&self, i: InstanceId, step: &T256) -> Option<usize>
+        ensures held { IfSome result (λ k. (k < length self.now.checkpoints)
+            × ((mark : List ℕ) → with_mark record { instance = i; step = step.now } mark self.now.checkpoints
+            ≡ slice_set self.now.checkpoints k record { instance = i; step = step.now; mark = mark })) }
+        ensures absent { IfNone result ((mark : List ℕ) → with_mark record { instance = i; step = step.now } mark self.now.checkpoints
+            ≡ self.now.checkpoints ++ record { instance = i; step = step.now; mark = mark } ∷ []) }
+    {
+        for (place, row) in self.checkpoints.iter().enumerate() {
+            if is_place(i, step, row) {
+                return Some(place);
+            }
+        }
+        None
+    }
+}
+
+/// The row that stands at a number, from 1; 0 names nothing.
+fn at_number<R>(rows: &[R], number: u64) -> Option<&R>
+    ensures { option_copied result ≡ at_number number rows.now }
+{
+    if number == 0 {
+        return None;
+    }
+    rows.get((number - 1) as usize)
+}
+
+/// Whether a row is that of this step of this job instance.
+fn is_place(i: InstanceId, step: &T256, row: &CheckpointRow) -> bool
+    ensures { result ≡ is_place record { instance = i; step = step.now } row.now }
+{
+    row.instance == i && row.step.as_str() == step.as_str()
+}
+
+/// Whether a row is that of another step or job instance.
+fn is_elsewhere(i: InstanceId, step: &T256, row: &CheckpointRow) -> bool
+    ensures { result ≡ is_elsewhere record { instance = i; step = step.now } row.now }
+{
+    !is_place(i, step, row)
+}

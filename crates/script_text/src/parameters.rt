@@ -1,0 +1,94 @@
+// The parameters of a job execution: an object of texts.
+ghost use Rattle.std.specs.Prelude.{◌≡◌, IfOk, option_map, is_some};
+ghost use Rattle.std.specs.List.{list_all};
+ghost use Rattle.std.specs.BTreeMap.{values};
+ghost use Rattle.serde_json.specs.Find.{as_str};
+ghost use Rattle.serde_json.specs.View.{view, members_view};
+ghost use Rattle.batch_ids.specs.Parameters.{pairs_of};
+ghost use Rattle.script_text.specs.Parameters.{parameters_at, parameters_within, parameters_data, has_texts, text_pairs};
+ghost use Rattle.script_text.specs.Shapes.{pairs_in};
+
+use batch_ids::{Parameters, Refusal};
+use json_members::optional_object;
+use serde_json::{Map, Value, put};
+use std::alloc::{AllocError, Global};
+
+/// The object of texts that the member `parameters` is, which may be left out; `None` where it is
+/// there and no such object.
+pub fn parameters_at(value: &Value) -> Option<Option<&Value>>
+    ensures { option_map pairs_in result ≡ parameters_at (view value.now) }
+{
+    match optional_object(value, "parameters")? {
+        None => Some(None),
+        Some(object) => {
+            if has_texts(object) {
+                Some(Some(object))
+            } else {
+                None
+            }
+        }
+    }
+}
+
+/// Whether a value is an object whose members are texts.
+fn has_texts(value: &Value) -> bool
+    ensures { result ≡ has_texts (view value.now) }
+{
+    match value.as_object() {
+        Some(members) => are_texts(members),
+        None => false,
+    }
+}
+
+fn are_texts(members: &Map<String, Value>) -> bool
+    ensures { result ≡ list_all (λ value. is_some (as_str (view value))) (values members.now) }
+{
+    members.values().all(Value::is_string)
+}
+
+/// The parameters that an object of texts gives; `None` where a key, a value or their number is
+/// above its bound.
+pub fn parameters_within(
+    alloc: Global,
+    object: Option<&Value>,
+) -> Result<Option<Parameters>, AllocError>
+    ensures { IfOk result (λ made. made ≡ parameters_within (pairs_in object.entry)) }
+{
+    let given = match object.and_then(Value::as_object) {
+        Some(members) => text_pairs(alloc, members)?,
+        None => Vec::new(alloc),
+    };
+    match Parameters::new(alloc, given) {
+        Ok(parameters) => Ok(Some(parameters)),
+        Err(Refusal::TextTooLong) => Ok(None),
+        Err(_) => Err(AllocError),
+    }
+}
+
+/// The name and the text of each member.
+fn text_pairs(
+    alloc: Global,
+    members: &Map<String, Value>,
+) -> Result<Vec<(String, String)>, AllocError>
+    ensures { IfOk result (λ pairs. pairs_of pairs.items ≡ text_pairs (members_view members.now.entries)) }
+{
+    let mut pairs = Vec::new(alloc);
+    for (name, value) in members.iter() {
+        let text = value.as_str().unwrap_or("");
+        let pair = (name.clone()?, String::from_str(alloc, text)?);
+        pairs.push(pair)?;
+    }
+    Ok(pairs)
+}
+
+/// Parameters as they are written: an object of texts, by rising keys.
+pub fn parameters_value(alloc: Global, parameters: &Parameters) -> Result<Value, AllocError>
+    ensures { IfOk result (λ value. view value ≡ parameters_data parameters.now) }
+{
+    let mut members = Map::new(alloc);
+    for parameter in parameters.pairs() {
+        let text = Value::try_from_str(alloc, parameter.value().as_str())?;
+        put(&mut members, alloc, parameter.key().as_str(), text)?;
+    }
+    Ok(Value::Object(members))
+}

@@ -1,0 +1,236 @@
+ghost use Rattle.std.specs.Prelude.{◌≡◌, ◌==◌, Ok, Err, Some, None, IfErr, length, find, reverse, IfOk, if◌then◌else◌};
+ghost use Rattle.std.specs.List.{list_any};
+ghost use Rattle.jsl_model.specs.Names.{distinct};
+ghost use Rattle.batch_history.specs.declared.query.Answer.{Answer};
+ghost use Rattle.batch_history.specs.Rows.{Rows, is_execution};
+ghost use Rattle.batch_history.specs.Answers.{named, page, running_of, is_running_of, records_of, steps_of, counts_of, answered_of, answered_with, answer_by};
+ghost use Rattle.batch_history.specs.Due.{IsDue};
+ghost use Rattle.records.specs.Left.{job_names};
+
+use batch_history::{
+    Answer, CountsByStatus, ExecutionRow, JobExecution, JobInstance, Query, StepExecution,
+};
+use batch_ids::{ExecutionId, InstanceId, Listed, OutOfMemory, Refusal, T256};
+use records::Records;
+use std::alloc::Global;
+
+/// What a query is answered by these rows.
+pub(crate) fn answer(alloc: Global, rows: &Records, query: &Query) -> Result<Answer, Refusal>
+    ensures { (r : Rows) → r.instances ≡ rows.now.instances → r.executions ≡ rows.now.executions → r.works ≡ rows.now.works
+        → IsDue result (answer_by r query.now) }
+{
+    match query {
+        Query::JobNames => Ok(Answer::JobNames(names(alloc, rows)?)),
+        Query::JobInstanceCount { job } => instance_count(rows, job),
+        Query::JobInstances { job, start, count } => instances(alloc, rows, job, *start, *count),
+        Query::RunningExecutions { job } => running(alloc, rows, job),
+        Query::JobExecutions { instance } => executions(alloc, rows, *instance),
+        Query::StatusCounts => Ok(Answer::StatusCounts(counts(rows.executions()))),
+        Query::Parameters { execution } => {
+            let row = known(rows, *execution)?;
+            Ok(Answer::Parameters(row.parameters.try_clone()?))
+        }
+        Query::JobInstance { execution } => {
+            let row = known(rows, *execution)?;
+            Ok(Answer::JobInstance(JobInstance {
+                instance: row.instance,
+                job: row.job.try_clone()?,
+            }))
+        }
+        Query::JobExecution { execution } => {
+            let row = known(rows, *execution)?;
+            Ok(Answer::JobExecution(row.record()?))
+        }
+        Query::StepExecutions { execution } => {
+            known(rows, *execution)?;
+            Ok(Answer::StepExecutions(steps(alloc, rows, *execution)?))
+        }
+    }
+}
+
+/// The row of a job execution that is there.
+fn known(rows: &Records, x: ExecutionId) -> Result<&ExecutionRow, Refusal>
+    ensures there { IfOk result (λ row. find (is_execution x) rows.now.executions ≡ Some row.now) }
+    ensures none { IfErr result (λ refusal. (refusal ≡ Refusal.NoSuchJobExecutionException) × (find (is_execution x) rows.now.executions ≡ None)) }
+{
+    match rows.execution(x) {
+        Some(row) => Ok(row),
+        None => Err(Refusal::NoSuchJobExecutionException),
+    }
+}
+
+/// Whether a job has a job instance.
+fn is_known(rows: &Records, job: &T256) -> bool
+    ensures { (found : Answer) → answered_of (named job.now rows.now.instances) found ≡ (if result then Ok found else Err Refusal.NoSuchJobException) }
+{
+    rows.instances_of(job.as_str()).next().is_some()
+}
+
+fn names(alloc: Global, rows: &Records) -> Result<Listed<T256>, OutOfMemory>
+    ensures { IfOk result (λ names. names ≡ distinct (job_names rows.now.instances)) }
+{
+    let mut names = Vec::new(alloc);
+    for name in rows.names() {
+        names.push(name.try_clone()?)?;
+    }
+    Ok(Listed::from_vec(names))
+}
+
+fn instance_count(rows: &Records, job: &T256) -> Result<Answer, Refusal>
+    ensures { result ≡ answered_of (named job.now rows.now.instances) (Answer.JobInstanceCount (length (named job.now rows.now.instances))) }
+{
+    if !is_known(rows, job) {
+        return Err(Refusal::NoSuchJobException);
+    }
+    Ok(Answer::JobInstanceCount(count_named(rows.instances(), job)))
+}
+
+/// How many of these job instances a job has.
+fn count_named(rows: &[JobInstance], job: &T256) -> u64
+    ensures { result ≡ length (named job.now rows.now) }
+{
+    let mut count = 0;
+    for row in rows {
+        if row.job.as_str() == job.as_str() {
+            count += 1;
+        }
+    }
+    count
+}
+
+fn instances(
+    alloc: Global,
+    rows: &Records,
+    job: &T256,
+    start: u64,
+    count: u64,
+) -> Result<Answer, Refusal>
+    ensures { IsDue result (answered_of (named job.now rows.now.instances) (Answer.JobInstances (page start count (reverse (named job.now rows.now.instances))))) }
+{
+    if !is_known(rows, job) {
+        return Err(Refusal::NoSuchJobException);
+    }
+    let page = newest(alloc, rows.instances(), job, start, count)?;
+    Ok(Answer::JobInstances(Listed::from_vec(page)))
+}
+
+/// At most `count` job instances of a job, the newest first, without the `start` newest.
+fn newest(
+    alloc: Global,
+    rows: &[JobInstance],
+    job: &T256,
+    start: u64,
+    count: u64,
+) -> Result<Vec<JobInstance>, OutOfMemory>
+    ensures { IfOk result (λ found. found.items ≡ page start count (reverse (named job.now rows.now))) }
+{
+    let mut found = Vec::new(alloc);
+    let mut left_out = 0;
+    let mut place = rows.len();
+    while place > 0 && (found.len() as u64) < count {
+        place -= 1;
+        let row = &rows[place];
+        if row.job.as_str() == job.as_str() {
+            if left_out < start {
+                left_out += 1;
+            } else {
+                found.push(row.try_clone()?)?;
+            }
+        }
+    }
+    Ok(found)
+}
+
+fn running(alloc: Global, rows: &Records, job: &T256) -> Result<Answer, Refusal>
+    ensures { IsDue result (answered_of (named job.now rows.now.instances) (Answer.RunningExecutions (running_of job.now rows.now.executions))) }
+{
+    if !is_known(rows, job) {
+        return Err(Refusal::NoSuchJobException);
+    }
+    let running = unfinished(alloc, rows.executions(), job)?;
+    Ok(Answer::RunningExecutions(Listed::from_vec(running)))
+}
+
+/// The numbers of the unfinished job executions of a job, rising.
+fn unfinished(
+    alloc: Global,
+    rows: &[ExecutionRow],
+    job: &T256,
+) -> Result<Vec<ExecutionId>, OutOfMemory>
+    ensures { IfOk result (λ found. found.items ≡ running_of job.now rows.now) }
+{
+    let mut found = Vec::new(alloc);
+    for row in rows {
+        if is_running_of(job, row) {
+            found.push(row.execution)?;
+        }
+    }
+    Ok(found)
+}
+
+fn is_running_of(job: &T256, row: &ExecutionRow) -> bool
+    ensures { result ≡ is_running_of job.now row.now }
+{
+    row.job.as_str() == job.as_str() && row.status().is_unfinished()
+}
+
+#[tactic(auto, using(crate::proofs::Lists::any_found))]
+fn executions(alloc: Global, rows: &Records, i: InstanceId) -> Result<Answer, Refusal>
+    ensures { IsDue result (if list_any (λ instance. instance.instance == i) rows.now.instances then Ok (Answer.JobExecutions (records_of i rows.now.executions)) else Err Refusal.NoSuchJobInstanceException) }
+{
+    if rows.instance(i).is_none() {
+        return Err(Refusal::NoSuchJobInstanceException);
+    }
+    let records = records_of(alloc, rows.executions(), i)?;
+    Ok(Answer::JobExecutions(Listed::from_vec(records)))
+}
+
+/// The records of the job executions of a job instance, the newest first.
+fn records_of(
+    alloc: Global,
+    rows: &[ExecutionRow],
+    i: InstanceId,
+) -> Result<Vec<JobExecution>, OutOfMemory>
+    ensures { IfOk result (λ found. found.items ≡ records_of i rows.now) }
+{
+    let mut found = Vec::new(alloc);
+    let mut place = rows.len();
+    while place > 0 {
+        place -= 1;
+        let row = &rows[place];
+        if row.instance == i {
+            found.push(row.record()?)?;
+        }
+    }
+    Ok(found)
+}
+
+/// The records of the step executions of a job execution, by rising number.
+fn steps(
+    alloc: Global,
+    rows: &Records,
+    x: ExecutionId,
+) -> Result<Listed<StepExecution>, OutOfMemory>
+    ensures { IfOk result (λ found. found ≡ steps_of x rows.now.works) }
+{
+    let mut found = Vec::new(alloc);
+    for row in rows.works_of(x) {
+        if let Some(step) = row.step_execution()? {
+            found.push(step)?;
+        }
+    }
+    Ok(Listed::from_vec(found))
+}
+
+/// How many of these job executions have each status.
+fn counts(rows: &[ExecutionRow]) -> CountsByStatus
+    ensures { result ≡ counts_of rows.now }
+{
+    let mut counts = CountsByStatus::zero();
+    let mut place = rows.len();
+    while place > 0 {
+        place -= 1;
+        counts.add(rows[place].status());
+    }
+    counts
+}

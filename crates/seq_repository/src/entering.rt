@@ -1,0 +1,312 @@
+ghost use Rattle.std.specs.Prelude.{◌≡◌, ◌<◌, ◌+◌, [], true, false, find, length, is_some, IfOk, IfSome, OnOk, OnErr, List, Ok, if◌then◌else◌};
+ghost use Rattle.std.specs.Option.{option_map};
+ghost use Rattle.batch_history.specs.declared.rows.WorkRow.{WorkRow as Work};
+ghost use Rattle.batch_history.specs.Due.{IsDue};
+ghost use Rattle.batch_history.specs.History.{change_first, is_work, known_of, put_mark, marks_left};
+ghost use Rattle.batch_history.specs.Rows.{is_execution, reply_by};
+ghost use Rattle.batch_history.specs.Replies.{is_nothing};
+ghost use Rattle.batch_history.specs.Steps.{rows_after};
+ghost use Rattle.seq_repository.specs.Touches.{put_row, place_at, touched_as};
+
+use crate::repository::Repository;
+use crate::rows::Touch;
+use crate::{rows, search, status};
+use batch_history::{Call, ExecutionRow, JobInstance, Reply, WorkItem};
+use batch_ids::{
+    ExecutionId, InstanceId, MetricStep, Moment, OutOfMemory, Parameters, Refusal, T256, Text,
+    WorkId, WorkOutcome,
+};
+use job_walk::Known;
+use records::Records;
+use std::alloc::Global;
+
+/// Puts a row in place of that of its job execution.
+fn put_row(records: &mut Records, x: ExecutionId, new: Option<ExecutionRow>)
+    requires { IfSome new (λ row. (is_some (find (is_execution x) records.old.executions) ≡ true) × (row.execution ≡ x)) }
+    ensures { records.new ≡ record records.old { executions = put_row x new records.old.executions } }
+{
+    match new {
+        None => {}
+        Some(row) => records.change_execution(x, row),
+    }
+}
+
+/// Keeps the checkpoint of a step of the job instance of this job execution, if there is one.
+fn put_mark(
+    records: &mut Records,
+    row: &Option<ExecutionRow>,
+    step: T256,
+    mark: Text<65536>,
+) -> Result<(), OutOfMemory>
+    ensures rows { OnOk result (records.new ≡ record records.old { checkpoints = put_mark (place_at row.now step) mark records.old.checkpoints }) }
+    ensures unchanged { OnErr result (records.new ≡ records.old) }
+{
+    match row {
+        None => Ok(()),
+        Some(row) => records.set_checkpoint(row.instance, step, Some(mark)),
+    }
+}
+
+/// Drops the checkpoint of a step that is completed.
+fn leave_mark(records: &mut Records, outcome: WorkOutcome, row: &Option<ExecutionRow>, step: T256)
+    ensures { records.new ≡ record records.old { checkpoints = marks_left outcome (place_at row.now step) records.old.checkpoints } }
+{
+    match outcome {
+        WorkOutcome::Completed => match row {
+            None => {}
+            Some(row) => match records.set_checkpoint(row.instance, step, None) {
+                Ok(()) => {}
+                Err(_) => unreachable!(),
+            },
+        },
+        WorkOutcome::Failed => {}
+        WorkOutcome::Stopped => {}
+    }
+}
+
+impl<const LIMIT: u64> Repository<LIMIT> {
+    /// The row of a job execution after an operation on it, by what is known of its elements then.
+    fn touched(
+        &self,
+        alloc: Global,
+        x: ExecutionId,
+        touch: Touch,
+        known: &[Known],
+        at: Moment,
+    ) -> Result<Option<ExecutionRow>, OutOfMemory>
+        ensures row { (works : List Work) → known.now ≡ known_of x works
+            → IfOk result (λ new. new ≡ option_map (touched_as touch self.now.catalogue works at) (find (is_execution x) self.now.executions)) }
+        ensures own { IfOk result (λ new. IfSome new (λ row. (is_some (find (is_execution x) self.now.executions) ≡ true) × (row.execution ≡ x))) }
+    {
+        match self.records.execution(x) {
+            None => Ok(None),
+            Some(row) => {
+                let value = search::walk_of(alloc, &self.catalogue, known, &row.job)?;
+                Ok(Some(rows::refreshed(alloc, touch, value, at, row)?))
+            }
+        }
+    }
+
+    fn enter_start(
+        &mut self,
+        job: &T256,
+        parameters: &Parameters,
+        at: Moment,
+    ) -> Result<(), OutOfMemory>
+        requires { self.old.count < LIMIT }
+        ensures rows { OnOk result (self.new ≡ rows_after self.old record { who = 0; call = Call.Start job.now parameters.now; at = at; reply = Reply.Done }) }
+        ensures unchanged { OnErr result (self.new ≡ self.old) }
+    {
+        let first = job.try_clone()?;
+        let second = job.try_clone()?;
+        let parameters = parameters.try_clone()?;
+        let instance = InstanceId::new(self.records.instances().len() as u64 + 1);
+        let x = self.records.executions().len() as u64 + 1;
+        let row = rows::fresh_row(x, instance, at, second, parameters);
+        let made = JobInstance {
+            instance,
+            job: first,
+        };
+        self.records.add_instance(made, row)?;
+        self.count += 1;
+        Ok(())
+    }
+
+    fn enter_restart(
+        &mut self,
+        alloc: Global,
+        y: ExecutionId,
+        parameters: &Parameters,
+        at: Moment,
+    ) -> Result<(), OutOfMemory>
+        requires { self.old.count < LIMIT }
+        ensures rows { OnOk result (self.new ≡ rows_after self.old record { who = 0; call = Call.Restart y parameters.now; at = at; reply = Reply.Done }) }
+        ensures unchanged { OnErr result (self.new ≡ self.old) }
+    {
+        let parameters = parameters.try_clone()?;
+        let x = self.records.executions().len() as u64 + 1;
+        let row = rows::again_row(alloc, x, at, parameters, self.records.execution(y))?;
+        self.records.add_execution(row)?;
+        self.count += 1;
+        Ok(())
+    }
+
+    /// Enters an operation on a job execution that changes no work item.
+    fn enter_touch(
+        &mut self,
+        alloc: Global,
+        x: ExecutionId,
+        touch: Touch,
+        at: Moment,
+    ) -> Result<(), OutOfMemory>
+        requires { self.old.count < LIMIT }
+        ensures rows { OnOk result (self.new ≡ record self.old { count = self.old.count + 1; executions = change_first (is_execution x) (touched_as touch self.old.catalogue self.old.works at) self.old.executions }) }
+        ensures unchanged { OnErr result (self.new ≡ self.old) }
+    {
+        let known = search::known_of(alloc, self.records.works(), x)?;
+        let row = self.touched(alloc, x, touch, known.as_slice(), at)?;
+        put_row(&mut self.records, x, row);
+        self.count += 1;
+        Ok(())
+    }
+
+    fn enter_work(
+        &mut self,
+        alloc: Global,
+        who: u64,
+        at: Moment,
+        item: &WorkItem,
+    ) -> Result<(), OutOfMemory>
+        requires room { self.old.count < LIMIT }
+        requires number { item.now.work ≡ length self.old.works + 1 }
+        ensures rows { OnOk result (self.new ≡ rows_after self.old record { who = who; call = Call.Claim; at = at; reply = Reply.Work item.now }) }
+        ensures unchanged { OnErr result (self.new ≡ self.old) }
+    {
+        let x = item.execution;
+        let known = search::known_handed(alloc, self.records.works(), item)?;
+        let row = self.touched(alloc, x, Touch::Taken, known.as_slice(), at)?;
+        let work = rows::handed_to(who, at, item)?;
+        self.records.add_work(work)?;
+        put_row(&mut self.records, x, row);
+        self.count += 1;
+        Ok(())
+    }
+
+    fn enter_checkpoint(
+        &mut self,
+        alloc: Global,
+        at: Moment,
+        w: WorkId,
+        mark: &Text<65536>,
+        step: &MetricStep,
+    ) -> Result<(), OutOfMemory>
+        requires room { self.old.count < LIMIT }
+        requires held { is_some (find (is_work w) self.old.works) ≡ true }
+        ensures rows { OnOk result (self.new ≡ rows_after self.old record { who = 0; call = Call.Checkpoint w mark.now step.now; at = at; reply = Reply.Done }) }
+        ensures unchanged { OnErr result (self.new ≡ self.old) }
+    {
+        let Some(work) = self.records.work(w) else {
+            unreachable!();
+        };
+        let x = work.execution;
+        let element = work.element.try_clone()?;
+        let mark = mark.try_clone()?;
+        let work = rows::reported(*step, work)?;
+        let known = search::known_of(alloc, self.records.works(), x)?;
+        let row = self.touched(alloc, x, Touch::Reported, known.as_slice(), at)?;
+        put_mark(&mut self.records, &row, element, mark)?;
+        self.records.change_work(w, work);
+        put_row(&mut self.records, x, row);
+        self.count += 1;
+        Ok(())
+    }
+
+    fn enter_finish(
+        &mut self,
+        alloc: Global,
+        at: Moment,
+        w: WorkId,
+        outcome: WorkOutcome,
+        exit: &Option<T256>,
+        step: &MetricStep,
+    ) -> Result<(), OutOfMemory>
+        requires room { self.old.count < LIMIT }
+        requires held { is_some (find (is_work w) self.old.works) ≡ true }
+        ensures rows { OnOk result (self.new ≡ rows_after self.old record { who = 0; call = Call.Finish w outcome exit.now step.now; at = at; reply = Reply.Done }) }
+        ensures unchanged { OnErr result (self.new ≡ self.old) }
+    {
+        let Some(work) = self.records.work(w) else {
+            unreachable!();
+        };
+        let x = work.execution;
+        let element = work.element.try_clone()?;
+        let exit = status::exit_given(alloc, outcome, exit)?;
+        let known = search::known_over(alloc, self.records.works(), x, w, outcome, &exit)?;
+        let row = self.touched(alloc, x, Touch::Reported, known.as_slice(), at)?;
+        let work = rows::over_as(outcome, exit, *step, at, work)?;
+        leave_mark(&mut self.records, outcome, &row, element);
+        self.records.change_work(w, work);
+        put_row(&mut self.records, x, row);
+        self.count += 1;
+        Ok(())
+    }
+
+    #[tactic(auto, using(crate::proofs::Replying::claimed_next, crate::proofs::Entries::closed_rows))]
+    fn enter_claim(
+        &mut self,
+        alloc: Global,
+        who: u64,
+        at: Moment,
+        reply: &Reply,
+    ) -> Result<(), OutOfMemory>
+        requires room { self.old.count < LIMIT }
+        requires due { reply_by LIMIT self.old who Call.Claim ≡ Ok reply.now }
+        requires entered { is_nothing reply.now ≡ false }
+        ensures rows { OnOk result (self.new ≡ rows_after self.old record { who = who; call = Call.Claim; at = at; reply = reply.now }) }
+        ensures unchanged { OnErr result (self.new ≡ self.old) }
+    {
+        match reply {
+            Reply::Work(item) => self.enter_work(alloc, who, at, item),
+            Reply::Closed(x) => self.enter_touch(alloc, *x, Touch::Taken, at),
+            _ => unreachable!(),
+        }
+    }
+
+    /// Enters a call with the reply that it is due.
+    #[tactic(auto, using(crate::proofs::Replying::checkpointed_there, crate::proofs::Replying::finished_there, crate::proofs::Entries::stop_rows, crate::proofs::Entries::abandon_rows))]
+    fn enter(
+        &mut self,
+        alloc: Global,
+        who: u64,
+        call: &Call,
+        at: Moment,
+        reply: &Reply,
+    ) -> Result<(), OutOfMemory>
+        requires room { self.old.count < LIMIT }
+        requires due { reply_by LIMIT self.old who call.now ≡ Ok reply.now }
+        requires entered { is_nothing reply.now ≡ false }
+        ensures rows { OnOk result (self.new ≡ rows_after self.old record { who = who; call = call.now; at = at; reply = reply.now }) }
+        ensures unchanged { OnErr result (self.new ≡ self.old) }
+    {
+        match call {
+            Call::Start { job, parameters } => self.enter_start(job, parameters, at),
+            Call::Restart {
+                execution,
+                parameters,
+            } => self.enter_restart(alloc, *execution, parameters, at),
+            Call::Stop { execution } => self.enter_touch(alloc, *execution, Touch::Asked, at),
+            Call::Abandon { execution } => self.enter_touch(alloc, *execution, Touch::GivenUp, at),
+            Call::Claim => self.enter_claim(alloc, who, at, reply),
+            Call::Checkpoint { work, mark, step } => {
+                self.enter_checkpoint(alloc, at, *work, mark, step)
+            }
+            Call::Finish {
+                work,
+                outcome,
+                exit,
+                step,
+            } => self.enter_finish(alloc, at, *work, *outcome, exit, step),
+        }
+    }
+
+    /// Answers a call, and enters it where it is accepted.
+    #[tactic(auto, using(crate::proofs::Replying::reply_room))]
+    pub(crate) fn change(
+        &mut self,
+        alloc: Global,
+        who: u64,
+        call: &Call,
+        at: Moment,
+    ) -> Result<Reply, Refusal>
+        ensures due { IsDue result (reply_by LIMIT self.old who call.now) }
+        ensures rows { IfOk result (λ reply. self.new ≡ (if is_nothing reply then self.old else rows_after self.old record { who = who; call = call.now; at = at; reply = reply })) }
+        ensures refused { OnErr result (self.new ≡ self.old) }
+    {
+        let reply = self.reply(alloc, who, call)?;
+        if reply.is_nothing() {
+            return Ok(reply);
+        }
+        self.enter(alloc, who, call, at, &reply)?;
+        Ok(reply)
+    }
+}

@@ -1,0 +1,281 @@
+ghost use Rattle.std.specs.Prelude.{◌≡◌, [], find, IfOk};
+ghost use Rattle.std.specs.Option.{option_copied};
+ghost use Rattle.batch_history.specs.Due.{IsDue};
+ghost use Rattle.batch_history.specs.History.{is_work, job_named};
+ghost use Rattle.batch_history.specs.Rows.{is_execution, reply_by, entered, claim_reply, stopped, abandoned, checkpointed, finished, stop_asked, unheld_by, marked_as, stopped_as, stopped_end, finished_as, item_of, task_of, runs_in, walk_in, first_ready};
+
+use crate::repository::Repository;
+use crate::{search, status};
+use batch_history::{Call, ExecutionRow, Reply, WorkItem, WorkKind, WorkState, WorkTask};
+use batch_ids::{ExecutionId, OutOfMemory, Refusal, T256, Text, WorkId, WorkOutcome};
+use job_walk::Runnable;
+use jsl_model::Task;
+use std::alloc::Global;
+
+/// The reply, or the refusal where the history is full.
+fn entered<const LIMIT: u64>(count: u64, reply: Reply) -> Result<Reply, Refusal>
+    ensures { result ≡ entered LIMIT count reply }
+{
+    if count < LIMIT {
+        Ok(reply)
+    } else {
+        Err(Refusal::RepositoryFull)
+    }
+}
+
+/// What a worker is to run, a chunk from this checkpoint on.
+fn task_of(
+    alloc: Global,
+    mark: Option<&Text<65536>>,
+    found: Option<Runnable>,
+) -> Result<WorkTask, OutOfMemory>
+    ensures { IfOk result (λ task. task ≡ task_of (option_copied mark.entry) found) }
+{
+    match found {
+        None => Ok(WorkTask::Decision {
+            artifact: T256::empty(alloc),
+        }),
+        Some(Runnable::Decision(artifact)) => Ok(WorkTask::Decision { artifact }),
+        Some(Runnable::Step(task)) => match task {
+            Task::Batchlet { artifact } => Ok(WorkTask::Batchlet { artifact }),
+            Task::Chunk {
+                reader,
+                processor,
+                writer,
+                item_count,
+            } => {
+                let checkpoint = match mark {
+                    None => None,
+                    Some(mark) => Some(mark.try_clone()?),
+                };
+                Ok(WorkTask::Chunk {
+                    reader,
+                    processor,
+                    writer,
+                    item_count,
+                    checkpoint,
+                })
+            }
+        },
+    }
+}
+
+/// Why a session may not report of a work item.
+fn unheld_by(who: u64, claimer: u64, state: &WorkState) -> Option<Refusal>
+    ensures { result ≡ unheld_by who claimer state.now }
+{
+    match state {
+        WorkState::Over(_, _) => Some(Refusal::WorkNotRunning),
+        WorkState::Busy => if claimer == who {
+            None
+        } else {
+            Some(Refusal::NotClaimer)
+        },
+    }
+}
+
+/// What the checkpoint of a work item of this kind is answered.
+fn marked_as<const LIMIT: u64>(count: u64, stop: bool, kind: WorkKind) -> Result<Reply, Refusal>
+    ensures { result ≡ marked_as LIMIT count stop kind }
+{
+    match kind {
+        WorkKind::Chunk => if stop {
+            entered::<LIMIT>(count, Reply::StopAsked)
+        } else {
+            entered::<LIMIT>(count, Reply::Go)
+        },
+        WorkKind::Batchlet => Err(Refusal::WrongOutcome),
+        WorkKind::Decision => Err(Refusal::WrongOutcome),
+    }
+}
+
+fn stopped_as<const LIMIT: u64>(count: u64, stop: bool) -> Result<Reply, Refusal>
+    ensures { result ≡ stopped_as LIMIT count stop }
+{
+    if stop {
+        entered::<LIMIT>(count, Reply::Done)
+    } else {
+        Err(Refusal::NotStopping)
+    }
+}
+
+fn stopped_end<const LIMIT: u64>(count: u64, stop: bool, kind: WorkKind) -> Result<Reply, Refusal>
+    ensures { result ≡ stopped_end LIMIT count stop kind }
+{
+    match kind {
+        WorkKind::Decision => Err(Refusal::WrongOutcome),
+        WorkKind::Batchlet => stopped_as::<LIMIT>(count, stop),
+        WorkKind::Chunk => stopped_as::<LIMIT>(count, stop),
+    }
+}
+
+/// What the end of a work item of this kind is answered.
+fn finished_as<const LIMIT: u64>(
+    count: u64,
+    stop: bool,
+    kind: WorkKind,
+    outcome: WorkOutcome,
+) -> Result<Reply, Refusal>
+    ensures { result ≡ finished_as LIMIT count stop kind outcome }
+{
+    match outcome {
+        WorkOutcome::Stopped => stopped_end::<LIMIT>(count, stop, kind),
+        WorkOutcome::Completed => entered::<LIMIT>(count, Reply::Done),
+        WorkOutcome::Failed => entered::<LIMIT>(count, Reply::Done),
+    }
+}
+
+impl<const LIMIT: u64> Repository<LIMIT> {
+    fn reply_to_start(&self, job: &T256) -> Result<Reply, Refusal>
+        ensures { result ≡ reply_by LIMIT self.now 0 (Call.Start job.now []) }
+    {
+        if self.catalogue.job(job.as_str()).is_none() {
+            return Err(Refusal::JobStartException);
+        }
+        let x = ExecutionId::new(self.records.executions().len() as u64 + 1);
+        entered::<LIMIT>(self.count, Reply::Execution(x))
+    }
+
+    fn reply_to_restart(&self, x: ExecutionId) -> Result<Reply, Refusal>
+        ensures { result ≡ reply_by LIMIT self.now 0 (Call.Restart x []) }
+    {
+        if self.records.execution(x).is_none() {
+            return Err(Refusal::NoSuchJobExecutionException);
+        }
+        let x = ExecutionId::new(self.records.executions().len() as u64 + 1);
+        entered::<LIMIT>(self.count, Reply::Execution(x))
+    }
+
+    fn reply_to_stop(&self, x: ExecutionId) -> Result<Reply, Refusal>
+        ensures { result ≡ stopped LIMIT self.now.count (find (is_execution x) self.now.executions) }
+    {
+        match self.records.execution(x) {
+            None => Err(Refusal::NoSuchJobExecutionException),
+            Some(row) => if status::is_finished(row.status()) {
+                Err(Refusal::JobExecutionNotRunningException)
+            } else {
+                entered::<LIMIT>(self.count, Reply::Done)
+            },
+        }
+    }
+
+    fn reply_to_abandon(&self, x: ExecutionId) -> Result<Reply, Refusal>
+        ensures { result ≡ abandoned LIMIT self.now (find (is_execution x) self.now.executions) }
+    {
+        match self.records.execution(x) {
+            None => Err(Refusal::NoSuchJobExecutionException),
+            Some(row) => if search::is_running(self.records.executions(), row.instance) {
+                Err(Refusal::JobExecutionIsRunningException)
+            } else {
+                entered::<LIMIT>(self.count, Reply::Done)
+            },
+        }
+    }
+
+    fn task_in(
+        &self,
+        alloc: Global,
+        mark: Option<&Text<65536>>,
+        job: &T256,
+        element: &T256,
+    ) -> Result<WorkTask, OutOfMemory>
+        ensures { IfOk result (λ task. task ≡ task_of (option_copied mark.entry) (runs_in (job_named self.now.catalogue job.now) element.now)) }
+    {
+        match self.catalogue.job(job.as_str()) {
+            None => task_of(alloc, mark, None),
+            Some(job) => {
+                let found = job_walk::find_runnable(job.elements(), element)?;
+                task_of(alloc, mark, found)
+            }
+        }
+    }
+
+    fn item_of(&self, alloc: Global, row: &ExecutionRow, id: &T256) -> Result<WorkItem, OutOfMemory>
+        ensures { IfOk result (λ item. item ≡ item_of self.now row.now id.now) }
+    {
+        let mark = self.records.checkpoint(row.instance, id);
+        let task = self.task_in(alloc, mark, &row.job, id)?;
+        let element = id.try_clone()?;
+        let work = WorkId::new(self.records.works().len() as u64 + 1);
+        Ok(WorkItem {
+            work,
+            execution: row.execution,
+            element,
+            task,
+        })
+    }
+
+    fn claim_of(&self, alloc: Global, row: &ExecutionRow) -> Result<Reply, OutOfMemory>
+        ensures { IfOk result (λ reply. reply ≡ claim_reply self.now row.now (first_ready (walk_in self.now row.now))) }
+    {
+        let value = search::walk_value(alloc, &self.catalogue, self.records.works(), row)?;
+        match status::first_ready(&value) {
+            None => Ok(Reply::Closed(row.execution)),
+            Some(id) => Ok(Reply::Work(self.item_of(alloc, row, id)?)),
+        }
+    }
+
+    fn reply_to_claim(&self, alloc: Global) -> Result<Reply, Refusal>
+        ensures { IsDue result (reply_by LIMIT self.now 0 Call.Claim) }
+    {
+        let works = self.records.works();
+        match search::find_ready(alloc, &self.catalogue, works, self.records.executions())? {
+            None => Ok(Reply::Nothing),
+            Some(row) => {
+                let reply = self.claim_of(alloc, row)?;
+                entered::<LIMIT>(self.count, reply)
+            }
+        }
+    }
+
+    fn stop_asked(&self, x: ExecutionId) -> bool
+        ensures { result ≡ stop_asked self.now x }
+    {
+        match self.records.execution(x) {
+            None => false,
+            Some(row) => row.stop,
+        }
+    }
+
+    fn reply_to_checkpoint(&self, who: u64, w: WorkId) -> Result<Reply, Refusal>
+        ensures { result ≡ checkpointed LIMIT self.now who (find (is_work w) self.now.works) }
+    {
+        match self.records.work(w) {
+            None => Err(Refusal::NoSuchWork),
+            Some(row) => match unheld_by(who, row.claimer, &row.state) {
+                Some(refusal) => Err(refusal),
+                None => marked_as::<LIMIT>(self.count, self.stop_asked(row.execution), row.kind),
+            },
+        }
+    }
+
+    fn reply_to_finish(&self, who: u64, w: WorkId, outcome: WorkOutcome) -> Result<Reply, Refusal>
+        ensures { result ≡ finished LIMIT self.now who outcome (find (is_work w) self.now.works) }
+    {
+        match self.records.work(w) {
+            None => Err(Refusal::NoSuchWork),
+            Some(row) => match unheld_by(who, row.claimer, &row.state) {
+                Some(refusal) => Err(refusal),
+                None => {
+                    let stop = self.stop_asked(row.execution);
+                    finished_as::<LIMIT>(self.count, stop, row.kind, outcome)
+                }
+            },
+        }
+    }
+
+    /// What a call of the session `who` is answered.
+    pub(crate) fn reply(&self, alloc: Global, who: u64, call: &Call) -> Result<Reply, Refusal>
+        ensures { IsDue result (reply_by LIMIT self.now who call.now) }
+    {
+        match call {
+            Call::Start { job, .. } => self.reply_to_start(job),
+            Call::Restart { execution, .. } => self.reply_to_restart(*execution),
+            Call::Stop { execution } => self.reply_to_stop(*execution),
+            Call::Abandon { execution } => self.reply_to_abandon(*execution),
+            Call::Claim => self.reply_to_claim(alloc),
+            Call::Checkpoint { work, .. } => self.reply_to_checkpoint(who, *work),
+            Call::Finish { work, outcome, .. } => self.reply_to_finish(who, *work, *outcome),
+        }
+    }
+}

@@ -1,0 +1,177 @@
+use crate::{Call, Reply, Repository, WorkItem, WorkTask};
+use batch_ids::{
+    ExecutionId, Listed, MetricStep, Parameters, Refusal, T256, Text, WorkId, WorkOutcome,
+};
+use jsl_model::{BodyParts, Catalogue, ElementParts, Job, JobParts, StepParts, TaskParts};
+use std::alloc::{AllocError, Global};
+use std::test::Fail;
+
+fn chunk(alloc: Global) -> Result<ElementParts, AllocError> {
+    let task = TaskParts::Chunk {
+        reader: String::from_str(alloc, "read")?,
+        processor: None,
+        writer: String::from_str(alloc, "write")?,
+        item_count: 10,
+    };
+    Ok(ElementParts {
+        id: String::from_str(alloc, "copy")?,
+        next: None,
+        transitions: Listed::new(alloc),
+        body: BodyParts::Step(StepParts {
+            start_limit: 0,
+            allow_start_if_complete: false,
+            task,
+        }),
+    })
+}
+
+fn parts(alloc: Global) -> Result<JobParts, AllocError> {
+    let mut elements = Listed::new(alloc);
+    elements.push(chunk(alloc)?)?;
+    Ok(JobParts {
+        id: String::from_str(alloc, "nightly")?,
+        restartable: true,
+        elements,
+    })
+}
+
+/// A repository over one job of one chunk.
+fn repository(alloc: Global) -> Result<Repository<100>, Fail> {
+    let mut catalogue = Catalogue::new(alloc);
+    catalogue.add(Job::check(alloc, parts(alloc)?)?)?;
+    Ok(Repository::new(alloc, catalogue)?)
+}
+
+fn start(alloc: Global) -> Result<Call, Refusal> {
+    Ok(Call::Start {
+        job: T256::new(alloc, "nightly")?,
+        parameters: Parameters::none(alloc),
+    })
+}
+
+fn restart(alloc: Global) -> Call {
+    Call::Restart {
+        execution: ExecutionId::new(1),
+        parameters: Parameters::none(alloc),
+    }
+}
+
+fn stop() -> Call {
+    Call::Stop {
+        execution: ExecutionId::new(1),
+    }
+}
+
+fn abandon() -> Call {
+    Call::Abandon {
+        execution: ExecutionId::new(1),
+    }
+}
+
+fn checkpoint(alloc: Global) -> Result<Call, Refusal> {
+    Ok(Call::Checkpoint {
+        work: WorkId::new(1),
+        mark: Text::new(alloc, "10")?,
+        step: MetricStep::zero(),
+    })
+}
+
+fn finish(outcome: WorkOutcome) -> Call {
+    Call::Finish {
+        work: WorkId::new(1),
+        outcome,
+        exit: None,
+        step: MetricStep::zero(),
+    }
+}
+
+fn work(alloc: Global, number: u64, mark: Option<Text<65536>>) -> Result<Reply, Refusal> {
+    Ok(Reply::Work(WorkItem {
+        work: WorkId::new(number),
+        execution: ExecutionId::new(number),
+        element: T256::new(alloc, "copy")?,
+        task: WorkTask::Chunk {
+            reader: T256::new(alloc, "read")?,
+            processor: None,
+            writer: T256::new(alloc, "write")?,
+            item_count: 10,
+            checkpoint: mark,
+        },
+    }))
+}
+
+/// Makes a call of session 1, and tells whether it is answered so.
+fn says(
+    repository: &mut Repository<100>,
+    alloc: Global,
+    call: Call,
+    wanted: Result<Reply, Refusal>,
+) -> bool {
+    let reply = repository.apply(alloc, 1, &call, 10);
+    reply == wanted
+}
+
+/// A repository whose one job execution is being run.
+fn running(alloc: Global) -> Result<Repository<100>, Fail> {
+    let mut repository = repository(alloc)?;
+    let _started = repository.apply(alloc, 1, &start(alloc)?, 10)?;
+    let _claimed = repository.apply(alloc, 1, &Call::Claim, 10)?;
+    Ok(repository)
+}
+
+#[test]
+fn a_start_is_claimed(rt: HostRuntime) -> Result<(), Fail> {
+    let alloc = rt.alloc();
+    let mut repository = repository(alloc)?;
+    let first = Reply::Execution(ExecutionId::new(1));
+    assert!(rt; says(&mut repository, alloc, start(alloc)?, Ok(first)));
+    assert!(rt; says(&mut repository, alloc, Call::Claim, work(alloc, 1, None)));
+    assert!(rt; says(&mut repository, alloc, Call::Claim, Ok(Reply::Nothing)));
+    assert_eq!(rt; repository.len(), 2);
+    Ok(())
+}
+
+#[test]
+fn a_restart_goes_on_at_the_checkpoint(rt: HostRuntime) -> Result<(), Fail> {
+    let alloc = rt.alloc();
+    let mut repository = running(alloc)?;
+    let end = finish(WorkOutcome::Stopped);
+    assert!(rt; says(&mut repository, alloc, checkpoint(alloc)?, Ok(Reply::Go)));
+    assert!(rt; says(&mut repository, alloc, stop(), Ok(Reply::Done)));
+    assert!(rt;
+        says(
+            &mut repository,
+            alloc,
+            checkpoint(alloc)?,
+            Ok(Reply::StopAsked)
+        )
+    );
+    assert!(rt; says(&mut repository, alloc, end, Ok(Reply::Done)));
+    assert!(rt; says(&mut repository, alloc, Call::Claim, Ok(Reply::Nothing)));
+    let second = Reply::Execution(ExecutionId::new(2));
+    assert!(rt; says(&mut repository, alloc, restart(alloc), Ok(second)));
+    let mark = Text::new(alloc, "10")?;
+    assert!(rt;
+        says(
+            &mut repository,
+            alloc,
+            Call::Claim,
+            work(alloc, 2, Some(mark))
+        )
+    );
+    Ok(())
+}
+
+#[test]
+fn a_running_job_is_not_given_up(rt: HostRuntime) -> Result<(), Fail> {
+    let alloc = rt.alloc();
+    let mut repository = running(alloc)?;
+    let end = finish(WorkOutcome::Stopped);
+    assert!(rt; says(&mut repository, alloc, end, Err(Refusal::NotStopping)));
+    let running = Err(Refusal::JobExecutionIsRunningException);
+    assert!(rt; says(&mut repository, alloc, abandon(), running));
+    let end = finish(WorkOutcome::Completed);
+    assert!(rt; says(&mut repository, alloc, end, Ok(Reply::Done)));
+    assert!(rt; says(&mut repository, alloc, abandon(), Ok(Reply::Done)));
+    Ok(())
+}
