@@ -66,7 +66,7 @@ rows-from catalogue past k (m ∷ ms) fits h all =
     ∙ ap (λ rows. execution_row catalogue past m ∷ rows) (rows-from catalogue past (k + 1) ms fits h.1 (rest-found past k m ms h.0 all))
 
 -- the job executions are those that the rows have
-executions-law : (catalogue : List JobTree) (past : List Entry) → AllFit past → executions_found catalogue past ≡ map (execution_row catalogue past) (made past)
+pub executions-law : (catalogue : List JobTree) (past : List Entry) → AllFit past → executions_found catalogue past ≡ map (execution_row catalogue past) (made past)
 executions-law catalogue past fits =
     ap (λ n. filter_map (execution_found catalogue past) (numbers_from 1 n)) (executions-made past)
     ∙ rows-from catalogue past 1 (made past) fits (numbered past) (λ x le. origin-law past fits x)
