@@ -16,6 +16,8 @@ pub use summary::Summary;
 #[cfg(test)]
 mod call_tests;
 #[cfg(test)]
+mod fault_tests;
+#[cfg(test)]
 mod job_tests;
 #[cfg(test)]
 mod plain_tests;

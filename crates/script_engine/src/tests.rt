@@ -91,9 +91,9 @@ fn no_input_is_no_catalogue(rt: HostRuntime) {
 
 // Tells one byte a call, and fails behind so many calls.
 #[derive(Drop)]
-struct Bytewise<'a> {
-    rest: &'a [u8],
-    calls_left: u64,
+pub(crate) struct Bytewise<'a> {
+    pub(crate) rest: &'a [u8],
+    pub(crate) calls_left: u64,
 }
 
 impl Read for Bytewise<'_> {
