@@ -149,19 +149,15 @@ impl Call {
         ensures { IfOk result (λ copy. copy ≡ self.now) }
     {
         match self {
-            Call::Start { job, parameters } => {
-                Ok(Call::Start {
-                    job: job.try_clone()?,
-                    parameters: parameters.try_clone()?,
-                })
-            }
+            Call::Start { job, parameters } => start_copy(job, parameters),
             Call::Restart {
                 execution,
                 parameters,
             } => {
+                let parameters = parameters.try_clone()?;
                 Ok(Call::Restart {
                     execution: *execution,
-                    parameters: parameters.try_clone()?,
+                    parameters,
                 })
             }
             Call::Stop { execution } => Ok(Call::Stop {
@@ -171,28 +167,48 @@ impl Call {
                 execution: *execution,
             }),
             Call::Claim => Ok(Call::Claim),
-            Call::Checkpoint { work, mark, step } => {
-                Ok(Call::Checkpoint {
-                    work: *work,
-                    mark: mark.try_clone()?,
-                    step: *step,
-                })
-            }
+            Call::Checkpoint { work, mark, step } => checkpoint_copy(*work, mark, *step),
             Call::Finish {
                 work,
                 outcome,
                 exit,
                 step,
-            } => {
-                Ok(Call::Finish {
-                    work: *work,
-                    outcome: *outcome,
-                    exit: try_clone_option(exit)?,
-                    step: *step,
-                })
-            }
+            } => finish_copy(*work, *outcome, exit, *step),
         }
     }
+}
+
+fn start_copy(job: &T256, parameters: &Parameters) -> Result<Call, OutOfMemory>
+    ensures { IfOk result (λ copy. copy ≡ Call.Start job.now parameters.now) }
+{
+    Ok(Call::Start {
+        job: job.try_clone()?,
+        parameters: parameters.try_clone()?,
+    })
+}
+
+fn checkpoint_copy(work: WorkId, mark: &Text<65536>, step: MetricStep) -> Result<Call, OutOfMemory>
+    ensures { IfOk result (λ copy. copy ≡ Call.Checkpoint work mark.now step) }
+{
+    let mark = mark.try_clone()?;
+    Ok(Call::Checkpoint { work, mark, step })
+}
+
+fn finish_copy(
+    work: WorkId,
+    outcome: WorkOutcome,
+    exit: &Option<T256>,
+    step: MetricStep,
+) -> Result<Call, OutOfMemory>
+    ensures { IfOk result (λ copy. copy ≡ Call.Finish work outcome exit.now step) }
+{
+    let exit = try_clone_option(exit)?;
+    Ok(Call::Finish {
+        work,
+        outcome,
+        exit,
+        step,
+    })
 }
 
 impl WorkTask {

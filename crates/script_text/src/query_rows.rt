@@ -1,5 +1,5 @@
 // The queries of a script, a row of the table each.
-ghost use Rattle.std.specs.Prelude.{◌≡◌, option_map};
+ghost use Rattle.std.specs.Prelude.{◌≡◌, Some, None, option_map, if◌then◌else◌};
 ghost use Rattle.serde_json.specs.View.{view};
 ghost use Rattle.script_text.specs.QueryRows.{is_alone, job_asked, execution_asked, instance_asked, job_instances_of, query_named};
 ghost use Rattle.script_text.specs.Shapes.{query_in};
@@ -13,48 +13,40 @@ use serde_json::Value;
 pub fn query_named<'v>(word: &str, value: &'v Value) -> Option<QueryShape<'v>>
     ensures { option_map query_in result ≡ query_named word.now (view value.now) }
 {
-    if word == "job_names" {
-        return if is_alone(value) {
-            Some(QueryShape::JobNames)
-        } else {
-            None
-        };
+    match word {
+        "job_names" => alone(value, QueryShape::JobNames),
+        "job_instance_count" => Some(QueryShape::JobInstanceCount {
+            job: job_asked(value)?,
+        }),
+        "job_instances" => job_instances_of(value),
+        "running_executions" => Some(QueryShape::RunningExecutions {
+            job: job_asked(value)?,
+        }),
+        "parameters" => Some(QueryShape::Parameters {
+            execution: execution_asked(value)?,
+        }),
+        "job_instance" => Some(QueryShape::JobInstance {
+            execution: execution_asked(value)?,
+        }),
+        "job_executions" => Some(QueryShape::JobExecutions {
+            instance: instance_asked(value)?,
+        }),
+        "job_execution" => Some(QueryShape::JobExecution {
+            execution: execution_asked(value)?,
+        }),
+        "step_executions" => Some(QueryShape::StepExecutions {
+            execution: execution_asked(value)?,
+        }),
+        "status_counts" => alone(value, QueryShape::StatusCounts),
+        _ => None,
     }
-    if word == "job_instance_count" {
-        let job = job_asked(value)?;
-        return Some(QueryShape::JobInstanceCount { job });
-    }
-    if word == "job_instances" {
-        return job_instances_of(value);
-    }
-    if word == "running_executions" {
-        let job = job_asked(value)?;
-        return Some(QueryShape::RunningExecutions { job });
-    }
-    if word == "parameters" {
-        let execution = execution_asked(value)?;
-        return Some(QueryShape::Parameters { execution });
-    }
-    if word == "job_instance" {
-        let execution = execution_asked(value)?;
-        return Some(QueryShape::JobInstance { execution });
-    }
-    if word == "job_executions" {
-        let instance = instance_asked(value)?;
-        return Some(QueryShape::JobExecutions { instance });
-    }
-    if word == "job_execution" {
-        let execution = execution_asked(value)?;
-        return Some(QueryShape::JobExecution { execution });
-    }
-    if word == "step_executions" {
-        let execution = execution_asked(value)?;
-        return Some(QueryShape::StepExecutions { execution });
-    }
-    if word == "status_counts" && is_alone(value) {
-        return Some(QueryShape::StatusCounts);
-    }
-    None
+}
+
+/// A query that has nothing more.
+fn alone<'v>(value: &Value, query: QueryShape<'v>) -> Option<QueryShape<'v>>
+    ensures { option_map query_in result ≡ (if is_alone (view value.now) then Some (query_in query.entry) else None) }
+{
+    if is_alone(value) { Some(query) } else { None }
 }
 
 #[tactic(auto, unfolding(crate::specs::QueryRows::job_instances_of))]
