@@ -25,13 +25,13 @@ use Rattle.batch_history.specs.Steps.{Effect, effect_on, refreshed, refreshed_by
 
 -- What an operation that is not on an execution leaves of it
 
-known-append : (x : ℕ) (works : List WorkRow) (r : WorkRow) → (r.execution == x) ≡ false → known_of x (works ++ r ∷ []) ≡ known_of x works
+pub known-append : (x : ℕ) (works : List WorkRow) (r : WorkRow) → (r.execution == x) ≡ false → known_of x (works ++ r ∷ []) ≡ known_of x works
 known-append x [] r h = rw h refl
 known-append x (w ∷ ws) r h =
     let k : Known = record { id = w.element; fact = fact_from w.state } in
     ap (λ (ks : List Known). cond (w.execution == x) (k ∷ ks) ks) (known-append x ws r h)
 
-known-change : (x : ℕ) (p : WorkRow → Bool) (o : WorkOutcome) (t : Option (List ℕ)) (step : MetricStep) (at : ℕ) (works : List WorkRow)
+pub known-change : (x : ℕ) (p : WorkRow → Bool) (o : WorkOutcome) (t : Option (List ℕ)) (step : MetricStep) (at : ℕ) (works : List WorkRow)
     → is_at x (option_map (λ row. row.execution) (find p works)) ≡ false
     → known_of x (change_first p (over o t step at) works) ≡ known_of x works
 known-change x p o t step at [] h = refl
@@ -44,7 +44,7 @@ known-change x p o t step at (w ∷ ws) h =
     ]) h
 
 -- what is reported of a work item says nothing of its element
-known-reported : (x : ℕ) (p : WorkRow → Bool) (step : MetricStep) (works : List WorkRow)
+pub known-reported : (x : ℕ) (p : WorkRow → Bool) (step : MetricStep) (works : List WorkRow)
     → known_of x (change_first p (reported step) works) ≡ known_of x works
 known-reported x p step [] = refl
 known-reported x p step (w ∷ ws) =
@@ -65,7 +65,7 @@ known-handed x who at Go works h = refl
 known-handed x who at StopAsked works h = refl
 
 -- its work is as it was
-known-same : (x who at : ℕ) (call : Call) (reply : Reply) (works : List WorkRow) → is_at x (touched works call reply) ≡ false
+pub known-same : (x who at : ℕ) (call : Call) (reply : Reply) (works : List WorkRow) → is_at x (touched works call reply) ≡ false
     → known_of x (works_after who at call reply works) ≡ known_of x works
 known-same x who at (Start job parameters) reply works h = refl
 known-same x who at (Restart y parameters) reply works h = refl
@@ -76,7 +76,7 @@ known-same x who at (Checkpoint w mark step) reply works h = known-reported x _ 
 known-same x who at (Finish w o t step) reply works h = known-change x _ o t step at works h
 
 -- who is taken up is touched
-taken-touched : (x : ℕ) (call : Call) (reply : Reply) (works : List WorkRow) → is_at x (touched works call reply) ≡ false
+pub taken-touched : (x : ℕ) (call : Call) (reply : Reply) (works : List WorkRow) → is_at x (touched works call reply) ≡ false
     → is_at x (taken call reply) ≡ false
 taken-touched x (Start job parameters) reply works h = refl
 taken-touched x (Restart y parameters) reply works h = refl
@@ -87,7 +87,7 @@ taken-touched x (Checkpoint w mark step) reply works h = refl
 taken-touched x (Finish w o t step) reply works h = refl
 
 -- who is asked to stop is touched
-asked-touched : (x : ℕ) (call : Call) (reply : Reply) (works : List WorkRow) → is_at x (touched works call reply) ≡ false
+pub asked-touched : (x : ℕ) (call : Call) (reply : Reply) (works : List WorkRow) → is_at x (touched works call reply) ≡ false
     → is_at x (asked call) ≡ false
 asked-touched x (Start job parameters) reply works h = refl
 asked-touched x (Restart y parameters) reply works h = refl
@@ -108,7 +108,7 @@ given-touched x Claim reply works h = refl
 given-touched x (Checkpoint w mark step) reply works h = refl
 given-touched x (Finish w o t step) reply works h = refl
 
-earliest-false : (o : Option ℕ) (at : ℕ) → earliest o false at ≡ o
+pub earliest-false : (o : Option ℕ) (at : ℕ) → earliest o false at ≡ o
 earliest-false None at = refl
 earliest-false (Some t) at = refl
 
@@ -117,12 +117,12 @@ earliest-twice (Some t) b at later = refl
 earliest-twice None true at later = refl
 earliest-twice None false at later = refl
 
-or-false : (b : Bool) → (b || false) ≡ b
+pub or-false : (b : Bool) → (b || false) ≡ b
 or-false true = refl
 or-false false = refl
 
 -- the end stands once it is finished
-settled : (catalogue : List JobTree) (past : List Entry) (m : Made) (at : ℕ)
+pub settled : (catalogue : List JobTree) (past : List Entry) (m : Made) (at : ℕ)
     → earliest (end_of catalogue past m) (is_finished (bare_of catalogue past m)) at ≡ end_of catalogue past m
 settled catalogue [] m at = refl
 settled catalogue (e ∷ older) m at =
@@ -138,19 +138,19 @@ settled catalogue (e ∷ older) m at =
       | false ↦ earliest-twice ended (is_finished (status_from stop begun value)) e.at at
     ]
 
-begun-by : (past : List Entry) (e : Entry) (x : ℕ) → makes (length (made past)) x e.call ≡ false
+pub begun-by : (past : List Entry) (e : Entry) (x : ℕ) → makes (length (made past)) x e.call ≡ false
     → start_of (e ∷ past) x ≡ earliest (start_of past x) (is_at x (taken e.call e.reply)) e.at
 begun-by past e x made_no = ap (λ b. cond b None (earliest (start_of past x) (is_at x (taken e.call e.reply)) e.at)) made_no
 
-stop-by : (past : List Entry) (e : Entry) (x : ℕ) → makes (length (made past)) x e.call ≡ false
+pub stop-by : (past : List Entry) (e : Entry) (x : ℕ) → makes (length (made past)) x e.call ≡ false
     → stop_of (e ∷ past) x ≡ (stop_of past x || is_at x (asked e.call))
 stop-by past e x made_no = ap (λ b. cond b false (stop_of past x || is_at x (asked e.call))) made_no
 
-given-by : (past : List Entry) (e : Entry) (x : ℕ) → makes (length (made past)) x e.call ≡ false
+pub given-by : (past : List Entry) (e : Entry) (x : ℕ) → makes (length (made past)) x e.call ≡ false
     → abandoned_of (e ∷ past) x ≡ (abandoned_of past x || is_at x (given_up e.call))
 given-by past e x made_no = ap (λ b. cond b false (abandoned_of past x || is_at x (given_up e.call))) made_no
 
-ended-by : (catalogue : List JobTree) (past : List Entry) (e : Entry) (m : Made) → makes (length (made past)) m.execution e.call ≡ false
+pub ended-by : (catalogue : List JobTree) (past : List Entry) (e : Entry) (m : Made) → makes (length (made past)) m.execution e.call ≡ false
     → end_of catalogue (e ∷ past) m ≡ earliest (end_of catalogue past m) (is_finished (bare_of catalogue (e ∷ past) m)) e.at
 ended-by catalogue past e m made_no =
     ap (λ b. cond b None (earliest (end_of catalogue past m) (is_finished (bare_of catalogue (e ∷ past) m)) e.at)) made_no
@@ -160,7 +160,7 @@ updated-by : (past : List Entry) (e : Entry) (x : ℕ) → makes (length (made p
 updated-by past e x made_no =
     ap (λ b. cond b e.at (cond (is_at x (touched (works_of past) e.call e.reply)) e.at (updated_of past x))) made_no
 
-same_row : (m : Made) (p1 p2 a1 a2 : Bool) (s1 s2 : Option ℕ) (v1 v2 : Value) (e1 e2 : Option ℕ) (u1 u2 : ℕ)
+pub same_row : (m : Made) (p1 p2 a1 a2 : Bool) (s1 s2 : Option ℕ) (v1 v2 : Value) (e1 e2 : Option ℕ) (u1 u2 : ℕ)
     → p1 ≡ p2 → a1 ≡ a2 → s1 ≡ s2 → v1 ≡ v2 → e1 ≡ e2 → u1 ≡ u2
     → row_with m p1 a1 s1 v1 e1 u1 ≡ row_with m p2 a2 s2 v2 e2 u2
 same_row m p1 p2 a1 a2 s1 s2 v1 v2 e1 e2 u1 u2 p a s v e u =
@@ -168,7 +168,7 @@ same_row m p1 p2 a1 a2 s1 s2 v1 v2 e1 e2 u1 u2 p a s v e u =
     ∙ (ap (λ x. row_with m p2 a2 x v1 e1 u1) s ∙ (ap (λ x. row_with m p2 a2 s2 x e1 u1) v
     ∙ (ap (λ x. row_with m p2 a2 s2 v2 x u1) e ∙ ap (λ x. row_with m p2 a2 s2 v2 e2 x) u))))
 
-same_status : (p1 p2 : Bool) (s1 s2 : Option ℕ) (v1 v2 : Value) → p1 ≡ p2 → s1 ≡ s2 → v1 ≡ v2 → status_from p1 s1 v1 ≡ status_from p2 s2 v2
+pub same_status : (p1 p2 : Bool) (s1 s2 : Option ℕ) (v1 v2 : Value) → p1 ≡ p2 → s1 ≡ s2 → v1 ≡ v2 → status_from p1 s1 v1 ≡ status_from p2 s2 v2
 same_status p1 p2 s1 s2 v1 v2 p s v =
     ap (λ x. status_from x s1 v1) p ∙ (ap (λ x. status_from p2 x v1) s ∙ ap (λ x. status_from p2 s2 x) v)
 

@@ -1,0 +1,190 @@
+-- A job execution that is over: no operation changes it, but for its abandonment.
+use Rattle.std.proofs.Common.{◌≡◌, ◌≢◌, ℕ, ◌==◌, ◌||◌, Bool, true, false, cond, Option, None, Some, is_some, List, [], ◌∷◌, ◌++◌, length, find, refl, sym, ◌∙◌, ap, subst}
+use Rattle.std.specs.Option.{option_map}
+use Rattle.std.proofs.lemmas.Bool.{eqb-true}
+use Rattle.batch_ids.specs.declared.status.BatchStatus.{BatchStatus}
+use Rattle.batch_ids.specs.declared.status.BatchStatus.TheVariants.{Starting, Started, Stopping, Stopped, Failed, Completed, Abandoned}
+use Rattle.jsl_model.specs.Jobs.{JobTree}
+use Rattle.job_walk.specs.declared.facts.Value.{Value}
+use Rattle.job_walk.specs.declared.facts.Value.TheVariants.{Open, Done as IsDone, Ended}
+use Rattle.batch_history.specs.declared.call.Call.{Call}
+use Rattle.batch_history.specs.declared.call.Call.TheVariants.{Start, Restart, Stop, Abandon, Claim, Checkpoint, Finish}
+use Rattle.batch_history.specs.declared.call.Reply.{Reply}
+use Rattle.batch_history.specs.declared.call.Entry.{Entry}
+use Rattle.batch_history.specs.declared.rows.ExecutionRow.{ExecutionRow}
+use Rattle.batch_history.specs.declared.rows.WorkRow.{WorkRow}
+use Rattle.batch_history.specs.History.{Made, made, makes, is_made, is_at, is_work, works_of, taken, taken_by, asked, touched, earliest, start_of, stop_of, abandoned_of, updated_of, end_of, known_of, job_named, walk_of, value_after, bare_of, status_from, is_finished, owner_of}
+use Rattle.batch_history.specs.Rows.{Rows, rows_of, row_status, first_ready, walk_in, has_by, has_something, claim_reply, is_execution, execution_row}
+use Rattle.batch_history.proofs.Stepping.{known-same, begun-by, stop-by, ended-by, same_row, same_status, settled, earliest-false, or-false, taken-touched, asked-touched}
+use Rattle.history_laws.specs.Laws.{IsAsBefore}
+use Rattle.history_laws.proofs.Walks.{busy_sight, seen}
+use Rattle.history_laws.proofs.Works.{each-found, found-passes}
+use Rattle.history_laws.proofs.Told.{Due, AllDue, IsRowOf, row-of, made-once, made-more, ToldClaim, claim-told, ToldReport, checkpoint-told, finish-told, ToldStop, stop-told}
+use Rattle.history_laws.proofs.Kept.{IsHeld, IsKept, kept}
+
+-- ---- An operation that asks it for nothing
+
+-- the row as it was, where the operation neither asks it to stop, nor takes it up, nor is known by its walk
+row-kept : (catalogue : List JobTree) (past : List Entry) (e : Entry) (m : Made) → makes (length (made past)) m.execution e.call ≡ false
+    → is_at m.execution (asked e.call) ≡ false → is_at m.execution (taken e.call e.reply) ≡ false
+    → known_of m.execution (works_of (e ∷ past)) ≡ known_of m.execution (works_of past)
+    → IsAsBefore (execution_row catalogue past m) (execution_row catalogue (e ∷ past) m)
+row-kept catalogue past e m made_no not_asked not_taken known =
+    let x : ℕ = m.execution in
+    let p : stop_of (e ∷ past) x ≡ stop_of past x =
+    stop-by past e x made_no ∙ (ap (λ b. stop_of past x || b) not_asked ∙ or-false (stop_of past x)) in
+    let s : start_of (e ∷ past) x ≡ start_of past x =
+    begun-by past e x made_no ∙ (ap (λ b. earliest (start_of past x) b e.at) not_taken ∙ earliest-false (start_of past x) e.at) in
+    let v : value_after catalogue (e ∷ past) m ≡ value_after catalogue past m = ap (λ k. walk_of k (job_named catalogue m.job)) known in
+    let n : end_of catalogue (e ∷ past) m ≡ end_of catalogue past m =
+    ended-by catalogue past e m made_no
+    ∙ (ap (λ b. earliest (end_of catalogue past m) (is_finished b) e.at) (same_status _ _ _ _ _ _ p s v) ∙ settled catalogue past m e.at) in
+    same_row m _ _ (abandoned_of (e ∷ past) x) _ _ _ _ _ _ _ (updated_of (e ∷ past) x) _ p refl s v n refl
+
+-- ---- An operation that is on it
+
+-- a walk that shows something busy, of a job execution that was taken up, is not over
+pub busy-unfinished : (id : List ℕ) (stop : Bool) (start : Option ℕ) (v : Value) → seen busy_sight id v ≡ true → is_some start ≡ true → is_finished (status_from stop start v) ≡ false
+busy-unfinished id stop None v shown begun = cc
+busy-unfinished id false (Some t) (Open ready busy) shown begun = refl
+busy-unfinished id true (Some t) (Open ready []) shown begun = cc
+busy-unfinished id true (Some t) (Open ready (b ∷ bs)) shown begun = refl
+busy-unfinished id stop (Some t) (IsDone exit) shown begun = cc
+busy-unfinished id stop (Some t) (Ended status exit point) shown begun = cc
+
+-- the job execution of a busy work item is not over
+owner-unfinished : (catalogue : List JobTree) (past : List Entry) (w : ℕ) (m : Made) → IsKept catalogue past → ToldReport (works_of past) w
+    → find (is_made m.execution) (made past) ≡ Some m → is_at m.execution (owner_of (works_of past) w) ≡ true → is_finished (bare_of catalogue past m) ≡ false
+owner-unfinished catalogue past w m k told found on =
+    let c : WorkRow = told.row in
+    let held : IsHeld catalogue past c = each-found (IsHeld catalogue past) (is_work w) (works_of past) c k.held told.found in
+    let here : (c.execution == m.execution) ≡ true = sym (ap (λ (o : Option WorkRow). is_at m.execution (option_map (λ (row : WorkRow). row.execution) o)) told.found) ∙ on in
+    let same : c.execution ≡ m.execution = eqb-true c.execution m.execution here in
+    let one : held.one ≡ m = let both : Some held.one ≡ Some m = sym held.found ∙ (ap (λ x. find (is_made x) (made past)) same ∙ found) in cc in
+    let shown : seen busy_sight c.element (value_after catalogue past m) ≡ true = subst (λ n. seen busy_sight c.element (value_after catalogue past n) ≡ true) one (held.under_way told.busy) in
+    let begun : is_some (start_of past m.execution) ≡ true = subst (λ x. is_some (start_of past x) ≡ true) same held.begun in
+    busy-unfinished c.element (stop_of past m.execution) (start_of past m.execution) (value_after catalogue past m) shown begun
+
+-- a job execution with something to do is not over
+has-unfinished : (abandoned : Bool) (bare : BatchStatus) (v : Value) → has_by (cond abandoned Abandoned bare) v ≡ true → is_finished bare ≡ false
+has-unfinished true bare v h = cc
+has-unfinished false Starting v h = refl
+has-unfinished false Started v h = refl
+has-unfinished false Stopping v h = cc
+has-unfinished false Stopped v h = cc
+has-unfinished false Failed v h = cc
+has-unfinished false Completed v h = cc
+has-unfinished false Abandoned v h = cc
+
+claimed-execution : (r : Rows) (row : ExecutionRow) (ready : Option (List ℕ)) → taken_by (claim_reply r row ready) ≡ Some row.execution
+claimed-execution r row None = refl
+claimed-execution r row (Some id) = refl
+
+-- the job execution of a claim is not over
+claim-unfinished : (catalogue : List JobTree) (past : List Entry) (m : Made) (reply : Reply) → ToldClaim (rows_of catalogue past) reply
+    → find (is_made m.execution) (made past) ≡ Some m → is_at m.execution (taken_by reply) ≡ true → is_finished (bare_of catalogue past m) ≡ false
+claim-unfinished catalogue past m reply told found on =
+    let r : Rows = rows_of catalogue past in
+    let from : IsRowOf catalogue past told.row = row-of catalogue past (has_something r) told.row told.found in
+    let n : Made = from.one in
+    let whom : taken_by reply ≡ Some n.execution =
+    ap taken_by told.answered ∙ (claimed-execution r told.row (first_ready (walk_in r told.row)) ∙ ap (λ (row : ExecutionRow). Some row.execution) from.is_row) in
+    let here : (n.execution == m.execution) ≡ true = sym (ap (is_at m.execution) whom) ∙ on in
+    let same : n.execution ≡ m.execution = eqb-true n.execution m.execution here in
+    let one : n ≡ m = let both : Some n ≡ Some m = sym from.found ∙ (ap (λ x. find (is_made x) (made past)) same ∙ found) in cc in
+    let has : has_something r (execution_row catalogue past n) ≡ true = subst (λ row. has_something r row ≡ true) from.is_row (found-passes (has_something r) r.executions told.row told.found) in
+    subst (λ k. is_finished (bare_of catalogue past k) ≡ false) one
+    (has-unfinished (abandoned_of past n.execution) (bare_of catalogue past n) (value_after catalogue past n) has)
+
+pub finished-status : (abandoned : Bool) (bare : BatchStatus) → is_finished bare ≡ true → is_finished (cond abandoned Abandoned bare) ≡ true
+finished-status true bare h = refl
+finished-status false bare h = h
+
+-- a job execution that is stopped is not over
+stop-unfinished : (catalogue : List JobTree) (past : List Entry) (m : Made) (y : ℕ) → ToldStop (rows_of catalogue past) y
+    → find (is_made m.execution) (made past) ≡ Some m → (y == m.execution) ≡ true → is_finished (bare_of catalogue past m) ≢ true
+stop-unfinished catalogue past m y told found on over =
+    let r : Rows = rows_of catalogue past in
+    let from : IsRowOf catalogue past told.row = row-of catalogue past (is_execution y) told.row told.found in
+    let n : Made = from.one in
+    let number : told.row.execution ≡ y = eqb-true told.row.execution y (found-passes (is_execution y) r.executions told.row told.found) in
+    let same : n.execution ≡ m.execution = sym (ap (λ (row : ExecutionRow). row.execution) from.is_row) ∙ (number ∙ eqb-true y m.execution on) in
+    let one : n ≡ m = let both : Some n ≡ Some m = sym from.found ∙ (ap (λ x. find (is_made x) (made past)) same ∙ found) in cc in
+    let is : told.row ≡ execution_row catalogue past m = from.is_row ∙ ap (execution_row catalogue past) one in
+    let unfinished : is_finished (row_status (execution_row catalogue past m)) ≡ false = subst (λ row. is_finished (row_status row) ≡ false) is told.unfinished in
+    let closed : is_finished (row_status (execution_row catalogue past m)) ≡ true = finished-status (abandoned_of past m.execution) (bare_of catalogue past m) over in
+    let no : true ≡ false = sym closed ∙ unfinished in cc
+
+-- ---- Every operation leaves it as it was
+
+-- an operation that is not on it
+away : (catalogue : List JobTree) (past : List Entry) (e : Entry) (m : Made) → makes (length (made past)) m.execution e.call ≡ false
+    → is_at m.execution (touched (works_of past) e.call e.reply) ≡ false → IsAsBefore (execution_row catalogue past m) (execution_row catalogue (e ∷ past) m)
+away catalogue past e m made_no off =
+    row-kept catalogue past e m made_no (asked-touched m.execution e.call e.reply (works_of past) off) (taken-touched m.execution e.call e.reply (works_of past) off)
+    (known-same m.execution e.who e.at e.call e.reply (works_of past) off)
+
+abbrev entry : ℕ → ℕ → Call → Reply → Entry
+entry who at call reply = record { who = who; call = call; at = at; reply = reply }
+
+-- nobody is over and not over
+not-both : (status : BatchStatus) → is_finished status ≡ true → is_finished status ≡ false → ⊥
+not-both status over unfinished = let bad : true ≡ false = sym over ∙ unfinished in cc
+
+is-other : (x y : ℕ) → (y == x) ≡ false → is_at x (Some y) ≡ false
+is-other x y off = off
+
+-- an operation that is on it or not
+pub on-it : {P : Type 0} (b : Bool) → (b ≡ true → P) → (b ≡ false → P) → P
+on-it true on off = on refl
+on-it false on off = off refl
+
+finished-call : (limit : ℕ) (catalogue : List JobTree) (past : List Entry) (who at : ℕ) (call : Call) (reply : Reply) (m : Made)
+    → Due limit catalogue past (entry who at call reply) → IsKept catalogue past
+    → find (is_made m.execution) (made past) ≡ Some m → is_finished (bare_of catalogue past m) ≡ true
+    → IsAsBefore (execution_row catalogue past m) (execution_row catalogue ((entry who at call reply) ∷ past) m)
+finished-call limit catalogue past who at (Start job parameters) reply m due k found over =
+    away catalogue past (entry who at (Start job parameters) reply) m (made-once past m.execution m (Start job parameters) found) refl
+finished-call limit catalogue past who at (Restart y parameters) reply m due k found over =
+    away catalogue past (entry who at (Restart y parameters) reply) m (made-once past m.execution m (Restart y parameters) found) refl
+finished-call limit catalogue past who at (Stop y) reply m due k found over =
+    on-it (y == m.execution)
+    (λ on. absurd (stop-unfinished catalogue past m y (stop-told limit (rows_of catalogue past) y reply due.0) found on over))
+    (λ off. away catalogue past (entry who at (Stop y) reply) m refl (is-other m.execution y off))
+finished-call limit catalogue past who at (Abandon y) reply m due k found over = row-kept catalogue past (entry who at (Abandon y) reply) m refl refl refl refl
+finished-call limit catalogue past who at Claim reply m due k found over =
+    on-it (is_at m.execution (taken_by reply))
+    (λ on. absurd (not-both (bare_of catalogue past m) over (claim-unfinished catalogue past m reply (claim-told limit (rows_of catalogue past) reply due.0 due.1) found on)))
+    (λ off. away catalogue past (entry who at Claim reply) m refl off)
+finished-call limit catalogue past who at (Checkpoint w mark step) reply m due k found over =
+    on-it (is_at m.execution (owner_of (works_of past) w))
+    (λ on. absurd (not-both (bare_of catalogue past m) over (owner-unfinished catalogue past w m k (checkpoint-told limit (rows_of catalogue past) who w reply due.0) found on)))
+    (λ off. away catalogue past (entry who at (Checkpoint w mark step) reply) m refl off)
+finished-call limit catalogue past who at (Finish w o t step) reply m due k found over =
+    on-it (is_at m.execution (owner_of (works_of past) w))
+    (λ on. absurd (not-both (bare_of catalogue past m) over (owner-unfinished catalogue past w m k (finish-told limit (rows_of catalogue past) who w o reply due.0) found on)))
+    (λ off. away catalogue past (entry who at (Finish w o t step) reply) m refl off)
+
+-- after one operation more
+pub finished-step : (limit : ℕ) (catalogue : List JobTree) (past : List Entry) (e : Entry) (m : Made) → AllDue limit catalogue (e ∷ past)
+    → find (is_made m.execution) (made past) ≡ Some m → is_finished (bare_of catalogue past m) ≡ true
+    → IsAsBefore (execution_row catalogue past m) (execution_row catalogue (e ∷ past) m)
+finished-step limit catalogue past e m due found over =
+    finished-call limit catalogue past e.who e.at e.call e.reply m due.0 (kept limit catalogue past due.1) found over
+
+as-twice : (one two three : ExecutionRow) → IsAsBefore one two → IsAsBefore two three → IsAsBefore one three
+as-twice one two three first second = second ∙ ap (λ (row : ExecutionRow). record row { abandoned = three.abandoned; updated = three.updated }) first
+
+pub made-after : (more past : List Entry) (x : ℕ) (m : Made) → find (is_made x) (made past) ≡ Some m → find (is_made x) (made (more ++ past)) ≡ Some m
+made-after [] past x m found = found
+made-after (e ∷ more) past x m found = made-more (more ++ past) e x m (made-after more past x m found)
+
+-- and after any operations more
+pub finished-stays : (limit : ℕ) (catalogue : List JobTree) (more past : List Entry) (m : Made) → AllDue limit catalogue (more ++ past)
+    → find (is_made m.execution) (made past) ≡ Some m → is_finished (bare_of catalogue past m) ≡ true
+    → IsAsBefore (execution_row catalogue past m) (execution_row catalogue (more ++ past) m)
+finished-stays limit catalogue [] past m due found over = refl
+finished-stays limit catalogue (e ∷ more) past m due found over =
+    let before = finished-stays limit catalogue more past m due.1 found over in
+    let still : is_finished (bare_of catalogue (more ++ past) m) ≡ true = ap (λ (row : ExecutionRow). is_finished row.bare) before ∙ over in
+    as-twice (execution_row catalogue past m) (execution_row catalogue (more ++ past) m) (execution_row catalogue (e ∷ (more ++ past)) m) before (finished-step limit catalogue (more ++ past) e m due (made-after more past m.execution m found) still)

@@ -1,0 +1,297 @@
+-- The laws over whole histories.
+use Rattle.std.proofs.Common.{◌≡◌, ◌≢◌, ℕ, ◌+◌, ◌==◌, Bool, true, false, cond, None, Some, is_some, Ok, List, [], ◌∷◌, ◌++◌, length, map, find, reverse, refl, sym, ◌∙◌, ap, subst}
+use Rattle.std.specs.Option.{option_map}
+use Rattle.std.proofs.lemmas.List.{append_assoc, reverse-append, reverse-reverse, map-append}
+use Rattle.std.proofs.lemmas.Bool.{eqb-true}
+use Rattle.batch_ids.specs.Statuses.{is_unfinished}
+use Rattle.batch_ids.specs.declared.status.BatchStatus.{BatchStatus}
+use Rattle.batch_ids.specs.declared.status.BatchStatus.TheVariants.{Starting, Started, Stopping, Stopped, Failed, Completed, Abandoned}
+use Rattle.jsl_model.specs.Jobs.{JobTree}
+use Rattle.jsl_model.specs.Names.{has_twice, distinct}
+use Rattle.job_walk.proofs.Following.{find-map}
+use Rattle.batch_history.specs.declared.call.Call.{Call}
+use Rattle.batch_history.specs.declared.call.Call.TheVariants.{Start, Restart, Stop, Abandon, Claim, Checkpoint, Finish}
+use Rattle.batch_history.specs.declared.call.Entry.{Entry}
+use Rattle.batch_history.specs.declared.call.WorkItem.{WorkItem}
+use Rattle.batch_history.specs.declared.call.Reply.TheVariants.{Work}
+use Rattle.batch_history.specs.declared.query.Query.TheVariants.{JobNames}
+use Rattle.batch_history.specs.declared.query.Answer.TheVariants.{JobNames as AreNames}
+use Rattle.batch_history.specs.Answers.{answer}
+use Rattle.batch_history.specs.declared.rows.ExecutionRow.{ExecutionRow}
+use Rattle.batch_history.specs.declared.rows.WorkRow.{WorkRow}
+use Rattle.batch_history.specs.declared.rows.JobInstance.{JobInstance}
+use Rattle.batch_history.specs.History.{Made, made, is_made, is_work, works_of, instances_of, instances_after, stop_of, start_of, abandoned_of, end_of, bare_of, value_after, is_finished, job_named, known_of}
+use Rattle.batch_history.specs.Rows.{History, rows_of, rows, row_status, is_execution, execution_row, reply, grown, first_ready, walk_in, runs_in, claim_reply, item_of, IsLegal}
+use Rattle.history_laws.specs.Laws.{beginning, row_in, IsAsBefore, StaysFinished, EndedAt, BelongsTo, HasInstance, WasReady, with_name}
+use Rattle.history_laws.proofs.Works.{each-found, found-passes, Apart, AllApart}
+use Rattle.history_laws.proofs.Told.{AllDue, past-due, IsRowOf, row-of, made-number, made-more, ToldClaim, work-told}
+use Rattle.history_laws.proofs.Walks.{ready_sight}
+use Rattle.history_laws.proofs.Runs.{walk-runs}
+use Rattle.history_laws.proofs.Kept.{IsHeld, IsKept, kept, first-seen}
+use Rattle.history_laws.proofs.Ended.{on-it, busy-unfinished, finished-status, finished-stays, made-after}
+use Rattle.history_laws.proofs.Moments.{abandoned-finished, EndedPast, ended-past, over-ended}
+use Rattle.history_laws.proofs.Owners.{InstanceOf, instances-kept}
+use Rattle.history_laws.proofs.Names.{distinct-more, distinct-once}
+
+-- ---- Rows of a past
+
+-- the row of a job execution that was made
+row-there : (catalogue : List JobTree) (past : List Entry) (x : ℕ) (m : Made) → find (is_made x) (made past) ≡ Some m
+    → find (is_execution x) (rows_of catalogue past).executions ≡ Some (execution_row catalogue past m)
+row-there catalogue past x m found =
+    find-map (execution_row catalogue past) (is_execution x) (is_made x) (λ n. refl) (made past) ∙ ap (option_map (execution_row catalogue past)) found
+
+record IsRowAt (catalogue : List JobTree) (past : List Entry) (x : ℕ) (row : ExecutionRow) : Type 0 where
+  one : Made
+  number : one.execution ≡ x
+  found : find (is_made one.execution) (made past) ≡ Some one
+  is_row : row ≡ execution_row catalogue past one
+
+row-at : (catalogue : List JobTree) (past : List Entry) (x : ℕ) (row : ExecutionRow) → find (is_execution x) (rows_of catalogue past).executions ≡ Some row → IsRowAt catalogue past x row
+row-at catalogue past x row found =
+    let from : IsRowOf catalogue past row = row-of catalogue past (is_execution x) row found in
+    let number : row.execution ≡ x = eqb-true row.execution x (found-passes (is_execution x) (rows_of catalogue past).executions row found) in
+    record {
+      one = from.one;
+      number = sym (ap (λ (r : ExecutionRow). r.execution) from.is_row) ∙ number;
+      found = from.found;
+      is_row = from.is_row;
+    }
+
+-- ---- What is over
+
+open-status : (abandoned : Bool) (bare : BatchStatus) → (abandoned ≡ true → is_finished bare ≡ true) → is_finished (cond abandoned Abandoned bare) ≡ true → is_finished bare ≡ true
+open-status true bare before h = before refl
+open-status false bare before h = h
+
+-- over by its status, so over by its walk or its stop
+over-bare : (limit : ℕ) (catalogue : List JobTree) (past : List Entry) (m : Made) → AllDue limit catalogue past → find (is_made m.execution) (made past) ≡ Some m
+    → is_finished (row_status (execution_row catalogue past m)) ≡ true → is_finished (bare_of catalogue past m) ≡ true
+over-bare limit catalogue past m due found over =
+    open-status (abandoned_of past m.execution) (bare_of catalogue past m) (abandoned-finished limit catalogue past m due found) over
+
+stays-past : (limit : ℕ) (catalogue : List JobTree) (more past whole : List Entry) (x : ℕ) (row : ExecutionRow) → whole ≡ more ++ past → AllDue limit catalogue whole
+    → find (is_execution x) (rows_of catalogue past).executions ≡ Some row → is_finished (row_status row) ≡ true → AllDue limit catalogue past
+    → (after : ExecutionRow) × (find (is_execution x) (rows_of catalogue whole).executions ≡ Some after) × (is_finished (row_status after) ≡ true) × IsAsBefore row after
+stays-past limit catalogue more past whole x row is due found over due_past =
+    let from : IsRowAt catalogue past x row = row-at catalogue past x row found in
+    let m : Made = from.one in
+    let over_row : is_finished (row_status (execution_row catalogue past m)) ≡ true = sym (ap (λ (r : ExecutionRow). is_finished (row_status r)) from.is_row) ∙ over in
+    let bare : is_finished (bare_of catalogue past m) ≡ true = over-bare limit catalogue past m due_past from.found over_row in
+    let due_more : AllDue limit catalogue (more ++ past) = subst (AllDue limit catalogue) is due in
+    let same : IsAsBefore (execution_row catalogue past m) (execution_row catalogue (more ++ past) m) = finished-stays limit catalogue more past m due_more from.found bare in
+    let there : find (is_execution m.execution) (rows_of catalogue (more ++ past)).executions ≡ Some (execution_row catalogue (more ++ past) m) =
+    row-there catalogue (more ++ past) m.execution m (made-after more past m.execution m from.found) in
+    let still : is_finished (bare_of catalogue (more ++ past) m) ≡ true = ap (λ (r : ExecutionRow). is_finished r.bare) same ∙ bare in
+    let after : ExecutionRow = execution_row catalogue (more ++ past) m in (
+      after,
+      subst (λ l. find (is_execution x) (rows_of catalogue l).executions ≡ Some after) (sym is) (subst (λ n. find (is_execution n) (rows_of catalogue (more ++ past)).executions ≡ Some after) from.number there),
+      finished-status (abandoned_of (more ++ past) m.execution) (bare_of catalogue (more ++ past) m) still,
+      subst (λ r. IsAsBefore r after) (sym from.is_row) same,
+    )
+
+due-older : (limit : ℕ) (catalogue : List JobTree) (more past : List Entry) → AllDue limit catalogue (more ++ past) → AllDue limit catalogue past
+due-older limit catalogue [] past due = due
+due-older limit catalogue (e ∷ more) past due = due-older limit catalogue more past due.1
+
+pub finished_stays : (limit : ℕ) (h : History) → IsLegal limit h → (before after : List Entry) → h.log ≡ before ++ after → (x : ℕ) (row : ExecutionRow)
+    → row_in (beginning h before) x ≡ Some row → is_finished (row_status row) ≡ true → StaysFinished h x row
+finished_stays limit h legal before after cut x row found over =
+    let is : reverse h.log ≡ reverse after ++ reverse before = ap reverse cut ∙ reverse-append before after in
+    let due : AllDue limit h.catalogue (reverse h.log) = past-due limit h legal in
+    let due_past : AllDue limit h.catalogue (reverse before) = due-older limit h.catalogue (reverse after) (reverse before) (subst (AllDue limit h.catalogue) is due) in
+    let stays = stays-past limit h.catalogue (reverse after) (reverse before) (reverse h.log) x row is due found over due_past in
+    record { after = stays.0; found = stays.1; finished = stays.2; same = stays.3 }
+
+-- ---- The end
+
+-- what is not over has no end
+no-end : (limit : ℕ) (catalogue : List JobTree) (past : List Entry) (m : Made) → AllDue limit catalogue past → find (is_made m.execution) (made past) ≡ Some m
+    → is_finished (bare_of catalogue past m) ≡ false → is_some (end_of catalogue past m) ≡ false
+no-end limit catalogue past m due found unfinished =
+    (elim (end_of catalogue past m) as (λ o. end_of catalogue past m ≡ o → is_some o ≡ false) [
+      | None ↦ λ e. refl
+      | Some t ↦ λ e.
+          let cut : EndedPast catalogue past m t = ended-past catalogue past m t found e in
+          let due_cut : AllDue limit catalogue (cut.later ++ cut.entry ∷ cut.older) = subst (AllDue limit catalogue) cut.cut due in
+          let same = finished-stays limit catalogue cut.later (cut.entry ∷ cut.older) m due_cut cut.found cut.over in
+          let over : is_finished (bare_of catalogue (cut.later ++ cut.entry ∷ cut.older) m) ≡ true = ap (λ (r : ExecutionRow). is_finished r.bare) same ∙ cut.over in
+          let over_here : is_finished (bare_of catalogue past m) ≡ true = ap (λ l. is_finished (bare_of catalogue l m)) cut.cut ∙ over in
+          let bad : true ≡ false = sym over_here ∙ unfinished in cc
+    ]) refl
+
+-- before the operation that brings the end it is not over
+earlier-open : (catalogue : List JobTree) (older : List Entry) (e : Entry) (x : ℕ) (m : Made) → m.execution ≡ x → find (is_made m.execution) (made (e ∷ older)) ≡ Some m
+    → is_finished (bare_of catalogue older m) ≡ false → (row : ExecutionRow) → find (is_execution x) (rows_of catalogue older).executions ≡ Some row → is_finished row.bare ≡ false
+earlier-open catalogue older e x m number found unfinished row is =
+    let from : IsRowAt catalogue older x row = row-at catalogue older x row is in
+    let n : Made = from.one in
+    let later : find (is_made n.execution) (made (e ∷ older)) ≡ Some n = made-more older e n.execution n from.found in
+    let same : n.execution ≡ m.execution = from.number ∙ sym number in
+    let one : n ≡ m = let both : Some n ≡ Some m = sym later ∙ (ap (λ y. find (is_made y) (made (e ∷ older))) same ∙ found) in cc in
+    ap (λ (r : ExecutionRow). is_finished r.bare) from.is_row ∙ (ap (λ k. is_finished (bare_of catalogue older k)) one ∙ unfinished)
+
+-- an end is there exactly where it is over
+pub has_end_where_over : (limit : ℕ) (h : History) → IsLegal limit h → (x : ℕ) (row : ExecutionRow) → row_in h x ≡ Some row → is_some row.end ≡ is_finished row.bare
+has_end_where_over limit h legal x row found =
+    let past : List Entry = reverse h.log in
+    let from : IsRowAt h.catalogue past x row = row-at h.catalogue past x row found in
+    let m : Made = from.one in
+    let due : AllDue limit h.catalogue past = past-due limit h legal in
+    subst (λ (r : ExecutionRow). is_some r.end ≡ is_finished r.bare) (sym from.is_row)
+    (on-it (is_finished (bare_of h.catalogue past m))
+    (λ over. over-ended h.catalogue past m over ∙ sym over)
+    (λ unfinished. no-end limit h.catalogue past m due from.found unfinished ∙ sym unfinished))
+
+-- an end is the moment of the operation that brought it
+pub ended_at : (h : History) (x t : ℕ) (row : ExecutionRow) → row_in h x ≡ Some row → row.end ≡ Some t → EndedAt h x t
+ended_at h x t row found ended =
+    let past : List Entry = reverse h.log in
+    let catalogue : List JobTree = h.catalogue in
+    let from : IsRowAt catalogue past x row = row-at catalogue past x row found in
+    let m : Made = from.one in
+    let end : end_of catalogue past m ≡ Some t = sym (ap (λ (r : ExecutionRow). r.end) from.is_row) ∙ ended in
+    let cut : EndedPast catalogue past m t = ended-past catalogue past m t from.found end in
+    let whole : h.log ≡ reverse cut.older ++ cut.entry ∷ reverse cut.later =
+    sym (reverse-reverse h.log) ∙ (ap reverse cut.cut ∙ (reverse-append cut.later (cut.entry ∷ cut.older)
+    ∙ (ap (λ l. l ++ reverse cut.later) (reverse-append (cut.entry ∷ []) cut.older) ∙ append_assoc (reverse cut.older) (cut.entry ∷ []) (reverse cut.later)))) in
+    let then_past : reverse (reverse cut.older ++ cut.entry ∷ []) ≡ cut.entry ∷ cut.older =
+    reverse-append (reverse cut.older) (cut.entry ∷ []) ∙ ap (λ l. cut.entry ∷ l) (reverse-reverse cut.older) in
+    let there : find (is_execution x) (rows_of catalogue (cut.entry ∷ cut.older)).executions ≡ Some (execution_row catalogue (cut.entry ∷ cut.older) m) =
+    subst (λ n. find (is_execution n) (rows_of catalogue (cut.entry ∷ cut.older)).executions ≡ Some (execution_row catalogue (cut.entry ∷ cut.older) m)) from.number
+    (row-there catalogue (cut.entry ∷ cut.older) m.execution m cut.found) in
+    record {
+      before = reverse cut.older;
+      entry = cut.entry;
+      after = reverse cut.later;
+      cut = whole;
+      moment = cut.moment;
+      row = execution_row catalogue (cut.entry ∷ cut.older) m;
+      found = subst (λ l. find (is_execution x) (rows_of catalogue l).executions ≡ Some (execution_row catalogue (cut.entry ∷ cut.older) m)) (sym then_past) there;
+      finished = cut.over;
+      until = λ earlier is. earlier-open catalogue cut.older (cut.entry) x m from.number cut.found cut.open_before earlier
+          (subst (λ l. find (is_execution x) (rows_of catalogue l).executions ≡ Some earlier) (reverse-reverse cut.older) is);
+    }
+
+-- ---- Work
+
+unfinished-status : (bare : BatchStatus) → is_finished bare ≡ false → is_unfinished bare ≡ true
+unfinished-status Starting h = refl
+unfinished-status Started h = refl
+unfinished-status Stopping h = refl
+unfinished-status Stopped h = cc
+unfinished-status Failed h = cc
+unfinished-status Completed h = cc
+unfinished-status Abandoned h = cc
+
+shown-unfinished : (abandoned : Bool) (bare : BatchStatus) → (abandoned ≡ true → is_finished bare ≡ true) → is_finished bare ≡ false → is_unfinished (cond abandoned Abandoned bare) ≡ true
+shown-unfinished true bare before h = let over : is_finished bare ≡ true = before refl in let bad : true ≡ false = sym over ∙ h in cc
+shown-unfinished false bare before h = unfinished-status bare h
+
+pub belongs : (limit : ℕ) (h : History) → IsLegal limit h → (w : ℕ) (work : WorkRow) → find (is_work w) (rows h).works ≡ Some work → BelongsTo h work
+belongs limit h legal w work found =
+    let past : List Entry = reverse h.log in
+    let due : AllDue limit h.catalogue past = past-due limit h legal in
+    let k : IsKept h.catalogue past = kept limit h.catalogue past due in
+    let held : IsHeld h.catalogue past work = each-found (IsHeld h.catalogue past) (is_work w) (works_of past) work k.held found in
+    let m : Made = held.one in
+    let number : m.execution ≡ work.execution = made-number work.execution past m held.found in
+    let made_so : find (is_made m.execution) (made past) ≡ Some m = ap (λ n. find (is_made n) (made past)) number ∙ held.found in
+    let begun : is_some (start_of past m.execution) ≡ true = ap (λ n. is_some (start_of past n)) number ∙ held.begun in
+    record {
+      owner = execution_row h.catalogue past m;
+      found = row-there h.catalogue past work.execution m held.found;
+      begun = begun;
+      unfinished = λ busy. shown-unfinished (abandoned_of past m.execution) (bare_of h.catalogue past m) (abandoned-finished limit h.catalogue past m due made_so)
+          (busy-unfinished work.element (stop_of past m.execution) (start_of past m.execution) (value_after h.catalogue past m) (held.under_way busy) begun);
+    }
+
+apart-found : (rows : List WorkRow) (v w : ℕ) (one other : WorkRow) → AllApart rows → find (is_work v) rows ≡ Some one → find (is_work w) rows ≡ Some other → v ≢ w
+    → one.execution ≡ other.execution → one.element ≢ other.element
+apart-found [] v w one other apart e1 e2 differ same el = cc
+apart-found (r ∷ rs) v w one other apart e1 e2 differ same el =
+    on-it (r.work == v)
+    (λ first. on-it (r.work == w)
+    (λ second. differ (sym (eqb-true r.work v first) ∙ eqb-true r.work w second))
+    (λ off.
+    let is : r ≡ one = let s : Some r ≡ Some one = sym (ap (λ b. cond b (Some r) (find (is_work v) rs)) first) ∙ e1 in cc in
+    let later : find (is_work w) rs ≡ Some other = sym (ap (λ b. cond b (Some r) (find (is_work w) rs)) off) ∙ e2 in
+    each-found (Apart r) (is_work w) rs other apart.0 later (sym same ∙ ap (λ (z : WorkRow). z.execution) (sym is)) (sym el ∙ ap (λ (z : WorkRow). z.element) (sym is))))
+    (λ off.
+    let here : find (is_work v) rs ≡ Some one = sym (ap (λ b. cond b (Some r) (find (is_work v) rs)) off) ∙ e1 in
+    on-it (r.work == w)
+    (λ second.
+    let is : r ≡ other = let s : Some r ≡ Some other = sym (ap (λ b. cond b (Some r) (find (is_work w) rs)) second) ∙ e2 in cc in
+    each-found (Apart r) (is_work v) rs one apart.0 here (same ∙ ap (λ (z : WorkRow). z.execution) (sym is)) (el ∙ ap (λ (z : WorkRow). z.element) (sym is)))
+    (λ off2. apart-found rs v w one other apart.1 here (sym (ap (λ b. cond b (Some r) (find (is_work w) rs)) off2) ∙ e2) differ same el))
+
+-- no element of a job execution has two work items
+pub once_each : (limit : ℕ) (h : History) → IsLegal limit h → (v w : ℕ) (one other : WorkRow) → find (is_work v) (rows h).works ≡ Some one
+    → find (is_work w) (rows h).works ≡ Some other → v ≢ w → one.execution ≡ other.execution → one.element ≢ other.element
+once_each limit h legal v w one other e1 e2 differ same =
+    apart-found (works_of (reverse h.log)) v w one other (kept limit h.catalogue (reverse h.log) (past-due limit h legal)).apart e1 e2 differ same
+
+-- ---- Job instances
+
+pub has_instance : (limit : ℕ) (h : History) → IsLegal limit h → (x : ℕ) (row : ExecutionRow) → row_in h x ≡ Some row → HasInstance h row
+has_instance limit h legal x row found =
+    let past : List Entry = reverse h.log in
+    let from : IsRowAt h.catalogue past x row = row-at h.catalogue past x row found in
+    let m : Made = from.one in
+    let i : InstanceOf past m = each-found (InstanceOf past) (is_made m.execution) (made past) m (instances-kept limit h.catalogue past (past-due limit h legal)) from.found in
+    subst (HasInstance h) (sym from.is_row) (record { instance = i.instance; found = i.found; job = i.job })
+
+-- ---- Job names
+
+names-call : (call : Call) (instances : List JobInstance)
+    → distinct (map (λ i. i.job) (instances_after call instances)) ≡ with_name (distinct (map (λ i. i.job) instances)) call
+names-call (Start job parameters) instances =
+    ap distinct (map-append (λ (i : JobInstance). i.job) instances (record { instance = length instances + 1; job = job } ∷ []))
+    ∙ distinct-more (map (λ i. i.job) instances) job
+names-call (Restart y parameters) instances = refl
+names-call (Stop y) instances = refl
+names-call (Abandon y) instances = refl
+names-call Claim instances = refl
+names-call (Checkpoint w mark step) instances = refl
+names-call (Finish w o t step) instances = refl
+
+-- the names after an operation more
+pub names_grow : (h : History) (e : Entry) (names : List (List ℕ)) → answer h JobNames ≡ Ok (AreNames names) → answer (grown h e) JobNames ≡ Ok (AreNames (with_name names e.call))
+names_grow h e names is =
+    let before : distinct (map (λ (i : JobInstance). i.job) (instances_of (reverse h.log))) ≡ names = cc in
+    let past : reverse (h.log ++ e ∷ []) ≡ e ∷ reverse h.log = reverse-append h.log (e ∷ []) in
+    ap (λ l. Ok (AreNames (distinct (map (λ (i : JobInstance). i.job) (instances_of l))))) past
+    ∙ (ap (λ ns. Ok (AreNames ns)) (names-call e.call (instances_of (reverse h.log))) ∙ ap (λ ns. Ok (AreNames (with_name ns e.call))) before)
+
+-- no name stands twice
+pub names_once : (h : History) (names : List (List ℕ)) → answer h JobNames ≡ Ok (AreNames names) → has_twice names ≡ false
+names_once h names is =
+    let before : distinct (map (λ (i : JobInstance). i.job) (instances_of (reverse h.log))) ≡ names = cc in
+    ap has_twice (sym before) ∙ distinct-once (map (λ i. i.job) (instances_of (reverse h.log)))
+
+-- ---- What is handed out
+
+was-ready : (h : History) (item : WorkItem) → ToldClaim (rows h) (Work item) → WasReady h item
+was-ready h item told =
+    (elim (first_ready (walk_in (rows h) told.row)) as (λ o. first_ready (walk_in (rows h) told.row) ≡ o → Work item ≡ claim_reply (rows h) told.row o → WasReady h item) [
+      | None ↦ λ ready is. cc
+      | Some id ↦ λ ready is.
+          let same : item ≡ item_of (rows h) told.row id = cc in
+          record {
+            owner = told.row;
+            least = told.found;
+            execution = ap (λ (i : WorkItem). i.execution) same;
+            ready = ready ∙ ap (λ (i : WorkItem). Some i.element) (sym same);
+            runs = ap (λ (i : WorkItem). is_some (runs_in (job_named h.catalogue told.row.job) i.element)) same
+                ∙ walk-runs ready_sight id (known_of told.row.execution (rows h).works) (job_named h.catalogue told.row.job) (first-seen id (walk_in (rows h) told.row) ready);
+            number = ap (λ (i : WorkItem). i.work) same;
+          }
+    ]) refl told.answered
+
+-- what a claim hands out was ready
+pub handed_ready : (limit : ℕ) (h : History) → IsLegal limit h → (before : List Entry) (e : Entry) (after : List Entry) → h.log ≡ before ++ e ∷ after
+    → (item : WorkItem) → e.reply ≡ Work item → WasReady (beginning h before) item
+handed_ready limit h legal before e after cut item is =
+    let due = legal.due before e after cut in
+    let there : reply limit (beginning h before) e.who e.call ≡ Ok (Work item) = due.0 ∙ ap Ok is in
+    was-ready (beginning h before) item (work-told limit (rows (beginning h before)) e.who e.call item there)

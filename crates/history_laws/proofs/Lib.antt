@@ -1,0 +1,10 @@
+pub mod Names
+pub mod Walks
+pub mod Works
+pub mod Told
+pub mod Kept
+pub mod Ended
+pub mod Owners
+pub mod Moments
+pub mod Laws
+pub mod Runs

@@ -1,0 +1,180 @@
+-- Abandonment and end: an abandoned job execution is over, and the end is the moment of the operation that brought it.
+use Rattle.std.proofs.Common.{◌≡◌, ℕ, ◌+◌, ◌==◌, ◌||◌, ◌&&◌, Bool, true, false, cond, Option, None, Some, is_some, List, [], ◌∷◌, ◌++◌, length, find, refl, sym, ◌∙◌, ap, subst}
+use Rattle.std.specs.List.{list_any}
+use Rattle.std.proofs.lemmas.Bool.{eqb-true, eq-eqb}
+use Rattle.batch_ids.specs.Statuses.{is_unfinished}
+use Rattle.batch_ids.specs.Parameters.{Pair}
+use Rattle.batch_ids.specs.declared.status.BatchStatus.{BatchStatus}
+use Rattle.batch_ids.specs.declared.status.BatchStatus.TheVariants.{Abandoned}
+use Rattle.jsl_model.specs.Jobs.{JobTree}
+use Rattle.batch_history.specs.declared.call.Call.{Call}
+use Rattle.batch_history.specs.declared.call.Call.TheVariants.{Start, Restart, Stop, Abandon, Claim, Checkpoint, Finish}
+use Rattle.batch_history.specs.declared.call.Reply.{Reply}
+use Rattle.batch_history.specs.declared.call.Entry.{Entry}
+use Rattle.batch_history.specs.declared.rows.ExecutionRow.{ExecutionRow}
+use Rattle.batch_history.specs.History.{Made, made, makes, is_made, remade, is_at, given_up, earliest, abandoned_of, end_of, bare_of, is_finished}
+use Rattle.batch_history.specs.Rows.{Rows, rows_of, row_status, is_running_in, is_execution, execution_row}
+use Rattle.batch_history.proofs.Stepping.{settled, ended-by, given-by}
+use Rattle.history_laws.proofs.Walks.{or-none}
+use Rattle.history_laws.proofs.Works.{found-passes}
+use Rattle.history_laws.proofs.Told.{Due, AllDue, IsRowOf, row-of, ToldAbandonment, abandonment-told}
+use Rattle.history_laws.proofs.Ended.{finished-step, on-it}
+
+-- ---- Before an operation
+
+find-missed : {X : Type 0} (p : X → Bool) (xs : List X) (new x : X) → p new ≡ false → find p (xs ++ new ∷ []) ≡ Some x → find p xs ≡ Some x
+find-missed p [] new x off e = let none : cond (p new) (Some new) None ≡ None = rw off refl in cc
+find-missed p (y ∷ ys) new x off e =
+    (elim (p y) as (λ b. cond b (Some y) (find p (ys ++ new ∷ [])) ≡ Some x → cond b (Some y) (find p ys) ≡ Some x) [
+      | true ↦ λ s. s
+      | false ↦ λ s. find-missed p ys new x off s
+    ]) e
+
+remade-number : (x at : ℕ) (parameters : List Pair) (o : Option Made) → (remade x parameters at o).execution ≡ x
+remade-number x at parameters None = refl
+remade-number x at parameters (Some m) = refl
+
+-- a job execution that an operation doesn't make was made before it
+made-call : (older : List Entry) (who at : ℕ) (call : Call) (reply : Reply) (x : ℕ) (m : Made) → makes (length (made older)) x call ≡ false
+    → find (is_made x) (made (record { who = who; call = call; at = at; reply = reply } ∷ older)) ≡ Some m → find (is_made x) (made older) ≡ Some m
+made-call older who at (Start job parameters) reply x m off e = find-missed (is_made x) (made older) _ m off e
+made-call older who at (Restart y parameters) reply x m off e =
+    find-missed (is_made x) (made older) _ m (ap (λ n. n == x) (remade-number (length (made older) + 1) at parameters (find (is_made y) (made older))) ∙ off) e
+made-call older who at (Stop y) reply x m off e = e
+made-call older who at (Abandon y) reply x m off e = e
+made-call older who at Claim reply x m off e = e
+made-call older who at (Checkpoint w mark step) reply x m off e = e
+made-call older who at (Finish w o t step) reply x m off e = e
+
+pub made-before : (older : List Entry) (e : Entry) (x : ℕ) (m : Made) → makes (length (made older)) x e.call ≡ false
+    → find (is_made x) (made (e ∷ older)) ≡ Some m → find (is_made x) (made older) ≡ Some m
+made-before older e x m off found = made-call older e.who e.at e.call e.reply x m off found
+
+-- ---- Abandonment
+
+any-none : {X : Type 0} (p q : X → Bool) (xs : List X) (x : X) → list_any p xs ≡ false → find q xs ≡ Some x → p x ≡ false
+any-none p q [] x none e = cc
+any-none p q (y ∷ ys) x none e =
+    let both = or-none (p y) (list_any p ys) none in
+    (elim (q y) as (λ b. cond b (Some y) (find q ys) ≡ Some x → p x ≡ false) [
+      | true ↦ λ s. let same : y ≡ x = cc in subst (λ z. p z ≡ false) same both.0
+      | false ↦ λ s. any-none p q ys x both.1 s
+    ]) e
+
+not-running : (abandoned : Bool) (bare : BatchStatus) → (abandoned ≡ true → is_finished bare ≡ true) → is_unfinished (cond abandoned Abandoned bare) ≡ false → is_finished bare ≡ true
+not-running true bare before h = before refl
+not-running false bare before h = rw h refl
+
+-- an abandonment finds the job execution over
+abandonment-over : (catalogue : List JobTree) (past : List Entry) (m : Made) (y : ℕ) → ToldAbandonment (rows_of catalogue past) y
+    → find (is_made m.execution) (made past) ≡ Some m → (y == m.execution) ≡ true
+    → (abandoned_of past m.execution ≡ true → is_finished (bare_of catalogue past m) ≡ true) → is_finished (bare_of catalogue past m) ≡ true
+abandonment-over catalogue past m y told found on before =
+    let r : Rows = rows_of catalogue past in
+    let from : IsRowOf catalogue past told.row = row-of catalogue past (is_execution y) told.row told.found in
+    let n : Made = from.one in
+    let number : told.row.execution ≡ y = eqb-true told.row.execution y (found-passes (is_execution y) r.executions told.row told.found) in
+    let same : n.execution ≡ m.execution = sym (ap (λ (row : ExecutionRow). row.execution) from.is_row) ∙ (number ∙ eqb-true y m.execution on) in
+    let one : n ≡ m = let both : Some n ≡ Some m = sym from.found ∙ (ap (λ x. find (is_made x) (made past)) same ∙ found) in cc in
+    let is : told.row ≡ execution_row catalogue past m = from.is_row ∙ ap (execution_row catalogue past) one in
+    let none : is_running_in told.row.instance told.row ≡ false = any-none (is_running_in told.row.instance) (is_execution y) r.executions told.row told.none told.found in
+    let self : (told.row.instance == told.row.instance) ≡ true = eq-eqb told.row.instance told.row.instance refl in
+    let rest : is_unfinished (row_status told.row) ≡ false = sym (ap (λ b. b && is_unfinished (row_status told.row)) self) ∙ none in
+    not-running (abandoned_of past m.execution) (bare_of catalogue past m) before (sym (ap (λ (row : ExecutionRow). is_unfinished (row_status row)) is) ∙ rest)
+
+given-call : (limit : ℕ) (catalogue : List JobTree) (older : List Entry) (who at : ℕ) (call : Call) (reply : Reply) (m : Made)
+    → Due limit catalogue older record { who = who; call = call; at = at; reply = reply } → find (is_made m.execution) (made older) ≡ Some m
+    → is_at m.execution (given_up call) ≡ true → (abandoned_of older m.execution ≡ true → is_finished (bare_of catalogue older m) ≡ true)
+    → is_finished (bare_of catalogue older m) ≡ true
+given-call limit catalogue older who at (Abandon y) reply m due found on before =
+    abandonment-over catalogue older m y (abandonment-told limit (rows_of catalogue older) y reply due.0) found on before
+given-call limit catalogue older who at (Start job parameters) reply m due found on before = cc
+given-call limit catalogue older who at (Restart y parameters) reply m due found on before = cc
+given-call limit catalogue older who at (Stop y) reply m due found on before = cc
+given-call limit catalogue older who at Claim reply m due found on before = cc
+given-call limit catalogue older who at (Checkpoint w mark step) reply m due found on before = cc
+given-call limit catalogue older who at (Finish w o t step) reply m due found on before = cc
+
+-- an abandoned job execution is over, abandonment aside
+pub abandoned-finished : (limit : ℕ) (catalogue : List JobTree) (past : List Entry) (m : Made) → AllDue limit catalogue past
+    → find (is_made m.execution) (made past) ≡ Some m → abandoned_of past m.execution ≡ true → is_finished (bare_of catalogue past m) ≡ true
+abandoned-finished limit catalogue [] m due found given = cc
+abandoned-finished limit catalogue (e ∷ older) m due found given =
+    let x : ℕ = m.execution in
+    on-it (makes (length (made older)) x e.call)
+    (λ made_yes. absurd (let no : abandoned_of (e ∷ older) x ≡ false = rw made_yes refl in let bad : true ≡ false = sym given ∙ no in cc))
+    (λ made_no.
+    let earlier = made-before older e x m made_no found in
+    let before : abandoned_of older x ≡ true → is_finished (bare_of catalogue older m) ≡ true = abandoned-finished limit catalogue older m due.1 earlier in
+    let one_of : (abandoned_of older x || is_at x (given_up e.call)) ≡ true = sym (given-by older e x made_no) ∙ given in
+    let over : is_finished (bare_of catalogue older m) ≡ true =
+    on-it (abandoned_of older x) before
+    (λ off. given-call limit catalogue older e.who e.at e.call e.reply m due.0 earlier (sym (ap (λ b. b || is_at x (given_up e.call)) off) ∙ one_of) before) in
+    ap (λ (row : ExecutionRow). is_finished row.bare) (finished-step limit catalogue older e m due earlier over) ∙ over)
+
+-- ---- The end
+
+-- where a past is cut at the operation that brought the end
+pub record EndedPast (catalogue : List JobTree) (past : List Entry) (m : Made) (t : ℕ) : Type 0 where
+  pub later : List Entry
+  pub entry : Entry
+  pub older : List Entry
+  pub cut : past ≡ later ++ entry ∷ older
+  pub moment : entry.at ≡ t
+  pub found : find (is_made m.execution) (made (entry ∷ older)) ≡ Some m
+  pub over : is_finished (bare_of catalogue (entry ∷ older) m) ≡ true
+  pub open_before : is_finished (bare_of catalogue older m) ≡ false
+
+still-open : (b : Bool) (o : Option ℕ) (at : ℕ) → o ≡ None → earliest o b at ≡ o → b ≡ false
+still-open true None at none h = cc
+still-open true (Some t) at none h = cc
+still-open false o at none h = refl
+
+pub ended-past : (catalogue : List JobTree) (past : List Entry) (m : Made) (t : ℕ) → find (is_made m.execution) (made past) ≡ Some m
+    → end_of catalogue past m ≡ Some t → EndedPast catalogue past m t
+ended-past catalogue [] m t found ended = cc
+ended-past catalogue (e ∷ older) m t found ended =
+    let x : ℕ = m.execution in
+    on-it (makes (length (made older)) x e.call)
+    (λ made_yes. absurd (let no : end_of catalogue (e ∷ older) m ≡ None = rw made_yes refl in let bad : Some t ≡ None = sym ended ∙ no in cc))
+    (λ made_no.
+    let earlier = made-before older e x m made_no found in
+    let by : earliest (end_of catalogue older m) (is_finished (bare_of catalogue (e ∷ older) m)) e.at ≡ Some t = sym (ended-by catalogue older e m made_no) ∙ ended in
+    (elim (end_of catalogue older m) as (λ o. end_of catalogue older m ≡ o → earliest o (is_finished (bare_of catalogue (e ∷ older) m)) e.at ≡ Some t → EndedPast catalogue (e ∷ older) m t) [
+      | Some u ↦ λ was now.
+          let rest = ended-past catalogue older m t earlier (was ∙ now) in
+          record {
+            later = e ∷ rest.later;
+            entry = rest.entry;
+            older = rest.older;
+            cut = ap (λ l. e ∷ l) rest.cut;
+            moment = rest.moment;
+            found = rest.found;
+            over = rest.over;
+            open_before = rest.open_before;
+          }
+      | None ↦ λ was now.
+          on-it (is_finished (bare_of catalogue (e ∷ older) m))
+          (λ over.
+          let at : Some e.at ≡ Some t = sym (ap (λ b. earliest None b e.at) over) ∙ now in
+          record {
+            later = [];
+            entry = e;
+            older = older;
+            cut = refl;
+            moment = cc;
+            found = found;
+            over = over;
+            open_before = still-open (is_finished (bare_of catalogue older m)) (end_of catalogue older m) e.at was (settled catalogue older m e.at);
+          })
+          (λ open_still. absurd (let none : None ≡ Some t = sym (ap (λ b. earliest None b e.at) open_still) ∙ now in cc))
+    ]) refl by)
+
+has-end : (b : Bool) (o : Option ℕ) (at : ℕ) → b ≡ true → earliest o b at ≡ o → is_some o ≡ true
+has-end true (Some t) at over h = refl
+has-end true None at over h = cc
+has-end false o at over h = cc
+
+-- what is over has an end
+pub over-ended : (catalogue : List JobTree) (past : List Entry) (m : Made) → is_finished (bare_of catalogue past m) ≡ true → is_some (end_of catalogue past m) ≡ true
+over-ended catalogue past m over = has-end (is_finished (bare_of catalogue past m)) (end_of catalogue past m) 0 over (settled catalogue past m 0)

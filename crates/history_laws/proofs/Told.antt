@@ -1,0 +1,283 @@
+-- What the reply that a call was due tells of the rows before it.
+use Rattle.std.proofs.Common.{◌≡◌, ℕ, ◌+◌, ◌==◌, ◌<◌, ◌≤◌, Bool, true, false, cond, nat_lt, Option, None, Some, is_some, Result, Ok, Err, List, [], ◌∷◌, ◌++◌, length, map, find, reverse, refl, sym, ◌∙◌, ap, subst, arith}
+use Rattle.std.specs.List.{list_any}
+use Rattle.std.proofs.lemmas.List.{append-nil, append_assoc, reverse-append, reverse-reverse}
+use Rattle.std.proofs.lemmas.Bool.{eqb-true, eq-eqb, ne_eqb}
+use Rattle.batch_ids.specs.declared.refusal.Refusal.{Refusal}
+use Rattle.batch_ids.specs.declared.refusal.Refusal.TheVariants.{JobStartException, NoSuchJobExecutionException, JobExecutionNotRunningException, JobExecutionIsRunningException, RepositoryFull}
+use Rattle.batch_ids.specs.declared.status.WorkOutcome.{WorkOutcome}
+use Rattle.batch_ids.specs.declared.status.WorkOutcome.TheVariants.{Completed, Failed, Stopped}
+use Rattle.jsl_model.specs.Jobs.{JobTree}
+use Rattle.batch_history.specs.declared.call.Call.{Call}
+use Rattle.batch_history.specs.declared.call.Call.TheVariants.{Start, Restart, Stop, Abandon, Claim, Checkpoint, Finish}
+use Rattle.batch_history.specs.declared.call.Reply.{Reply}
+use Rattle.batch_history.specs.declared.call.Reply.TheVariants.{Execution as IsExecution, Work, Done}
+use Rattle.batch_history.specs.declared.call.WorkItem.{WorkItem}
+use Rattle.batch_history.specs.declared.call.WorkKind.{WorkKind}
+use Rattle.batch_history.specs.declared.call.WorkKind.TheVariants.{Batchlet, Chunk, Decision}
+use Rattle.batch_history.specs.declared.call.Entry.{Entry}
+use Rattle.batch_history.specs.declared.rows.ExecutionRow.{ExecutionRow}
+use Rattle.batch_history.specs.declared.rows.WorkRow.{WorkRow}
+use Rattle.batch_history.specs.declared.rows.WorkState.{WorkState}
+use Rattle.batch_history.specs.declared.rows.WorkState.TheVariants.{Busy, Over}
+use Rattle.batch_history.specs.History.{Made, made, makes, is_made, is_work, job_named, is_finished}
+use Rattle.batch_history.specs.Replies.{is_nothing}
+use Rattle.batch_history.specs.Rows.{History, Rows, rows_of, reply_by, row_status, is_running_in, entered, claimed, claim_reply, stopped, abandoned, going, marked_as, stopped_as, checkpointed, finished, finished_as, unheld_by, unless, stop_asked, first_ready, walk_in, has_something, is_execution, execution_row, IsLegal}
+use Rattle.batch_history.proofs.Stepping.{AreNumbered, numbered}
+use Rattle.history_laws.proofs.Works.{found-passes, found-before}
+
+-- ---- Replies that were due
+
+-- an entry has the reply that its call was due, and that is not Nothing
+abbrev pub Due : ℕ → List JobTree → List Entry → Entry → Type 0
+Due limit catalogue older e = (reply_by limit (rows_of catalogue older) e.who e.call ≡ Ok e.reply) × (is_nothing e.reply ≡ false)
+
+-- so has each entry of a past
+abbrev pub AllDue : ℕ → List JobTree → List Entry → Type 0
+AllDue limit catalogue [] = Unit {0}
+AllDue limit catalogue (e ∷ older) = Due limit catalogue older e × AllDue limit catalogue older
+
+-- where a history is cut before an entry of its past
+cut-before : (log older rest : List Entry) (e : Entry) → log ≡ reverse (e ∷ older) ++ rest → log ≡ reverse older ++ e ∷ rest
+cut-before log older rest e is =
+    is ∙ (ap (λ l. l ++ rest) (reverse-append (e ∷ []) older) ∙ append_assoc (reverse older) (e ∷ []) rest)
+
+-- the entries of a legal history
+pub legal-due : (limit : ℕ) (h : History) (past rest : List Entry) → IsLegal limit h → h.log ≡ reverse past ++ rest → AllDue limit h.catalogue past
+legal-due limit h [] rest legal is = tt
+legal-due limit h (e ∷ older) rest legal is =
+    let cut : h.log ≡ reverse older ++ e ∷ rest = cut-before h.log older rest e is in
+    let due = legal.due (reverse older) e rest cut in (
+      (subst (λ (p : List Entry). reply_by limit (rows_of h.catalogue p) e.who e.call ≡ Ok e.reply) (reverse-reverse older) due.0, due.1),
+      legal-due limit h older (e ∷ rest) legal cut,
+    )
+
+pub past-due : (limit : ℕ) (h : History) → IsLegal limit h → AllDue limit h.catalogue (reverse h.log)
+past-due limit h legal =
+    legal-due limit h (reverse h.log) [] legal (sym (append-nil (reverse (reverse h.log)) ∙ reverse-reverse h.log))
+
+-- ---- Job executions that were made
+
+-- one that a row is found for
+pub record IsRowOf (catalogue : List JobTree) (past : List Entry) (row : ExecutionRow) : Type 0 where
+  pub one : Made
+  pub is_row : row ≡ execution_row catalogue past one
+  pub found : find (is_made one.execution) (made past) ≡ Some one
+
+record IsFrom (f : Made → ExecutionRow) (k : ℕ) (ms : List Made) (row : ExecutionRow) : Type 0 where
+  one : Made
+  is_row : row ≡ f one
+  found : find (is_made one.execution) ms ≡ Some one
+  above : k ≤ one.execution
+
+found-from : (f : Made → ExecutionRow) (p : ExecutionRow → Bool) (k : ℕ) (ms : List Made) (row : ExecutionRow) → AreNumbered k ms → find p (map f ms) ≡ Some row → IsFrom f k ms row
+found-from f p k [] row h e = cc
+found-from f p k (m ∷ ms) row h e =
+    (elim (p (f m)) as (λ b. cond b (Some (f m)) (find p (map f ms)) ≡ Some row → IsFrom f k (m ∷ ms) row) [
+      | true ↦ λ s.
+          let here : (m.execution == m.execution) ≡ true = eq-eqb m.execution m.execution refl in
+          record { one = m; is_row = cc; found = rw here refl; above = omega (arith, h.0) }
+      | false ↦ λ s.
+          let rest = found-from f p (k + 1) ms row h.1 s in
+          let off : (m.execution == rest.one.execution) ≡ false = ne_eqb m.execution rest.one.execution (λ is. omega (arith, h.0, is, rest.above)) in
+          record { one = rest.one; is_row = rest.is_row; found = rw off rest.found; above = omega (arith, rest.above) }
+    ]) e
+
+pub row-of : (catalogue : List JobTree) (past : List Entry) (p : ExecutionRow → Bool) (row : ExecutionRow)
+    → find p (rows_of catalogue past).executions ≡ Some row → IsRowOf catalogue past row
+row-of catalogue past p row e =
+    let from = found-from (execution_row catalogue past) p 1 (made past) row (numbered past) e in
+    record { one = from.one; is_row = from.is_row; found = from.found }
+
+-- numbers of those that were made
+made-among : (x k : ℕ) (ms : List Made) (m : Made) → AreNumbered k ms → find (is_made x) ms ≡ Some m → x < length ms + k
+made-among x k [] m h e = cc
+made-among x k (n ∷ ms) m h e =
+    (elim (n.execution == x) as (λ b. (n.execution == x) ≡ b → cond b (Some n) (find (is_made x) ms) ≡ Some m → x < length (n ∷ ms) + k) [
+      | true ↦ λ is s. let here : n.execution ≡ x = eqb-true n.execution x is in omega (arith, h.0, here)
+      | false ↦ λ is s. omega (arith, made-among x (k + 1) ms m h.1 s)
+    ]) refl e
+
+makes-other : (count x : ℕ) (call : Call) → x < count + 1 → makes count x call ≡ false
+makes-other count x (Start job parameters) lt = ne_eqb (count + 1) x (λ e. omega (arith, e, lt))
+makes-other count x (Restart y parameters) lt = ne_eqb (count + 1) x (λ e. omega (arith, e, lt))
+makes-other count x (Stop y) lt = refl
+makes-other count x (Abandon y) lt = refl
+makes-other count x Claim lt = refl
+makes-other count x (Checkpoint w mark step) lt = refl
+makes-other count x (Finish w o t step) lt = refl
+
+-- a job execution that was made is not made again
+pub made-once : (older : List Entry) (x : ℕ) (m : Made) (call : Call) → find (is_made x) (made older) ≡ Some m → makes (length (made older)) x call ≡ false
+made-once older x m call e = makes-other (length (made older)) x call (made-among x 1 (made older) m (numbered older) e)
+
+made-with : (x : ℕ) (m : Made) (older : List Entry) (at : ℕ) (call : Call) (reply : Reply) (who : ℕ) → find (is_made x) (made older) ≡ Some m
+    → find (is_made x) (made (record { who = who; call = call; at = at; reply = reply } ∷ older)) ≡ Some m
+made-with x m older at (Start job parameters) reply who h = found-before (is_made x) (made older) _ m h
+made-with x m older at (Restart y parameters) reply who h = found-before (is_made x) (made older) _ m h
+made-with x m older at (Stop y) reply who h = h
+made-with x m older at (Abandon y) reply who h = h
+made-with x m older at Claim reply who h = h
+made-with x m older at (Checkpoint w mark step) reply who h = h
+made-with x m older at (Finish w o t step) reply who h = h
+
+-- and stays as it was made
+pub made-more : (older : List Entry) (e : Entry) (x : ℕ) (m : Made) → find (is_made x) (made older) ≡ Some m → find (is_made x) (made (e ∷ older)) ≡ Some m
+made-more older e x m h = made-with x m older e.at e.call e.reply e.who h
+
+pub made-number : (x : ℕ) (past : List Entry) (m : Made) → find (is_made x) (made past) ≡ Some m → m.execution ≡ x
+made-number x past m h = eqb-true m.execution x (found-passes (is_made x) (made past) m h)
+
+-- ---- What replies tell
+
+entered-is : (limit count : ℕ) (given r : Reply) → entered limit count given ≡ Ok r → r ≡ given
+entered-is limit count given r e =
+    (elim (nat_lt count limit) as (λ b. cond b (Ok given) (Err RepositoryFull) ≡ Ok r → r ≡ given) [
+      | true ↦ λ s. cc
+      | false ↦ λ s. cc
+    ]) e
+
+-- a claim that is answered found a job execution with something to do
+pub record ToldClaim (r : Rows) (given : Reply) : Type 0 where
+  pub row : ExecutionRow
+  pub found : find (has_something r) r.executions ≡ Some row
+  pub answered : given ≡ claim_reply r row (first_ready (walk_in r row))
+
+claim-found : (limit : ℕ) (r : Rows) (found : Option ExecutionRow) (given : Reply) → find (has_something r) r.executions ≡ found
+    → claimed limit r found ≡ Ok given → is_nothing given ≡ false → ToldClaim r given
+claim-found limit r None given is e some = cc
+claim-found limit r (Some row) given is e some = record { row = row; found = is; answered = entered-is limit r.count _ given e }
+
+pub claim-told : (limit : ℕ) (r : Rows) (given : Reply) → claimed limit r (find (has_something r) r.executions) ≡ Ok given → is_nothing given ≡ false → ToldClaim r given
+claim-told limit r given e some = claim-found limit r (find (has_something r) r.executions) given refl e some
+
+-- a report that is accepted is of a busy work item
+pub record ToldReport (works : List WorkRow) (w : ℕ) : Type 0 where
+  pub row : WorkRow
+  pub found : find (is_work w) works ≡ Some row
+  pub busy : row.state ≡ Busy
+
+held-busy : (who claimer : ℕ) (state : WorkState) (reply : Result Reply Refusal) (given : Reply) → unless (unheld_by who claimer state) reply ≡ Ok given → state ≡ Busy
+held-busy who claimer Busy reply given e = refl
+held-busy who claimer (Over outcome exit) reply given e = cc
+
+checkpoint-found : (limit : ℕ) (r : Rows) (who w : ℕ) (found : Option WorkRow) (given : Reply) → find (is_work w) r.works ≡ found
+    → checkpointed limit r who found ≡ Ok given → ToldReport r.works w
+checkpoint-found limit r who w None given is e = cc
+checkpoint-found limit r who w (Some row) given is e = record { row = row; found = is; busy = held-busy who row.claimer row.state _ given e }
+
+finish-found : (limit : ℕ) (r : Rows) (who w : ℕ) (o : WorkOutcome) (found : Option WorkRow) (given : Reply) → find (is_work w) r.works ≡ found
+    → finished limit r who o found ≡ Ok given → ToldReport r.works w
+finish-found limit r who w o None given is e = cc
+finish-found limit r who w o (Some row) given is e = record { row = row; found = is; busy = held-busy who row.claimer row.state _ given e }
+
+pub checkpoint-told : (limit : ℕ) (r : Rows) (who w : ℕ) (given : Reply) → checkpointed limit r who (find (is_work w) r.works) ≡ Ok given → ToldReport r.works w
+checkpoint-told limit r who w given e = checkpoint-found limit r who w (find (is_work w) r.works) given refl e
+
+pub finish-told : (limit : ℕ) (r : Rows) (who w : ℕ) (o : WorkOutcome) (given : Reply) → finished limit r who o (find (is_work w) r.works) ≡ Ok given → ToldReport r.works w
+finish-told limit r who w o given e = finish-found limit r who w o (find (is_work w) r.works) given refl e
+
+-- a stop that is accepted is of an unfinished job execution
+pub record ToldStop (r : Rows) (x : ℕ) : Type 0 where
+  pub row : ExecutionRow
+  pub found : find (is_execution x) r.executions ≡ Some row
+  pub unfinished : is_finished (row_status row) ≡ false
+
+stop-found : (limit : ℕ) (r : Rows) (x : ℕ) (found : Option ExecutionRow) (given : Reply) → find (is_execution x) r.executions ≡ found
+    → stopped limit r.count found ≡ Ok given → ToldStop r x
+stop-found limit r x None given is e = cc
+stop-found limit r x (Some row) given is e =
+    (elim (is_finished (row_status row)) as (λ b. is_finished (row_status row) ≡ b → cond b (Err JobExecutionNotRunningException) (entered limit r.count Done) ≡ Ok given → ToldStop r x) [
+      | true ↦ λ s t. cc
+      | false ↦ λ s t. record { row = row; found = is; unfinished = s }
+    ]) refl e
+
+pub stop-told : (limit : ℕ) (r : Rows) (x : ℕ) (given : Reply) → stopped limit r.count (find (is_execution x) r.executions) ≡ Ok given → ToldStop r x
+stop-told limit r x given e = stop-found limit r x (find (is_execution x) r.executions) given refl e
+
+-- an abandonment that is accepted is of a job instance with no unfinished job execution
+pub record ToldAbandonment (r : Rows) (x : ℕ) : Type 0 where
+  pub row : ExecutionRow
+  pub found : find (is_execution x) r.executions ≡ Some row
+  pub none : list_any (is_running_in row.instance) r.executions ≡ false
+
+abandonment-found : (limit : ℕ) (r : Rows) (x : ℕ) (found : Option ExecutionRow) (given : Reply) → find (is_execution x) r.executions ≡ found
+    → abandoned limit r found ≡ Ok given → ToldAbandonment r x
+abandonment-found limit r x None given is e = cc
+abandonment-found limit r x (Some row) given is e =
+    (elim (list_any (is_running_in row.instance) r.executions) as (λ b. list_any (is_running_in row.instance) r.executions ≡ b
+    → cond b (Err JobExecutionIsRunningException) (entered limit r.count Done) ≡ Ok given → ToldAbandonment r x) [
+      | true ↦ λ s t. cc
+      | false ↦ λ s t. record { row = row; found = is; none = s }
+    ]) refl e
+
+pub abandonment-told : (limit : ℕ) (r : Rows) (x : ℕ) (given : Reply) → abandoned limit r (find (is_execution x) r.executions) ≡ Ok given → ToldAbandonment r x
+abandonment-told limit r x given e = abandonment-found limit r x (find (is_execution x) r.executions) given refl e
+
+-- ---- Work is handed out by claims alone
+
+not-work : (limit count : ℕ) (given : Reply) (item : WorkItem) → (given ≡ Work item → ⊥) → entered limit count given ≡ Ok (Work item) → ⊥
+not-work limit count given item other e = other (sym (entered-is limit count given (Work item) e))
+
+not-tested : (b : Bool) (refusal : Refusal) (reply : Result Reply Refusal) (item : WorkItem) → (reply ≡ Ok (Work item) → ⊥) → cond b (Err refusal) reply ≡ Ok (Work item) → ⊥
+not-tested true refusal reply item other e = cc
+not-tested false refusal reply item other e = other e
+
+not-made : (b : Bool) (refusal : Refusal) (reply : Result Reply Refusal) (item : WorkItem) → (reply ≡ Ok (Work item) → ⊥) → cond b reply (Err refusal) ≡ Ok (Work item) → ⊥
+not-made true refusal reply item other e = other e
+not-made false refusal reply item other e = cc
+
+not-unless : (refusal : Option Refusal) (reply : Result Reply Refusal) (item : WorkItem) → (reply ≡ Ok (Work item) → ⊥) → unless refusal reply ≡ Ok (Work item) → ⊥
+not-unless None reply item other e = other e
+not-unless (Some refusal) reply item other e = cc
+
+going-other : (stop : Bool) (item : WorkItem) → going stop ≡ Work item → ⊥
+going-other true item e = cc
+going-other false item e = cc
+
+not-marked : (limit count : ℕ) (stop : Bool) (kind : WorkKind) (item : WorkItem) → marked_as limit count stop kind ≡ Ok (Work item) → ⊥
+not-marked limit count stop Chunk item e = not-work limit count (going stop) item (going-other stop item) e
+not-marked limit count stop Batchlet item e = cc
+not-marked limit count stop Decision item e = cc
+
+not-stopped : (limit count : ℕ) (stop : Bool) (item : WorkItem) → stopped_as limit count stop ≡ Ok (Work item) → ⊥
+not-stopped limit count true item e = not-work limit count Done item (λ s. cc) e
+not-stopped limit count false item e = cc
+
+not-ended : (limit count : ℕ) (stop : Bool) (kind : WorkKind) (o : WorkOutcome) (item : WorkItem) → finished_as limit count stop kind o ≡ Ok (Work item) → ⊥
+not-ended limit count stop Decision Stopped item e = cc
+not-ended limit count stop Batchlet Stopped item e = not-stopped limit count stop item e
+not-ended limit count stop Chunk Stopped item e = not-stopped limit count stop item e
+not-ended limit count stop kind Completed item e = not-work limit count Done item (λ s. cc) e
+not-ended limit count stop kind Failed item e = not-work limit count Done item (λ s. cc) e
+
+not-checkpointed : (limit : ℕ) (r : Rows) (who : ℕ) (found : Option WorkRow) (item : WorkItem) → checkpointed limit r who found ≡ Ok (Work item) → ⊥
+not-checkpointed limit r who None item e = cc
+not-checkpointed limit r who (Some row) item e =
+    not-unless (unheld_by who row.claimer row.state) _ item (not-marked limit r.count (stop_asked r row.execution) row.kind item) e
+
+not-finished : (limit : ℕ) (r : Rows) (who : ℕ) (o : WorkOutcome) (found : Option WorkRow) (item : WorkItem) → finished limit r who o found ≡ Ok (Work item) → ⊥
+not-finished limit r who o None item e = cc
+not-finished limit r who o (Some row) item e =
+    not-unless (unheld_by who row.claimer row.state) _ item (not-ended limit r.count (stop_asked r row.execution) row.kind o item) e
+
+not-stop : (limit count : ℕ) (found : Option ExecutionRow) (item : WorkItem) → stopped limit count found ≡ Ok (Work item) → ⊥
+not-stop limit count None item e = cc
+not-stop limit count (Some row) item e = not-tested (is_finished (row_status row)) JobExecutionNotRunningException _ item (not-work limit count Done item (λ s. cc)) e
+
+not-abandoned : (limit : ℕ) (r : Rows) (found : Option ExecutionRow) (item : WorkItem) → abandoned limit r found ≡ Ok (Work item) → ⊥
+not-abandoned limit r None item e = cc
+not-abandoned limit r (Some row) item e =
+    not-tested (list_any (is_running_in row.instance) r.executions) JobExecutionIsRunningException _ item (not-work limit r.count Done item (λ s. cc)) e
+
+-- a call that is answered with work is a claim
+pub work-told : (limit : ℕ) (r : Rows) (who : ℕ) (call : Call) (item : WorkItem) → reply_by limit r who call ≡ Ok (Work item) → ToldClaim r (Work item)
+work-told limit r who (Start job parameters) item e =
+    absurd (not-made (is_some (job_named r.catalogue job)) JobStartException _ item (not-work limit r.count (IsExecution (length r.executions + 1)) item (λ s. cc)) e)
+work-told limit r who (Restart x parameters) item e =
+    absurd (not-made (is_some (find (is_execution x) r.executions)) NoSuchJobExecutionException _ item (not-work limit r.count (IsExecution (length r.executions + 1)) item (λ s. cc)) e)
+work-told limit r who (Stop x) item e = absurd (not-stop limit r.count (find (is_execution x) r.executions) item e)
+work-told limit r who (Abandon x) item e = absurd (not-abandoned limit r (find (is_execution x) r.executions) item e)
+work-told limit r who Claim item e = claim-told limit r (Work item) e refl
+work-told limit r who (Checkpoint w mark step) item e = absurd (not-checkpointed limit r who (find (is_work w) r.works) item e)
+work-told limit r who (Finish w o exit step) item e = absurd (not-finished limit r who o (find (is_work w) r.works) item e)

@@ -1,0 +1,504 @@
+-- A walk before and after something is learnt of one element: what it shows as busy stays busy.
+use Rattle.std.proofs.Common.{◌≡◌, ◌≢◌, ℕ, zero, suc, Bool, true, false, cond, ◌||◌, ◌&&◌, Option, None, Some, List, [], ◌∷◌, length, map, find, refl, sym, ◌∙◌, ap, subst, ◌⊎◌, inl, inr}
+use Rattle.std.specs.List.{list_any}
+use Rattle.std.proofs.lemmas.List.{length-map}
+use Rattle.std.proofs.lemmas.Simd.{map-map}
+use Rattle.std.proofs.lemmas.List.Folds.{list_any-append}
+use Rattle.std.specs.Cmp.Lexicographic.{bytes_decides}
+use Rattle.batch_ids.specs.Texts.{is_text}
+use Rattle.batch_ids.specs.declared.status.BatchStatus.TheVariants.{Failed as StatusFailed, Stopped as StatusStopped, Completed as StatusCompleted}
+use Rattle.batch_ids.specs.declared.status.WorkOutcome.{WorkOutcome}
+use Rattle.batch_ids.specs.declared.status.WorkOutcome.TheVariants.{Completed, Failed, Stopped}
+use Rattle.jsl_model.specs.declared.element.Then.{Then}
+use Rattle.jsl_model.specs.declared.element.Then.TheVariants.{Next, End, Fail, Stop}
+use Rattle.jsl_model.specs.declared.element.Transition.{Transition}
+use Rattle.jsl_model.specs.declared.element.Element.{Element, ind-Element, map-Element, fold-roll-Element}
+use Rattle.jsl_model.specs.declared.element.SplitFlow.{SplitFlow, fold-roll-SplitFlow}
+use Rattle.jsl_model.specs.declared.element.Body.{Body, Body-F, map-Body, fold-roll-Body}
+use Rattle.jsl_model.specs.declared.element.Body.TheOpen.{Step, Flow, Split, Decision}
+use Rattle.transitions.specs.Transitions.{first_match}
+use Rattle.job_walk.specs.declared.facts.Fact.{Fact}
+use Rattle.job_walk.specs.declared.facts.Fact.TheVariants.{Nothing, Carried, Busy, Over, Barred}
+use Rattle.job_walk.specs.declared.facts.Value.{Value}
+use Rattle.job_walk.specs.declared.facts.Value.TheVariants.{Open, Done, Ended}
+use Rattle.job_walk.specs.declared.facts.Own.{Own}
+use Rattle.job_walk.specs.declared.facts.Own.TheVariants.{Halts, Came}
+use Rattle.job_walk.specs.Walk.{Row, Part, IsStep, IsDecision, IsWhole, step_own, decision_own, ready_own, busy_own, taken, goes, arrives, at_row, follow, list_value, first_id, whole_value, flow_own, all_ready, all_busy, is_open, any_open, ended_as, strongest, split_own, body_part, element_row, flow_value, row_of, part_of, part_own, value_of_flow, value_of}
+
+-- ---- Values
+
+-- whether an id stands among others
+abbrev pub is_in : List ℕ → List (List ℕ) → Bool
+is_in id ids = list_any (is_text id) ids
+
+-- what is looked for: what is ready, what is busy
+pub record Sight : Type 0 where
+  pub of_ready : Bool
+  pub of_busy : Bool
+
+abbrev pub ready_sight : Sight
+ready_sight = record { of_ready = true; of_busy = false }
+
+abbrev pub busy_sight : Sight
+busy_sight = record { of_ready = false; of_busy = true }
+
+abbrev pub no_sight : Sight
+no_sight = record { of_ready = false; of_busy = false }
+
+-- whether a walk shows an element so
+abbrev pub seen : Sight → List ℕ → Value → Bool
+seen s id (Open ready busy) = (s.of_ready && is_in id ready) || (s.of_busy && is_in id busy)
+seen s id (Done exit) = false
+seen s id (Ended status exit point) = false
+
+-- a walk before and after: what the first shows one way, the second shows the other way, and an end stays
+pub record GoesOn (s t : Sight) (id : List ℕ) (before after : Value) : Type 0 where
+  pub same : is_open before ≡ false → after ≡ before
+  pub kept : seen s id before ≡ true → seen t id after ≡ true
+
+abbrev own_open : Own → Bool
+own_open (Halts value) = is_open value
+own_open (Came outcome exit) = false
+
+abbrev pub own_seen : Sight → List ℕ → Own → Bool
+own_seen s id (Halts value) = seen s id value
+own_seen s id (Came outcome exit) = false
+
+-- the same of what an element comes to by itself
+pub record OwnGoesOn (s t : Sight) (id : List ℕ) (before after : Own) : Type 0 where
+  pub same : own_open before ≡ false → after ≡ before
+  pub kept : own_seen s id before ≡ true → own_seen t id after ≡ true
+
+pub record RowGoesOn (s t : Sight) (id : List ℕ) (before after : Row) : Type 0 where
+  pub id_same : after.id ≡ before.id
+  pub next_same : after.next ≡ before.next
+  pub transitions_same : after.transitions ≡ before.transitions
+  pub own : OwnGoesOn s t id before.own after.own
+
+-- what has ended shows nothing
+closed-unseen : (s : Sight) (id : List ℕ) (v : Value) → is_open v ≡ false → seen s id v ≡ false
+closed-unseen s id (Open ready busy) h = cc
+closed-unseen s id (Done exit) h = refl
+closed-unseen s id (Ended status exit point) h = refl
+
+-- what has ended goes on as it is
+closed-goes : (s t : Sight) (id : List ℕ) (v : Value) → is_open v ≡ false → GoesOn s t id v v
+closed-goes s t id v h = record { same = λ _. refl; kept = λ h2. let unseen = closed-unseen s id v h in cc }
+
+-- ---- Lists
+
+taken-goes : (s t : Sight) (id : List ℕ) (on on2 : List ℕ → Value) → ((to : List ℕ) → GoesOn s t id (on to) (on2 to)) → (then : Then)
+    → GoesOn s t id (taken on then) (taken on2 then)
+taken-goes s t id on on2 h (Next to) = h to
+taken-goes s t id on on2 h (End exit) = closed-goes s t id _ refl
+taken-goes s t id on on2 h (Fail exit) = closed-goes s t id _ refl
+taken-goes s t id on on2 h (Stop exit point) = closed-goes s t id _ refl
+
+goes-goes : (s t : Sight) (id : List ℕ) (on on2 : List ℕ → Value) → ((to : List ℕ) → GoesOn s t id (on to) (on2 to))
+    → (next : Option (List ℕ)) (transition : Option Transition) (outcome : WorkOutcome) (exit : List ℕ)
+    → GoesOn s t id (goes on next transition outcome exit) (goes on2 next transition outcome exit)
+goes-goes s t id on on2 h next None Stopped exit = closed-goes s t id _ refl
+goes-goes s t id on on2 h next (Some transition) Stopped exit = closed-goes s t id _ refl
+goes-goes s t id on on2 h next (Some transition) Completed exit = taken-goes s t id on on2 h transition.then
+goes-goes s t id on on2 h next (Some transition) Failed exit = taken-goes s t id on on2 h transition.then
+goes-goes s t id on on2 h next None Failed exit = closed-goes s t id _ refl
+goes-goes s t id on on2 h (Some to) None Completed exit = h to
+goes-goes s t id on on2 h None None Completed exit = closed-goes s t id _ refl
+
+-- what an element shows, its list shows
+arrives-seen : (t : Sight) (id : List ℕ) (on : List ℕ → Value) (row : Row) (own : Own) → own_seen t id own ≡ true → seen t id (arrives on row own) ≡ true
+arrives-seen t id on row (Halts value) h = h
+arrives-seen t id on row (Came outcome exit) h = cc
+
+arrives-goes : (s t : Sight) (id : List ℕ) (on on2 : List ℕ → Value) → ((to : List ℕ) → GoesOn s t id (on to) (on2 to))
+    → (row row2 : Row) → row2.next ≡ row.next → row2.transitions ≡ row.transitions → (own own2 : Own) → OwnGoesOn s t id own own2
+    → GoesOn s t id (arrives on row own) (arrives on2 row2 own2)
+arrives-goes s t id on on2 h row row2 next transitions (Halts (Open ready busy)) own2 g =
+    record { same = λ closed. cc; kept = λ h2. arrives-seen t id on2 row2 own2 (g.kept h2) }
+arrives-goes s t id on on2 h row row2 next transitions (Halts (Done exit)) own2 g =
+    rw (g.same refl) (closed-goes s t id _ refl)
+arrives-goes s t id on on2 h row row2 next transitions (Halts (Ended status exit point)) own2 g =
+    rw (g.same refl) (closed-goes s t id _ refl)
+arrives-goes s t id on on2 h row row2 next transitions (Came outcome exit) own2 g =
+    rw (g.same refl) (rw next (rw transitions (goes-goes s t id on on2 h row.next (first_match row.transitions exit) outcome exit)))
+
+at-goes : {X : Type 0} (s t : Sight) (id : List ℕ) (f g : X → Row) → ((x : X) → RowGoesOn s t id (f x) (g x))
+    → (on on2 : List ℕ → Value) → ((to : List ℕ) → GoesOn s t id (on to) (on2 to)) → (from : List ℕ) (xs : List X)
+    → GoesOn s t id (at_row on (find (λ row. is_text row.id from) (map f xs))) (at_row on2 (find (λ row. is_text row.id from) (map g xs)))
+at-goes s t id f g rel on on2 h from [] = closed-goes s t id _ refl
+at-goes s t id f g rel on on2 h from (x ∷ xs) =
+    let p : Row → Bool = λ row. is_text row.id from in
+    subst (λ i. GoesOn s t id (at_row on (cond (is_text (f x).id from) (Some (f x)) (find p (map f xs)))) (at_row on2 (cond (is_text i from) (Some (g x)) (find p (map g xs)))))
+    (sym (rel x).id_same)
+    (elim (is_text (f x).id from) as (λ b. GoesOn s t id (at_row on (cond b (Some (f x)) (find p (map f xs)))) (at_row on2 (cond b (Some (g x)) (find p (map g xs))))) [
+      | true ↦ arrives-goes s t id on on2 h (f x) (g x) (rel x).next_same (rel x).transitions_same (f x).own (g x).own (rel x).own
+      | false ↦ at-goes s t id f g rel on on2 h from xs
+    ])
+
+follow-goes : {X : Type 0} (s t : Sight) (id : List ℕ) (f g : X → Row) → ((x : X) → RowGoesOn s t id (f x) (g x)) → (xs : List X) (n : ℕ) (from : List ℕ)
+    → GoesOn s t id (follow n (map f xs) from) (follow n (map g xs) from)
+follow-goes s t id f g rel xs zero from = closed-goes s t id _ refl
+follow-goes s t id f g rel xs (suc n) from =
+    at-goes s t id f g rel (follow n (map f xs)) (follow n (map g xs)) (λ to. follow-goes s t id f g rel xs n to) from xs
+
+list-goes : {X : Type 0} (s t : Sight) (id : List ℕ) (f g : X → Row) → ((x : X) → RowGoesOn s t id (f x) (g x)) → (xs : List X) (from : List ℕ)
+    → GoesOn s t id (list_value (map f xs) from) (list_value (map g xs) from)
+list-goes s t id f g rel xs from =
+    rw (length-map xs f) (rw (length-map xs g) (follow-goes s t id f g rel xs (length xs) from))
+
+first-same : {X : Type 0} (s t : Sight) (id : List ℕ) (f g : X → Row) → ((x : X) → RowGoesOn s t id (f x) (g x)) → (xs : List X)
+    → first_id (map g xs) ≡ first_id (map f xs)
+first-same s t id f g rel [] = refl
+first-same s t id f g rel (x ∷ xs) = (rel x).id_same
+
+whole-goes : {X : Type 0} (s t : Sight) (id : List ℕ) (f g : X → Row) → ((x : X) → RowGoesOn s t id (f x) (g x)) → (xs : List X)
+    → GoesOn s t id (whole_value (map f xs)) (whole_value (map g xs))
+whole-goes s t id f g rel xs = rw (first-same s t id f g rel xs) (list-goes s t id f g rel xs (first_id (map f xs)))
+
+-- ---- Flows and splits
+
+pub or-left : (a b : Bool) → a ≡ true → (a || b) ≡ true
+or-left true b h = refl
+or-left false b h = cc
+
+pub or-right : (a b : Bool) → b ≡ true → (a || b) ≡ true
+or-right true b h = refl
+or-right false b h = h
+
+flow-seen : (t : Sight) (id : List ℕ) (w : Value) → seen t id w ≡ true → own_seen t id (flow_own w) ≡ true
+flow-seen t id (Open ready busy) h = h
+flow-seen t id (Done exit) h = cc
+flow-seen t id (Ended status exit point) h = cc
+
+flow-goes : (s t : Sight) (id : List ℕ) (v w : Value) → GoesOn s t id v w → OwnGoesOn s t id (flow_own v) (flow_own w)
+flow-goes s t id (Open ready busy) w g = record { same = λ closed. cc; kept = λ h. flow-seen t id w (g.kept h) }
+flow-goes s t id (Done exit) w g = record { same = λ _. ap flow_own (g.same refl); kept = λ h. cc }
+flow-goes s t id (Ended status exit point) w g = record { same = λ _. ap flow_own (g.same refl); kept = λ h. cc }
+
+-- whether flows show an element
+abbrev pub all_seen : Sight → List ℕ → List Value → Bool
+all_seen s id flows = (s.of_ready && is_in id (all_ready flows)) || (s.of_busy && is_in id (all_busy flows))
+
+-- what two lists show together, one of them shows
+sorted-out : (r b a1 a2 b1 b2 : Bool) → ((r && (a1 || a2)) || (b && (b1 || b2))) ≡ true
+    → (((r && a1) || (b && b1)) ≡ true) ⊎ (((r && a2) || (b && b2)) ≡ true)
+sorted-out true b true a2 b1 b2 h = inl refl
+sorted-out true b false true b1 b2 h = inr refl
+sorted-out true true false false true b2 h = inl refl
+sorted-out true true false false false b2 h = inr h
+sorted-out true false false false b1 b2 h = cc
+sorted-out false true a1 a2 true b2 h = inl refl
+sorted-out false true a1 a2 false b2 h = inr h
+sorted-out false false a1 a2 b1 b2 h = cc
+
+put-first : (r b a1 a2 b1 b2 : Bool) → ((r && a1) || (b && b1)) ≡ true → ((r && (a1 || a2)) || (b && (b1 || b2))) ≡ true
+put-first true b true a2 b1 b2 h = refl
+put-first true true false true true b2 h = refl
+put-first true true false false true b2 h = refl
+put-first true true false a2 false b2 h = cc
+put-first true false false a2 b1 b2 h = cc
+put-first false true a1 a2 true b2 h = refl
+put-first false true a1 a2 false b2 h = cc
+put-first false false a1 a2 b1 b2 h = cc
+
+put-second : (r b a1 a2 b1 b2 : Bool) → ((r && a2) || (b && b2)) ≡ true → ((r && (a1 || a2)) || (b && (b1 || b2))) ≡ true
+put-second true b true a2 b1 b2 h = refl
+put-second true b false true b1 b2 h = refl
+put-second true true false false true b2 h = refl
+put-second true true false false false b2 h = h
+put-second true false false false b1 b2 h = cc
+put-second false true a1 a2 true b2 h = refl
+put-second false true a1 a2 false b2 h = h
+put-second false false a1 a2 b1 b2 h = cc
+
+-- one flow and the others, together
+together : (s : Sight) (id : List ℕ) (ready busy : List (List ℕ)) (rest : List Value)
+    → all_seen s id (Open ready busy ∷ rest)
+    ≡ ((s.of_ready && (is_in id ready || is_in id (all_ready rest))) || (s.of_busy && (is_in id busy || is_in id (all_busy rest))))
+together s id ready busy rest =
+    rw (list_any-append (is_text id) ready (all_ready rest)) (rw (list_any-append (is_text id) busy (all_busy rest)) refl)
+
+-- a flow shows an element, or the others do
+pub seen-either : (s : Sight) (id : List ℕ) (v : Value) (rest : List Value) → all_seen s id (v ∷ rest) ≡ true → (seen s id v ≡ true) ⊎ (all_seen s id rest ≡ true)
+seen-either s id (Open ready busy) rest h = sorted-out s.of_ready s.of_busy _ _ _ _ (sym (together s id ready busy rest) ∙ h)
+seen-either s id (Done exit) rest h = inr h
+seen-either s id (Ended status exit point) rest h = inr h
+
+seen-here : (s : Sight) (id : List ℕ) (v : Value) (rest : List Value) → seen s id v ≡ true → all_seen s id (v ∷ rest) ≡ true
+seen-here s id (Open ready busy) rest h =
+    together s id ready busy rest
+    ∙ put-first s.of_ready s.of_busy (is_in id ready) (is_in id (all_ready rest)) (is_in id busy) (is_in id (all_busy rest)) h
+seen-here s id (Done exit) rest h = cc
+seen-here s id (Ended status exit point) rest h = cc
+
+seen-later : (s : Sight) (id : List ℕ) (v : Value) (rest : List Value) → all_seen s id rest ≡ true → all_seen s id (v ∷ rest) ≡ true
+seen-later s id (Open ready busy) rest h =
+    together s id ready busy rest
+    ∙ put-second s.of_ready s.of_busy (is_in id ready) (is_in id (all_ready rest)) (is_in id busy) (is_in id (all_busy rest)) h
+seen-later s id (Done exit) rest h = h
+seen-later s id (Ended status exit point) rest h = h
+
+pub nothing-seen : (r b : Bool) → ((r && false) || (b && false)) ≡ false
+nothing-seen true true = refl
+nothing-seen true false = refl
+nothing-seen false true = refl
+nothing-seen false false = refl
+
+flows-seen : {X : Type 0} (s t : Sight) (id : List ℕ) (f g : X → Value) → ((x : X) → GoesOn s t id (f x) (g x)) → (xs : List X)
+    → all_seen s id (map f xs) ≡ true → all_seen t id (map g xs) ≡ true
+flows-seen s t id f g rel [] h = let none = nothing-seen s.of_ready s.of_busy in cc
+flows-seen s t id f g rel (x ∷ xs) h =
+    elim (seen-either s id (f x) (map f xs) h) [
+      | inl here ↦ seen-here t id (g x) (map g xs) ((rel x).kept here)
+      | inr later ↦ seen-later t id (g x) (map g xs) (flows-seen s t id f g rel xs later)
+    ]
+
+-- flows that show something are under way
+seen-open : (s : Sight) (id : List ℕ) (flows : List Value) → all_seen s id flows ≡ true → any_open flows ≡ true
+seen-open s id [] h = let none = nothing-seen s.of_ready s.of_busy in cc
+seen-open s id (Open ready busy ∷ rest) h = refl
+seen-open s id (Done exit ∷ rest) h = seen-open s id rest h
+seen-open s id (Ended status exit point ∷ rest) h = seen-open s id rest h
+
+pub or-none : (a b : Bool) → (a || b) ≡ false → (a ≡ false) × (b ≡ false)
+or-none true b h = cc
+or-none false b h = (refl, h)
+
+flows-same : {X : Type 0} (s t : Sight) (id : List ℕ) (f g : X → Value) → ((x : X) → GoesOn s t id (f x) (g x)) → (xs : List X)
+    → any_open (map f xs) ≡ false → map g xs ≡ map f xs
+flows-same s t id f g rel [] h = refl
+flows-same s t id f g rel (x ∷ xs) h =
+    let none = or-none (is_open (f x)) (any_open (map f xs)) h in
+    ap (λ v. v ∷ map g xs) ((rel x).same none.0) ∙ ap (λ vs. f x ∷ vs) (flows-same s t id f g rel xs none.1)
+
+abbrev pub IsClosed : Option Value → Type 0
+IsClosed None = Unit {0}
+IsClosed (Some v) = is_open v ≡ false
+
+pub find-closed : (p : Value → Bool) (flows : List Value) → any_open flows ≡ false → IsClosed (find p flows)
+find-closed p [] h = tt
+find-closed p (v ∷ rest) h =
+    let none = or-none (is_open v) (any_open rest) h in
+    elim (p v) as (λ b. IsClosed (cond b (Some v) (find p rest))) [
+      | true ↦ none.0
+      | false ↦ find-closed p rest none.1
+    ]
+
+pub strongest-unseen : (s : Sight) (id : List ℕ) (failed stopped completed : Option Value) → IsClosed failed → IsClosed stopped → IsClosed completed
+    → own_seen s id (strongest failed stopped completed) ≡ false
+strongest-unseen s id (Some v) stopped completed h1 h2 h3 = closed-unseen s id v h1
+strongest-unseen s id None (Some v) completed h1 h2 h3 = closed-unseen s id v h2
+strongest-unseen s id None None (Some v) h1 h2 h3 = closed-unseen s id v h3
+strongest-unseen s id None None None h1 h2 h3 = refl
+
+abbrev pub split_ended : List Value → Own
+split_ended flows = strongest (find (ended_as StatusFailed) flows) (find (ended_as StatusStopped) flows) (find (ended_as StatusCompleted) flows)
+
+split-goes : {X : Type 0} (s t : Sight) (id : List ℕ) (f g : X → Value) → ((x : X) → GoesOn s t id (f x) (g x)) → (xs : List X)
+    → OwnGoesOn s t id (split_own (map f xs)) (split_own (map g xs))
+split-goes s t id f g rel xs =
+    (elim (any_open (map f xs)) as (λ b. any_open (map f xs) ≡ b
+    → OwnGoesOn s t id (cond b (Halts (Open (all_ready (map f xs)) (all_busy (map f xs)))) (split_ended (map f xs))) (split_own (map g xs))) [
+      | true ↦ λ e. record {
+        same = λ closed. cc;
+        kept = λ h. let shown = flows-seen s t id f g rel xs h in rw (seen-open t id (map g xs) shown) shown;
+      }
+      | false ↦ λ e.
+          let alike : map g xs ≡ map f xs = flows-same s t id f g rel xs e in
+          let unseen = strongest-unseen s id _ _ _ (find-closed (ended_as StatusFailed) (map f xs) e) (find-closed (ended_as StatusStopped) (map f xs) e)
+          (find-closed (ended_as StatusCompleted) (map f xs) e) in
+          record { same = λ _. ap split_own alike ∙ rw e refl; kept = λ h. cc }
+    ]) refl
+
+-- ---- Elements
+
+-- what the body of an element comes to, before and after
+abbrev PartGoesOn : Sight → Sight → List ℕ → Part → Part → Type 0
+PartGoesOn s t id IsStep after = after ≡ IsStep
+PartGoesOn s t id IsDecision after = after ≡ IsDecision
+PartGoesOn s t id (IsWhole before) after = (own : Own) × (after ≡ IsWhole own) × OwnGoesOn s t id before own
+
+-- what is learnt of steps and decisions alone
+pub record Learns (s t : Sight) (id : List ℕ) (facts later : List ℕ → Fact) : Type 0 where
+  pub step : (i : List ℕ) → OwnGoesOn s t id (step_own i (facts i)) (step_own i (later i))
+  pub decision : (i : List ℕ) → OwnGoesOn s t id (decision_own i (facts i)) (decision_own i (later i))
+
+part-goes : (s t : Sight) (id : List ℕ) (facts later : List ℕ → Fact) → Learns s t id facts later → (i : List ℕ) (part part2 : Part) → PartGoesOn s t id part part2
+    → OwnGoesOn s t id (part_own i (facts i) part) (part_own i (later i) part2)
+part-goes s t id facts later learns i IsStep part2 g = rw g (learns.step i)
+part-goes s t id facts later learns i IsDecision part2 g = rw g (learns.decision i)
+part-goes s t id facts later learns i (IsWhole own) part2 g = rw g.1 g.2
+
+abbrev BodyGoes : Sight → Sight → List ℕ → (List ℕ → Fact) → (List ℕ → Fact) → Body → Type 0
+BodyGoes s t id facts later body = PartGoesOn s t id (part_of facts body) (part_of later body)
+
+abbrev ElementGoes : Sight → Sight → List ℕ → (List ℕ → Fact) → (List ℕ → Fact) → Element → Type 0
+ElementGoes s t id facts later e = RowGoesOn s t id (row_of facts e) (row_of later e)
+
+abbrev FlowGoes : Sight → Sight → List ℕ → (List ℕ → Fact) → (List ℕ → Fact) → SplitFlow → Type 0
+FlowGoes s t id facts later flow = GoesOn s t id (value_of_flow facts flow) (value_of_flow later flow)
+
+abbrev part_at : (List ℕ → Fact) → Body-F Body Element SplitFlow → Part
+part_at facts x = body_part (map-Body Body Element SplitFlow Part Row Value (part_of facts) (row_of facts) (value_of_flow facts) x)
+
+body-inside : (s t : Sight) (id : List ℕ) (facts later : List ℕ → Fact)
+    → (y : Body-F ((b : Body) × BodyGoes s t id facts later b) ((e : Element) × ElementGoes s t id facts later e) ((f : SplitFlow) × FlowGoes s t id facts later f))
+    → PartGoesOn s t id (part_at facts (map-Body _ _ _ Body Element SplitFlow (λ e. e.0) (λ e. e.0) (λ e. e.0) y))
+    (part_at later (map-Body _ _ _ Body Element SplitFlow (λ e. e.0) (λ e. e.0) (λ e. e.0) y))
+body-inside s t id facts later (Step step) = refl
+body-inside s t id facts later (Decision artifact) = refl
+body-inside s t id facts later (Flow es) =
+    rw (map-map (row_of facts) (λ (e : (x : Element) × ElementGoes s t id facts later x). e.0) es)
+    (rw (map-map (row_of later) (λ (e : (x : Element) × ElementGoes s t id facts later x). e.0) es)
+    (_, refl, flow-goes s t id _ _ (whole-goes s t id (λ e. row_of facts e.0) (λ e. row_of later e.0) (λ e. e.1) es)))
+body-inside s t id facts later (Split flows) =
+    rw (map-map (value_of_flow facts) (λ (e : (x : SplitFlow) × FlowGoes s t id facts later x). e.0) flows)
+    (rw (map-map (value_of_flow later) (λ (e : (x : SplitFlow) × FlowGoes s t id facts later x). e.0) flows)
+    (_, refl, split-goes s t id (λ e. value_of_flow facts e.0) (λ e. value_of_flow later e.0) (λ e. e.1) flows))
+
+-- every element goes on as what is learnt of steps and decisions does
+pub element-goes : (s t : Sight) (id : List ℕ) (facts later : List ℕ → Fact) → Learns s t id facts later → (e : Element) → RowGoesOn s t id (row_of facts e) (row_of later e)
+element-goes s t id facts later learns =
+    ind-Element (BodyGoes s t id facts later) (ElementGoes s t id facts later) (FlowGoes s t id facts later)
+    (λ x y is.
+    rw (fold-roll-Body Part Row Value body_part (element_row facts) flow_value x)
+    (rw (fold-roll-Body Part Row Value body_part (element_row later) flow_value x)
+    (subst (λ z. PartGoesOn s t id (part_at facts z) (part_at later z)) is (body-inside s t id facts later y))))
+    (λ x y is.
+    rw (fold-roll-Element Part Row Value body_part (element_row facts) flow_value x)
+    (rw (fold-roll-Element Part Row Value body_part (element_row later) flow_value x)
+    (subst (λ z. RowGoesOn s t id (element_row facts (map-Element Body Element SplitFlow Part Row Value (part_of facts) (row_of facts) (value_of_flow facts) z))
+    (element_row later (map-Element Body Element SplitFlow Part Row Value (part_of later) (row_of later) (value_of_flow later) z))) is
+    record { id_same = refl; next_same = refl; transitions_same = refl; own = part-goes s t id facts later learns y.id _ _ y.body.1 })))
+    (λ x y is.
+    rw (fold-roll-SplitFlow Part Row Value body_part (element_row facts) flow_value x)
+    (rw (fold-roll-SplitFlow Part Row Value body_part (element_row later) flow_value x)
+    (subst (λ z. GoesOn s t id (whole_value (map (row_of facts) z.elements)) (whole_value (map (row_of later) z.elements))) is
+    (rw (map-map (row_of facts) (λ (e : (x : Element) × ElementGoes s t id facts later x). e.0) y.elements)
+    (rw (map-map (row_of later) (λ (e : (x : Element) × ElementGoes s t id facts later x). e.0) y.elements)
+    (whole-goes s t id (λ e. row_of facts e.0) (λ e. row_of later e.0) (λ e. e.1) y.elements))))))
+
+-- THE WALK GOES ON: so does a list of elements
+pub walk-goes : (s t : Sight) (id : List ℕ) (facts later : List ℕ → Fact) → Learns s t id facts later → (elements : List Element) (from : List ℕ)
+    → GoesOn s t id (value_of facts elements from) (value_of later elements from)
+walk-goes s t id facts later learns elements from =
+    list-goes s t id (row_of facts) (row_of later) (element-goes s t id facts later learns) elements from
+
+-- ---- What is learnt
+
+same-own : (s : Sight) (id : List ℕ) (own : Own) → OwnGoesOn s s id own own
+same-own s id own = record { same = λ _. refl; kept = λ h. h }
+
+pub differing : (one other : List ℕ) → one ≢ other → is_text one other ≡ false
+differing one other differ =
+    let same : is_text one other ≡ true → one ≡ other = (bytes_decides one other).0 in
+    elim (is_text one other) as (λ b. (b ≡ true → one ≡ other) → b ≡ false) [
+      | true ↦ λ test. absurd (differ (test refl))
+      | false ↦ λ test. refl
+    ] same
+
+-- at an element, or away from it
+pub at-or-not : {P : Type 0} (i id : List ℕ) → (i ≡ id → P) → (i ≢ id → P) → P
+at-or-not {P = P} i id here away =
+    (elim (is_text i id) as (λ b. is_text i id ≡ b → P) [
+      | true ↦ λ e. here ((bytes_decides i id).0 e)
+      | false ↦ λ e. away (λ s. let yes : is_text i id ≡ true = (bytes_decides i id).1 s in cc)
+    ]) refl
+
+-- an element that is not the one looked for shows nothing of it
+away-own : (s t : Sight) (id i : List ℕ) → i ≢ id → (fact : Fact) → OwnGoesOn s t id (step_own i fact) (step_own i fact)
+away-own s t id i other (Carried exit) = record { same = λ _. refl; kept = λ h. cc }
+away-own s t id i other (Over outcome exit) = record { same = λ _. refl; kept = λ h. cc }
+away-own s t id i other Barred = record { same = λ _. refl; kept = λ h. cc }
+away-own s t id i other Busy =
+    let off : is_text id i ≡ false = differing id i (λ e. other (sym e)) in
+    let none = nothing-seen s.of_ready s.of_busy in
+    record { same = λ _. refl; kept = rw off (λ h. cc) }
+away-own s t id i other Nothing =
+    let off : is_text id i ≡ false = differing id i (λ e. other (sym e)) in
+    let none = nothing-seen s.of_ready s.of_busy in
+    record { same = λ _. refl; kept = rw off (λ h. cc) }
+
+away-decision : (s t : Sight) (id i : List ℕ) → i ≢ id → (fact : Fact) → OwnGoesOn s t id (decision_own i fact) (decision_own i fact)
+away-decision s t id i other (Carried exit) = away-own s t id i other Nothing
+away-decision s t id i other Busy = away-own s t id i other Busy
+away-decision s t id i other (Over outcome exit) = record { same = λ _. refl; kept = λ h. cc }
+away-decision s t id i other Barred = away-own s t id i other Nothing
+away-decision s t id i other Nothing = away-own s t id i other Nothing
+
+-- facts that differ at one element alone
+abbrev pub DifferAt : List ℕ → (List ℕ → Fact) → (List ℕ → Fact) → Type 0
+DifferAt id facts later = (i : List ℕ) → i ≢ id → later i ≡ facts i
+
+-- what was ready is busy
+ready-busy : (id : List ℕ) → OwnGoesOn ready_sight busy_sight id (ready_own id) (busy_own id)
+ready-busy id =
+    let here : is_text id id ≡ true = (bytes_decides id id).1 refl in
+    record { same = λ closed. cc; kept = λ h. rw here refl }
+
+-- a claim of an element that nothing is known of: it was ready, and is busy
+pub claim-here : (id : List ℕ) (facts later : List ℕ → Fact) → DifferAt id facts later → facts id ≡ Nothing → later id ≡ Busy
+    → Learns ready_sight busy_sight id facts later
+claim-here id facts later differ was is =
+    record {
+      step = λ i. at-or-not i id (λ e. rw e (rw was (rw is (ready-busy id)))) (λ off. rw (differ i off) (away-own ready_sight busy_sight id i off (facts i)));
+      decision = λ i. at-or-not i id (λ e. rw e (rw was (rw is (ready-busy id)))) (λ off. rw (differ i off) (away-decision ready_sight busy_sight id i off (facts i)));
+    }
+
+-- what was ready shows nothing as busy
+ready-unseen : (id i : List ℕ) (after : Own) → OwnGoesOn busy_sight busy_sight id (ready_own i) after
+ready-unseen id i after = record { same = λ closed. cc; kept = λ h. cc }
+
+-- the same claim, seen at a busy element
+pub claim-away : (id claimed : List ℕ) (facts later : List ℕ → Fact) → DifferAt claimed facts later → facts claimed ≡ Nothing
+    → Learns busy_sight busy_sight id facts later
+claim-away id claimed facts later differ was =
+    record {
+      step = λ i. at-or-not i claimed (λ e. rw e (rw was (ready-unseen id claimed _))) (λ off. rw (differ i off) (same-own busy_sight id (step_own i (facts i))));
+      decision = λ i. at-or-not i claimed (λ e. rw e (rw was (ready-unseen id claimed _))) (λ off. rw (differ i off) (same-own busy_sight id (decision_own i (facts i))));
+    }
+
+-- what was busy comes to something: no other element sees it
+busy-over : (id i : List ℕ) (after : Own) → id ≢ i → OwnGoesOn busy_sight busy_sight id (busy_own i) after
+busy-over id i after other =
+    let off : is_text id i ≡ false = differing id i other in
+    record { same = λ closed. cc; kept = rw off (λ h. cc) }
+
+-- a report of a busy element, seen at another
+pub report-away : (id reported : List ℕ) (facts later : List ℕ → Fact) → DifferAt reported facts later → facts reported ≡ Busy → id ≢ reported
+    → Learns busy_sight busy_sight id facts later
+report-away id reported facts later differ was other =
+    record {
+      step = λ i. at-or-not i reported (λ e. rw e (rw was (busy-over id reported _ other))) (λ off. rw (differ i off) (same-own busy_sight id (step_own i (facts i))));
+      decision = λ i. at-or-not i reported (λ e. rw e (rw was (busy-over id reported _ other))) (λ off. rw (differ i off) (same-own busy_sight id (decision_own i (facts i))));
+    }
+
+-- whether there is a work item of an element
+abbrev pub is_worked : Fact → Bool
+is_worked Busy = true
+is_worked (Over outcome exit) = true
+is_worked (Carried exit) = false
+is_worked Barred = false
+is_worked Nothing = false
+
+worked-step : (id : List ℕ) (fact : Fact) → is_worked fact ≡ true → OwnGoesOn ready_sight no_sight id (step_own id fact) (step_own id fact)
+worked-step id Busy h = record { same = λ _. refl; kept = λ e. cc }
+worked-step id (Over outcome exit) h = record { same = λ _. refl; kept = λ e. cc }
+worked-step id (Carried exit) h = cc
+worked-step id Barred h = cc
+worked-step id Nothing h = cc
+
+worked-decision : (id : List ℕ) (fact : Fact) → is_worked fact ≡ true → OwnGoesOn ready_sight no_sight id (decision_own id fact) (decision_own id fact)
+worked-decision id Busy h = record { same = λ _. refl; kept = λ e. cc }
+worked-decision id (Over outcome exit) h = record { same = λ _. refl; kept = λ e. cc }
+worked-decision id (Carried exit) h = cc
+worked-decision id Barred h = cc
+worked-decision id Nothing h = cc
+
+-- an element with a work item is not ready
+pub worked-unready : (id : List ℕ) (facts : List ℕ → Fact) → is_worked (facts id) ≡ true → Learns ready_sight no_sight id facts facts
+worked-unready id facts worked =
+    record {
+      step = λ i. at-or-not i id (λ e. rw e (worked-step id (facts id) worked)) (λ off. away-own ready_sight no_sight id i off (facts i));
+      decision = λ i. at-or-not i id (λ e. rw e (worked-decision id (facts id) worked)) (λ off. away-decision ready_sight no_sight id i off (facts i));
+    }

@@ -1,0 +1,83 @@
+-- What every legal history keeps, in the words of its subject.
+use Rattle.std.specs.Prelude.{ℕ, ◌≡◌, ◌+◌, ◌==◌, true, false, Option, Some, is_some, List, [], ◌∷◌, ◌++◌, length, find, if◌then◌else◌}
+use Rattle.batch_ids.specs.Statuses.{is_unfinished}
+use Rattle.jsl_model.specs.Names.{is_among}
+use Rattle.batch_history.specs.declared.call.Call.{Call}
+use Rattle.batch_history.specs.declared.call.Call.TheVariants.{Start, Restart, Stop, Abandon, Claim, Checkpoint, Finish}
+use Rattle.batch_history.specs.declared.call.WorkItem.{WorkItem}
+use Rattle.batch_history.specs.declared.call.Entry.{Entry}
+use Rattle.batch_history.specs.declared.rows.ExecutionRow.{ExecutionRow}
+use Rattle.batch_history.specs.declared.rows.WorkRow.{WorkRow}
+use Rattle.batch_history.specs.declared.rows.WorkState.TheVariants.{Busy}
+use Rattle.batch_history.specs.declared.rows.JobInstance.{JobInstance}
+use Rattle.batch_history.specs.History.{is_finished, job_named}
+use Rattle.batch_history.specs.Rows.{History, rows, row_status, is_execution, has_something, first_ready, walk_in, runs_in}
+
+-- the history as it was after its first operations
+abbrev pub beginning : History → List Entry → History
+beginning h before = record { catalogue = h.catalogue; log = before }
+
+-- the row of a job execution, if it was made
+abbrev pub row_in : History → ℕ → Option ExecutionRow
+row_in h x = find (is_execution x) (rows h).executions
+
+-- ---- A job execution that is over
+
+-- a job execution as it was, but for whether it is abandoned and when an operation was last on it
+abbrev pub IsAsBefore : ExecutionRow → ExecutionRow → Type 0
+IsAsBefore before after = after ≡ record before { abandoned = after.abandoned; updated = after.updated }
+
+-- it is over, and as it was
+pub record StaysFinished (h : History) (x : ℕ) (before : ExecutionRow) : Type 0 where
+  pub after : ExecutionRow
+  pub found : row_in h x ≡ Some after
+  pub finished : is_finished (row_status after) ≡ true
+  pub same : IsAsBefore before after
+
+-- it came to its end by an operation at this moment, and was not over before
+pub record EndedAt (h : History) (x t : ℕ) : Type 0 where
+  pub before : List Entry
+  pub entry : Entry
+  pub after : List Entry
+  pub cut : h.log ≡ before ++ entry ∷ after
+  pub moment : entry.at ≡ t
+  pub row : ExecutionRow
+  pub found : row_in (beginning h (before ++ entry ∷ [])) x ≡ Some row
+  pub finished : is_finished row.bare ≡ true
+  pub until : (earlier : ExecutionRow) → row_in (beginning h before) x ≡ Some earlier → is_finished earlier.bare ≡ false
+
+-- ---- Work
+
+-- the job execution of a work item: it was taken up, and goes on while the work item is busy
+pub record BelongsTo (h : History) (work : WorkRow) : Type 0 where
+  pub owner : ExecutionRow
+  pub found : row_in h work.execution ≡ Some owner
+  pub begun : is_some owner.start ≡ true
+  pub unfinished : work.state ≡ Busy → is_unfinished (row_status owner) ≡ true
+
+-- a work item is the first ready element of the least job execution with something to do, a step or a decision of its job
+pub record WasReady (h : History) (item : WorkItem) : Type 0 where
+  pub owner : ExecutionRow
+  pub least : find (has_something (rows h)) (rows h).executions ≡ Some owner
+  pub execution : item.execution ≡ owner.execution
+  pub ready : first_ready (walk_in (rows h) owner) ≡ Some item.element
+  pub runs : is_some (runs_in (job_named h.catalogue owner.job) item.element) ≡ true
+  pub number : item.work ≡ length (rows h).works + 1
+
+-- ---- Job instances and names
+
+-- the job instance of a job execution, and it is of the same job
+pub record HasInstance (h : History) (row : ExecutionRow) : Type 0 where
+  pub instance : JobInstance
+  pub found : find (λ i. i.instance == row.instance) (rows h).instances ≡ Some instance
+  pub job : instance.job ≡ row.job
+
+-- a job that is started for the first time comes last
+abbrev pub with_name : List (List ℕ) → Call → List (List ℕ)
+with_name names (Start job parameters) = if is_among names job then names else names ++ job ∷ []
+with_name names (Restart y parameters) = names
+with_name names (Stop y) = names
+with_name names (Abandon y) = names
+with_name names Claim = names
+with_name names (Checkpoint w mark step) = names
+with_name names (Finish w outcome exit step) = names

@@ -1,0 +1,70 @@
+ghost use Rattle.std.specs.Prelude.{ℕ, ◌≡◌, ◌≢◌, ◌++◌, ◌∷◌, [], List, Some, Ok, true, false, is_some, find};
+ghost use Rattle.jsl_model.specs.Names.{has_twice};
+ghost use Rattle.batch_history.specs.declared.call.Entry.{Entry};
+ghost use Rattle.batch_history.specs.declared.call.Reply.TheVariants.{Work};
+ghost use Rattle.batch_history.specs.declared.call.WorkItem.{WorkItem};
+ghost use Rattle.batch_history.specs.declared.query.Query.TheVariants.{JobNames};
+ghost use Rattle.batch_history.specs.declared.query.Answer.TheVariants.{JobNames as AreNames};
+ghost use Rattle.batch_history.specs.declared.rows.ExecutionRow.{ExecutionRow};
+ghost use Rattle.batch_history.specs.declared.rows.WorkRow.{WorkRow};
+ghost use Rattle.batch_history.specs.Answers.{answer};
+ghost use Rattle.batch_history.specs.History.{is_work, is_finished};
+ghost use Rattle.batch_history.specs.Rows.{History, IsLegal, rows, row_status, grown};
+ghost use Rattle.history_laws.specs.Laws.{beginning, row_in, StaysFinished, EndedAt, BelongsTo, WasReady, HasInstance, with_name};
+
+/// A job execution that is over stays so: whatever is accepted later, it keeps its batch status and
+/// exit status, its moments and all else, but for whether it is abandoned and the moment of the last
+/// operation on it.
+///
+/// It does nothing: its contract is the law, of every legal history and each of its beginnings.
+#[tactic(auto, using(crate::proofs::Laws::finished_stays))]
+pub fn finished_job_executions_stay_finished()
+    ensures { (limit : ℕ) (h : History) → IsLegal limit h → (before after : List Entry) → h.log ≡ before ++ after → (x : ℕ) (row : ExecutionRow) → row_in (beginning h before) x ≡ Some row → is_finished (row_status row) ≡ true → StaysFinished h x row }
+{}
+
+/// A job execution has an end exactly where it is over, and the end is the moment of the operation
+/// after which it was over for the first time.
+///
+/// It does nothing: its contract is the law.
+#[tactic(auto, using(crate::proofs::Laws::has_end_where_over, crate::proofs::Laws::ended_at))]
+pub fn ends_are_moments_of_operations()
+    ensures there { (limit : ℕ) (h : History) → IsLegal limit h → (x : ℕ) (row : ExecutionRow) → row_in h x ≡ Some row → is_some row.end ≡ is_finished row.bare }
+    ensures moment { (h : History) (x t : ℕ) (row : ExecutionRow) → row_in h x ≡ Some row → row.end ≡ Some t → EndedAt h x t }
+{}
+
+/// Each work item belongs to a job execution that was taken up, and that is unfinished while the work
+/// item is busy; no element of a job execution has two work items.
+///
+/// It does nothing: its contract is the law, of every legal history.
+#[tactic(auto, using(crate::proofs::Laws::belongs, crate::proofs::Laws::once_each))]
+pub fn work_belongs_to_unfinished_job_executions()
+    ensures belongs { (limit : ℕ) (h : History) → IsLegal limit h → (w : ℕ) (work : WorkRow) → find (is_work w) (rows h).works ≡ Some work → BelongsTo h work }
+    ensures once { (limit : ℕ) (h : History) → IsLegal limit h → (v w : ℕ) (one other : WorkRow) → find (is_work v) (rows h).works ≡ Some one → find (is_work w) (rows h).works ≡ Some other → v ≢ w → one.execution ≡ other.execution → one.element ≢ other.element }
+{}
+
+/// What is handed out was ready: a reply of work names the first ready element of the least job
+/// execution with something to do, by the operations before it, and the next number.
+///
+/// It does nothing: its contract is the law, of every entry of a legal history.
+#[tactic(auto, using(crate::proofs::Laws::handed_ready))]
+pub fn what_is_handed_out_was_ready()
+    ensures { (limit : ℕ) (h : History) → IsLegal limit h → (before : List Entry) (e : Entry) (after : List Entry) → h.log ≡ before ++ e ∷ after → (item : WorkItem) → e.reply ≡ Work item → WasReady (beginning h before) item }
+{}
+
+/// Each job execution is of a job instance that was begun, and of its job.
+///
+/// It does nothing: its contract is the law, of every legal history.
+#[tactic(auto, using(crate::proofs::Laws::has_instance))]
+pub fn job_executions_have_job_instances()
+    ensures { (limit : ℕ) (h : History) → IsLegal limit h → (x : ℕ) (row : ExecutionRow) → row_in h x ≡ Some row → HasInstance h row }
+{}
+
+/// The job names stand once each, in the order of their first start: a start of a job that is not
+/// among them appends it, and nothing else changes them.
+///
+/// It does nothing: its contract is the law.
+#[tactic(auto, using(crate::proofs::Laws::names_once, crate::proofs::Laws::names_grow))]
+pub fn job_names_stand_once_in_order_of_first_start()
+    ensures once { (h : History) (names : List (List ℕ)) → answer h JobNames ≡ Ok (AreNames names) → has_twice names ≡ false }
+    ensures order { (h : History) (e : Entry) (names : List (List ℕ)) → answer h JobNames ≡ Ok (AreNames names) → answer (grown h e) JobNames ≡ Ok (AreNames (with_name names e.call)) }
+{}
