@@ -1,7 +1,7 @@
 -- A legal history with one operation more.
 use Rattle.std.proofs.Common.{subst, ◌≡◌, ℕ, ◌+◌, ◌<◌, ◌≤◌, ◌==◌, Bool, true, false, cond, nat_lt, Option, None, Some, Result, Ok, Err, is_some, List, [], ◌∷◌, ◌++◌, length, find, reverse, ◌⊎◌, inl, inr, refl, sym, ◌∙◌, ap, arith}
 use Rattle.std.specs.List.{list_any}
-use Rattle.std.proofs.lemmas.List.{length-append, length-reverse}
+use Rattle.std.proofs.lemmas.List.{length-append, length-reverse, append_assoc, reverse-append}
 use Rattle.std.proofs.lemmas.Bool.{ltb-true}
 use Rattle.batch_ids.specs.declared.refusal.Refusal.{Refusal}
 use Rattle.batch_ids.specs.declared.refusal.Refusal.TheVariants.{JobStartException, NoSuchJobExecutionException, JobExecutionNotRunningException, JobExecutionIsRunningException, RepositoryFull}
@@ -29,6 +29,14 @@ entered-room limit count given r e =
       | true ↦ λ s. refl
       | false ↦ λ s. cc
     ]) e)
+
+-- and is what it was to be
+pub entered-is : (limit count : ℕ) (given r : Reply) → entered limit count given ≡ Ok r → r ≡ given
+entered-is limit count given r e =
+    (elim (nat_lt count limit) as (λ b. cond b (Ok given) (Err RepositoryFull) ≡ Ok r → r ≡ given) [
+      | true ↦ λ s. cc
+      | false ↦ λ s. cc
+    ]) e
 
 claimed-room : (limit : ℕ) (r : Rows) (found : Option ExecutionRow) (given : Reply) → claimed limit r found ≡ Ok given → is_nothing given ≡ false → r.count < limit
 claimed-room limit r None given e n = cc
@@ -127,6 +135,11 @@ cut-last (a ∷ xs) (b ∷ ys) x y zs e =
       | inl w ↦ inl (record { rest = w.rest; front = ap (λ l. a ∷ l) w.front ∙ ap (λ h. h ∷ ys) head; last = w.last })
       | inr w ↦ inr (record { ws = w.ws; front = ap (λ l. a ∷ l) w.front ∙ ap (λ h. h ∷ (ys ++ y ∷ w.ws)) head })
     ]
+
+-- where a history is cut before an entry of its past
+pub cut-before : (log older rest : List Entry) (e : Entry) → log ≡ reverse (e ∷ older) ++ rest → log ≡ reverse older ++ e ∷ rest
+cut-before log older rest e is =
+    is ∙ (ap (λ l. l ++ rest) (reverse-append (e ∷ []) older) ∙ append_assoc (reverse older) (e ∷ []) rest)
 
 abbrev IsDueAt : ℕ → History → List Entry → Entry → Type 0
 IsDueAt limit h before e = (reply limit record { catalogue = h.catalogue; log = before } e.who e.call ≡ Ok e.reply) × (is_nothing e.reply ≡ false)

@@ -225,7 +225,7 @@ numbered-append : (k : ℕ) (ms : List Made) (m : Made) → AreNumbered k ms →
 numbered-append k [] m h e = (omega (arith, e), tt)
 numbered-append k (n ∷ ms) m h e = (h.0, numbered-append (k + 1) ms m h.1 (omega (arith, e)))
 
-remade-number : (x at : ℕ) (parameters : List Pair) (o : Option Made) → (remade x parameters at o).execution ≡ x
+pub remade-number : (x at : ℕ) (parameters : List Pair) (o : Option Made) → (remade x parameters at o).execution ≡ x
 remade-number x at parameters None = refl
 remade-number x at parameters (Some m) = refl
 

@@ -14,7 +14,7 @@ use Rattle.batch_history.specs.declared.call.Entry.{Entry}
 use Rattle.batch_history.specs.declared.rows.ExecutionRow.{ExecutionRow}
 use Rattle.batch_history.specs.History.{Made, made, makes, is_made, remade, is_at, given_up, earliest, abandoned_of, end_of, bare_of, is_finished}
 use Rattle.batch_history.specs.Rows.{Rows, rows_of, row_status, is_running_in, is_execution, execution_row}
-use Rattle.batch_history.proofs.Stepping.{settled, ended-by, given-by}
+use Rattle.batch_history.proofs.Stepping.{remade-number, settled, ended-by, given-by}
 use Rattle.history_laws.proofs.Walks.{or-none}
 use Rattle.history_laws.proofs.Works.{found-passes}
 use Rattle.history_laws.proofs.Told.{Due, AllDue, IsRowOf, row-of, ToldAbandonment, abandonment-told}
@@ -29,10 +29,6 @@ find-missed p (y ∷ ys) new x off e =
       | true ↦ λ s. s
       | false ↦ λ s. find-missed p ys new x off s
     ]) e
-
-remade-number : (x at : ℕ) (parameters : List Pair) (o : Option Made) → (remade x parameters at o).execution ≡ x
-remade-number x at parameters None = refl
-remade-number x at parameters (Some m) = refl
 
 -- a job execution that an operation doesn't make was made before it
 made-call : (older : List Entry) (who at : ℕ) (call : Call) (reply : Reply) (x : ℕ) (m : Made) → makes (length (made older)) x call ≡ false

@@ -23,6 +23,7 @@ use Rattle.batch_history.specs.declared.rows.WorkState.TheVariants.{Busy, Over}
 use Rattle.batch_history.specs.History.{Made, made, makes, is_made, is_work, job_named, is_finished}
 use Rattle.batch_history.specs.Replies.{is_nothing}
 use Rattle.batch_history.specs.Rows.{History, Rows, rows_of, reply_by, row_status, is_running_in, entered, claimed, claim_reply, stopped, abandoned, going, marked_as, stopped_as, checkpointed, finished, finished_as, unheld_by, unless, stop_asked, first_ready, walk_in, has_something, is_execution, execution_row, IsLegal}
+use Rattle.batch_history.proofs.Legal.{entered-is, cut-before}
 use Rattle.batch_history.proofs.Stepping.{AreNumbered, numbered}
 use Rattle.history_laws.proofs.Works.{found-passes, found-before}
 
@@ -36,11 +37,6 @@ Due limit catalogue older e = (reply_by limit (rows_of catalogue older) e.who e.
 abbrev pub AllDue : ℕ → List JobTree → List Entry → Type 0
 AllDue limit catalogue [] = Unit {0}
 AllDue limit catalogue (e ∷ older) = Due limit catalogue older e × AllDue limit catalogue older
-
--- where a history is cut before an entry of its past
-cut-before : (log older rest : List Entry) (e : Entry) → log ≡ reverse (e ∷ older) ++ rest → log ≡ reverse older ++ e ∷ rest
-cut-before log older rest e is =
-    is ∙ (ap (λ l. l ++ rest) (reverse-append (e ∷ []) older) ∙ append_assoc (reverse older) (e ∷ []) rest)
 
 -- the entries of a legal history
 pub legal-due : (limit : ℕ) (h : History) (past rest : List Entry) → IsLegal limit h → h.log ≡ reverse past ++ rest → AllDue limit h.catalogue past
@@ -129,13 +125,6 @@ pub made-number : (x : ℕ) (past : List Entry) (m : Made) → find (is_made x) 
 made-number x past m h = eqb-true m.execution x (found-passes (is_made x) (made past) m h)
 
 -- ---- What replies tell
-
-entered-is : (limit count : ℕ) (given r : Reply) → entered limit count given ≡ Ok r → r ≡ given
-entered-is limit count given r e =
-    (elim (nat_lt count limit) as (λ b. cond b (Ok given) (Err RepositoryFull) ≡ Ok r → r ≡ given) [
-      | true ↦ λ s. cc
-      | false ↦ λ s. cc
-    ]) e
 
 -- a claim that is answered found a job execution with something to do
 pub record ToldClaim (r : Rows) (given : Reply) : Type 0 where

@@ -9,6 +9,7 @@ use Rattle.batch_ids.specs.Texts.{is_text}
 use Rattle.batch_ids.specs.declared.status.BatchStatus.TheVariants.{Failed as StatusFailed, Stopped as StatusStopped, Completed as StatusCompleted}
 use Rattle.batch_ids.specs.declared.status.WorkOutcome.{WorkOutcome}
 use Rattle.batch_ids.specs.declared.status.WorkOutcome.TheVariants.{Completed, Failed, Stopped}
+use Rattle.jsl_model.specs.Names.{is_among}
 use Rattle.jsl_model.specs.declared.element.Then.{Then}
 use Rattle.jsl_model.specs.declared.element.Then.TheVariants.{Next, End, Fail, Stop}
 use Rattle.jsl_model.specs.declared.element.Transition.{Transition}
@@ -23,13 +24,14 @@ use Rattle.job_walk.specs.declared.facts.Value.{Value}
 use Rattle.job_walk.specs.declared.facts.Value.TheVariants.{Open, Done, Ended}
 use Rattle.job_walk.specs.declared.facts.Own.{Own}
 use Rattle.job_walk.specs.declared.facts.Own.TheVariants.{Halts, Came}
+use Rattle.job_walk.proofs.Newest.{differing}
 use Rattle.job_walk.specs.Walk.{Row, Part, IsStep, IsDecision, IsWhole, step_own, decision_own, ready_own, busy_own, taken, goes, arrives, at_row, follow, list_value, first_id, whole_value, flow_own, all_ready, all_busy, is_open, any_open, ended_as, strongest, split_own, body_part, element_row, flow_value, row_of, part_of, part_own, value_of_flow, value_of}
 
 -- ---- Values
 
 -- whether an id stands among others
 abbrev pub is_in : List ℕ → List (List ℕ) → Bool
-is_in id ids = list_any (is_text id) ids
+is_in id ids = is_among ids id
 
 -- what is looked for: what is ready, what is busy
 pub record Sight : Type 0 where
@@ -388,14 +390,6 @@ walk-goes s t id facts later learns elements from =
 
 same-own : (s : Sight) (id : List ℕ) (own : Own) → OwnGoesOn s s id own own
 same-own s id own = record { same = λ _. refl; kept = λ h. h }
-
-pub differing : (one other : List ℕ) → one ≢ other → is_text one other ≡ false
-differing one other differ =
-    let same : is_text one other ≡ true → one ≡ other = (bytes_decides one other).0 in
-    elim (is_text one other) as (λ b. (b ≡ true → one ≡ other) → b ≡ false) [
-      | true ↦ λ test. absurd (differ (test refl))
-      | false ↦ λ test. refl
-    ] same
 
 -- at an element, or away from it
 pub at-or-not : {P : Type 0} (i id : List ℕ) → (i ≡ id → P) → (i ≢ id → P) → P

@@ -7,12 +7,13 @@ use Rattle.batch_ids.specs.declared.metric_step.MetricStep.{MetricStep}
 use Rattle.batch_ids.specs.declared.status.WorkOutcome.{WorkOutcome}
 use Rattle.job_walk.specs.declared.facts.Fact.TheVariants.{Nothing, Busy as FactBusy}
 use Rattle.job_walk.specs.declared.facts.Known.{Known}
+use Rattle.job_walk.proofs.Newest.{differing}
 use Rattle.job_walk.specs.Walk.{fact_of}
 use Rattle.batch_history.specs.declared.rows.WorkRow.{WorkRow}
 use Rattle.batch_history.specs.declared.rows.WorkState.{WorkState}
 use Rattle.batch_history.specs.declared.rows.WorkState.TheVariants.{Busy, Over}
 use Rattle.batch_history.specs.History.{change_first, over, known_of, fact_from}
-use Rattle.history_laws.proofs.Walks.{is_worked, differing, DifferAt}
+use Rattle.history_laws.proofs.Walks.{is_worked, DifferAt}
 
 -- ---- Each of a list
 

@@ -4,7 +4,8 @@ use Rattle.std.proofs.lemmas.List.{reverse-reverse}
 use Rattle.batch_history.specs.declared.call.Entry.{Entry}
 use Rattle.batch_history.specs.Rows.{History, IsLegal}
 use Rattle.plain_repository.specs.Found.{reply_over, IsLegalFound}
-use Rattle.plain_repository.proofs.Pasts.{AllFit, due-fits, legal-fits, cut-before}
+use Rattle.batch_history.proofs.Legal.{cut-before}
+use Rattle.plain_repository.proofs.Pasts.{AllFit, due-fits, legal-fits}
 use Rattle.plain_repository.proofs.Agreeing.{reply-past}
 
 -- what is before an entry is a past

@@ -12,7 +12,7 @@ use Rattle.batch_history.specs.declared.call.Reply.{Reply}
 use Rattle.batch_history.specs.declared.call.Entry.{Entry}
 use Rattle.batch_history.specs.declared.rows.JobInstance.{JobInstance}
 use Rattle.batch_history.specs.History.{Made, made, made_after, remade, is_made, makes, instances_of, instances_after, instance_made}
-use Rattle.batch_history.proofs.Stepping.{AreNumbered, numbered}
+use Rattle.batch_history.proofs.Stepping.{remade-number, AreNumbered, numbered}
 use Rattle.plain_repository.specs.declared.origin.Origin.{Origin}
 use Rattle.plain_repository.specs.Searches.{makes_execution, makes_instance, begun_by, instances_found, executions_in, instances_in, is_making, made_again, made_as, origin_given, origin_of, instance_found}
 use Rattle.plain_repository.proofs.Counting.{counted, one-more}
@@ -118,10 +118,6 @@ find-more x ms m old new h number before here =
           ap (λ f. option_or f (Some m)) (find-past x 1 ms h (omega arith)) ∙ here (sym is)
       | false ↦ λ e. or-none (find (is_made x) ms) ∙ before
     ]) refl)
-
-remade-number : (x at : ℕ) (parameters : List Pair) (o : Option Made) → (remade x parameters at o).execution ≡ x
-remade-number x at parameters None = refl
-remade-number x at parameters (Some m) = refl
 
 remade-found : (x y at : ℕ) (parameters : List Pair) (found : Option Made) (earlier : Option Origin) → found ≡ option_map (made_as y) earlier → is_some found ≡ true
     → Some (remade x parameters at found) ≡ option_map (made_as x) (made_again parameters at earlier)

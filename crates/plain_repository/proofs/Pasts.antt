@@ -2,7 +2,6 @@
 use Rattle.std.proofs.Common.{subst, ◌≡◌, ℕ, ◌+◌, ◌<◌, ◌≤◌, Bool, true, false, cond, nat_lt, Option, None, Some, is_some, Result, Ok, Err, List, [], ◌∷◌, ◌++◌, length, map, find, reverse, refl, sym, ◌∙◌, ap, arith, append_assoc}
 use Rattle.std.specs.List.{list_any}
 use Rattle.std.proofs.lemmas.List.{reverse-reverse, append-nil}
-use Rattle.std.proofs.lemmas.Grind.{reverse_onto}
 use Rattle.job_walk.proofs.Following.{find-map}
 use Rattle.batch_ids.specs.declared.refusal.Refusal.{Refusal}
 use Rattle.batch_ids.specs.declared.refusal.Refusal.TheVariants.{JobStartException, NoSuchJobExecutionException, JobExecutionNotRunningException, JobExecutionIsRunningException, RepositoryFull}
@@ -20,6 +19,7 @@ use Rattle.batch_history.specs.declared.rows.ExecutionRow.{ExecutionRow}
 use Rattle.batch_history.specs.declared.rows.WorkRow.{WorkRow}
 use Rattle.batch_history.specs.History.{Made, made, is_made, works_of, is_work, job_named, taken_by, is_finished}
 use Rattle.batch_history.specs.Rows.{History, Rows, rows_of, reply_by, row_status, is_running_in, entered, claimed, claim_reply, stopped, abandoned, going, marked_as, checkpointed, stopped_as, stopped_end, finished, finished_as, unheld_by, unless, stop_asked, first_ready, walk_in, has_something, is_execution, execution_row, IsLegal}
+use Rattle.batch_history.proofs.Legal.{entered-is, cut-before}
 use Rattle.batch_history.proofs.Stepping.{AreNumbered, numbered}
 use Rattle.plain_repository.proofs.Counting.{some-map}
 
@@ -57,13 +57,6 @@ AllFit [] = Unit {0}
 AllFit (e ∷ older) = Fits older e.call e.reply × AllFit older
 
 -- What a reply that is due tells
-
-entered-is : (limit count : ℕ) (given r : Reply) → entered limit count given ≡ Ok r → r ≡ given
-entered-is limit count given r e =
-    (elim (nat_lt count limit) as (λ b. cond b (Ok given) (Err RepositoryFull) ≡ Ok r → r ≡ given) [
-      | true ↦ λ s. cc
-      | false ↦ λ s. cc
-    ]) e
 
 -- a reply that takes nobody up, where it is entered
 entered-none : (limit count : ℕ) (reply given : Reply) → taken_by reply ≡ None → entered limit count reply ≡ Ok given → taken_by given ≡ None
@@ -189,11 +182,6 @@ due-fits limit catalogue older who (Checkpoint w mark step) given e =
     checkpointed-fits limit (rows_of catalogue older) who (find (is_work w) (works_of older)) given e
 due-fits limit catalogue older who (Finish w o exit step) given e =
     finished-fits limit (rows_of catalogue older) who o (find (is_work w) (works_of older)) given e
-
--- where a history is cut before an entry of its past
-pub cut-before : (log older rest : List Entry) (e : Entry) → log ≡ reverse (e ∷ older) ++ rest → log ≡ reverse older ++ e ∷ rest
-cut-before log older rest e is =
-    is ∙ (ap (λ l. l ++ rest) (reverse_onto older e []) ∙ append_assoc (reverse older) (e ∷ []) rest)
 
 -- the entries of a legal history fit, each what is older
 pub legal-fits : (limit : ℕ) (h : History) (past rest : List Entry) → IsLegal limit h → h.log ≡ reverse past ++ rest → AllFit past
