@@ -18,7 +18,7 @@ use Rattle.batch_history.specs.declared.call.Entry.{Entry}
 use Rattle.batch_history.specs.declared.rows.ExecutionRow.{ExecutionRow}
 use Rattle.batch_history.specs.declared.rows.WorkRow.{WorkRow}
 use Rattle.batch_history.specs.declared.rows.CheckpointRow.{CheckpointRow}
-use Rattle.batch_history.specs.History.{Made, Place, made, remade, is_made, makes, change_first, is_at, instances_of, works_of, works_after, handed_out, reported, over, fact_from, known_of, walk_of, job_named, taken, taken_by, asked, given_up, touched, earliest, start_of, stop_of, abandoned_of, updated_of, end_of, value_after, bare_of, status_from, is_finished, place_by, place_of, instance_made, checkpoints_of, checkpoints_after, put_mark, marks_left, is_work}
+use Rattle.batch_history.specs.History.{Made, Place, made, remade, is_made, makes, change_first, is_at, instances_of, works_of, works_after, handed_out, reported, over, fact_from, known_of, walk_of, job_named, taken, taken_by, asked, given_up, touched, earliest, start_of, was_named, stop_of, abandoned_of, updated_of, end_of, value_after, bare_of, status_from, is_finished, place_by, place_of, instance_made, checkpoints_of, checkpoints_after, put_mark, marks_left, is_work}
 use Rattle.batch_history.specs.Replies.{is_nothing}
 use Rattle.batch_history.specs.Rows.{after_call, History, Rows, row_with, execution_row, rows_of, rows, grown, is_execution, StandsFor}
 use Rattle.batch_history.specs.Steps.{Effect, effect_on, refreshed, refreshed_by, refreshed_at, fresh_row, again_row, instance_in, place_in, rows_after, executions_after}
@@ -142,13 +142,9 @@ pub begun-by : (past : List Entry) (e : Entry) (x : ℕ) → makes (length (made
     → start_of (e ∷ past) x ≡ earliest (start_of past x) (is_at x (taken e.call e.reply)) e.at
 begun-by past e x made_no = ap (λ b. cond b None (earliest (start_of past x) (is_at x (taken e.call e.reply)) e.at)) made_no
 
-pub stop-by : (past : List Entry) (e : Entry) (x : ℕ) → makes (length (made past)) x e.call ≡ false
-    → stop_of (e ∷ past) x ≡ (stop_of past x || is_at x (asked e.call))
-stop-by past e x made_no = ap (λ b. cond b false (stop_of past x || is_at x (asked e.call))) made_no
-
-pub given-by : (past : List Entry) (e : Entry) (x : ℕ) → makes (length (made past)) x e.call ≡ false
-    → abandoned_of (e ∷ past) x ≡ (abandoned_of past x || is_at x (given_up e.call))
-given-by past e x made_no = ap (λ b. cond b false (abandoned_of past x || is_at x (given_up e.call))) made_no
+pub named-by : (names : Call → Option ℕ) (past : List Entry) (e : Entry) (x : ℕ) → makes (length (made past)) x e.call ≡ false
+    → was_named names (e ∷ past) x ≡ (was_named names past x || is_at x (names e.call))
+named-by names past e x made_no = ap (λ b. cond b false (was_named names past x || is_at x (names e.call))) made_no
 
 pub ended-by : (catalogue : List JobTree) (past : List Entry) (e : Entry) (m : Made) → makes (length (made past)) m.execution e.call ≡ false
     → end_of catalogue (e ∷ past) m ≡ earliest (end_of catalogue past m) (is_finished (bare_of catalogue (e ∷ past) m)) e.at
@@ -180,9 +176,9 @@ untouched catalogue past e m made_no off =
     let x : ℕ = m.execution in
     let works : List WorkRow = works_of past in
     let p : stop_of (e ∷ past) x ≡ stop_of past x =
-    stop-by past e x made_no ∙ (ap (λ b. stop_of past x || b) (asked-touched x e.call e.reply works off) ∙ or-false (stop_of past x)) in
+    named-by asked past e x made_no ∙ (ap (λ b. stop_of past x || b) (asked-touched x e.call e.reply works off) ∙ or-false (stop_of past x)) in
     let a : abandoned_of (e ∷ past) x ≡ abandoned_of past x =
-    given-by past e x made_no ∙ (ap (λ b. abandoned_of past x || b) (given-touched x e.call e.reply works off) ∙ or-false (abandoned_of past x)) in
+    named-by given_up past e x made_no ∙ (ap (λ b. abandoned_of past x || b) (given-touched x e.call e.reply works off) ∙ or-false (abandoned_of past x)) in
     let s : start_of (e ∷ past) x ≡ start_of past x =
     begun-by past e x made_no
     ∙ (ap (λ b. earliest (start_of past x) b e.at) (taken-touched x e.call e.reply works off) ∙ earliest-false (start_of past x) e.at) in
@@ -205,8 +201,8 @@ refreshed-by catalogue past e m made_no on =
     let value : Value = value_after catalogue (e ∷ past) m in
     let begun : Option ℕ = earliest (start_of past x) (is_at x (taken e.call e.reply)) e.at in
     let stop : Bool = stop_of past x || is_at x (asked e.call) in
-    let p : stop_of (e ∷ past) x ≡ stop = stop-by past e x made_no in
-    let a : abandoned_of (e ∷ past) x ≡ (abandoned_of past x || is_at x (given_up e.call)) = given-by past e x made_no in
+    let p : stop_of (e ∷ past) x ≡ stop = named-by asked past e x made_no in
+    let a : abandoned_of (e ∷ past) x ≡ (abandoned_of past x || is_at x (given_up e.call)) = named-by given_up past e x made_no in
     let s : start_of (e ∷ past) x ≡ begun = begun-by past e x made_no in
     let n : end_of catalogue (e ∷ past) m ≡ earliest (end_of catalogue past m) (is_finished (status_from stop begun value)) e.at =
     ended-by catalogue past e m made_no
@@ -353,7 +349,7 @@ executions-step catalogue past who at (Finish w o t step) reply =
     refreshed-rows catalogue past (record { who = who; call = call; at = at; reply = reply }) (touched (works_of past) call reply) refl (λ m. refl)
 
 -- the step of a work item in its job instance stands in the rows
-place-by-same : (one other : ℕ → Option ℕ) (row : Option WorkRow) → ((x : ℕ) → one x ≡ other x) → place_by one row ≡ place_by other row
+pub place-by-same : (one other : ℕ → Option ℕ) (row : Option WorkRow) → ((x : ℕ) → one x ≡ other x) → place_by one row ≡ place_by other row
 place-by-same one other None same = refl
 place-by-same one other (Some row) same =
     ap (λ (i : Option ℕ). option_map (λ n. record { instance = n; step = row.element }) i) (same row.execution)

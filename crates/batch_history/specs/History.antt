@@ -318,15 +318,18 @@ updated_of (e ∷ older) x =
 
 -- ---- Stops and abandonments
 
+-- whether an operation named the job execution so, since it was made
+abbrev pub was_named : (Call → Option ℕ) → List Entry → ℕ → Bool
+was_named names [] x = false
+was_named names (e ∷ older) x = if makes (length (made older)) x e.call then false else was_named names older x || is_at x (names e.call)
+
 -- whether the job execution was asked to stop
 abbrev pub stop_of : List Entry → ℕ → Bool
-stop_of [] x = false
-stop_of (e ∷ older) x = if makes (length (made older)) x e.call then false else stop_of older x || is_at x (asked e.call)
+stop_of past x = was_named asked past x
 
 -- whether the job execution was abandoned
 abbrev pub abandoned_of : List Entry → ℕ → Bool
-abandoned_of [] x = false
-abandoned_of (e ∷ older) x = if makes (length (made older)) x e.call then false else abandoned_of older x || is_at x (given_up e.call)
+abandoned_of past x = was_named given_up past x
 
 -- ---- The walk of a job execution
 

@@ -15,7 +15,7 @@ use Rattle.batch_history.specs.declared.rows.ExecutionRow.{ExecutionRow}
 use Rattle.batch_history.specs.declared.rows.WorkRow.{WorkRow}
 use Rattle.batch_history.specs.History.{Made, made, makes, is_made, is_at, is_work, works_of, taken, taken_by, asked, touched, earliest, start_of, stop_of, abandoned_of, updated_of, end_of, known_of, job_named, walk_of, value_after, bare_of, status_from, is_finished, owner_of}
 use Rattle.batch_history.specs.Rows.{Rows, rows_of, row_status, first_ready, walk_in, has_by, has_something, claim_reply, is_execution, execution_row}
-use Rattle.batch_history.proofs.Stepping.{known-same, begun-by, stop-by, ended-by, same_row, same_status, settled, earliest-false, or-false, taken-touched, asked-touched}
+use Rattle.batch_history.proofs.Stepping.{known-same, begun-by, named-by, ended-by, same_row, same_status, settled, earliest-false, or-false, taken-touched, asked-touched}
 use Rattle.history_laws.specs.Laws.{IsAsBefore}
 use Rattle.history_laws.proofs.Walks.{busy_sight, seen}
 use Rattle.history_laws.proofs.Works.{each-found, found-passes}
@@ -32,7 +32,7 @@ row-kept : (catalogue : List JobTree) (past : List Entry) (e : Entry) (m : Made)
 row-kept catalogue past e m made_no not_asked not_taken known =
     let x : ℕ = m.execution in
     let p : stop_of (e ∷ past) x ≡ stop_of past x =
-    stop-by past e x made_no ∙ (ap (λ b. stop_of past x || b) not_asked ∙ or-false (stop_of past x)) in
+    named-by asked past e x made_no ∙ (ap (λ b. stop_of past x || b) not_asked ∙ or-false (stop_of past x)) in
     let s : start_of (e ∷ past) x ≡ start_of past x =
     begun-by past e x made_no ∙ (ap (λ b. earliest (start_of past x) b e.at) not_taken ∙ earliest-false (start_of past x) e.at) in
     let v : value_after catalogue (e ∷ past) m ≡ value_after catalogue past m = ap (λ k. walk_of k (job_named catalogue m.job)) known in

@@ -14,7 +14,7 @@ use Rattle.batch_history.specs.declared.call.Entry.{Entry}
 use Rattle.batch_history.specs.declared.rows.ExecutionRow.{ExecutionRow}
 use Rattle.batch_history.specs.History.{Made, made, makes, is_made, remade, is_at, given_up, earliest, abandoned_of, end_of, bare_of, is_finished}
 use Rattle.batch_history.specs.Rows.{Rows, rows_of, row_status, is_running_in, is_execution, execution_row}
-use Rattle.batch_history.proofs.Stepping.{remade-number, settled, ended-by, given-by}
+use Rattle.batch_history.proofs.Stepping.{remade-number, settled, ended-by, named-by}
 use Rattle.history_laws.proofs.Walks.{or-none}
 use Rattle.history_laws.proofs.Works.{found-passes}
 use Rattle.history_laws.proofs.Told.{Due, AllDue, IsRowOf, row-of, ToldAbandonment, abandonment-told}
@@ -102,7 +102,7 @@ abandoned-finished limit catalogue (e ∷ older) m due found given =
     (λ made_no.
     let earlier = made-before older e x m made_no found in
     let before : abandoned_of older x ≡ true → is_finished (bare_of catalogue older m) ≡ true = abandoned-finished limit catalogue older m due.1 earlier in
-    let one_of : (abandoned_of older x || is_at x (given_up e.call)) ≡ true = sym (given-by older e x made_no) ∙ given in
+    let one_of : (abandoned_of older x || is_at x (given_up e.call)) ≡ true = sym (named-by given_up older e x made_no) ∙ given in
     let over : is_finished (bare_of catalogue older m) ≡ true =
     on-it (abandoned_of older x) before
     (λ off. given-call limit catalogue older e.who e.at e.call e.reply m due.0 earlier (sym (ap (λ b. b || is_at x (given_up e.call)) off) ∙ one_of) before) in

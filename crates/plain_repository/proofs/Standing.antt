@@ -13,21 +13,17 @@ use Rattle.batch_history.specs.declared.rows.WorkRow.{WorkRow}
 use Rattle.batch_history.specs.declared.rows.CheckpointRow.{CheckpointRow}
 use Rattle.batch_history.specs.History.{Place, is_place, marked, with_mark, without_mark, mark_at, place_by, put_mark, marks_left, clear_mark, checkpoints_of, checkpoints_after, place_of, instance_made, made, is_work, works_of}
 use Rattle.plain_repository.specs.Searches.{instance_found, place_found, is_here, mark_left, mark_after, mark_found, marked_place, standing, standing_as, standing_among, checkpoints_found}
+use Rattle.batch_history.proofs.Stepping.{place-by-same}
 use Rattle.plain_repository.proofs.Pasts.{AllFit}
 use Rattle.plain_repository.proofs.Origins.{instance-law}
 use Rattle.plain_repository.proofs.Items.{works-law}
 
 -- The step of a work item
 
-place-same : (one other : ℕ → Option ℕ) (row : Option WorkRow) → ((x : ℕ) → one x ≡ other x) → place_by one row ≡ place_by other row
-place-same one other None same = refl
-place-same one other (Some row) same =
-    ap (λ (i : Option ℕ). option_map (λ n. record { instance = n; step = row.element }) i) (same row.execution)
-
 -- the step of a work item is the one that the rows have
 pub place-law : (past : List Entry) → AllFit past → (w : ℕ) → place_of past w ≡ place_found past w
 place-law past fits w =
-    place-same (instance_made (made past)) (instance_found past) (find (is_work w) (works_of past)) (instance-law past fits)
+    place-by-same (instance_made (made past)) (instance_found past) (find (is_work w) (works_of past)) (instance-law past fits)
     ∙ ap (λ (rows : List WorkRow). place_by (instance_found past) (find (is_work w) rows)) (sym (works-law past fits))
 
 -- Steps that are the same

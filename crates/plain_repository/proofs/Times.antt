@@ -9,7 +9,7 @@ use Rattle.batch_history.specs.declared.call.Reply.{Reply}
 use Rattle.batch_history.specs.declared.call.Reply.TheVariants.{Execution as IsExecution, Work, Closed, Nothing, Done, Go, StopAsked}
 use Rattle.batch_history.specs.declared.call.Entry.{Entry}
 use Rattle.batch_history.specs.declared.rows.WorkRow.{WorkRow}
-use Rattle.batch_history.specs.History.{Made, made, is_made, is_at, works_of, taken, taken_by, asked, given_up, touched, earliest, start_of, stop_of, abandoned_of, updated_of, end_of, known_of, walk_of, job_named, value_after, bare_of, status_from, is_finished}
+use Rattle.batch_history.specs.History.{Made, made, is_made, is_at, works_of, taken, taken_by, asked, given_up, touched, earliest, start_of, stop_of, abandoned_of, updated_of, end_of, known_of, walk_of, job_named, value_after, bare_of, status_from, is_finished, was_named}
 use Rattle.plain_repository.specs.declared.origin.Origin.{Origin}
 use Rattle.plain_repository.specs.Searches.{makes_execution, executions_in, is_making, made_as, origin_given, origin_of, instances_in, works_found, walk_found, tree_found, stop_found, abandoned_found, start_found, bare_found, end_found, updated_found}
 use Rattle.plain_repository.proofs.Counting.{counted}
@@ -120,19 +120,21 @@ named-step names made older e x before fits same =
       | false ↦ λ is. swapped (is_at x (names e.call)) found ∙ ap (λ c. c || is_at x (names e.call)) same
     ]) refl
 
--- that a stop was asked for is found where the rows have it
-pub stop-law : (past : List Entry) → AllFit past → (x : ℕ) → stop_found past x ≡ stop_of past x
-stop-law [] fits x = refl
-stop-law (e ∷ older) fits x =
-    named-step asked asked-none older e x (stop_of older x) fits (stop-law older fits.1 x)
-    ∙ ap (λ b. cond b false (stop_of older x || is_at x (asked e.call))) (sym (making older x e.call))
+-- what names a job execution is found where the rows have it
+named-law : (names : Call → Option ℕ) → NamesMade names → (past : List Entry) → AllFit past → (x : ℕ)
+    → list_any (λ (e : Entry). is_at x (names e.call)) past ≡ was_named names past x
+named-law names made [] fits x = refl
+named-law names made (e ∷ older) fits x =
+    named-step names made older e x (was_named names older x) fits (named-law names made older fits.1 x)
+    ∙ ap (λ b. cond b false (was_named names older x || is_at x (names e.call))) (sym (making older x e.call))
 
--- that it was abandoned is found where the rows have it
+-- that a stop was asked for
+pub stop-law : (past : List Entry) → AllFit past → (x : ℕ) → stop_found past x ≡ stop_of past x
+stop-law past fits x = named-law asked asked-none past fits x
+
+-- that it was abandoned
 pub abandoned-law : (past : List Entry) → AllFit past → (x : ℕ) → abandoned_found past x ≡ abandoned_of past x
-abandoned-law [] fits x = refl
-abandoned-law (e ∷ older) fits x =
-    named-step given_up given-none older e x (abandoned_of older x) fits (abandoned-law older fits.1 x)
-    ∙ ap (λ b. cond b false (abandoned_of older x || is_at x (given_up e.call))) (sym (making older x e.call))
+abandoned-law past fits x = named-law given_up given-none past fits x
 
 -- Start
 
