@@ -1,0 +1,76 @@
+"""Runs the gate, and prints what it took of the processors by crate: proofs with tests, and must-fail edits.
+
+    python3 tools/gate_seconds.py [LOG]
+
+The gate's own output goes to the file LOG (`gate.log` in the system's temporary folder, if none is given). The
+figures are read twice a second from /proc, so a process that lived for less may be missed; what is no check (links,
+runs of tests and programs) is in no row. The exit status is the gate's.
+"""
+
+from __future__ import annotations
+
+import os
+import subprocess
+import sys
+import tempfile
+import time
+from collections import Counter
+from pathlib import Path
+
+ROOT = Path(__file__).resolve().parent.parent
+TICKS = os.sysconf("SC_CLK_TCK")
+
+
+def words_of(process: Path) -> list[str]:
+    return (process / "cmdline").read_bytes().decode(errors="replace").split("\0")
+
+
+def seconds_of(process: Path) -> float:
+    fields = (process / "stat").read_text().rsplit(")", 1)[1].split()
+    return (int(fields[11]) + int(fields[12])) / TICKS
+
+
+def sample(seen: dict[str, tuple[str, bool, float]]) -> None:
+    """Notes of each check that runs: its crate, whether it tries an edit, and what it took so far."""
+    for process in Path("/proc").glob("[0-9]*"):
+        try:
+            words = words_of(process)
+            if "--crate-name" not in words or not words[0].endswith("rattle"):
+                continue
+            crate = words[words.index("--crate-name") + 1]
+            is_edit = "rt-edit" in os.readlink(process / "cwd")
+            began = (process / "stat").read_text().rsplit(")", 1)[1].split()[19]
+            seen[f"{process.name} {began}"] = (crate, is_edit, seconds_of(process))
+        except OSError:
+            continue
+
+
+def table(seen: dict[str, tuple[str, bool, float]]) -> str:
+    proofs: Counter[str] = Counter()
+    edits: Counter[str] = Counter()
+    for crate, is_edit, seconds in seen.values():
+        (edits if is_edit else proofs)[crate] += seconds
+    lines = ["| crate | proofs and tests (s) | edits (s) | all (s) |", "|---|---|---|---|"]
+    both = proofs + edits
+    for crate, seconds in both.most_common():
+        lines.append(f"| {crate} | {proofs[crate]:.0f} | {edits[crate]:.0f} | {seconds:.0f} |")
+    lines.append(f"| all | {proofs.total():.0f} | {edits.total():.0f} | {both.total():.0f} |")
+    return "\n".join(lines)
+
+
+def main() -> int:
+    log = Path(sys.argv[1]) if len(sys.argv) > 1 else Path(tempfile.gettempdir()) / "gate.log"
+    seen: dict[str, tuple[str, bool, float]] = {}
+    began = time.monotonic()
+    with log.open("w") as out:
+        gate = subprocess.Popen([str(ROOT / ".ci" / "run")], cwd=ROOT, stdout=out, stderr=subprocess.STDOUT)
+        while gate.poll() is None:
+            sample(seen)
+            time.sleep(0.5)
+    print(table(seen))
+    print(f"\n{time.monotonic() - began:.0f} s by the clock; {log.read_text().rstrip().splitlines()[-1]}")
+    return gate.returncode
+
+
+if __name__ == "__main__":
+    sys.exit(main())
