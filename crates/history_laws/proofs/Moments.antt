@@ -3,7 +3,6 @@ use Rattle.std.proofs.Common.{◌≡◌, ℕ, ◌+◌, ◌==◌, ◌||◌, ◌&&
 use Rattle.std.specs.List.{list_any}
 use Rattle.std.proofs.lemmas.Bool.{eqb-true, eq-eqb}
 use Rattle.batch_ids.specs.Statuses.{is_unfinished}
-use Rattle.batch_ids.specs.Parameters.{Pair}
 use Rattle.batch_ids.specs.declared.status.BatchStatus.{BatchStatus}
 use Rattle.batch_ids.specs.declared.status.BatchStatus.TheVariants.{Abandoned}
 use Rattle.jsl_model.specs.Jobs.{JobTree}
@@ -12,7 +11,7 @@ use Rattle.batch_history.specs.declared.call.Call.TheVariants.{Start, Restart, S
 use Rattle.batch_history.specs.declared.call.Reply.{Reply}
 use Rattle.batch_history.specs.declared.call.Entry.{Entry}
 use Rattle.batch_history.specs.declared.rows.ExecutionRow.{ExecutionRow}
-use Rattle.batch_history.specs.History.{Made, made, makes, is_made, remade, is_at, given_up, earliest, abandoned_of, end_of, bare_of, is_finished}
+use Rattle.batch_history.specs.History.{Made, made, makes, is_made, is_at, given_up, earliest, abandoned_of, end_of, bare_of, is_finished}
 use Rattle.batch_history.specs.Rows.{Rows, rows_of, row_status, is_running_in, is_execution, execution_row}
 use Rattle.batch_history.proofs.Stepping.{remade-number, settled, ended-by, named-by}
 use Rattle.history_laws.proofs.Walks.{or-none}

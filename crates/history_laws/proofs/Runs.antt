@@ -30,7 +30,7 @@ use Rattle.job_walk.specs.Walk.{Row, Part, IsStep, IsDecision, IsWhole, step_own
 use Rattle.job_walk.specs.Runnables.{Leaf, Inside, IsRun, Holds, body_leaves, leaves_at, element_leaves, flow_leaves, leaves, leaves_of_flow, all_leaves, runnable_in}
 use Rattle.batch_history.specs.History.{walk_of}
 use Rattle.batch_history.specs.Rows.{runs_in}
-use Rattle.history_laws.proofs.Walks.{Sight, seen, own_seen, all_seen, seen-either, nothing-seen, split_ended, strongest-unseen, find-closed, or-right, or-left}
+use Rattle.history_laws.proofs.Walks.{part_at, Sight, seen, own_seen, all_seen, seen-either, nothing-seen, split_ended, strongest-unseen, find-closed, or-right, or-left}
 
 -- whether one of these leaves has this id
 abbrev has : List Leaf → List ℕ → Bool
@@ -177,9 +177,6 @@ ElementHas s id facts e = own_seen s id (row_of facts e).own ≡ true → has (l
 
 abbrev FlowHas : Sight → List ℕ → (List ℕ → Fact) → SplitFlow → Type 0
 FlowHas s id facts flow = seen s id (value_of_flow facts flow) ≡ true → has (leaves_of_flow flow) id ≡ true
-
-abbrev part_at : (List ℕ → Fact) → Body-F Body Element SplitFlow → Part
-part_at facts x = body_part (map-Body Body Element SplitFlow Part Row Value (part_of facts) (row_of facts) (value_of_flow facts) x)
 
 abbrev inside_at : Body-F Body Element SplitFlow → Inside
 inside_at x = body_leaves (map-Body Body Element SplitFlow Inside (List Leaf) (List Leaf) insides leaves leaves_of_flow x)

@@ -1,10 +1,10 @@
 -- What the reply that a call was due tells of the rows before it.
-use Rattle.std.proofs.Common.{◌≡◌, ℕ, ◌+◌, ◌==◌, ◌<◌, ◌≤◌, Bool, true, false, cond, nat_lt, Option, None, Some, is_some, Result, Ok, Err, List, [], ◌∷◌, ◌++◌, length, map, find, reverse, refl, sym, ◌∙◌, ap, subst, arith}
+use Rattle.std.proofs.Common.{◌≡◌, ℕ, ◌+◌, ◌==◌, ◌<◌, ◌≤◌, Bool, true, false, cond, Option, None, Some, is_some, Result, Ok, Err, List, [], ◌∷◌, ◌++◌, length, map, find, reverse, refl, sym, ◌∙◌, subst, arith}
 use Rattle.std.specs.List.{list_any}
-use Rattle.std.proofs.lemmas.List.{append-nil, append_assoc, reverse-append, reverse-reverse}
+use Rattle.std.proofs.lemmas.List.{append-nil, reverse-reverse}
 use Rattle.std.proofs.lemmas.Bool.{eqb-true, eq-eqb, ne_eqb}
 use Rattle.batch_ids.specs.declared.refusal.Refusal.{Refusal}
-use Rattle.batch_ids.specs.declared.refusal.Refusal.TheVariants.{JobStartException, NoSuchJobExecutionException, JobExecutionNotRunningException, JobExecutionIsRunningException, RepositoryFull}
+use Rattle.batch_ids.specs.declared.refusal.Refusal.TheVariants.{JobStartException, NoSuchJobExecutionException, JobExecutionNotRunningException, JobExecutionIsRunningException}
 use Rattle.batch_ids.specs.declared.status.WorkOutcome.{WorkOutcome}
 use Rattle.batch_ids.specs.declared.status.WorkOutcome.TheVariants.{Completed, Failed, Stopped}
 use Rattle.jsl_model.specs.Jobs.{JobTree}

@@ -1,6 +1,5 @@
 -- A walk before and after something is learnt of one element: what it shows as busy stays busy.
 use Rattle.std.proofs.Common.{◌≡◌, ◌≢◌, ℕ, zero, suc, Bool, true, false, cond, ◌||◌, ◌&&◌, Option, None, Some, List, [], ◌∷◌, length, map, find, refl, sym, ◌∙◌, ap, subst, ◌⊎◌, inl, inr}
-use Rattle.std.specs.List.{list_any}
 use Rattle.std.proofs.lemmas.List.{length-map}
 use Rattle.std.proofs.lemmas.Simd.{map-map}
 use Rattle.std.proofs.lemmas.List.Folds.{list_any-append}
@@ -340,7 +339,7 @@ ElementGoes s t id facts later e = RowGoesOn s t id (row_of facts e) (row_of lat
 abbrev FlowGoes : Sight → Sight → List ℕ → (List ℕ → Fact) → (List ℕ → Fact) → SplitFlow → Type 0
 FlowGoes s t id facts later flow = GoesOn s t id (value_of_flow facts flow) (value_of_flow later flow)
 
-abbrev part_at : (List ℕ → Fact) → Body-F Body Element SplitFlow → Part
+abbrev pub part_at : (List ℕ → Fact) → Body-F Body Element SplitFlow → Part
 part_at facts x = body_part (map-Body Body Element SplitFlow Part Row Value (part_of facts) (row_of facts) (value_of_flow facts) x)
 
 body-inside : (s t : Sight) (id : List ℕ) (facts later : List ℕ → Fact)
