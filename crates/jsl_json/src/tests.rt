@@ -123,7 +123,7 @@ fn a_job_of_each_form(rt: HostRuntime) -> Result<(), Fail> {
 }
 
 // Elements of a job, and the number of the first that is wrong.
-const WRONG_ELEMENTS: [(&str, u64); 16] = [
+const WRONG_ELEMENTS: [(&str, u64); 38] = [
     // An element has its number ahead of those inside it.
     (r#"{"kind":"flow","id":"f","elements":[7]}"#, 1),
     (
@@ -178,6 +178,74 @@ const WRONG_ELEMENTS: [(&str, u64); 16] = [
         r#"{"kind":"step","id":"s","batchlet":{"ref":"b"},"transitions":[{"kind":"end","on":"E","to":"s"}]}"#,
         0,
     ),
+    // Missing, not listed, or of another kind.
+    (r#"{"kind":"flow","id":"f"}"#, 0),
+    (r#"{"kind":"flow","id":"f","elements":{}}"#, 0),
+    (r#"{"kind":"flow","id":"f","elements":[],"ref":"a"}"#, 0),
+    (r#"{"kind":"split","id":"p","flows":null}"#, 0),
+    (
+        r#"{"kind":"split","id":"p","flows":[{"kind":"split","id":"q","elements":[]}]}"#,
+        1,
+    ),
+    (r#"{"kind":"decision","id":"d"}"#, 0),
+    (r#"{"kind":"decision","ref":"a"}"#, 0),
+    (r#"{"kind":"step","id":"s","batchlet":{}}"#, 0),
+    (
+        r#"{"kind":"step","id":"s","batchlet":{"ref":"b","x":1}}"#,
+        0,
+    ),
+    (
+        r#"{"kind":"step","id":"s","batchlet":{"ref":"b"},"start-limit":-1}"#,
+        0,
+    ),
+    (
+        r#"{"kind":"step","id":"s","batchlet":{"ref":"b"},"allow-start-if-complete":1}"#,
+        0,
+    ),
+    (
+        r#"{"kind":"step","id":"s","batchlet":{"ref":"b"},"chunk":{"reader":{"ref":"r"},"writer":{"ref":"w"}}}"#,
+        0,
+    ),
+    (
+        r#"{"kind":"step","id":"s","chunk":{"reader":{"ref":"r"},"writer":{"ref":"w"},"listener":{}}}"#,
+        0,
+    ),
+    (
+        r#"{"kind":"step","id":"s","chunk":{"writer":{"ref":"w"}}}"#,
+        0,
+    ),
+    (
+        r#"{"kind":"step","id":"s","chunk":{"reader":{"ref":"r"},"processor":null,"writer":{"ref":"w"}}}"#,
+        0,
+    ),
+    (
+        r#"{"kind":"decision","id":"d","ref":"a","transitions":{}}"#,
+        0,
+    ),
+    (
+        r#"{"kind":"decision","id":"d","ref":"a","transitions":[{"kind":"next","on":"E"}]}"#,
+        0,
+    ),
+    (
+        r#"{"kind":"decision","id":"d","ref":"a","transitions":[{"kind":"next","on":"E","to":"d","exit-status":"x"}]}"#,
+        0,
+    ),
+    (
+        r#"{"kind":"decision","id":"d","ref":"a","transitions":[{"kind":"jump","on":"E"}]}"#,
+        0,
+    ),
+    (
+        r#"{"kind":"decision","id":"d","ref":"a","transitions":[{"kind":"fail","on":"E","exit-status":null}]}"#,
+        0,
+    ),
+    (
+        r#"{"kind":"decision","id":"d","ref":"a","transitions":[{"kind":"stop","on":"E","to":"d"}]}"#,
+        0,
+    ),
+    (
+        r#"{"kind":"decision","id":"d","ref":"a","transitions":[{"kind":"stop","on":"E","restart":7}]}"#,
+        0,
+    ),
 ];
 
 #[test]
@@ -224,6 +292,24 @@ fn the_order_of_faults(rt: HostRuntime) -> Result<(), Fail> {
     ];
     for (text, fault) in cases {
         assert_eq!(rt; read_catalogue(rt.alloc(), text).err(), Some(fault));
+    }
+    Ok(())
+}
+
+#[test]
+fn a_fault_prints_as_its_name(rt: HostRuntime) -> Result<(), Fail> {
+    let element = None;
+    let fault = JobFault::Loop;
+    let faults = [
+        (ReadFault::NotJson, "NotJson"),
+        (ReadFault::NotACatalogue, "NotACatalogue"),
+        (ReadFault::BadElement { job: 0, element }, "BadElement"),
+        (ReadFault::InJob { job: 0, fault }, "Loop"),
+        (ReadFault::OutOfMemory, "OutOfMemory"),
+    ];
+    for (fault, name) in faults {
+        let text = format!(in rt.alloc(); "{fault}")?;
+        assert_eq!(rt; text.as_str(), name);
     }
     Ok(())
 }
