@@ -11,46 +11,48 @@ fn a_text_has_its_bound_in_bytes(rt: HostRuntime) -> Result<(), Fail> {
     Ok(())
 }
 
+// Each refusal, and what it prints as.
+const PRINTED: [(Refusal, &str); 17] = [
+    (Refusal::JobStartException, "JobStartException"),
+    (Refusal::NoSuchJobException, "NoSuchJobException"),
+    (
+        Refusal::NoSuchJobInstanceException,
+        "NoSuchJobInstanceException",
+    ),
+    (
+        Refusal::NoSuchJobExecutionException,
+        "NoSuchJobExecutionException",
+    ),
+    (
+        Refusal::JobExecutionNotRunningException,
+        "JobExecutionNotRunningException",
+    ),
+    (
+        Refusal::JobExecutionIsRunningException,
+        "JobExecutionIsRunningException",
+    ),
+    (
+        Refusal::JobExecutionAlreadyCompleteException,
+        "JobExecutionAlreadyCompleteException",
+    ),
+    (
+        Refusal::JobExecutionNotMostRecentException,
+        "JobExecutionNotMostRecentException",
+    ),
+    (Refusal::JobRestartException, "JobRestartException"),
+    (Refusal::NoSuchWork, "NoSuchWork"),
+    (Refusal::WorkNotRunning, "WorkNotRunning"),
+    (Refusal::NotClaimer, "NotClaimer"),
+    (Refusal::NotStopping, "NotStopping"),
+    (Refusal::WrongOutcome, "WrongOutcome"),
+    (Refusal::TextTooLong, "TextTooLong"),
+    (Refusal::RepositoryFull, "RepositoryFull"),
+    (Refusal::OutOfMemory, "OutOfMemory"),
+];
+
 #[test]
 fn a_refusal_prints_as_its_name(rt: HostRuntime) -> Result<(), Fail> {
-    let refusals = [
-        (Refusal::JobStartException, "JobStartException"),
-        (Refusal::NoSuchJobException, "NoSuchJobException"),
-        (
-            Refusal::NoSuchJobInstanceException,
-            "NoSuchJobInstanceException",
-        ),
-        (
-            Refusal::NoSuchJobExecutionException,
-            "NoSuchJobExecutionException",
-        ),
-        (
-            Refusal::JobExecutionNotRunningException,
-            "JobExecutionNotRunningException",
-        ),
-        (
-            Refusal::JobExecutionIsRunningException,
-            "JobExecutionIsRunningException",
-        ),
-        (
-            Refusal::JobExecutionAlreadyCompleteException,
-            "JobExecutionAlreadyCompleteException",
-        ),
-        (
-            Refusal::JobExecutionNotMostRecentException,
-            "JobExecutionNotMostRecentException",
-        ),
-        (Refusal::JobRestartException, "JobRestartException"),
-        (Refusal::NoSuchWork, "NoSuchWork"),
-        (Refusal::WorkNotRunning, "WorkNotRunning"),
-        (Refusal::NotClaimer, "NotClaimer"),
-        (Refusal::NotStopping, "NotStopping"),
-        (Refusal::WrongOutcome, "WrongOutcome"),
-        (Refusal::TextTooLong, "TextTooLong"),
-        (Refusal::RepositoryFull, "RepositoryFull"),
-        (Refusal::OutOfMemory, "OutOfMemory"),
-    ];
-    for (refusal, name) in refusals {
+    for (refusal, name) in PRINTED {
         let text = format!(in rt.alloc(); "{refusal}")?;
         assert_eq!(rt; text.as_str(), name);
     }
