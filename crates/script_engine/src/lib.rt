@@ -14,6 +14,8 @@ pub use script_lines::{Counted, DeviceFault, MAX_LINE, MAX_READS, Sink, Source};
 pub use summary::Summary;
 
 #[cfg(test)]
+mod bound_tests;
+#[cfg(test)]
 mod call_tests;
 #[cfg(test)]
 mod fault_tests;

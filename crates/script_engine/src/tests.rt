@@ -82,6 +82,26 @@ fn refusals_and_bad_lines_are_counted(rt: HostRuntime) {
     assert_eq!(rt; outcome, Ok(summary));
 }
 
+// A text above its bound is a refusal, of a call and of a query.
+#[test]
+fn a_text_too_long_is_counted_as_a_refusal(rt: HostRuntime) -> Result<(), Fail> {
+    let name = "a".repeat(rt.alloc(), 257)?;
+    let script = format!(in rt.alloc();
+        "{{\"jobs\":[]}}\n{{\"do\":\"start\",\"by\":1,\"at\":0,\"job\":\"{name}\"}}\n{{\"ask\":\"running_executions\",\"job\":\"{name}\"}}"
+    )?;
+    let (out, outcome) = replies(rt.alloc(), script.as_str().as_bytes());
+    let wanted = b"{\"refused\":\"TextTooLong\"}\n{\"refused\":\"TextTooLong\"}\n";
+    assert_eq!(rt; out.as_slice(), wanted.as_slice());
+    let summary = Summary {
+        lines: 2,
+        entries: 0,
+        refusals: 2,
+        bad: 0,
+    };
+    assert_eq!(rt; outcome, Ok(summary));
+    Ok(())
+}
+
 #[test]
 fn no_input_is_no_catalogue(rt: HostRuntime) {
     let (out, outcome) = replies(rt.alloc(), b"");
