@@ -73,6 +73,7 @@ impl Outbox {
     /// `DeviceFault` where the writer failed. It holds a front of what waited and `text` then, and what waits from then
     /// on is left open: the outbox is of no more use.
     pub fn put<W: Sink>(&mut self, writer: &mut W, text: &[u8]) -> Result<(), DeviceFault>
+        ensures size { OUTBOX_SIZE ≡ 65536 }
         ensures ok { OnOk result ((W.tape writer.new).bytes ++ self.new ≡ ((W.tape writer.old).bytes ++ self.old) ++ text.now) }
         ensures ok_grown { OnOk result ((sent : List ℕ) × ((W.tape writer.new).bytes ≡ (W.tape writer.old).bytes ++ sent)) }
         ensures ok_failures { OnOk result ((W.tape writer.new).failures ≡ (W.tape writer.old).failures) }

@@ -41,6 +41,7 @@ impl Model for Pending {
 impl Pending {
     ghost use Rattle.script_lines.specs.Unread.{nothing_read, skipped, weight};
     ghost use Rattle.script_lines.specs.Lines.{Took, PassedOn};
+    ghost use Rattle.script_lines.specs.declared.line.TheConstants.{MAX_LINE};
 
     /// Nothing read yet, of a reader that may be called [`MAX_READS`] times.
     ///
@@ -114,7 +115,8 @@ impl Pending {
     }
 
     /// The next line. It ends with a line feed, which is taken off; the last line may lack one. `None` says that the
-    /// reader told its end and nothing is left.
+    /// reader told its end and nothing is left. A line is kept up to 16,777,216 bytes, and the reader is called 2^40
+    /// times at most.
     ///
     /// Before each call of the reader all that waits in `outbox` is written, so that whoever is at the other end of a
     /// pipe has every reply before the script goes on.
@@ -131,6 +133,7 @@ impl Pending {
         outbox: &mut Outbox,
         writer: &mut W,
     ) -> Result<Option<Line>, LineFault>
+        ensures bounds { (MAX_LINE ≡ 16777216) × (MAX_READS ≡ 1099511627776) }
         ensures took { Took (S.tape source.old) (S.tape source.new) self.old self.new result }
         ensures passed_on { PassedOn (W.tape writer.old) (W.tape writer.new) outbox.old outbox.new result }
         ensures grown { (sent : List ℕ) × ((W.tape writer.new).bytes ≡ (W.tape writer.old).bytes ++ sent) }
