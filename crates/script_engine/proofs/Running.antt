@@ -22,6 +22,8 @@ use Rattle.script_engine.proofs.Passing.{Passing, Grew, all_written, passed_on, 
 pub record Running (start now : Told) (begun held : Held) (waits : List ℕ) (p : Unread) (h : History) : Type 0 where
   pub first : List ℕ
   pub later : List (List ℕ)
+  pub catalogue : List JobTree
+  pub opening : catalogue_at first ≡ Ok catalogue
   pub cutting : Cutting start now p (first ∷ later)
   pub output : List ℕ
   pub passing : Passing begun held waits output
@@ -34,6 +36,8 @@ pub begins : (start now : Told) (begun held : Held) (waits : List ℕ) (p : Unre
 begins start now begun held waits p line catalogue C e P = record {
   first = line;
   later = [];
+  catalogue = catalogue;
+  opening = e;
   cutting = C;
   output = [];
   passing = P;
@@ -53,6 +57,8 @@ goes_on start now next begun held mid new waited between waits p q h h' l t R to
     record {
       first = R.first;
       later = R.later ++ line ∷ [];
+      catalogue = R.catalogue;
+      opening = R.opening;
       cutting = cut.2;
       output = R.output ++ t;
       passing = put_behind begun mid new between waits R.output t (passed_on begun held mid waited between R.output R.passing on grew) put grew_more quiet;
@@ -76,7 +82,7 @@ ends start now next begun held new waited waits p q h summary R took on grew e =
         output = R.output;
         read = cut.1;
         written = all_written begun new waits R.output P;
-        outcome = (text_so_far R ∙ ap text_of_lines (sym cut.2), cut.3, e ∙ sym (ap entries_of_lines cut.2 ∙ ap (λ ls. entries_of_lines (R.first ∷ ls)) (sym (append-nil R.later)) ∙ R.entries []));
+        outcome = (text_so_far R ∙ ap text_of_lines (sym cut.2), cut.3, e ∙ sym (ap entries_of_lines cut.2 ∙ ap (λ ls. entries_of_lines (R.first ∷ ls)) (sym (append-nil R.later)) ∙ R.entries []), (R.first, R.later, R.catalogue, cut.2, R.opening));
       };
       sent = P.sent;
       grown = P.written;

@@ -3,6 +3,7 @@ use Rattle.std.specs.Prelude.{◌≡◌, ℕ, ◌<◌, List, ◌∷◌, ◌++◌
 use Rattle.script_lines.specs.Device.{Told, Held}
 use Rattle.script_lines.specs.Cut.{whole_lines, script_lines}
 use Rattle.script_lines.specs.Lines.{IsReadFault}
+use Rattle.jsl_model.specs.Jobs.{JobTree}
 use Rattle.jsl_json.specs.declared.fault.ReadFault.{ReadFault}
 use Rattle.jsl_json.specs.Catalogues.{is_out_of_memory}
 use Rattle.script_text.specs.Faults.{fault_text}
@@ -12,14 +13,18 @@ use Rattle.script_engine.specs.declared.fault.EngineFault.TheVariants.{Catalogue
 use Rattle.script_engine.specs.Faults.{is_of_writer}
 use Rattle.script_engine.specs.Script.{catalogue_at, text_of_lines, entries_of_lines, script_text}
 
+-- the first line is a catalogue without a fault
+abbrev pub IsOpened : List (List ℕ) → Type 0
+IsOpened lines = (line : List ℕ) × (rest : List (List ℕ)) × (catalogue : List JobTree) × (lines ≡ line ∷ rest) × (catalogue_at line ≡ Ok catalogue)
+
 -- the first line is a catalogue with this fault
 abbrev pub IsFirstFault : List (List ℕ) → ReadFault → Type 0
 IsFirstFault lines fault = (line : List ℕ) × (rest : List (List ℕ)) × (lines ≡ line ∷ rest) × (catalogue_at line ≡ Err fault)
 
 -- the input that was told and the output that was written, by the answer
 abbrev pub IsOutcome : List ℕ → List ℕ → Told → Told → Held → Held → Result Summary EngineFault → Type 0
--- the reader told its end, and all is answered
-IsOutcome input output r r' w w' (Ok summary) = (output ≡ script_text input) × (r.ends < r'.ends) × (summary.entries ≡ entries_of_lines (script_lines input))
+-- the first line is a catalogue, the reader told its end, and all is answered
+IsOutcome input output r r' w w' (Ok summary) = (output ≡ script_text input) × (r.ends < r'.ends) × (summary.entries ≡ entries_of_lines (script_lines input)) × IsOpened (script_lines input)
 -- the fault is told, which is all that there is to tell
 IsOutcome input output r r' w w' (Err (Catalogue fault)) = (output ≡ fault_text fault) × (script_text input ≡ fault_text fault) × IsFirstFault (script_lines input) fault
 -- the complete lines are answered
