@@ -1,4 +1,4 @@
-use crate::program::{DEVICE_FAILED, DONE, FAULTY_CATALOGUE, REFUSED, program};
+use crate::program::program;
 use std::io;
 use std::io::{Error, ErrorKind, Read, Write};
 use std::test::Fail;
@@ -28,12 +28,8 @@ impl Write for Broken {
 #[test]
 fn a_script_is_answered_on_the_writer(rt: HostRuntime) {
     for (input, status, wanted) in [
-        (SCRIPT, DONE, "{\"refused\":\"JobStartException\"}\n"),
-        (
-            b"".as_slice(),
-            FAULTY_CATALOGUE,
-            "{\"fault\":\"NotJson\"}\n",
-        ),
+        (SCRIPT, 0, "{\"refused\":\"JobStartException\"}\n"),
+        (b"".as_slice(), 3, "{\"fault\":\"NotJson\"}\n"),
     ] {
         let mut out = Vec::new(rt.alloc());
         let mut faults = Vec::new(rt.alloc());
@@ -49,27 +45,48 @@ fn a_failed_device_is_told_on_standard_error(rt: HostRuntime) {
     let mut out = Vec::new(rt.alloc());
     let mut faults = Vec::new(rt.alloc());
     let found = program(rt.alloc(), &["script"], Broken, &mut out, &mut faults);
-    assert_eq!(rt; found, DEVICE_FAILED);
+    assert_eq!(rt; found, 4);
     assert_eq!(rt; faults.as_slice(), b"batchctl: read fault\n".as_slice());
     let mut faults = Vec::new(rt.alloc());
     let found = program(rt.alloc(), &["script"], SCRIPT, Broken, &mut faults);
-    assert_eq!(rt; found, DEVICE_FAILED);
+    assert_eq!(rt; found, 4);
     assert_eq!(rt; faults.as_slice(), b"batchctl: write fault\n".as_slice());
 }
 
 #[test]
-fn help_goes_to_the_writer_and_mistakes_to_standard_error(rt: HostRuntime) {
+fn a_failed_device_is_told_where_help_was_asked_for(rt: HostRuntime) {
+    let mut faults = Vec::new(rt.alloc());
+    let found = program(rt.alloc(), &["--help"], SCRIPT, Broken, &mut faults);
+    assert_eq!(rt; found, 4);
+    assert_eq!(rt; faults.as_slice(), b"batchctl: write fault\n".as_slice());
+}
+
+#[test]
+fn help_goes_to_the_writer(rt: HostRuntime) {
     let mut out = Vec::new(rt.alloc());
     let mut faults = Vec::new(rt.alloc());
-    assert_eq!(rt;
-        program(rt.alloc(), &["--help"], SCRIPT, &mut out, &mut faults),
-        DONE
-    );
+    let found = program(rt.alloc(), &["--help"], SCRIPT, &mut out, &mut faults);
+    assert_eq!(rt; found, 0);
     assert!(rt; !out.is_empty() && faults.is_empty());
     let mut out = Vec::new(rt.alloc());
-    assert_eq!(rt;
-        program(rt.alloc(), &["scrip"], SCRIPT, &mut out, &mut faults),
-        REFUSED
-    );
-    assert!(rt; out.is_empty() && !faults.is_empty());
+    let found = program(rt.alloc(), &["--version"], SCRIPT, &mut out, &mut faults);
+    assert_eq!(rt; found, 0);
+    assert_eq!(rt; out.as_slice(), b"batchctl 0.1.0\n".as_slice());
+    assert!(rt; faults.is_empty());
+}
+
+#[test]
+fn mistakes_go_to_standard_error(rt: HostRuntime) {
+    for words in [
+        [].as_slice(),
+        &["scrip"],
+        &["Script"],
+        &["script", "script"],
+    ] {
+        let mut out = Vec::new(rt.alloc());
+        let mut faults = Vec::new(rt.alloc());
+        let found = program(rt.alloc(), words, SCRIPT, &mut out, &mut faults);
+        assert_eq!(rt; found, 2);
+        assert!(rt; out.is_empty() && !faults.is_empty());
+    }
 }
