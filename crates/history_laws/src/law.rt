@@ -12,8 +12,8 @@ ghost use Rattle.batch_history.specs.History.{is_work, is_finished};
 ghost use Rattle.batch_history.specs.Rows.{History, IsLegal, rows, row_status, grown};
 ghost use Rattle.history_laws.specs.Laws.{beginning, row_in, StaysFinished, EndedAt, BelongsTo, WasReady, HasInstance, with_name};
 
-/// A job execution that is over stays so: whatever is accepted later, it keeps its batch status and
-/// exit status, its moments and all else, but for whether it is abandoned and the moment of the last
+/// A job execution that is over stays so: whatever is accepted later, all of it stays as it was, its
+/// exit status, start and end among it, but for whether it is abandoned and the moment of the last
 /// operation on it.
 ///
 /// It does nothing: its contract is the law, of every legal history and each of its beginnings.
