@@ -18,6 +18,3 @@ pub use law::{
     searches_find_the_rows, searches_find_the_same_histories_legal, searches_say_what_rows_say,
 };
 pub use repository::PlainRepository;
-
-#[cfg(test)]
-mod tests;
