@@ -25,12 +25,14 @@ pub fn finished_job_executions_stay_finished()
 /// A job execution has an end exactly where it is over, and the end is the moment of the operation
 /// after which it was over for the first time.
 ///
-/// It does nothing: its contract is the law.
+/// It only cites the law that it rests on: its contract is the law.
 #[tactic(auto, using(crate::proofs::Laws::has_end_where_over, crate::proofs::Laws::ended_at))]
 pub fn ends_are_moments_of_operations()
     ensures there { (limit : ℕ) (h : History) → IsLegal limit h → (x : ℕ) (row : ExecutionRow) → row_in h x ≡ Some row → is_some row.end ≡ is_finished row.bare }
     ensures moment { (h : History) (x t : ℕ) (row : ExecutionRow) → row_in h x ≡ Some row → row.end ≡ Some t → EndedAt h x t }
-{}
+{
+    finished_job_executions_stay_finished();
+}
 
 /// Each work item belongs to a job execution that was taken up, and that is unfinished while the work
 /// item is busy; no element of a job execution has two work items.
