@@ -3,8 +3,8 @@
     python3 tools/gate_seconds.py [LOG]
 
 The gate's own output goes to the file LOG (`gate.log` in the system's temporary folder, if none is given). The
-figures are read twice a second from /proc, so a process that lived for less may be missed; what is no check (links,
-runs of tests and programs) is in no row. The exit status is the gate's.
+figures are read twice a second from /proc, of the processes that the gate began, so a process that lived for less may
+be missed; what is no check (links, runs of tests and programs) is in no row. The exit status is the gate's.
 """
 
 from __future__ import annotations
@@ -25,22 +25,34 @@ def words_of(process: Path) -> list[str]:
     return (process / "cmdline").read_bytes().decode(errors="replace").split("\0")
 
 
-def seconds_of(process: Path) -> float:
-    fields = (process / "stat").read_text().rsplit(")", 1)[1].split()
+def fields_of(process: Path) -> list[str]:
+    """The fields of its `stat` behind the name: the parent is the second, the moment when it began the twentieth."""
+    return (process / "stat").read_text().rsplit(")", 1)[1].split()
+
+
+def is_below(process: Path, gate: int) -> bool:
+    """Whether the gate began it, or a process that the gate began."""
+    number = int(process.name)
+    while number > 1 and number != gate:
+        number = int(fields_of(Path("/proc") / str(number))[1])
+    return number == gate
+
+
+def seconds_of(fields: list[str]) -> float:
     return (int(fields[11]) + int(fields[12])) / TICKS
 
 
-def sample(seen: dict[str, tuple[str, bool, float]]) -> None:
-    """Notes of each check that runs: its crate, whether it tries an edit, and what it took so far."""
+def sample(gate: int, seen: dict[str, tuple[str, bool, float]]) -> None:
+    """Notes of each check of the gate that runs: its crate, whether it tries an edit, and what it took so far."""
     for process in Path("/proc").glob("[0-9]*"):
         try:
             words = words_of(process)
-            if "--crate-name" not in words or not words[0].endswith("rattle"):
+            if "--crate-name" not in words or not words[0].endswith("rattle") or not is_below(process, gate):
                 continue
             crate = words[words.index("--crate-name") + 1]
             is_edit = "rt-edit" in os.readlink(process / "cwd")
-            began = (process / "stat").read_text().rsplit(")", 1)[1].split()[19]
-            seen[f"{process.name} {began}"] = (crate, is_edit, seconds_of(process))
+            fields = fields_of(process)
+            seen[f"{process.name} {fields[19]}"] = (crate, is_edit, seconds_of(fields))
         except OSError:
             continue
 
@@ -65,7 +77,7 @@ def main() -> int:
     with log.open("w") as out:
         gate = subprocess.Popen([str(ROOT / ".ci" / "run")], cwd=ROOT, stdout=out, stderr=subprocess.STDOUT)
         while gate.poll() is None:
-            sample(seen)
+            sample(gate.pid, seen)
             time.sleep(0.5)
     print(table(seen))
     print(f"\n{time.monotonic() - began:.0f} s by the clock; {log.read_text().rstrip().splitlines()[-1]}")

@@ -11,8 +11,8 @@ check. A plant is
 - `PROVED` where its function is proved,
 - `no Rust` where the edited code does not compile.
 
-The copy takes over what earlier checks left in `out/` of the crate and of those below it, which saves the first check. Must-fail edits are the telling
-plants, and the gate tries them; these here are tried by hand.
+The copy takes over what earlier checks left in `out/` of the crate and of those below it, which saves the first
+check. Must-fail edits are the telling plants, and the gate tries them; these here are tried by hand.
 """
 
 from __future__ import annotations
@@ -90,13 +90,15 @@ def plants_of(crate: str) -> list[Plant]:
 
 
 def group_of(plants: list[Plant], sources: dict[str, str]) -> list[Plant]:
-    """The first plants of which no two are in one function, nor overlap."""
+    """The first plants of which no two are in one function, nor overlap; one of a constant stands alone."""
+    if not plants[0].function(sources[plants[0].file])[2]:
+        return plants[:1]
     group: list[Plant] = []
     texts = dict(sources)
     functions: set[tuple[str, str, str]] = set()
     for plant in plants:
         function = plant.function(sources[plant.file])
-        planted = None if function in functions else plant.put(texts[plant.file])
+        planted = None if function in functions or not function[2] else plant.put(texts[plant.file])
         if planted is not None:
             texts[plant.file] = planted
             functions.add(function)
@@ -123,13 +125,17 @@ def check(crate: Path, texts: dict[str, str], sources: dict[str, str]) -> str:
 
 
 def verdict(said: str, crate: str, function: tuple[str, str, str]) -> str:
-    """What the check says of a function."""
+    """What the check says of a function, or of a constant outside of all functions."""
     file, owner, name = function
+    if not name:
+        return "refused" if "did not prove" in said else "PROVED" if "\nlogic=proved" in said else "unclear"
     module = Path(file).stem
     path = rf"fn {crate}::(?:\w+::)*?(?:{module}::)?{owner}\w*::{name}" if owner else rf"fn {crate}::(?:\w+::)*{name}"
     lines = [line for line in said.splitlines() if re.match(path + r"(?::|\+|$)", line)]
-    folder = rf"\./proofs/(?:\S+/)?{owner + '/' if owner else ''}{name}/"
-    if any(": no proof" in line for line in lines) or re.search(rf"^{folder}\S*: error", said, re.M):
+    folder = rf"\./proofs/(?:\S+/)?{owner + '/' if owner else ''}\+?{name}/"
+    # functions that call one another share a folder, where a goal's name begins with the function's
+    goal = rf"(?:did not prove|error:) `(?:invariant-)?{name}-"
+    if any(": no proof" in line for line in lines) or re.search(rf"^{folder}\S*: error|{goal}", said, re.M):
         return "refused"
     if any(re.match(path + ": proved", line) for line in lines):
         return "PROVED"

@@ -1,5 +1,5 @@
 -- A legal history with one operation more.
-use Rattle.std.proofs.Common.{subst, ◌≡◌, ℕ, ◌+◌, ◌<◌, ◌≤◌, ◌==◌, Bool, true, false, cond, nat_lt, Option, None, Some, Result, Ok, Err, is_some, List, [], ◌∷◌, ◌++◌, length, find, reverse, ◌⊎◌, inl, inr, refl, sym, ◌∙◌, ap, arith}
+use Rattle.std.proofs.Common.{subst, ◌≡◌, ℕ, ◌+◌, ◌<◌, Bool, true, false, cond, nat_lt, Option, None, Some, Result, Ok, Err, is_some, List, [], ◌∷◌, ◌++◌, length, find, reverse, ◌⊎◌, inl, inr, refl, sym, ◌∙◌, ap, arith}
 use Rattle.std.specs.List.{list_any}
 use Rattle.std.proofs.lemmas.List.{length-append, length-reverse, append_assoc, reverse-append}
 use Rattle.std.proofs.lemmas.Bool.{ltb-true}
@@ -10,7 +10,7 @@ use Rattle.batch_ids.specs.declared.status.WorkOutcome.TheVariants.{Completed, F
 use Rattle.batch_history.specs.declared.call.Call.{Call}
 use Rattle.batch_history.specs.declared.call.Call.TheVariants.{Start, Restart, Stop, Abandon, Claim, Checkpoint, Finish}
 use Rattle.batch_history.specs.declared.call.Reply.{Reply}
-use Rattle.batch_history.specs.declared.call.Reply.TheVariants.{Execution as IsExecution, Nothing, Done}
+use Rattle.batch_history.specs.declared.call.Reply.TheVariants.{Execution as IsExecution, Done}
 use Rattle.batch_history.specs.declared.call.WorkKind.{WorkKind}
 use Rattle.batch_history.specs.declared.call.WorkKind.TheVariants.{Batchlet, Chunk, Decision}
 use Rattle.batch_history.specs.declared.call.Entry.{Entry}
@@ -94,22 +94,22 @@ finished-room limit r who o (Some row) given e =
     unless-room limit r.count (unheld_by who row.claimer row.state) _ given (as-room limit r.count (stop_asked r row.execution) row.kind o given) e
 
 -- a reply that is entered has room
-pub reply-room : (limit : ℕ) (r : Rows) (who : ℕ) (call : Call) (given : Reply) → reply_by limit r who call ≡ Ok given → is_nothing given ≡ false → r.count < limit
-reply-room limit r who (Start job parameters) given e n =
+pub reply_room : (limit : ℕ) (r : Rows) (who : ℕ) (call : Call) (given : Reply) → reply_by limit r who call ≡ Ok given → is_nothing given ≡ false → r.count < limit
+reply_room limit r who (Start job parameters) given e n =
     (elim (is_some (job_named r.catalogue job)) as (λ b. cond b (entered limit r.count (IsExecution (length r.executions + 1))) (Err JobStartException) ≡ Ok given → r.count < limit) [
       | true ↦ λ s. entered-room limit r.count _ given s
       | false ↦ λ s. cc
     ]) e
-reply-room limit r who (Restart x parameters) given e n =
+reply_room limit r who (Restart x parameters) given e n =
     (elim (is_some (find (is_execution x) r.executions)) as (λ b. cond b (entered limit r.count (IsExecution (length r.executions + 1))) (Err NoSuchJobExecutionException) ≡ Ok given → r.count < limit) [
       | true ↦ λ s. entered-room limit r.count _ given s
       | false ↦ λ s. cc
     ]) e
-reply-room limit r who (Stop x) given e n = stopped-room limit r.count (find (is_execution x) r.executions) given e
-reply-room limit r who (Abandon x) given e n = abandoned-room limit r (find (is_execution x) r.executions) given e
-reply-room limit r who Claim given e n = claimed-room limit r (find (has_something r) r.executions) given e n
-reply-room limit r who (Checkpoint w mark step) given e n = checkpointed-room limit r who (find (is_work w) r.works) given e
-reply-room limit r who (Finish w o exit step) given e n = finished-room limit r who o (find (is_work w) r.works) given e
+reply_room limit r who (Stop x) given e n = stopped-room limit r.count (find (is_execution x) r.executions) given e
+reply_room limit r who (Abandon x) given e n = abandoned-room limit r (find (is_execution x) r.executions) given e
+reply_room limit r who Claim given e n = claimed-room limit r (find (has_something r) r.executions) given e n
+reply_room limit r who (Checkpoint w mark step) given e n = checkpointed-room limit r who (find (is_work w) r.works) given e
+reply_room limit r who (Finish w o exit step) given e n = finished-room limit r who o (find (is_work w) r.works) given e
 
 -- Where a list with one element more is cut
 
@@ -147,7 +147,7 @@ IsDueAt limit h before e = (reply limit record { catalogue = h.catalogue; log = 
 -- a legal history grows by an operation with the reply that is due
 pub legal_grown : (limit : ℕ) (h : History) (e : Entry) → IsLegal limit h → reply limit h e.who e.call ≡ Ok e.reply → is_nothing e.reply ≡ false → IsLegal limit (grown h e)
 legal_grown limit h e legal due entered =
-    let room : length (reverse h.log) < limit = reply-room limit (rows h) e.who e.call e.reply due entered in
+    let room : length (reverse h.log) < limit = reply_room limit (rows h) e.who e.call e.reply due entered in
     record {
       within = omega (arith, room, length-reverse h.log, length-append h.log (e ∷ []));
       due = λ before f after is. elim (cut-last h.log before e f after is) as (λ _. IsDueAt limit h before f) [

@@ -1,7 +1,7 @@
 -- Abandonment and end: an abandoned job execution is over, and the end is the moment of the operation that brought it.
 use Rattle.std.proofs.Common.{◌≡◌, ℕ, ◌+◌, ◌==◌, ◌||◌, ◌&&◌, Bool, true, false, cond, Option, None, Some, is_some, List, [], ◌∷◌, ◌++◌, length, find, refl, sym, ◌∙◌, ap, subst}
 use Rattle.std.specs.List.{list_any}
-use Rattle.std.proofs.lemmas.Bool.{eqb-true, eq-eqb}
+use Rattle.std.proofs.lemmas.Bool.{eqb-true, eq-eqb, or_parts}
 use Rattle.batch_ids.specs.Statuses.{is_unfinished}
 use Rattle.batch_ids.specs.declared.status.BatchStatus.{BatchStatus}
 use Rattle.batch_ids.specs.declared.status.BatchStatus.TheVariants.{Abandoned}
@@ -14,7 +14,6 @@ use Rattle.batch_history.specs.declared.rows.ExecutionRow.{ExecutionRow}
 use Rattle.batch_history.specs.History.{Made, made, makes, is_made, is_at, given_up, earliest, abandoned_of, end_of, bare_of, is_finished}
 use Rattle.batch_history.specs.Rows.{Rows, rows_of, row_status, is_running_in, is_execution, execution_row}
 use Rattle.batch_history.proofs.Stepping.{remade-number, settled, ended-by, named-by}
-use Rattle.history_laws.proofs.Walks.{or-none}
 use Rattle.history_laws.proofs.Works.{found-passes}
 use Rattle.history_laws.proofs.Told.{Due, AllDue, IsRowOf, row-of, ToldAbandonment, abandonment-told}
 use Rattle.history_laws.proofs.Ended.{finished-step, on-it}
@@ -50,7 +49,7 @@ made-before older e x m off found = made-call older e.who e.at e.call e.reply x 
 any-none : {X : Type 0} (p q : X → Bool) (xs : List X) (x : X) → list_any p xs ≡ false → find q xs ≡ Some x → p x ≡ false
 any-none p q [] x none e = cc
 any-none p q (y ∷ ys) x none e =
-    let both = or-none (p y) (list_any p ys) none in
+    let both = or_parts (p y) (list_any p ys) none in
     (elim (q y) as (λ b. cond b (Some y) (find q ys) ≡ Some x → p x ≡ false) [
       | true ↦ λ s. let same : y ≡ x = cc in subst (λ z. p z ≡ false) same both.0
       | false ↦ λ s. any-none p q ys x both.1 s

@@ -1,5 +1,6 @@
 -- What a walk shows as ready or busy is a step or a decision of the job.
 use Rattle.std.proofs.Common.{◌≡◌, inl, inr, ℕ, zero, suc, Bool, true, false, cond, ◌||◌, ◌&&◌, Option, None, Some, is_some, List, [], ◌∷◌, ◌++◌, length, map, find, refl, sym, ◌∙◌, subst}
+use Rattle.std.proofs.lemmas.Bool.{or_left, or_right}
 use Rattle.std.specs.List.{list_any}
 use Rattle.std.specs.Option.{option_map}
 use Rattle.std.specs.Cmp.Lexicographic.{bytes_decides}
@@ -30,17 +31,17 @@ use Rattle.job_walk.specs.Walk.{Row, Part, IsStep, IsDecision, IsWhole, step_own
 use Rattle.job_walk.specs.Runnables.{Leaf, Inside, IsRun, Holds, body_leaves, leaves_at, element_leaves, flow_leaves, leaves, leaves_of_flow, all_leaves, runnable_in}
 use Rattle.batch_history.specs.History.{walk_of}
 use Rattle.batch_history.specs.Rows.{runs_in}
-use Rattle.history_laws.proofs.Walks.{part_at, Sight, seen, own_seen, all_seen, seen-either, nothing-seen, split_ended, strongest-unseen, find-closed, or-right, or-left}
+use Rattle.history_laws.proofs.Walks.{part_at, Sight, seen, own_seen, all_seen, seen-either, nothing-seen, split_ended, strongest-unseen, find-closed}
 
 -- whether one of these leaves has this id
 abbrev has : List Leaf → List ℕ → Bool
 has all id = list_any (λ leaf. is_text leaf.id id) all
 
 has-first : (one rest : List Leaf) (id : List ℕ) → has one id ≡ true → has (one ++ rest) id ≡ true
-has-first one rest id h = list_any-append (λ leaf. is_text leaf.id id) one rest ∙ or-left _ _ h
+has-first one rest id h = list_any-append (λ leaf. is_text leaf.id id) one rest ∙ or_left _ _ h
 
 has-rest : (one rest : List Leaf) (id : List ℕ) → has rest id ≡ true → has (one ++ rest) id ≡ true
-has-rest one rest id h = list_any-append (λ leaf. is_text leaf.id id) one rest ∙ or-right _ _ h
+has-rest one rest id h = list_any-append (λ leaf. is_text leaf.id id) one rest ∙ or_right _ _ h
 
 -- ---- Lists
 

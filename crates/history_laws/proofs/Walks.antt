@@ -1,5 +1,6 @@
 -- A walk before and after something is learnt of one element: what it shows as busy stays busy.
 use Rattle.std.proofs.Common.{◌≡◌, ◌≢◌, ℕ, zero, suc, Bool, true, false, cond, ◌||◌, ◌&&◌, Option, None, Some, List, [], ◌∷◌, length, map, find, refl, sym, ◌∙◌, ap, subst, ◌⊎◌, inl, inr}
+use Rattle.std.proofs.lemmas.Bool.{or_parts}
 use Rattle.std.proofs.lemmas.List.{length-map}
 use Rattle.std.proofs.lemmas.Simd.{map-map}
 use Rattle.std.proofs.lemmas.List.Folds.{list_any-append}
@@ -158,14 +159,6 @@ whole-goes s t id f g rel xs = rw (first-same s t id f g rel xs) (list-goes s t 
 
 -- ---- Flows and splits
 
-pub or-left : (a b : Bool) → a ≡ true → (a || b) ≡ true
-or-left true b h = refl
-or-left false b h = cc
-
-pub or-right : (a b : Bool) → b ≡ true → (a || b) ≡ true
-or-right true b h = refl
-or-right false b h = h
-
 flow-seen : (t : Sight) (id : List ℕ) (w : Value) → seen t id w ≡ true → own_seen t id (flow_own w) ≡ true
 flow-seen t id (Open ready busy) h = h
 flow-seen t id (Done exit) h = cc
@@ -261,15 +254,11 @@ seen-open s id (Open ready busy ∷ rest) h = refl
 seen-open s id (Done exit ∷ rest) h = seen-open s id rest h
 seen-open s id (Ended status exit point ∷ rest) h = seen-open s id rest h
 
-pub or-none : (a b : Bool) → (a || b) ≡ false → (a ≡ false) × (b ≡ false)
-or-none true b h = cc
-or-none false b h = (refl, h)
-
 flows-same : {X : Type 0} (s t : Sight) (id : List ℕ) (f g : X → Value) → ((x : X) → GoesOn s t id (f x) (g x)) → (xs : List X)
     → any_open (map f xs) ≡ false → map g xs ≡ map f xs
 flows-same s t id f g rel [] h = refl
 flows-same s t id f g rel (x ∷ xs) h =
-    let none = or-none (is_open (f x)) (any_open (map f xs)) h in
+    let none = or_parts (is_open (f x)) (any_open (map f xs)) h in
     ap (λ v. v ∷ map g xs) ((rel x).same none.0) ∙ ap (λ vs. f x ∷ vs) (flows-same s t id f g rel xs none.1)
 
 abbrev pub IsClosed : Option Value → Type 0
@@ -279,7 +268,7 @@ IsClosed (Some v) = is_open v ≡ false
 pub find-closed : (p : Value → Bool) (flows : List Value) → any_open flows ≡ false → IsClosed (find p flows)
 find-closed p [] h = tt
 find-closed p (v ∷ rest) h =
-    let none = or-none (is_open v) (any_open rest) h in
+    let none = or_parts (is_open v) (any_open rest) h in
     elim (p v) as (λ b. IsClosed (cond b (Some v) (find p rest))) [
       | true ↦ none.0
       | false ↦ find-closed p rest none.1

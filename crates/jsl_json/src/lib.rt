@@ -14,4 +14,6 @@ pub use catalogue::read_catalogue;
 pub use fault::ReadFault;
 
 #[cfg(test)]
+mod check_tests;
+#[cfg(test)]
 mod tests;

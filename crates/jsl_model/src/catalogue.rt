@@ -58,7 +58,6 @@ impl Catalogue {
         ensures too_many { 256 ≤ length self.old → result ≡ Err JobFault.TooMany }
         ensures duplicate { length self.old < 256 → IsSome (find (λ held. is_text held.id job.id) self.old) → result ≡ Err JobFault.DuplicateId }
         ensures memory { length self.old < 256 → IsNone (find (λ held. is_text held.id job.id) self.old) → OnErr result (result ≡ Err JobFault.OutOfMemory) }
-
         ensures added { OnOk result (self.new ≡ self.old ++ job ∷ []) }
         ensures unchanged { OnErr result (self.new ≡ self.old) }
     {

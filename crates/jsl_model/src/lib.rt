@@ -22,6 +22,3 @@ pub use parts::{
     BodyParts, ElementParts, JobParts, SplitFlowParts, StepParts, TaskParts, ThenParts,
     TransitionParts,
 };
-
-#[cfg(test)]
-mod tests;

@@ -10,4 +10,6 @@ pub use seq_repository::{
 };
 
 #[cfg(test)]
+mod chunk_tests;
+#[cfg(test)]
 mod tests;

@@ -1,7 +1,7 @@
 -- Stop, abandonment, start, updated, status and end: what is found by search is what the rows have.
 use Rattle.std.proofs.Common.{◌≡◌, ℕ, ◌+◌, ◌||◌, ◌<◌, ◌≤◌, Bool, true, false, cond, Option, None, Some, is_some, List, [], ◌∷◌, length, find, refl, sym, ◌∙◌, ap, arith}
 use Rattle.std.specs.List.{list_any}
-use Rattle.std.proofs.lemmas.Bool.{eqb-true, ne_eqb}
+use Rattle.std.proofs.lemmas.Bool.{eqb-true, ne_eqb, or_from}
 use Rattle.jsl_model.specs.Jobs.{JobTree}
 use Rattle.batch_history.specs.declared.call.Call.{Call}
 use Rattle.batch_history.specs.declared.call.Call.TheVariants.{Start, Restart, Stop, Abandon, Claim, Checkpoint, Finish}
@@ -90,9 +90,6 @@ takes-none older (Finish w o t step) reply x fits lt = ap (is_at x) fits.0
 abbrev NamesMade : (Call → Option ℕ) → Type 0
 NamesMade names = (older : List Entry) (call : Call) (reply : Reply) (x : ℕ) → Fits older call reply → executions_in older < x → is_at x (names call) ≡ false
 
-either : (a b : Bool) → a ≡ false → b ≡ false → (a || b) ≡ false
-either a b one other = ap (λ c. c || b) one ∙ other
-
 swapped : (a b : Bool) → (a || b) ≡ (b || a)
 swapped true true = refl
 swapped true false = refl
@@ -104,7 +101,7 @@ none-named : (names : Call → Option ℕ) → NamesMade names → (past : List 
 none-named names made [] fits x lt = refl
 none-named names made (e ∷ older) fits x lt =
     let before : executions_in older < x = fewer-before older e x lt in
-    either (is_at x (names e.call)) _ (made older e.call e.reply x fits.0 before) (none-named names made older fits.1 x before)
+    or_from (is_at x (names e.call)) _ (made older e.call e.reply x fits.0 before) (none-named names made older fits.1 x before)
 
 -- an entry more, where the rows forget what was said before a job execution was made
 named-step : (names : Call → Option ℕ) → NamesMade names → (older : List Entry) (e : Entry) (x : ℕ) (before : Bool) → AllFit (e ∷ older)
@@ -116,7 +113,7 @@ named-step names made older e x before fits same =
     (elim (is_making older x e.call) as (λ b. is_making older x e.call ≡ b
     → (is_at x (names e.call) || found) ≡ cond b false (before || is_at x (names e.call))) [
       | true ↦ λ is. let lt : executions_in older < x = making-after older x e.call is in
-          either (is_at x (names e.call)) found (made older e.call e.reply x fits.0 lt) (none-named names made older fits.1 x lt)
+          or_from (is_at x (names e.call)) found (made older e.call e.reply x fits.0 lt) (none-named names made older fits.1 x lt)
       | false ↦ λ is. swapped (is_at x (names e.call)) found ∙ ap (λ c. c || is_at x (names e.call)) same
     ]) refl
 
@@ -229,7 +226,7 @@ end-none catalogue (e ∷ older) fits x lt =
 stop-made : (older : List Entry) (e : Entry) (x : ℕ) → AllFit (e ∷ older) → is_making older x e.call ≡ true → stop_found (e ∷ older) x ≡ false
 stop-made older e x fits is =
     let lt : executions_in older < x = making-after older x e.call is in
-    either (is_at x (asked e.call)) _ (asked-none older e.call e.reply x fits.0 lt) (none-named asked asked-none older fits.1 x lt)
+    or_from (is_at x (asked e.call)) _ (asked-none older e.call e.reply x fits.0 lt) (none-named asked asked-none older fits.1 x lt)
 
 -- where it comes from was known before an entry that does not make it
 origin-before : (older : List Entry) (e : Entry) (x : ℕ) (o : Origin) → is_making older x e.call ≡ false → origin_of (e ∷ older) x ≡ Some o → origin_of older x ≡ Some o

@@ -25,3 +25,5 @@ mod job_tests;
 mod plain_tests;
 #[cfg(test)]
 mod tests;
+#[cfg(test)]
+mod text_tests;

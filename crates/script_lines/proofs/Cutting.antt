@@ -1,6 +1,6 @@
 -- What was read so far, as lines and the bytes behind them: the laws that a loop over the lines of a script needs.
 use Rattle.std.proofs.Common.{◌≡◌, ◌∙◌, ◌⊎◌, inl, inr, ℕ, ◌+◌, ◌<◌, ◌≤◌, List, [], ◌∷◌, ◌++◌, true, false, length, Option, Some, None, Result, Ok, Err, refl, sym, ap, append_assoc, length-append, arith}
-use Rattle.std.proofs.lemmas.Bool.{false≢true}
+use Rattle.std.proofs.lemmas.Bool.{false≢true, false_from_ne_true}
 use Rattle.std.proofs.lemmas.List.{append-nil}
 use Rattle.script_lines.specs.declared.line.Line.{Line}
 use Rattle.script_lines.specs.declared.line_fault.LineFault.{LineFault}
@@ -11,7 +11,6 @@ use Rattle.script_lines.specs.Cut.{lines_of, whole_lines, has_feed, at_least_one
 use Rattle.script_lines.specs.Unread.{Unread, nothing_read}
 use Rattle.script_lines.specs.Lines.{Shows, ShowsFirst, Cuts, Took, IsReadFault}
 use Rattle.script_lines.proofs.CutLaws.{lines_of-cut, lines_of-last, lines_of-nil, whole_lines-cut, whole_lines-none}
-use Rattle.script_lines.proofs.Growing.{is_false}
 
 -- the reader told an input, of which these lines are done, whatever it tells from now on
 pub record Cutting (start now : Told) (p : Unread) (done : List (List ℕ)) : Type 0 where
@@ -110,7 +109,7 @@ cut_next start now next p q done l C t =
         lines = λ more h. ap script_lines (append_assoc C.input t.more more) ∙ C.lines (t.more ++ more) (λ e. absurd (running e))
             ∙ ap (λ x. done ++ lines_of x) (sym (append_assoc p.bytes t.more more)) ∙ ap (λ x. done ++ x) (cut_off (p.bytes ++ t.more) line q t.outcome.2 t.outcome.3 more h)
             ∙ sym (append_assoc done (line ∷ []) (lines_of (q.bytes ++ more)));
-        whole = λ e more. ap whole_lines (append_assoc C.input t.more more) ∙ C.whole (is_false p.ended running) (t.more ++ more)
+        whole = λ e more. ap whole_lines (append_assoc C.input t.more more) ∙ C.whole (false_from_ne_true p.ended running) (t.more ++ more)
             ∙ ap (λ x. done ++ whole_lines x) (sym (append_assoc p.bytes t.more more)) ∙ ap (λ x. done ++ x) (cut_off_whole (p.bytes ++ t.more) line q t.outcome.2 t.outcome.3 e more)
             ∙ sym (append_assoc done (line ∷ []) (whole_lines (q.bytes ++ more)));
         failures = t.cause ∙ C.failures;

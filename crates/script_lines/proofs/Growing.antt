@@ -1,5 +1,5 @@
 -- What is known while a line grows.
-use Rattle.std.proofs.Common.{◌≡◌, ◌∙◌, ◌⊎◌, inl, inr, ℕ, ◌+◌, ◌*◌, ◌≤◌, ◌<◌, List, [], ◌∷◌, ◌++◌, ◌||◌, ◌==◌, Bool, true, false, length, take, drop, Some, Ok, refl, sym, ap, append_assoc, length-append, arith}
+use Rattle.std.proofs.Common.{◌≡◌, ◌∙◌, ◌⊎◌, inl, inr, ℕ, ◌+◌, ◌*◌, ◌≤◌, ◌<◌, List, [], ◌∷◌, ◌++◌, ◌||◌, ◌==◌, true, false, length, take, drop, Some, Ok, sym, ap, append_assoc, length-append, arith}
 use Rattle.std.proofs.lemmas.Bool.{false≢true}
 use Rattle.std.proofs.lemmas.List.{take-append-drop}
 use Rattle.std.proofs.lemmas.List.Folds.{list_any-append}
@@ -90,8 +90,3 @@ found old now before mid after grown longer at G clean feed running adds rest =
       ended = λ e. absurd (false≢true (sym running ∙ e));
       drained = λ e. absurd (false≢true (sym running ∙ e));
     })
-
--- what isn't true is false
-pub is_false : (b : Bool) → (b ≡ true → ⊥) → b ≡ false
-is_false true h = absurd (h refl)
-is_false false h = refl

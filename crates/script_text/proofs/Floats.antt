@@ -1,5 +1,6 @@
 -- No reply, answer or fault has a number that is a float.
-use Rattle.std.proofs.Common.{◌≡◌, ◌||◌, ℕ, List, [], ◌∷◌, Bool, true, false, true≢false, map, filter, Less, Equal, Greater, nat_cmp, Option, Some, None, Result, Ok, Err, refl}
+use Rattle.std.proofs.Common.{◌≡◌, ℕ, List, [], ◌∷◌, false, map, filter, Less, Equal, Greater, nat_cmp, Option, Some, None, Result, Ok, Err, refl}
+use Rattle.std.proofs.lemmas.Bool.{or_parts}
 use Rattle.std.specs.Cmp.Lexicographic.{slice_cmp}
 use Rattle.std.specs.Ordering.{match_ordering}
 use Rattle.serde_json.specs.Data.{Data, string, Members, no_members, member, put}
@@ -43,15 +44,11 @@ list_has_none : {A : Type 0} (written : A → Data) → ((a : A) → has_float (
 list_has_none written none [] = refl
 list_has_none written none (a ∷ rest) = rw (none a, list_has_none written none rest) refl
 
-neither : (a b : Bool) → (a || b) ≡ false → (a ≡ false) × (b ≡ false)
-neither true b none = absurd (true≢false none)
-neither false b none = (refl, none)
-
 -- where members have none, and a value has none, the members with it have none
 put_has_none : (k : List ℕ) (d : Data) (ms : Members) → has_float d ≡ false → members_have_float ms ≡ false → members_have_float (put k d ms) ≡ false
 put_has_none k d no_members none others = rw none refl
 put_has_none k d (member l e ms) none others =
-    let apart : (has_float e ≡ false) × (members_have_float ms ≡ false) = neither (has_float e) (members_have_float ms) others in
+    let apart : (has_float e ≡ false) × (members_have_float ms ≡ false) = or_parts (has_float e) (members_have_float ms) others in
     elim (slice_cmp nat_cmp k l) as (λ o. members_have_float (match_ordering o (member k d (member l e ms)) (member l d ms) (member l e (put k d ms))) ≡ false) [
       | Less ↦ rw none others
       | Equal ↦ rw none apart.1

@@ -20,6 +20,3 @@ pub use command::{Command, read_command};
 pub use fault::fault_text;
 pub use metrics::metrics_value;
 pub use reply::{bad_line_text, reply_text};
-
-#[cfg(test)]
-mod tests;

@@ -290,7 +290,7 @@ impl<const LIMIT: u64> Repository<LIMIT> {
     }
 
     /// Answers a call, and enters it where it is accepted.
-    #[tactic(auto, using(crate::proofs::Replying::reply_room))]
+    #[tactic(auto, using(batch_history::proofs::Legal::reply_room))]
     pub(crate) fn change(
         &mut self,
         alloc: Global,

@@ -15,6 +15,3 @@ pub use batch_history::{
     WorkItem, WorkKind, WorkTask,
 };
 pub use repository::Repository;
-
-#[cfg(test)]
-mod tests;

@@ -1,5 +1,6 @@
 -- Walks of a bounded number of targets: they last as the bound grows, grow by a target at their end, and are paths.
-use Rattle.std.proofs.Common.{◌≡◌, ℕ, zero, suc, ◌<◌, ◌≤◌, ◌||◌, Bool, true, false, List, [], ◌∷◌, length, nat_eq, slice_index, inl, inr, arith, refl, sym, ap, subst, ◌⊎◌}
+use Rattle.std.proofs.Common.{◌≡◌, ℕ, zero, suc, ◌<◌, ◌≤◌, ◌||◌, Bool, true, false, List, [], ◌∷◌, length, nat_eq, slice_index, inl, inr, arith, sym, subst}
+use Rattle.std.proofs.lemmas.Bool.{or_cases, or_left, or_right, false_from_ne_true}
 use Rattle.std.proofs.lemmas.List.FromFn.{length-range_with_len, get_or-range_with_len}
 use Rattle.std.proofs.lemmas.List.Folds.{Any-from_list_any, list_any-from_Any}
 use Rattle.std.specs.List.{Any, Contains, list_any, range_with_len}
@@ -11,22 +12,11 @@ same_number a b e = grind arith
 number_itself : (a : ℕ) → nat_eq a a ≡ true
 number_itself a = grind arith
 
-either : (a b : Bool) → (a || b) ≡ true → (a ≡ true) ⊎ (b ≡ true)
-either true b e = inl refl
-either false b e = inr e
-
-left-true : (a b : Bool) → a ≡ true → (a || b) ≡ true
-left-true a b e = ap (λ (x : Bool). x || b) e
-
-right-true : (a b : Bool) → b ≡ true → (a || b) ≡ true
-right-true true b e = refl
-right-true false b e = e
-
 any-mono : (p q : ℕ → Bool) (xs : List ℕ) → ((x : ℕ) → p x ≡ true → q x ≡ true) → list_any p xs ≡ true → list_any q xs ≡ true
 any-mono p q [] more e = cc
-any-mono p q (x ∷ xs) more e = elim (either (p x) (list_any p xs) e) [
-  | inl here ↦ left-true (q x) (list_any q xs) (more x here)
-  | inr there ↦ right-true (q x) (list_any q xs) (any-mono p q xs more there)
+any-mono p q (x ∷ xs) more e = elim (or_cases (p x) (list_any p xs) e) [
+  | inl here ↦ or_left (q x) (list_any q xs) (more x here)
+  | inr there ↦ or_right (q x) (list_any q xs) (any-mono p q xs more there)
 ]
 
 -- a target leads there, within any bound above 0
@@ -34,7 +24,7 @@ pub leads-one : (graph : List (List ℕ)) (most v w : ℕ) → Contains (targets
 unfolding leads
 leads-one graph most v w (k, lt, e) =
     list_any-from_Any (λ next. nat_eq next w || leads graph most next w) (targets_of graph v)
-    (k, w, lt, e, left-true (nat_eq w w) (leads graph most w w) (number_itself w))
+    (k, w, lt, e, or_left (nat_eq w w) (leads graph most w w) (number_itself w))
 
 -- a larger bound
 pub leads-more : (graph : List (List ℕ)) (most larger from to : ℕ) → most ≤ larger → leads graph most from to ≡ true → leads graph larger from to ≡ true
@@ -43,9 +33,9 @@ leads-more graph zero larger from to h e = cc
 leads-more graph (suc most) zero from to h e = absurd (omega (arith, h))
 leads-more graph (suc most) (suc larger) from to h e =
     any-mono (λ next. nat_eq next to || leads graph most next to) (λ next. nat_eq next to || leads graph larger next to) (targets_of graph from)
-    (λ next is. elim (either (nat_eq next to) (leads graph most next to) is) [
-      | inl here ↦ left-true (nat_eq next to) (leads graph larger next to) here
-      | inr on ↦ right-true (nat_eq next to) (leads graph larger next to) (leads-more graph most larger next to (omega (arith, h)) on)
+    (λ next is. elim (or_cases (nat_eq next to) (leads graph most next to) is) [
+      | inl here ↦ or_left (nat_eq next to) (leads graph larger next to) here
+      | inr on ↦ or_right (nat_eq next to) (leads graph larger next to) (leads-more graph most larger next to (omega (arith, h)) on)
     ])
     e
 
@@ -55,7 +45,7 @@ unfolding leads
 leads-push graph zero u v w e edge = cc
 leads-push graph (suc most) u v w e edge =
     any-mono (λ next. nat_eq next v || leads graph most next v) (λ next. nat_eq next w || leads graph (suc most) next w) (targets_of graph u)
-    (λ next is. right-true (nat_eq next w) (leads graph (suc most) next w) (elim (either (nat_eq next v) (leads graph most next v) is) [
+    (λ next is. or_right (nat_eq next w) (leads graph (suc most) next w) (elim (or_cases (nat_eq next v) (leads graph most next v) is) [
       | inl here ↦ subst (λ (x : ℕ). leads graph (suc most) x w ≡ true) (sym (same_number next v here)) (leads-one graph most v w edge)
       | inr on ↦ leads-push graph most next v w on edge
     ]))
@@ -74,7 +64,7 @@ leads-path graph zero from to e = cc
 leads-path graph (suc most) from to e =
     let first : Any (λ next. (nat_eq next to || leads graph most next to) ≡ true) (targets_of graph from) =
     Any-from_list_any (λ next. nat_eq next to || leads graph most next to) (targets_of graph from) e in
-    elim (either (nat_eq first.1 to) (leads graph most first.1 to) first.4) [
+    elim (or_cases (nat_eq first.1 to) (leads graph most first.1 to) first.4) [
       | inl here ↦ ([], subst (λ (x : ℕ). Contains (targets_of graph from) x) (same_number first.1 to here) (first.0, first.2, first.3))
       | inr on ↦ let rest : (between : List ℕ) × IsPath graph first.1 between to = leads-path graph most first.1 to on in
           (first.1 ∷ rest.0, ((first.0, first.2, first.3), rest.1))
@@ -95,10 +85,6 @@ path-rises graph ranks r from (next ∷ rest) to p = omega (arith, r.rise from n
 pub no_cycle : (graph : List (List ℕ)) (ranks : List ℕ) → IsRanked ranks graph → HasCycle graph → ⊥
 no_cycle graph ranks r (v, between, p) = omega (arith, path-rises graph ranks r v between v p)
 
-no-when : (b : Bool) → (b ≡ true → ⊥) → false ≡ b
-no-when true never = absurd (never refl)
-no-when false never = refl
-
 -- a graph with ranks has no cycle
 pub ranked-no_cycle : (graph : List (List ℕ)) (ranks : List ℕ) → IsRanked ranks graph → false ≡ has_cycle graph
-ranked-no_cycle graph ranks r = no-when (has_cycle graph) (λ e. no_cycle graph ranks r (cycle-path graph e))
+ranked-no_cycle graph ranks r = sym (false_from_ne_true (has_cycle graph) (λ e. no_cycle graph ranks r (cycle-path graph e)))

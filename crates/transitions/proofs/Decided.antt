@@ -1,6 +1,6 @@
 -- The test of a match says exactly that the text can be cut into the pattern's pieces.
-use Rattle.std.proofs.Common.{◌≡◌, ◌≢◌, ◌==◌, ◌||◌, ◌&&◌, ℕ, Bool, true, false, cond, List, [], ◌∷◌, ◌++◌, length, ◌⊎◌, ◌↔◌, inl, inr, refl, sym, ap, ◌∙◌, subst, IsTrue}
-use Rattle.std.proofs.lemmas.Bool.{eqb-true, eq-eqb, ne_eqb}
+use Rattle.std.proofs.Common.{◌≡◌, ◌≢◌, ◌==◌, ◌||◌, ◌&&◌, ℕ, Bool, true, false, cond, List, [], ◌∷◌, ◌++◌, ◌↔◌, inl, inr, refl, sym, ap, ◌∙◌, subst, IsTrue}
+use Rattle.std.proofs.lemmas.Bool.{eqb-true, eq-eqb, ne_eqb, or_cases, or_right, and_parts, false_from_ne_true}
 use Rattle.std.proofs.lemmas.Bool.Decides.{eqb_tells}
 use Rattle.transitions.specs.Patterns.{Matches, some_end, faced_first, is_match}
 use Rattle.transitions.proofs.Cuts.{Takes, Matches-nil, nil_from_Matches, one_from_Matches, Matches-one, star_from_Matches, Matches-star}
@@ -11,18 +11,6 @@ record HasEnd (passes : List ℕ → Bool) (text : List ℕ) : Type 0 where
   rest : List ℕ
   whole : front ++ rest ≡ text
   passed : passes rest ≡ true
-
-or_cases : (a b : Bool) → (a || b) ≡ true → (a ≡ true) ⊎ (b ≡ true)
-or_cases true b h = inl refl
-or_cases false b h = inr h
-
-or_right : (a b : Bool) → b ≡ true → (a || b) ≡ true
-or_right true b h = refl
-or_right false b h = h
-
-and_both : (a b : Bool) → (a && b) ≡ true → (a ≡ true) × (b ≡ true)
-and_both true b h = (refl, h)
-and_both false b h = cc
 
 end_from : (passes : List ℕ → Bool) (text : List ℕ) → some_end passes text ≡ true → HasEnd passes text
 unfolding some_end
@@ -50,10 +38,6 @@ taken_test c d k = elim k [
   | inr e ↦ or_right (c == 63) (c == d) (eq-eqb c d e)
 ]
 
-is_false : (b : Bool) → (b ≡ true → ⊥) → b ≡ false
-is_false true h = absurd (h refl)
-is_false false h = refl
-
 star_test : (cs text : List ℕ) (c : ℕ) → c ≡ 42 → is_match (c ∷ cs) text ≡ some_end (is_match cs) text
 unfolding is_match
 star_test cs text c e = ap (λ b. cond b (some_end (is_match cs) text) (faced_first c (is_match cs) text)) (eq-eqb c 42 e)
@@ -67,7 +51,7 @@ faced_from : (cs text : List ℕ) (c : ℕ) → c ≢ 42 → ((rest : List ℕ) 
 unfolding faced_first
 faced_from cs [] c n on h = cc
 faced_from cs (d ∷ ds) c n on h =
-    let b = and_both (c == 63 || c == d) (is_match cs ds) h in
+    let b = and_parts (c == 63 || c == d) (is_match cs ds) h in
     Matches-one c d cs ds n (takes_from c d b.0) (on ds b.1)
 
 -- a text that passes the test can be cut
@@ -98,4 +82,4 @@ test_from_Matches (c ∷ cs) text m = elim (eqb_tells c 42) [
 -- so a test that tells whether the text can be cut is the test
 pub same_test : (b : Bool) (pattern text : List ℕ) → (IsTrue b ↔ Matches pattern text) → b ≡ is_match pattern text
 same_test true pattern text e = sym (test_from_Matches pattern text (e.0 refl))
-same_test false pattern text e = sym (is_false (is_match pattern text) (λ h. let f : false ≡ true = e.1 (Matches-from_test pattern text h) in cc))
+same_test false pattern text e = sym (false_from_ne_true (is_match pattern text) (λ h. let f : false ≡ true = e.1 (Matches-from_test pattern text h) in cc))

@@ -1,4 +1,3 @@
-use crate::*;
 use batch_history::{
     Answer, Call, CountsByStatus, JobExecution, JobInstance, Query, Reply, StepExecution, WorkItem,
     WorkTask,
@@ -9,6 +8,9 @@ use batch_ids::{
 };
 use jsl_json::ReadFault;
 use jsl_model::JobFault;
+use script_text::{
+    Command, answer_text, bad_line_text, fault_text, metrics_value, read_command, reply_text,
+};
 use std::alloc::{AllocError, Global};
 use std::test::Fail;
 

@@ -1,5 +1,7 @@
-use crate::{BodyParts, Catalogue, ElementParts, Job, JobFault, JobParts, StepParts, TaskParts};
 use batch_ids::Listed;
+use jsl_model::{
+    BodyParts, Catalogue, ElementParts, Job, JobFault, JobParts, StepParts, TaskParts,
+};
 use std::alloc::{AllocError, Global};
 use std::test::Fail;
 

@@ -1,4 +1,4 @@
-use crate::{Call, Reply, Repository, WorkItem, WorkTask};
+use crate::{Book, Call, Reply, WorkItem, WorkTask};
 use batch_ids::{
     ExecutionId, Listed, MetricStep, Parameters, Refusal, T256, Text, WorkId, WorkOutcome,
 };
@@ -35,11 +35,11 @@ fn parts(alloc: Global) -> Result<JobParts, AllocError> {
     })
 }
 
-/// A repository over one job of one chunk.
-fn repository(alloc: Global) -> Result<Repository<100>, Fail> {
+/// A book over one job of one chunk.
+fn one_chunk(alloc: Global) -> Result<Book<100>, Fail> {
     let mut catalogue = Catalogue::new(alloc);
     catalogue.add(Job::check(alloc, parts(alloc)?)?)?;
-    Ok(Repository::new(alloc, catalogue)?)
+    Ok(Book::new(alloc, catalogue)?)
 }
 
 fn start(alloc: Global) -> Result<Call, Refusal> {
@@ -101,77 +101,57 @@ fn work(alloc: Global, number: u64, mark: Option<Text<65536>>) -> Result<Reply, 
 }
 
 /// Makes a call of session 1, and tells whether it is answered so.
-fn says(
-    repository: &mut Repository<100>,
-    alloc: Global,
-    call: Call,
-    wanted: Result<Reply, Refusal>,
-) -> bool {
-    let reply = repository.apply(alloc, 1, &call, 10);
-    reply == wanted
+fn says(book: &mut Book<100>, alloc: Global, call: Call, wanted: Result<Reply, Refusal>) -> bool {
+    book.act(alloc, 1, call, 10) == wanted
 }
 
-/// A repository whose one job execution is being run.
-fn running(alloc: Global) -> Result<Repository<100>, Fail> {
-    let mut repository = repository(alloc)?;
-    let _started = repository.apply(alloc, 1, &start(alloc)?, 10)?;
-    let _claimed = repository.apply(alloc, 1, &Call::Claim, 10)?;
-    Ok(repository)
+/// A book whose one job execution is being run.
+fn running(alloc: Global) -> Result<Book<100>, Fail> {
+    let mut book = one_chunk(alloc)?;
+    book.act(alloc, 1, start(alloc)?, 10)?;
+    book.act(alloc, 1, Call::Claim, 10)?;
+    Ok(book)
 }
 
 #[test]
 fn a_start_is_claimed(rt: HostRuntime) -> Result<(), Fail> {
     let alloc = rt.alloc();
-    let mut repository = repository(alloc)?;
+    let mut book = one_chunk(alloc)?;
     let first = Reply::Execution(ExecutionId::new(1));
-    assert!(rt; says(&mut repository, alloc, start(alloc)?, Ok(first)));
-    assert!(rt; says(&mut repository, alloc, Call::Claim, work(alloc, 1, None)));
-    assert!(rt; says(&mut repository, alloc, Call::Claim, Ok(Reply::Nothing)));
-    assert_eq!(rt; repository.len(), 2);
+    assert!(rt; says(&mut book, alloc, start(alloc)?, Ok(first)));
+    assert!(rt; says(&mut book, alloc, Call::Claim, work(alloc, 1, None)));
+    assert!(rt; says(&mut book, alloc, Call::Claim, Ok(Reply::Nothing)));
+    assert_eq!(rt; book.len(), 2);
     Ok(())
 }
 
 #[test]
 fn a_restart_goes_on_at_the_checkpoint(rt: HostRuntime) -> Result<(), Fail> {
     let alloc = rt.alloc();
-    let mut repository = running(alloc)?;
+    let mut book = running(alloc)?;
     let end = finish(WorkOutcome::Stopped);
-    assert!(rt; says(&mut repository, alloc, checkpoint(alloc)?, Ok(Reply::Go)));
-    assert!(rt; says(&mut repository, alloc, stop(), Ok(Reply::Done)));
-    assert!(rt;
-        says(
-            &mut repository,
-            alloc,
-            checkpoint(alloc)?,
-            Ok(Reply::StopAsked)
-        )
-    );
-    assert!(rt; says(&mut repository, alloc, end, Ok(Reply::Done)));
-    assert!(rt; says(&mut repository, alloc, Call::Claim, Ok(Reply::Nothing)));
+    assert!(rt; says(&mut book, alloc, checkpoint(alloc)?, Ok(Reply::Go)));
+    assert!(rt; says(&mut book, alloc, stop(), Ok(Reply::Done)));
+    assert!(rt; says(&mut book, alloc, checkpoint(alloc)?, Ok(Reply::StopAsked)));
+    assert!(rt; says(&mut book, alloc, end, Ok(Reply::Done)));
+    assert!(rt; says(&mut book, alloc, Call::Claim, Ok(Reply::Nothing)));
     let second = Reply::Execution(ExecutionId::new(2));
-    assert!(rt; says(&mut repository, alloc, restart(alloc), Ok(second)));
+    assert!(rt; says(&mut book, alloc, restart(alloc), Ok(second)));
     let mark = Text::new(alloc, "10")?;
-    assert!(rt;
-        says(
-            &mut repository,
-            alloc,
-            Call::Claim,
-            work(alloc, 2, Some(mark))
-        )
-    );
+    assert!(rt; says(&mut book, alloc, Call::Claim, work(alloc, 2, Some(mark))));
     Ok(())
 }
 
 #[test]
 fn a_running_job_is_not_given_up(rt: HostRuntime) -> Result<(), Fail> {
     let alloc = rt.alloc();
-    let mut repository = running(alloc)?;
+    let mut book = running(alloc)?;
     let end = finish(WorkOutcome::Stopped);
-    assert!(rt; says(&mut repository, alloc, end, Err(Refusal::NotStopping)));
+    assert!(rt; says(&mut book, alloc, end, Err(Refusal::NotStopping)));
     let running = Err(Refusal::JobExecutionIsRunningException);
-    assert!(rt; says(&mut repository, alloc, abandon(), running));
+    assert!(rt; says(&mut book, alloc, abandon(), running));
     let end = finish(WorkOutcome::Completed);
-    assert!(rt; says(&mut repository, alloc, end, Ok(Reply::Done)));
-    assert!(rt; says(&mut repository, alloc, abandon(), Ok(Reply::Done)));
+    assert!(rt; says(&mut book, alloc, end, Ok(Reply::Done)));
+    assert!(rt; says(&mut book, alloc, abandon(), Ok(Reply::Done)));
     Ok(())
 }
