@@ -1,5 +1,6 @@
 pub mod Fronts
 pub mod Passing
+pub mod Tallying
 pub mod Running
 pub mod Opening
 pub mod Flushing

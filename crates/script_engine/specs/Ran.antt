@@ -11,7 +11,8 @@ use Rattle.script_engine.specs.declared.summary.Summary.{Summary}
 use Rattle.script_engine.specs.declared.fault.EngineFault.{EngineFault}
 use Rattle.script_engine.specs.declared.fault.EngineFault.TheVariants.{Catalogue, Read, Write, OutOfMemory}
 use Rattle.script_engine.specs.Faults.{is_of_writer}
-use Rattle.script_engine.specs.Script.{catalogue_at, text_of_lines, entries_of_lines, script_text}
+use Rattle.script_engine.specs.Script.{catalogue_at, text_of_lines, script_text}
+use Rattle.script_engine.specs.Summaries.{summary_of}
 
 -- the first line is a catalogue without a fault
 abbrev pub IsOpened : List (List ℕ) → Type 0
@@ -23,8 +24,8 @@ IsFirstFault lines fault = (line : List ℕ) × (rest : List (List ℕ)) × (lin
 
 -- the input that was told and the output that was written, by the answer
 abbrev pub IsOutcome : List ℕ → List ℕ → Told → Told → Held → Held → Result Summary EngineFault → Type 0
--- the first line is a catalogue, the reader told its end, and all is answered
-IsOutcome input output r r' w w' (Ok summary) = (output ≡ script_text input) × (r.ends < r'.ends) × (summary.entries ≡ entries_of_lines (script_lines input)) × IsOpened (script_lines input)
+-- the first line is a catalogue, the reader told its end, and all is answered and counted
+IsOutcome input output r r' w w' (Ok summary) = (output ≡ script_text input) × (r.ends < r'.ends) × (summary ≡ summary_of (script_lines input)) × IsOpened (script_lines input)
 -- the fault is told, which is all that there is to tell
 IsOutcome input output r r' w w' (Err (Catalogue fault)) = (output ≡ fault_text fault) × (script_text input ≡ fault_text fault) × IsFirstFault (script_lines input) fault
 -- the complete lines are answered

@@ -1,9 +1,11 @@
-ghost use Rattle.std.specs.Prelude.{◌≡◌, List, ℕ, IfOk, OnOk};
+ghost use Rattle.std.specs.Prelude.{◌≡◌, List, ℕ, Err, IfOk, OnOk};
 ghost use Rattle.batch_ids.specs.Refusals.{is_out_of_memory};
 ghost use Rattle.script_lines.specs.Lines.{Shows};
 ghost use Rattle.script_text.specs.declared.command.Command.TheVariants.{Act, Ask};
 ghost use Rattle.script_text.specs.Replies.{bad_line_text, reply_text};
 ghost use Rattle.script_engine.specs.Script.{line_text, line_after, text_for, history_for};
+ghost use Rattle.script_engine.specs.Summaries.{line_kind, kind_for};
+ghost use Rattle.script_engine.specs.declared.summary.Kind.TheVariants.{Refused, Bad};
 
 use crate::summary::Kind;
 use batch_ids::{Moment, Refusal};
@@ -25,13 +27,14 @@ pub(crate) struct Answered {
 }
 
 /// Answers a line. At an `Err` the history is left open.
-#[tactic(auto, unfolding(crate::specs::Script::line_text, crate::specs::Script::line_after))]
+#[tactic(auto, unfolding(crate::specs::Script::line_text, crate::specs::Script::line_after, crate::specs::Summaries::line_kind))]
 pub(crate) fn answer(
     alloc: Global,
     book: &mut Book<LIMIT>,
     line: &Line,
 ) -> Result<Answered, AllocError>
     ensures text { IfOk result (λ answered. (bytes : List ℕ) → Shows line.now bytes → answered.text.items ≡ line_text book.old bytes) }
+    ensures kind { IfOk result (λ answered. (bytes : List ℕ) → Shows line.now bytes → answered.kind ≡ line_kind book.old bytes) }
     ensures after { OnOk result ((bytes : List ℕ) → Shows line.now bytes → book.new ≡ line_after book.old bytes) }
 {
     match line {
@@ -52,6 +55,7 @@ pub(crate) fn answer(
 /// Answers a command.
 fn obey(alloc: Global, book: &mut Book<LIMIT>, command: Command) -> Result<Answered, AllocError>
     ensures text { IfOk result (λ answered. answered.text.items ≡ text_for book.old command) }
+    ensures kind { IfOk result (λ answered. answered.kind ≡ kind_for book.old command) }
     ensures after { OnOk result (book.new ≡ history_for book.old command) }
 {
     match command {
@@ -64,7 +68,7 @@ fn obey(alloc: Global, book: &mut Book<LIMIT>, command: Command) -> Result<Answe
 
 /// Answers what is no command.
 fn bad(alloc: Global) -> Result<Answered, AllocError>
-    ensures { IfOk result (λ answered. answered.text.items ≡ bad_line_text) }
+    ensures { IfOk result (λ answered. (answered.text.items ≡ bad_line_text) × (answered.kind ≡ Bad)) }
 {
     Ok(Answered {
         text: bad_line_text(alloc)?,
@@ -74,7 +78,7 @@ fn bad(alloc: Global) -> Result<Answered, AllocError>
 
 /// Answers a call or a query that is refused.
 fn refused(alloc: Global, refusal: Refusal) -> Result<Answered, AllocError>
-    ensures { IfOk result (λ answered. answered.text.items ≡ reply_text (Err refusal)) }
+    ensures { IfOk result (λ answered. (answered.text.items ≡ reply_text (Err refusal)) × (answered.kind ≡ Refused)) }
 {
     Ok(Answered {
         text: reply_text(alloc, &Err(refusal))?,
@@ -91,6 +95,7 @@ fn act(
     call: Call,
 ) -> Result<Answered, AllocError>
     ensures text { IfOk result (λ answered. answered.text.items ≡ text_for book.old (Act by at call)) }
+    ensures kind { IfOk result (λ answered. answered.kind ≡ kind_for book.old (Act by at call)) }
     ensures after { OnOk result (book.new ≡ history_for book.old (Act by at call)) }
 {
     match book.act(alloc, by, call, at) {
@@ -109,7 +114,8 @@ fn act(
 
 /// Answers a query.
 fn ask(alloc: Global, book: &Book<LIMIT>, query: &Query) -> Result<Answered, AllocError>
-    ensures { IfOk result (λ answered. answered.text.items ≡ text_for book.now (Ask query.now)) }
+    ensures text { IfOk result (λ answered. answered.text.items ≡ text_for book.now (Ask query.now)) }
+    ensures kind { IfOk result (λ answered. answered.kind ≡ kind_for book.now (Ask query.now)) }
 {
     match book.ask(alloc, query) {
         Ok(answer) => Ok(Answered {

@@ -1,4 +1,5 @@
 ghost use Rattle.std.specs.Prelude.{◌≡◌};
+ghost use Rattle.script_engine.specs.Summaries.{counted};
 
 /// What a script did.
 #[derive(Clone, Copy, Debug, Default, PartialEq, Eq)]
@@ -30,7 +31,7 @@ pub(crate) enum Kind {
 impl Summary {
     /// Counts a line.
     pub(crate) fn count(&mut self, kind: Kind)
-        ensures { self.new.entries ≡ self.old.entries }
+        ensures { self.new ≡ counted kind self.old }
     {
         match kind {
             Kind::Empty => return,

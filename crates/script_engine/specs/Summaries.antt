@@ -1,0 +1,90 @@
+-- What a script did, by what becomes of its lines.
+use Rattle.std.specs.Prelude.{ℕ, ◌+◌, ◌-◌, ◌^◌, ◌==◌, min, List, [], ◌∷◌, length, count_by, Bool, true, false, Result, Ok, Err, if◌then◌else◌}
+use Rattle.batch_ids.specs.declared.refusal.Refusal.{Refusal}
+use Rattle.jsl_model.specs.Jobs.{JobTree}
+use Rattle.jsl_json.specs.declared.fault.ReadFault.{ReadFault}
+use Rattle.batch_history.specs.Answers.{answer}
+use Rattle.batch_history.specs.Rows.{History, reply}
+use Rattle.script_text.specs.declared.command.Command.{Command}
+use Rattle.script_text.specs.declared.command.Command.TheVariants.{BadLine, TextTooLong, Act, Ask}
+use Rattle.script_engine.specs.declared.summary.Kind.{Kind}
+use Rattle.script_engine.specs.declared.summary.Kind.TheVariants.{Empty, Accepted, Refused, Bad}
+use Rattle.script_engine.specs.declared.summary.Summary.{Summary}
+use Rattle.script_engine.specs.Script.{limit, command_at, line_after, begin, catalogue_at, entries_of_lines}
+
+-- What becomes of lines
+
+-- a call or a query that is answered so
+abbrev pub kind_of : {R : Type 0} → Result R Refusal → Kind
+kind_of (Ok answered) = Accepted
+kind_of (Err refusal) = Refused
+
+-- a command after a history
+abbrev pub kind_for : History → Command → Kind
+kind_for h BadLine = Bad
+kind_for h TextTooLong = Refused
+kind_for h (Act by at call) = kind_of (reply limit h by call)
+kind_for h (Ask query) = kind_of (answer h query)
+
+-- a line after a history
+unfoldable pub line_kind : History → List ℕ → Kind
+line_kind h line = if length line == 0 then Empty else kind_for h (command_at line)
+
+-- lines, one after another
+abbrev pub kinds : History → List (List ℕ) → List Kind
+kinds h [] = []
+kinds h (line ∷ lines) = line_kind h line ∷ kinds (line_after h line) lines
+
+-- the lines behind the first; behind what is no catalogue, none is looked at
+abbrev pub kinds_from : Result (List JobTree) ReadFault → List (List ℕ) → List Kind
+kinds_from (Ok catalogue) lines = kinds (begin catalogue) lines
+kinds_from (Err fault) lines = []
+
+-- lines, of which the first is the catalogue
+abbrev pub kinds_of_lines : List (List ℕ) → List Kind
+kinds_of_lines [] = []
+kinds_of_lines (line ∷ lines) = kinds_from (catalogue_at line) lines
+
+-- Counts
+
+abbrev pub has_reply : Kind → Bool
+has_reply Empty = false
+has_reply Accepted = true
+has_reply Refused = true
+has_reply Bad = true
+
+abbrev pub is_refused : Kind → Bool
+is_refused Empty = false
+is_refused Accepted = false
+is_refused Refused = true
+is_refused Bad = false
+
+abbrev pub is_bad : Kind → Bool
+is_bad Empty = false
+is_bad Accepted = false
+is_bad Refused = false
+is_bad Bad = true
+
+-- a number as 64 bits hold it
+abbrev pub at_most_64_bits : ℕ → ℕ
+at_most_64_bits n = min n (2 ^ 64 - 1)
+
+-- how many lines had a reply, were refused, were bad
+abbrev pub tally : List Kind → Summary
+tally ks = record {
+  lines = at_most_64_bits (count_by has_reply ks);
+  entries = 0;
+  refusals = at_most_64_bits (count_by is_refused ks);
+  bad = at_most_64_bits (count_by is_bad ks);
+}
+
+-- with one line more
+abbrev pub counted : Kind → Summary → Summary
+counted Empty s = s
+counted Accepted s = record s { lines = at_most_64_bits (s.lines + 1) }
+counted Refused s = record s { lines = at_most_64_bits (s.lines + 1); refusals = at_most_64_bits (s.refusals + 1) }
+counted Bad s = record s { lines = at_most_64_bits (s.lines + 1); bad = at_most_64_bits (s.bad + 1) }
+
+-- THE SUMMARY OF A SCRIPT
+abbrev pub summary_of : List (List ℕ) → Summary
+summary_of lines = record (tally (kinds_of_lines lines)) { entries = entries_of_lines lines }
