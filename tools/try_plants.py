@@ -147,12 +147,15 @@ def compiles(said: str) -> bool:
 
 
 def try_group(crate: Path, group: list[Plant], sources: dict[str, str]) -> dict[str, str]:
-    """The verdict on each plant of a group; a group that does not compile is tried by halves."""
+    """The verdict on each plant of a group; a group that does not compile is tried by halves, an unclear plant alone."""
     said = check(crate, planted(group, sources), sources)
     if compiles(said):
         verdicts = {plant.name: verdict(said, crate.name, plant.function(sources[plant.file])) for plant in group}
-        for plant, judged in verdicts.items():
-            print(f"{crate.name}: {plant}: {judged}", flush=True)
+        unclear = [plant for plant in group if len(group) > 1 and verdicts[plant.name] == "unclear"]
+        for name in verdicts.keys() - {plant.name for plant in unclear}:
+            print(f"{crate.name}: {name}: {verdicts[name]}", flush=True)
+        for plant in unclear:
+            verdicts |= try_group(crate, [plant], sources)
         return verdicts
     if len(group) == 1:
         print(f"{crate.name}: {group[0].name}: no Rust", flush=True)

@@ -18,7 +18,8 @@ use Rattle.batch_history.specs.Rows.{Rows, rows_of, row_status, first_ready, wal
 use Rattle.batch_history.proofs.Stepping.{known-same, begun-by, named-by, ended-by, same_row, same_status, settled, earliest-false, or-false, taken-touched, asked-touched}
 use Rattle.history_laws.specs.Laws.{IsAsBefore}
 use Rattle.history_laws.proofs.Walks.{busy_sight, seen}
-use Rattle.history_laws.proofs.Works.{each-found, found-passes}
+use Rattle.batch_history.proofs.Finding.{found-passes}
+use Rattle.history_laws.proofs.Works.{each-found}
 use Rattle.history_laws.proofs.Told.{Due, AllDue, IsRowOf, row-of, made-once, made-more, ToldClaim, claim-told, ToldReport, checkpoint-told, finish-told, ToldStop, stop-told}
 use Rattle.history_laws.proofs.Kept.{IsHeld, IsKept, kept}
 

@@ -23,7 +23,8 @@ use Rattle.batch_history.specs.declared.rows.JobInstance.{JobInstance}
 use Rattle.batch_history.specs.History.{Made, made, is_made, is_work, works_of, instances_of, instances_after, stop_of, start_of, abandoned_of, end_of, bare_of, value_after, is_finished, job_named, known_of}
 use Rattle.batch_history.specs.Rows.{History, rows_of, rows, row_status, is_execution, execution_row, reply, grown, first_ready, walk_in, runs_in, claim_reply, item_of, IsLegal}
 use Rattle.history_laws.specs.Laws.{beginning, row_in, IsAsBefore, StaysFinished, EndedAt, BelongsTo, HasInstance, WasReady, with_name}
-use Rattle.history_laws.proofs.Works.{each-found, found-passes, Apart, AllApart}
+use Rattle.batch_history.proofs.Finding.{found-passes}
+use Rattle.history_laws.proofs.Works.{each-found, Apart, AllApart}
 use Rattle.history_laws.proofs.Told.{AllDue, past-due, IsRowOf, row-of, made-number, made-more, ToldClaim, work-told}
 use Rattle.history_laws.proofs.Walks.{ready_sight}
 use Rattle.history_laws.proofs.Runs.{walk-runs}

@@ -14,7 +14,7 @@ use Rattle.batch_history.specs.declared.rows.ExecutionRow.{ExecutionRow}
 use Rattle.batch_history.specs.History.{Made, made, makes, is_made, is_at, given_up, earliest, abandoned_of, end_of, bare_of, is_finished}
 use Rattle.batch_history.specs.Rows.{Rows, rows_of, row_status, is_running_in, is_execution, execution_row}
 use Rattle.batch_history.proofs.Stepping.{remade-number, settled, ended-by, named-by}
-use Rattle.history_laws.proofs.Works.{found-passes}
+use Rattle.batch_history.proofs.Finding.{found-passes}
 use Rattle.history_laws.proofs.Told.{Due, AllDue, IsRowOf, row-of, ToldAbandonment, abandonment-told}
 use Rattle.history_laws.proofs.Ended.{finished-step, on-it}
 

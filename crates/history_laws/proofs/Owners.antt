@@ -13,7 +13,8 @@ use Rattle.batch_history.specs.declared.rows.ExecutionRow.{ExecutionRow}
 use Rattle.batch_history.specs.declared.rows.JobInstance.{JobInstance}
 use Rattle.batch_history.specs.History.{Made, made, is_made, remade, instances_of, instances_after}
 use Rattle.batch_history.specs.Rows.{Rows, rows_of, entered, is_execution}
-use Rattle.history_laws.proofs.Works.{Each, each-map, each-append, each-found, found-passes, found-before}
+use Rattle.batch_history.proofs.Finding.{found-passes}
+use Rattle.history_laws.proofs.Works.{Each, each-map, each-append, each-found, found-before}
 use Rattle.history_laws.proofs.Told.{Due, AllDue, IsRowOf, row-of}
 
 abbrev is_instance : ℕ → JobInstance → Bool

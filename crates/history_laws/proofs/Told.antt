@@ -25,7 +25,8 @@ use Rattle.batch_history.specs.Replies.{is_nothing}
 use Rattle.batch_history.specs.Rows.{History, Rows, rows_of, reply_by, row_status, is_running_in, entered, claimed, claim_reply, stopped, abandoned, going, marked_as, stopped_as, checkpointed, finished, finished_as, unheld_by, unless, stop_asked, first_ready, walk_in, has_something, is_execution, execution_row, IsLegal}
 use Rattle.batch_history.proofs.Legal.{entered-is, cut-before}
 use Rattle.batch_history.proofs.Stepping.{AreNumbered, numbered}
-use Rattle.history_laws.proofs.Works.{found-passes, found-before}
+use Rattle.batch_history.proofs.Finding.{found-passes}
+use Rattle.history_laws.proofs.Works.{found-before}
 
 -- ---- Replies that were due
 

@@ -41,15 +41,6 @@ each-found P p (y ∷ ys) x h e =
       | false ↦ λ s. each-found P p ys x h.1 s
     ]) e
 
--- what is found passes the test
-pub found-passes : {X : Type 0} (p : X → Bool) (xs : List X) (x : X) → find p xs ≡ Some x → p x ≡ true
-found-passes p [] x e = cc
-found-passes p (y ∷ ys) x e =
-    (elim (p y) as (λ b. p y ≡ b → cond b (Some y) (find p ys) ≡ Some x → p x ≡ true) [
-      | true ↦ λ is s. let same : y ≡ x = cc in subst (λ z. p z ≡ true) same is
-      | false ↦ λ is s. found-passes p ys x s
-    ]) refl e
-
 -- what is found is found still with more behind it
 pub found-before : {X : Type 0} (p : X → Bool) (xs ys : List X) (x : X) → find p xs ≡ Some x → find p (xs ++ ys) ≡ Some x
 found-before p [] ys x e = cc

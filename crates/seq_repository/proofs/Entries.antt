@@ -17,6 +17,7 @@ use Rattle.batch_history.specs.declared.rows.CheckpointRow.{CheckpointRow}
 use Rattle.batch_history.specs.History.{Place, change_first, is_work, is_at, known_of, reported, over, put_mark, marks_left, place_by, walk_value, walk_of, job_named, handed_to}
 use Rattle.batch_history.specs.Rows.{Rows, is_execution}
 use Rattle.batch_history.specs.Steps.{refreshed, refreshed_by, rows_after, instance_in, place_in}
+use Rattle.batch_history.proofs.Finding.{found-passes}
 use Rattle.records.specs.Maps.{Maps}
 use Rattle.seq_repository.specs.declared.rows.Touch.{Touch}
 use Rattle.seq_repository.specs.declared.rows.Touch.TheVariants.{Asked, GivenUp, Taken, Reported}
@@ -176,14 +177,6 @@ finish_rows r who at w outcome exit step reply row new found is =
     ∙ rw found refl))
 
 -- What is found
-
-found-passes : {X : Type 0} (p : X → Bool) (xs : List X) (r : X) → find p xs ≡ Some r → p r ≡ true
-found-passes p [] r e = cc
-found-passes p (x ∷ xs) r e =
-    (elim (p x) as (λ b. p x ≡ b → cond b (Some x) (find p xs) ≡ Some r → p r ≡ true) [
-      | true ↦ λ b s. let is : x ≡ r = cc in ap p (sym is) ∙ b
-      | false ↦ λ b s. found-passes p xs r s
-    ]) refl e
 
 pub found-execution : (x : ℕ) (rows : List ExecutionRow) (row : ExecutionRow) → find (is_execution x) rows ≡ Some row → row.execution ≡ x
 found-execution x rows row e = eqb-true row.execution x (found-passes (is_execution x) rows row e)
