@@ -8,12 +8,14 @@ use script_engine::{Counted, EngineFault, Summary, run_script};
 use std::rt::Files;
 use std::{fs, io};
 
-/// The scripts, each with its replies.
-const EXAMPLES: [(&str, &str); 4] = [
+/// The scripts, each with its replies. The last stands beside another's, so that a comparison which finds all alike
+/// shows.
+const EXAMPLES: [(&str, &str); 5] = [
     ("nightly_chain.script", "nightly_chain.replies"),
     ("split_and_decision.script", "split_and_decision.replies"),
     ("stopped_chunk.script", "stopped_chunk.replies"),
     ("transition_elements.script", "transition_elements.replies"),
+    ("nightly_chain.script", "stopped_chunk.replies"),
 ];
 
 // Whether a script ran to its end, and these are the replies that it wants.
@@ -44,7 +46,7 @@ fn main(rt: HostRuntime) -> io::Result<()> {
         if is_answered_so(&rt, script, replies)? {
             println!(rt; "{script}: answered as {replies} has it")?;
         } else {
-            println!(rt; "{script}: answered otherwise")?;
+            println!(rt; "{script}: answered otherwise than {replies} has it")?;
         }
     }
     Ok(())
