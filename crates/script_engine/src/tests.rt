@@ -175,3 +175,21 @@ fn a_full_writer_is_a_write_fault(rt: HostRuntime) {
         assert_eq!(rt; outcome, Err(EngineFault::Write));
     }
 }
+
+#[test]
+fn faults_print_as_what_failed(rt: HostRuntime) -> Result<(), Fail> {
+    let alloc = rt.alloc();
+    for (fault, wanted) in [
+        (
+            EngineFault::Catalogue(ReadFault::NotJson),
+            "the catalogue is refused: NotJson",
+        ),
+        (EngineFault::Read, "the reader failed"),
+        (EngineFault::Write, "the writer failed"),
+        (EngineFault::OutOfMemory, "out of memory"),
+    ] {
+        let text = format!(in alloc; "{fault}")?;
+        assert_eq!(rt; text.as_str(), wanted);
+    }
+    Ok(())
+}

@@ -103,3 +103,19 @@ fn reader_fails_at_each_call(rt: HostRuntime) -> Result<(), Fail> {
     }
     Ok(())
 }
+
+#[test]
+fn faults_print_as_what_failed(rt: HostRuntime) -> Result<(), Fail> {
+    let alloc = rt.alloc();
+    let device = format!(in alloc; "{DeviceFault}")?;
+    assert_eq!(rt; device.as_str(), "a reader or a writer failed");
+    for (fault, wanted) in [
+        (LineFault::Read, "the reader failed"),
+        (LineFault::Write, "the writer failed"),
+        (LineFault::OutOfMemory, "out of memory"),
+    ] {
+        let text = format!(in alloc; "{fault}")?;
+        assert_eq!(rt; text.as_str(), wanted);
+    }
+    Ok(())
+}
