@@ -152,8 +152,8 @@ def try_group(crate: Path, group: list[Plant], sources: dict[str, str]) -> dict[
     if compiles(said):
         verdicts = {plant.name: verdict(said, crate.name, plant.function(sources[plant.file])) for plant in group}
         unclear = [plant for plant in group if len(group) > 1 and verdicts[plant.name] == "unclear"]
-        for name in verdicts.keys() - {plant.name for plant in unclear}:
-            print(f"{crate.name}: {name}: {verdicts[name]}", flush=True)
+        for plant in (plant for plant in group if plant not in unclear):
+            print(f"{crate.name}: {plant.name}: {verdicts[plant.name]}", flush=True)
         for plant in unclear:
             verdicts |= try_group(crate, [plant], sources)
         return verdicts

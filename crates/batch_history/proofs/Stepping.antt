@@ -1,4 +1,5 @@
 -- The rows of a past with one operation more: what each record is after it, by what it was before.
+use mathlib.Core.Bool.{or-false}
 use Rattle.std.proofs.Common.{◌≡◌, ◌≢◌, ℕ, zero, suc, ◌+◌, ◌==◌, ◌<◌, ◌≤◌, ◌||◌, Bool, true, false, cond, Option, None, Some, List, [], ◌∷◌, ◌++◌, length, map, find, reverse, refl, sym, ◌∙◌, ap, arith, add-one}
 use Rattle.std.specs.Option.{option_map}
 use Rattle.std.proofs.lemmas.List.{map-append, length-map, length-append, reverse-append}
@@ -116,10 +117,6 @@ earliest-twice : (o : Option ℕ) (b : Bool) (at later : ℕ) → earliest (earl
 earliest-twice (Some t) b at later = refl
 earliest-twice None true at later = refl
 earliest-twice None false at later = refl
-
-pub or-false : (b : Bool) → (b || false) ≡ b
-or-false true = refl
-or-false false = refl
 
 -- the end stands once it is finished
 pub settled : (catalogue : List JobTree) (past : List Entry) (m : Made) (at : ℕ)

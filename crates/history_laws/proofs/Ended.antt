@@ -1,4 +1,5 @@
 -- A job execution that is over: no operation changes it, but for its abandonment.
+use mathlib.Core.Bool.{or-false}
 use Rattle.std.proofs.Common.{◌≡◌, ◌≢◌, ℕ, ◌==◌, ◌||◌, Bool, true, false, cond, Option, None, Some, is_some, List, [], ◌∷◌, ◌++◌, length, find, refl, sym, ◌∙◌, ap, subst}
 use Rattle.std.specs.Option.{option_map}
 use Rattle.std.proofs.lemmas.Bool.{eqb-true}
@@ -15,7 +16,7 @@ use Rattle.batch_history.specs.declared.rows.ExecutionRow.{ExecutionRow}
 use Rattle.batch_history.specs.declared.rows.WorkRow.{WorkRow}
 use Rattle.batch_history.specs.History.{Made, made, makes, is_made, is_at, is_work, works_of, taken, taken_by, asked, touched, earliest, start_of, stop_of, abandoned_of, updated_of, end_of, known_of, job_named, walk_of, value_after, bare_of, status_from, is_finished, owner_of}
 use Rattle.batch_history.specs.Rows.{Rows, rows_of, row_status, first_ready, walk_in, has_by, has_something, claim_reply, is_execution, execution_row}
-use Rattle.batch_history.proofs.Stepping.{known-same, begun-by, named-by, ended-by, same_row, same_status, settled, earliest-false, or-false, taken-touched, asked-touched}
+use Rattle.batch_history.proofs.Stepping.{known-same, begun-by, named-by, ended-by, same_row, same_status, settled, earliest-false, taken-touched, asked-touched}
 use Rattle.history_laws.specs.Laws.{IsAsBefore}
 use Rattle.history_laws.proofs.Walks.{busy_sight, seen}
 use Rattle.batch_history.proofs.Finding.{found-passes}

@@ -83,15 +83,20 @@ pub was-held : (added held : Bool) → added ≡ not held → added ≡ false �
 was-held added true e is = refl
 was-held added false e is = cc
 
+-- one more of those taken, with its name
+pub among-taken : {X : Type 0} (name_in : X → List ℕ) (xs : List X) (k : ℕ) (d : X) (q : List ℕ) → k < length xs
+    → is_among (map name_in (take (k + 1) xs)) q ≡ cond (bytes_eq (name_in (get_or xs k d)) q) true (is_among (map name_in (take k xs)) q)
+among-taken name_in xs k d q h =
+    let name : List ℕ = name_in (get_or xs k d) in
+    ap (λ ys. is_among (map name_in ys) q) (take_more xs k d h)
+    ∙ (ap (λ ns. is_among ns q) (map-append name_in (take k xs) (get_or xs k d ∷ []))
+    ∙ (list_any-append (bytes_eq q) (map name_in (take k xs)) (name ∷ [])
+    ∙ or-last (is_among (map name_in (take k xs)) q) (bytes_eq q name) (bytes_eq name q) (bytes_eq-sym q name)))
+
 -- one more name that is held
 pub among-more : (names : List (Bor (List ℕ))) (i : ℕ) (d : Bor (List ℕ)) (q : List ℕ) → i < length names
     → is_among (texts (take (i + 1) names)) q ≡ cond (bytes_eq (get_or names i d).now q) true (is_among (texts (take i names)) q)
-among-more names i d q h =
-    let name : List ℕ = (get_or names i d).now in
-    ap (λ (ns : List (Bor (List ℕ))). is_among (texts ns) q) (take_more names i d h)
-    ∙ (ap (λ (ns : List (List ℕ)). is_among ns q) (map-append (λ (n : Bor (List ℕ)). n.now) (take i names) (get_or names i d ∷ []))
-    ∙ (list_any-append (bytes_eq q) (texts (take i names)) (name ∷ [])
-    ∙ or-last (is_among (texts (take i names)) q) (bytes_eq q name) (bytes_eq name q) (bytes_eq-sym q name)))
+among-more names i d q h = among-taken (λ n. n.now) names i d q h
 
 -- the next name is among those held, and so are the others
 pub are_among-next : (held : List (List ℕ)) (names : List (Bor (List ℕ))) (i : ℕ) (d : Bor (List ℕ)) → i < length names

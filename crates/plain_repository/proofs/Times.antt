@@ -1,5 +1,6 @@
 -- Stop, abandonment, start, updated, status and end: what is found by search is what the rows have.
 use Rattle.std.proofs.Common.{◌≡◌, ℕ, ◌+◌, ◌||◌, ◌<◌, ◌≤◌, Bool, true, false, cond, Option, None, Some, is_some, List, [], ◌∷◌, length, find, refl, sym, ◌∙◌, ap, arith}
+use mathlib.Core.Bool.{or_comm}
 use Rattle.std.specs.List.{list_any}
 use Rattle.std.proofs.lemmas.Bool.{eqb-true, ne_eqb, or_from}
 use Rattle.jsl_model.specs.Jobs.{JobTree}
@@ -90,12 +91,6 @@ takes-none older (Finish w o t step) reply x fits lt = ap (is_at x) fits.0
 abbrev NamesMade : (Call → Option ℕ) → Type 0
 NamesMade names = (older : List Entry) (call : Call) (reply : Reply) (x : ℕ) → Fits older call reply → executions_in older < x → is_at x (names call) ≡ false
 
-swapped : (a b : Bool) → (a || b) ≡ (b || a)
-swapped true true = refl
-swapped true false = refl
-swapped false true = refl
-swapped false false = refl
-
 none-named : (names : Call → Option ℕ) → NamesMade names → (past : List Entry) → AllFit past → (x : ℕ) → executions_in past < x
     → list_any (λ (e : Entry). is_at x (names e.call)) past ≡ false
 none-named names made [] fits x lt = refl
@@ -114,7 +109,7 @@ named-step names made older e x before fits same =
     → (is_at x (names e.call) || found) ≡ cond b false (before || is_at x (names e.call))) [
       | true ↦ λ is. let lt : executions_in older < x = making-after older x e.call is in
           or_from (is_at x (names e.call)) found (made older e.call e.reply x fits.0 lt) (none-named names made older fits.1 x lt)
-      | false ↦ λ is. swapped (is_at x (names e.call)) found ∙ ap (λ c. c || is_at x (names e.call)) same
+      | false ↦ λ is. or_comm (is_at x (names e.call)) found ∙ ap (λ c. c || is_at x (names e.call)) same
     ]) refl
 
 -- what names a job execution is found where the rows have it

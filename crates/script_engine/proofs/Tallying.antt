@@ -19,20 +19,18 @@ one-more p ks k is = bound-more (count_by p ks) _ ∙ ap at_most_64_bits (ap (λ
 none-more : (p : Kind → Bool) (ks : List Kind) (k : Kind) → p k ≡ false → at_most_64_bits (count_by p ks) ≡ at_most_64_bits (count_by p (ks ++ k ∷ []))
 none-more p ks k is = ap at_most_64_bits (omega arith ∙ ap (λ b. count_by p ks + cond b 1 0) (sym is) ∙ sym (sum_by_push (λ x. cond (p x) 1 0) ks k))
 
-abbrev no-entries : ℕ → ℕ → ℕ → Summary
-no-entries a b c = record { lines = a; entries = 0; refusals = b; bad = c }
+abbrev told : ℕ → ℕ → ℕ → ℕ → Summary
+told lines entries refusals bad = record { lines = lines; entries = entries; refusals = refusals; bad = bad }
 
-same-counts : (a b c a' b' c' : ℕ) → a ≡ a' → b ≡ b' → c ≡ c' → no-entries a b c ≡ no-entries a' b' c'
-same-counts a b c a' b' c' x y z = rw (x, y, z) refl
+same-counts : (a n b c a' n' b' c' : ℕ) → a ≡ a' → n ≡ n' → b ≡ b' → c ≡ c' → told a n b c ≡ told a' n' b' c'
+same-counts a n b c a' n' b' c' x w y z = rw (x, w, y, z) refl
 
 -- nothing is counted yet
 pub nothing-counted : (s : Summary) → (s.lines ≡ 0) × ((s.entries ≡ 0) × ((s.refusals ≡ 0) × (s.bad ≡ 0))) → s ≡ tally []
-nothing-counted s e =
-    let make : ℕ → ℕ → ℕ → ℕ → Summary = λ a n b c. record { lines = a; entries = n; refusals = b; bad = c } in
-    ap (λ a. make a s.entries s.refusals s.bad) e.0 ∙ (ap (λ n. make 0 n s.refusals s.bad) e.1.0 ∙ (ap (λ b. make 0 0 b s.bad) e.1.1.0 ∙ ap (λ c. make 0 0 0 c) e.1.1.1))
+nothing-counted s e = same-counts s.lines s.entries s.refusals s.bad 0 0 0 0 e.0 e.1.0 e.1.1.0 e.1.1.1
 
 pub one-line-more : (ks : List Kind) (k : Kind) → counted k (tally ks) ≡ tally (ks ++ k ∷ [])
-one-line-more ks Empty = same-counts _ _ _ _ _ _ (none-more has_reply ks Empty refl) (none-more is_refused ks Empty refl) (none-more is_bad ks Empty refl)
-one-line-more ks Accepted = same-counts _ _ _ _ _ _ (one-more has_reply ks Accepted refl) (none-more is_refused ks Accepted refl) (none-more is_bad ks Accepted refl)
-one-line-more ks Refused = same-counts _ _ _ _ _ _ (one-more has_reply ks Refused refl) (one-more is_refused ks Refused refl) (none-more is_bad ks Refused refl)
-one-line-more ks Bad = same-counts _ _ _ _ _ _ (one-more has_reply ks Bad refl) (none-more is_refused ks Bad refl) (one-more is_bad ks Bad refl)
+one-line-more ks Empty = same-counts _ _ _ _ _ _ _ _ (none-more has_reply ks Empty refl) refl (none-more is_refused ks Empty refl) (none-more is_bad ks Empty refl)
+one-line-more ks Accepted = same-counts _ _ _ _ _ _ _ _ (one-more has_reply ks Accepted refl) refl (none-more is_refused ks Accepted refl) (none-more is_bad ks Accepted refl)
+one-line-more ks Refused = same-counts _ _ _ _ _ _ _ _ (one-more has_reply ks Refused refl) refl (one-more is_refused ks Refused refl) (none-more is_bad ks Refused refl)
+one-line-more ks Bad = same-counts _ _ _ _ _ _ _ _ (one-more has_reply ks Bad refl) refl (none-more is_refused ks Bad refl) (one-more is_bad ks Bad refl)
