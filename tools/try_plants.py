@@ -38,9 +38,15 @@ class Plant:
     file: str
     old: str
     new: str
+    more: tuple[tuple[str, str], ...] = ()
 
     def put(self, text: str) -> str | None:
-        return text.replace(self.old, self.new) if text.count(self.old) == 1 else None
+        """The text with the plant in it, further pairs on what the earlier ones made; none where a text stands not once."""
+        for old, new in [(self.old, self.new), *self.more]:
+            if text.count(old) != 1:
+                return None
+            text = text.replace(old, new)
+        return text
 
     def function(self, text: str) -> tuple[str, str, str]:
         """The file, the type (if any) and the name of the function that the plant is in."""
@@ -86,7 +92,8 @@ def copy_of(crate: str, folder: Path) -> Path:
 
 def plants_of(crate: str) -> list[Plant]:
     with (ROOT / "plants" / f"{crate}.toml").open("rb") as file:
-        return [Plant(**entry) for entry in tomllib.load(file)["plant"]]
+        entries = tomllib.load(file)["plant"]
+    return [Plant(**{**entry, "more": tuple(map(tuple, entry.get("more", [])))}) for entry in entries]
 
 
 def group_of(plants: list[Plant], sources: dict[str, str]) -> list[Plant]:
