@@ -8,12 +8,7 @@ from __future__ import annotations
 import re
 from pathlib import Path
 
-ROOT = Path(__file__).resolve().parent.parent
-
-
-def crates() -> list[str]:
-    lines = (ROOT / "crates.txt").read_text().splitlines()
-    return [line.split(":")[0].split()[0] for line in lines if line and not line.startswith("#")]
+from repository import ROOT, uses_by_crate
 
 
 def lines_of(folder: Path, ending: str) -> int:
@@ -46,7 +41,7 @@ def main() -> None:
     print("| crate | " + " | ".join(heads) + " |")
     print("|---|" + "---|" * len(heads))
     totals = [0] * len(heads)
-    for name in crates():
+    for name in uses_by_crate():
         counts = row(name)
         totals = [total + count for total, count in zip(totals, counts)]
         print(f"| {name} | " + " | ".join(map(str, counts)) + " |")

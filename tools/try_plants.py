@@ -34,7 +34,8 @@ import tomllib
 from dataclasses import dataclass
 from pathlib import Path
 
-ROOT = Path(__file__).resolve().parent.parent
+from repository import ROOT, with_libraries
+
 VERDICTS = ROOT / "plants" / "verdicts.json"
 CHECK = ["timeout", "1500", "rt", "check"]
 
@@ -79,26 +80,9 @@ class Plant:
         return found[-1].group(1) if found and "\n}\n" not in before[found[-1].end() :] else ""
 
 
-def with_libraries(crate: str) -> set[str]:
-    """The crate and the repository's crates that it stands on."""
-    uses = {}
-    for line in (ROOT / "crates.txt").read_text().splitlines():
-        name, _, libraries = line.partition(":")
-        if not line.startswith("#"):
-            uses[name.split()[0]] = libraries.split()
-    found: set[str] = set()
-    waiting = [crate]
-    while waiting:
-        name = waiting.pop()
-        if name in uses and name not in found:
-            found.add(name)
-            waiting += uses[name]
-    return found
-
-
 def copy_of(crate: str, folder: Path) -> Path:
     """A copy of the crate, in a repository that has what it stands on."""
-    kept = with_libraries(crate)
+    kept = with_libraries({crate})
     shutil.copy(ROOT / "HANDLES", folder / "HANDLES")
     lines = [line for line in (ROOT / "crates.txt").read_text().splitlines() if line.split(":")[0].split()[0] in kept]
     (folder / "crates.txt").write_text("\n".join(lines) + "\n")
