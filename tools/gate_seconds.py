@@ -4,12 +4,14 @@
 
 The gate's own output goes to the file LOG (`gate.log` in the system's temporary folder, if none is given). The
 figures are read twice a second from /proc, of the processes that the gate began, so a process that lived for less may
-be missed; what is no check (links, runs of tests and programs) is in no row. The exit status is the gate's.
+be missed; what is no check (links, runs of tests and programs, refused requests for memory) is in no row, but in the
+processor minutes of the whole that stand last. The exit status is the gate's.
 """
 
 from __future__ import annotations
 
 import os
+import resource
 import subprocess
 import sys
 import tempfile
@@ -80,7 +82,11 @@ def main() -> int:
             sample(gate.pid, seen)
             time.sleep(0.5)
     print(table(seen))
-    print(f"\n{time.monotonic() - began:.0f} s by the clock; {log.read_text().rstrip().splitlines()[-1]}")
+    used = resource.getrusage(resource.RUSAGE_CHILDREN)
+    print(
+        f"\n{time.monotonic() - began:.0f} s by the clock, {(used.ru_utime + used.ru_stime) / 60:.0f} processor minutes;"
+        f" {log.read_text().rstrip().splitlines()[-1]}"
+    )
     return gate.returncode
 
 
