@@ -11,14 +11,14 @@ use Rattle.jsl_json.specs.Members.{Kind, step, flow, split, decision, Own, OwnFl
 
 -- what an element is
 abbrev pub kind_in : ElementKind → Kind
-kind_in (Step parts) = step (step_of parts)
-kind_in (Flow list) = flow (items_view list.now)
-kind_in (Split list) = split (items_view list.now)
-kind_in (Decision artifact) = decision (string_bytes artifact)
+kind_in (Step parts) = step (bytes_of_option parts.next) (map transition_of parts.transitions) (step_of parts)
+kind_in (Flow next transitions list) = flow (bytes_of_option next) (map transition_of transitions) (items_view list.now)
+kind_in (Split next list) = split (bytes_of_option next) (items_view list.now)
+kind_in (Decision transitions artifact) = decision (map transition_of transitions) (string_bytes artifact)
 
 -- an element's own members
 abbrev pub own_in : ElementMembers → Own
-own_in own = record { id = string_bytes own.id; next = bytes_of_option own.next; transitions = map transition_of own.transitions; kind = kind_in own.kind }
+own_in own = record { id = string_bytes own.id; kind = kind_in own.kind }
 
 -- those of a flow of a split
 abbrev pub own_flow_in : FlowMembers → OwnFlow

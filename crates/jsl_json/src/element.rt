@@ -1,8 +1,8 @@
 ghost use Rattle.std.specs.Prelude.{◌≡◌, ◌+◌, false, Some, Ok, Err, map, IfOk, IfErr};
 ghost use Rattle.serde_json.specs.View.{view, items_view};
-ghost use Rattle.jsl_model.specs.Parts.{element_of, body_of, flow_of};
+ghost use Rattle.jsl_model.specs.Parts.{element_of, content_of, flow_of};
 ghost use Rattle.jsl_json.specs.MemberViews.{kind_in};
-ghost use Rattle.jsl_json.specs.Elements.{element_at, elements_at, flow_at, flows_at, body_at};
+ghost use Rattle.jsl_json.specs.Elements.{element_at, elements_at, flow_at, flows_at, content_at};
 ghost use Rattle.jsl_json.specs.Catalogues.{is_out_of_memory};
 
 use crate::fault::ReadFault;
@@ -54,13 +54,7 @@ fn element_at(
         Err(fault) => return Err(in_element(job, number, fault)),
     };
     let (body, next) = body_at(alloc, job, own.kind, next)?;
-    let element = ElementParts {
-        id: own.id,
-        next: own.next,
-        transitions: own.transitions,
-        body,
-    };
-    Ok((element, next))
+    Ok((ElementParts { id: own.id, body }, next))
 }
 
 #[cycle(elements)]
@@ -70,20 +64,38 @@ fn body_at(
     kind: ElementKind<'_>,
     number: u64,
 ) -> Result<(BodyParts, u64), ReadFault>
-    ensures read { IfOk result (λ read. body_at job (kind_in kind.entry) number ≡ Ok (body_of read.0, read.1)) }
-    ensures fault { IfErr result (λ fault. is_out_of_memory fault ≡ false → body_at job (kind_in kind.entry) number ≡ Err fault) }
+    ensures read { IfOk result (λ read. content_at job (kind_in kind.entry) number ≡ Ok (content_of read.0, read.1)) }
+    ensures fault { IfErr result (λ fault. is_out_of_memory fault ≡ false → content_at job (kind_in kind.entry) number ≡ Err fault) }
 {
     match kind {
         ElementKind::Step(step) => Ok((BodyParts::Step(step), number)),
-        ElementKind::Flow(list) => {
-            let (elements, next) = elements_at(alloc, job, list, number)?;
-            Ok((BodyParts::Flow(elements), next))
+        ElementKind::Flow {
+            next,
+            transitions,
+            elements,
+        } => {
+            let (elements, after) = elements_at(alloc, job, elements, number)?;
+            let flow = BodyParts::Flow {
+                next,
+                transitions,
+                elements,
+            };
+            Ok((flow, after))
         }
-        ElementKind::Split(list) => {
-            let (flows, next) = flows_at(alloc, job, list, number)?;
-            Ok((BodyParts::Split(flows), next))
+        ElementKind::Split { next, flows } => {
+            let (flows, after) = flows_at(alloc, job, flows, number)?;
+            Ok((BodyParts::Split { next, flows }, after))
         }
-        ElementKind::Decision(artifact) => Ok((BodyParts::Decision(artifact), number)),
+        ElementKind::Decision {
+            transitions,
+            artifact,
+        } => {
+            let decision = BodyParts::Decision {
+                transitions,
+                artifact,
+            };
+            Ok((decision, number))
+        }
     }
 }
 
