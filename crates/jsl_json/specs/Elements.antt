@@ -1,5 +1,5 @@
 -- The elements of a job as a tree, each one's own members ahead of what is inside it. They are counted as they are written, from 0 in each job, flows of splits too.
-use Rattle.std.specs.Prelude.{ℕ, ◌+◌, List, [], ◌∷◌, bytes_eq, codes, Option, Some, None, Result, Ok, Err, if◌then◌else◌}
+use Rattle.std.specs.Prelude.{ℕ, ◌+◌, ◌-◌, ◌^◌, min, List, [], ◌∷◌, bytes_eq, codes, Option, Some, None, Result, Ok, Err, if◌then◌else◌}
 use Rattle.serde_json.specs.Data.{Data, array, object, Items, no_items, item, Members, no_members, member}
 use Rattle.jsl_model.specs.declared.element.Element.{Element}
 use Rattle.jsl_model.specs.declared.element.SplitFlow.{SplitFlow, roll-SplitFlow}
@@ -14,6 +14,10 @@ infixl 10 ◌>>=◌
 abbrev pub ◌>>=◌ : {A B : Type 0} → Result A ReadFault → (A → Result B ReadFault) → Result B ReadFault
 (Ok found) >>= f = f found
 (Err fault) >>= f = Err fault
+
+-- the number after this one; numbers end at 2^64 - 1, and no line has so many elements
+abbrev pub next_number : ℕ → ℕ
+next_number n = min (n + 1) (2 ^ 64 - 1)
 
 -- what was read, and the number of the next element
 abbrev pub Read : Type 0 → Type 0
@@ -36,7 +40,7 @@ content_with (decision transitions artifact) n elements flows =
 abbrev pub element_with : ℕ → ℕ → Option Own → Read (List Element) → Read (List SplitFlow) → Read Element
 element_with job n None elements flows = bad job n
 element_with job n (Some own) elements flows =
-    content_with own.kind (n + 1) elements flows
+    content_with own.kind (next_number n) elements flows
     >>= λ x. Ok (record { id = own.id; next = x.0.next; transitions = x.0.transitions; body = x.0.body }, x.1)
 
 -- a flow of a split with its own members, if they are right
@@ -52,7 +56,7 @@ followed first rest = first >>= λ x. rest x.1 >>= λ y. Ok (x.0 ∷ y.0, y.1)
 unfoldable mutual
   -- the element that a value is
   pub element_at : ℕ → Data → ℕ → Read Element
-  element_at job (object ms) n = element_with job n (own_of (object ms)) (elements_in job ms (n + 1)) (flows_in job ms (n + 1))
+  element_at job (object ms) n = element_with job n (own_of (object ms)) (elements_in job ms (next_number n)) (flows_in job ms (next_number n))
   element_at job d n = bad job n
 
   -- the elements in the list named `elements`
@@ -68,7 +72,7 @@ unfoldable mutual
 
   -- the flow of a split that a value is
   pub flow_at : ℕ → Data → ℕ → Read SplitFlow
-  flow_at job (object ms) n = flow_with job n (own_flow_of (object ms)) (elements_in job ms (n + 1))
+  flow_at job (object ms) n = flow_with job n (own_flow_of (object ms)) (elements_in job ms (next_number n))
   flow_at job d n = bad job n
 
   -- the flows in the list named `flows`

@@ -1,4 +1,4 @@
-ghost use Rattle.std.specs.Prelude.{◌≡◌, ◌+◌, false, Some, Ok, Err, map, IfOk, IfErr};
+ghost use Rattle.std.specs.Prelude.{◌≡◌, false, Some, Ok, Err, map, IfOk, IfErr};
 ghost use Rattle.serde_json.specs.View.{view, items_view};
 ghost use Rattle.jsl_model.specs.Parts.{element_of, content_of, flow_of};
 ghost use Rattle.jsl_json.specs.MemberViews.{kind_in};
@@ -48,7 +48,7 @@ fn element_at(
     ensures read { IfOk result (λ read. element_at job (view value.now) number ≡ Ok (element_of read.0, read.1)) }
     ensures fault { IfErr result (λ fault. is_out_of_memory fault ≡ false → element_at job (view value.now) number ≡ Err fault) }
 {
-    let next = after(number)?;
+    let next = number.saturating_add(1);
     let own = match own_of(alloc, value) {
         Ok(own) => own,
         Err(fault) => return Err(in_element(job, number, fault)),
@@ -129,24 +129,13 @@ fn flow_at(
     ensures read { IfOk result (λ read. flow_at job (view value.now) number ≡ Ok (flow_of read.0, read.1)) }
     ensures fault { IfErr result (λ fault. is_out_of_memory fault ≡ false → flow_at job (view value.now) number ≡ Err fault) }
 {
-    let next = after(number)?;
+    let next = number.saturating_add(1);
     let Some(own) = own_flow_of(value) else {
         return Err(in_element(job, number, MemberFault::Wrong));
     };
     let id = String::from_str(alloc, own.id)?;
     let (elements, next) = elements_at(alloc, job, own.elements, next)?;
     Ok((SplitFlowParts { id, elements }, next))
-}
-
-/// The number after this one. No memory holds as many elements as there are numbers.
-fn after(number: u64) -> Result<u64, ReadFault>
-    ensures next { IfOk result (λ next. next ≡ number + 1) }
-    ensures fault { IfErr result (λ fault. fault ≡ ReadFault.OutOfMemory) }
-{
-    match number.checked_add(1) {
-        Some(next) => Ok(next),
-        None => Err(ReadFault::OutOfMemory),
-    }
 }
 
 /// What stands for wrong members of the element of this number.

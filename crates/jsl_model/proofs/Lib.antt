@@ -4,4 +4,6 @@ pub mod Inside
 pub mod Judging
 pub mod Layers
 pub mod Levels
+pub mod Opening
 pub mod Places
+pub mod Searches

@@ -21,6 +21,7 @@ const MOST_JOBS: usize = 256;
 /// jobs, in the order in which they were added.
 #[derive(Debug, Drop)]
 pub struct Catalogue {
+    alloc: Global,
     jobs: Listed<Job>,
 }
 
@@ -46,6 +47,7 @@ impl Catalogue {
         ensures { result ≡ [] }
     {
         Catalogue {
+            alloc,
             jobs: Listed::new(alloc),
         }
     }
@@ -100,27 +102,34 @@ impl Catalogue {
         self.jobs.is_empty()
     }
 
-    /// The names of all artifacts that its jobs name, each once, the first use first, or `OutOfMemory`.
-    /// It costs time and memory as its jobs have elements.
-    pub fn artifacts(&self, alloc: Global) -> Result<Vec<&str>, OutOfMemory>
+    /// The names of all artifacts that its jobs name, each once, the first use first. It costs time
+    /// and memory as its jobs have elements.
+    ///
+    /// # Errors
+    /// `OutOfMemory` alone: memory was refused.
+    pub fn artifacts(&self) -> Result<Vec<&str>, OutOfMemory>
         ensures { IfOk result (λ names. map (λ name. name.now) names.items ≡ distinct (flat_map (λ job. artifacts job.elements) self.now)) }
     {
-        let mut names = Vec::new(alloc);
+        let mut names = Vec::new(self.alloc);
         for job in self.jobs.as_slice() {
-            add_all_artifacts(alloc, job.elements(), &mut names)?;
+            add_all_artifacts(self.alloc, job.elements(), &mut names)?;
         }
-        distinct(alloc, names.as_slice())
+        distinct(self.alloc, names.as_slice())
     }
 
-    /// An equal catalogue, or `OutOfMemory`. It costs time and memory as its jobs have elements.
-    pub fn try_clone(&self, alloc: Global) -> Result<Catalogue, OutOfMemory>
+    /// An equal catalogue. It costs time and memory as its jobs have elements.
+    ///
+    /// # Errors
+    /// `OutOfMemory` alone: memory was refused.
+    pub fn try_clone(&self) -> Result<Catalogue, OutOfMemory>
         ensures { IfOk result (λ copy. copy ≡ self.now) }
     {
-        let mut jobs = Vec::new(alloc);
+        let mut jobs = Vec::new(self.alloc);
         for job in self.jobs.as_slice() {
-            jobs.push(job.try_clone(alloc)?)?;
+            jobs.push(job.try_clone()?)?;
         }
         Ok(Catalogue {
+            alloc: self.alloc,
             jobs: Listed::from_vec(jobs),
         })
     }

@@ -1,11 +1,13 @@
 ghost use Rattle.std.specs.Prelude.{◌≡◌, ◌≤◌, false, length, find, option_copied, Some, None, Err, IfOk, IfErr, OnOk};
 ghost use Rattle.batch_ids.specs.Texts.{is_text};
 ghost use Rattle.jsl_model.specs.Parts.{tree_of};
+ghost use Rattle.jsl_model.specs.Trees.{all_elements};
 ghost use Rattle.jsl_model.specs.Faults.{fault_name, is_out_of_memory, job_fault, IsChecked};
 
 use crate::building::{build_elements, build_text};
 use crate::element::{Body, Element, copies_of};
 use crate::faults::fault_in;
+use crate::finding::find_element;
 use crate::parts::JobParts;
 use batch_ids::{Listed, OutOfMemory, T256};
 use std::alloc::{AllocError, AllocFailed, Global};
@@ -91,6 +93,7 @@ impl<T: Drop> From<AllocFailed<T>> for JobFault {
 /// id, whether it may be restarted, and its elements.
 #[derive(Debug, Drop)]
 pub struct Job {
+    alloc: Global,
     id: T256,
     restartable: bool,
     elements: Listed<Element>,
@@ -139,6 +142,7 @@ impl Job {
         match fault_in(alloc, &id, elements.as_slice())? {
             Some(fault) => Err(fault),
             None => Ok(Job {
+                alloc,
                 id,
                 restartable: parts.restartable,
                 elements,
@@ -169,26 +173,27 @@ impl Job {
         self.elements.as_slice()
     }
 
-    /// The element of the job's own list that has this id, if there is one (an element inside a flow or
-    /// a split is not looked for). It costs time as the list has elements.
+    /// The element that has this id, at any depth, if there is one. A flow that stands directly in a
+    /// split is no element and is not found, but the elements inside it are.
+    ///
+    /// It costs time as the job has elements, and no memory.
     pub fn element(&self, id: &str) -> Option<&Element>
-        ensures { option_copied result ≡ find (λ element. is_text element.id id.now) self.now.elements }
+        ensures { option_copied result ≡ find (λ element. is_text element.id id.now) (all_elements self.now.elements) }
     {
-        for element in self.elements() {
-            if element.id.as_str() == id {
-                return Some(element);
-            }
-        }
-        None
+        find_element(self.elements(), id)
     }
 
-    /// An equal job, or `OutOfMemory`. It costs time and memory as the job has elements.
-    pub fn try_clone(&self, alloc: Global) -> Result<Job, OutOfMemory>
+    /// An equal job. It costs time and memory as the job has elements.
+    ///
+    /// # Errors
+    /// `OutOfMemory` alone: memory was refused.
+    pub fn try_clone(&self) -> Result<Job, OutOfMemory>
         ensures { IfOk result (λ copy. copy ≡ self.now) }
     {
         let id = self.id.try_clone()?;
-        let elements = copies_of(alloc, self.elements())?;
+        let elements = copies_of(self.alloc, self.elements())?;
         Ok(Job {
+            alloc: self.alloc,
             id,
             restartable: self.restartable(),
             elements,

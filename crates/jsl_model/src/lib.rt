@@ -7,6 +7,7 @@ mod depth;
 mod element;
 mod emptiness;
 mod faults;
+mod finding;
 mod job;
 mod lists;
 mod member;
