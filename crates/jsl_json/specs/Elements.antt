@@ -7,7 +7,7 @@ use Rattle.jsl_model.specs.declared.element.Body.TheVariants.{Step, Flow, Split,
 use Rattle.jsl_model.specs.Parts.{Content}
 use Rattle.jsl_json.specs.declared.fault.ReadFault.{ReadFault}
 use Rattle.jsl_json.specs.declared.fault.ReadFault.TheVariants.{BadElement}
-use Rattle.jsl_json.specs.Members.{Kind, step, flow, split, decision, Own, OwnFlow, own_of, own_flow_of}
+use Rattle.jsl_json.specs.Members.{Kind, step, flow, split, decision, OwnMembers, OwnFlowMembers, own_of, own_flow_of}
 
 infixl 10 ◌>>=◌
 -- what comes of what was read, or the fault
@@ -37,14 +37,14 @@ content_with (decision transitions artifact) n elements flows =
     Ok (record { next = None; transitions = transitions; body = Decision artifact }, n)
 
 -- an element with its own members, if they are right
-abbrev pub element_with : ℕ → ℕ → Option Own → Read (List Element) → Read (List SplitFlow) → Read Element
+abbrev pub element_with : ℕ → ℕ → Option OwnMembers → Read (List Element) → Read (List SplitFlow) → Read Element
 element_with job n None elements flows = bad job n
 element_with job n (Some own) elements flows =
     content_with own.kind (next_number n) elements flows
     >>= λ x. Ok (record { id = own.id; next = x.0.next; transitions = x.0.transitions; body = x.0.body }, x.1)
 
 -- a flow of a split with its own members, if they are right
-abbrev pub flow_with : ℕ → ℕ → Option OwnFlow → Read (List Element) → Read SplitFlow
+abbrev pub flow_with : ℕ → ℕ → Option OwnFlowMembers → Read (List Element) → Read SplitFlow
 flow_with job n None elements = bad job n
 flow_with job n (Some own) elements = elements >>= λ x. Ok (roll-SplitFlow record { id = own.id; elements = x.0 }, x.1)
 

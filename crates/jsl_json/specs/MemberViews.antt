@@ -7,7 +7,7 @@ use Rattle.jsl_json.specs.declared.members.ElementKind.TheVariants.{Step, Flow, 
 use Rattle.jsl_json.specs.declared.members.ElementMembers.{ElementMembers}
 use Rattle.jsl_json.specs.declared.members.FlowMembers.{FlowMembers}
 use Rattle.jsl_json.specs.declared.members.JobMembers.{JobMembers}
-use Rattle.jsl_json.specs.Members.{Kind, step, flow, split, decision, Own, OwnFlow, OwnJob}
+use Rattle.jsl_json.specs.Members.{Kind, step, flow, split, decision, OwnMembers, OwnFlowMembers, OwnJobMembers}
 
 -- what an element is
 abbrev pub kind_in : ElementKind → Kind
@@ -17,13 +17,13 @@ kind_in (Split next list) = split (bytes_of_option next) (items_view list.now)
 kind_in (Decision transitions artifact) = decision (map transition_of transitions) (string_bytes artifact)
 
 -- an element's own members
-abbrev pub own_in : ElementMembers → Own
+abbrev pub own_in : ElementMembers → OwnMembers
 own_in own = record { id = string_bytes own.id; kind = kind_in own.kind }
 
 -- those of a flow of a split
-abbrev pub own_flow_in : FlowMembers → OwnFlow
+abbrev pub own_flow_in : FlowMembers → OwnFlowMembers
 own_flow_in own = record { id = own.id.now; elements = items_view own.elements.now }
 
 -- those of a job
-abbrev pub own_job_in : JobMembers → OwnJob
+abbrev pub own_job_in : JobMembers → OwnJobMembers
 own_job_in own = record { id = own.id.now; restartable = own.restartable; elements = items_view own.elements.now }

@@ -18,7 +18,7 @@ pub data Kind : Type 0 where
   decision : List Transition → List ℕ → Kind
 
 -- an element's own members
-pub record Own : Type 0 where
+pub record OwnMembers : Type 0 where
   pub id : List ℕ
   pub kind : Kind
 
@@ -83,8 +83,8 @@ decision_of_data d =
     else None
 
 -- what an element is, by its kind
-unfoldable pub kind_of : Data → Option Kind
-kind_of d =
+unfoldable pub element_kind : Data → Option Kind
+element_kind d =
     if is_text (codes "kind") (codes "step") d then step_of_data d
     else (if is_text (codes "kind") (codes "flow") d then flow_of_data d
     else (if is_text (codes "kind") (codes "split") d then split_of_data d
@@ -98,14 +98,14 @@ IsInside (split next ds) d = list_at (codes "flows") d ≡ Some ds
 IsInside (decision transitions artifact) d = Unit {0}
 
 -- an element's own members, where none is wrong
-unfoldable pub own_of : Data → Option Own
+unfoldable pub own_of : Data → Option OwnMembers
 own_of d = do
-  kind ← kind_of d
+  kind ← element_kind d
   id ← text_at (codes "id") d
   Some (record { id = id; kind = kind })
 
 -- a flow of a split: its id, and the values of its elements
-pub record OwnFlow : Type 0 where
+pub record OwnFlowMembers : Type 0 where
   pub id : List ℕ
   pub elements : Items
 
@@ -114,7 +114,7 @@ abbrev pub split_flow_names : List (List ℕ)
 split_flow_names = codes "kind" ∷ codes "id" ∷ codes "elements" ∷ []
 
 -- the own members of a flow of a split, where none is wrong
-unfoldable pub own_flow_of : Data → Option OwnFlow
+unfoldable pub own_flow_of : Data → Option OwnFlowMembers
 own_flow_of d =
     if has_only split_flow_names d && is_text (codes "kind") (codes "flow") d
     then (do
@@ -124,7 +124,7 @@ own_flow_of d =
     else None
 
 -- a job: its id, whether it may be restarted, and the values of its elements
-pub record OwnJob : Type 0 where
+pub record OwnJobMembers : Type 0 where
   pub id : List ℕ
   pub restartable : Bool
   pub elements : Items
@@ -134,7 +134,7 @@ abbrev pub job_names : List (List ℕ)
 job_names = codes "id" ∷ codes "restartable" ∷ codes "elements" ∷ []
 
 -- the own members of a job, where none is wrong; it may be restarted where it says nothing else
-unfoldable pub own_job_of : Data → Option OwnJob
+unfoldable pub own_job_of : Data → Option OwnJobMembers
 own_job_of d =
     if has_only job_names d
     then (do

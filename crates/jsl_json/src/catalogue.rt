@@ -38,7 +38,13 @@ use std::alloc::Global;
 ///
 /// A member for which nothing else is said is a text.
 ///
-/// Errors, the first in this order:
+/// The elements of a job are counted from 0 as they are written, an element ahead of those inside
+/// it, and the flows of splits are counted too.
+///
+/// It costs time and memory as the text has bytes, and as the catalogue has jobs for each job.
+///
+/// # Errors
+/// The first in this order:
 /// - `NotJson`: the bytes are not UTF-8 or not one JSON value;
 /// - `NotACatalogue`: the value is no object of just `jobs`, a list;
 /// - then for each job in turn, counted from 0: `BadElement` without an element, for the job's own
@@ -46,10 +52,7 @@ use std::alloc::Global;
 ///   its artifacts and transition elements; `InJob` with the faults of `Job::check`; `InJob` with
 ///   those of `Catalogue::add`.
 ///
-/// The elements of a job are counted from 0 as they are written, an element ahead of those inside
-/// it, and the flows of splits are counted too. `OutOfMemory` may stand in place of any answer.
-///
-/// It costs time and memory as the text has bytes, and as the catalogue has jobs for each job.
+/// `OutOfMemory` may stand in place of any answer.
 #[tactic(auto, unfolding(crate::specs::Catalogues::catalogue_of))]
 pub fn read_catalogue(alloc: Global, bytes: &[u8]) -> Result<Catalogue, ReadFault>
     ensures read { IfOk result (λ catalogue. catalogue_of bytes.now ≡ Ok catalogue) }
@@ -106,7 +109,7 @@ fn add_job(alloc: Global, catalogue: &mut Catalogue, value: &Value) -> Result<()
         Ok(job) => job,
         Err(fault) => return Err(in_job(number, fault)),
     };
-    match entered(catalogue, job) {
+    match add_to(catalogue, job) {
         Ok(()) => Ok(()),
         Err(fault) => Err(in_job(number, fault)),
     }
@@ -131,7 +134,7 @@ fn job_at(alloc: Global, job: u64, value: &Value) -> Result<JobParts, ReadFault>
 }
 
 /// Adds a job to a catalogue.
-fn entered(catalogue: &mut Catalogue, job: Job) -> Result<(), JobFault>
+fn add_to(catalogue: &mut Catalogue, job: Job) -> Result<(), JobFault>
     ensures added { OnOk result (catalogue.new ≡ catalogue.old ++ job ∷ []) }
     ensures faultless { OnOk result (entry_fault catalogue.old job ≡ None) }
     ensures fault { IfErr result (λ fault. is_memory fault ≡ false → entry_fault catalogue.old job ≡ Some fault) }

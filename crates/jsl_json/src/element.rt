@@ -16,8 +16,9 @@ use std::alloc::Global;
 /// The elements of a list and what is inside them, and the number after the last one. The first of
 /// them has this number in its job.
 ///
-/// Errors, the first as they are written: `BadElement` for an element with wrong members of its own,
-/// ahead of those inside it. `OutOfMemory` may stand in place of any answer.
+/// # Errors
+/// The first as they are written: `BadElement` for an element with wrong members of its own, ahead of
+/// those inside it. `OutOfMemory` may stand in place of any answer.
 #[cycle(elements)]
 pub fn elements_at(
     alloc: Global,

@@ -1,7 +1,7 @@
 ghost use Rattle.std.specs.Prelude.{◌≡◌, Some, None, Err, codes, option_map, IfOk, IfSome};
 ghost use Rattle.serde_json.specs.View.{view};
 ghost use Rattle.json_members.specs.Members.{list_at};
-ghost use Rattle.jsl_json.specs.Members.{IsInside, step_of_data, flow_of_data, split_of_data, decision_of_data, kind_of, own_of, own_flow_of, own_job_of};
+ghost use Rattle.jsl_json.specs.Members.{IsInside, step_of_data, flow_of_data, split_of_data, decision_of_data, element_kind, own_of, own_flow_of, own_job_of};
 ghost use Rattle.jsl_json.specs.MemberViews.{kind_in, own_in, own_flow_in, own_job_in};
 
 use crate::member_fault::MemberFault;
@@ -62,16 +62,16 @@ pub fn own_of(alloc: Global, value: &Value) -> Result<ElementMembers<'_>, Member
     ensures inside { IfOk result (λ own. IsInside (kind_in own.kind) (view value.now)) }
     ensures wrong { result ≡ Err MemberFault.Wrong → own_of (view value.now) ≡ None }
 {
-    let kind = kind_of(alloc, value)?;
+    let kind = element_kind(alloc, value)?;
     let id = text_of(alloc, value, "id")?;
     Ok(ElementMembers { id, kind })
 }
 
-#[tactic(auto, unfolding(crate::specs::Members::kind_of))]
-fn kind_of(alloc: Global, value: &Value) -> Result<ElementKind<'_>, MemberFault>
-    ensures read { IfOk result (λ kind. kind_of (view value.now) ≡ Some (kind_in kind)) }
+#[tactic(auto, unfolding(crate::specs::Members::element_kind))]
+fn element_kind(alloc: Global, value: &Value) -> Result<ElementKind<'_>, MemberFault>
+    ensures read { IfOk result (λ kind. element_kind (view value.now) ≡ Some (kind_in kind)) }
     ensures inside { IfOk result (λ kind. IsInside (kind_in kind) (view value.now)) }
-    ensures wrong { result ≡ Err MemberFault.Wrong → kind_of (view value.now) ≡ None }
+    ensures wrong { result ≡ Err MemberFault.Wrong → element_kind (view value.now) ≡ None }
 {
     if is_text(value, "kind", "step") {
         Ok(ElementKind::Step(step_of(alloc, value)?))

@@ -1,7 +1,7 @@
 ghost use Rattle.std.specs.Prelude.{◌≡◌, Some, None, Err, option_map, map, IfOk};
 ghost use Rattle.serde_json.specs.View.{view, items_view};
 ghost use Rattle.jsl_model.specs.Parts.{bytes_of_option, then_of, transition_of};
-ghost use Rattle.jsl_json.specs.Transitions.{next_of, exit_status_of, stop_of, then_of_data, transition_of_data, transitions_of, transitions_at};
+ghost use Rattle.jsl_json.specs.Transitions.{then_next, exit_status_of, then_stop, then_of_data, transition_of_data, transitions_of, transitions_at};
 
 use crate::member_fault::MemberFault;
 use crate::text::{optional_text_of, text_of};
@@ -50,7 +50,7 @@ fn then_of(alloc: Global, value: &Value) -> Result<ThenParts, MemberFault>
     ensures wrong { result ≡ Err MemberFault.Wrong → then_of_data (view value.now) ≡ None }
 {
     if is_text(value, "kind", "next") {
-        next_of(alloc, value)
+        then_next(alloc, value)
     } else if is_text(value, "kind", "end") {
         let exit_status = exit_status_of(alloc, value)?;
         Ok(ThenParts::End { exit_status })
@@ -58,15 +58,15 @@ fn then_of(alloc: Global, value: &Value) -> Result<ThenParts, MemberFault>
         let exit_status = exit_status_of(alloc, value)?;
         Ok(ThenParts::Fail { exit_status })
     } else if is_text(value, "kind", "stop") {
-        stop_of(alloc, value)
+        then_stop(alloc, value)
     } else {
         Err(MemberFault::Wrong)
     }
 }
 
-fn next_of(alloc: Global, value: &Value) -> Result<ThenParts, MemberFault>
-    ensures read { IfOk result (λ target. next_of (view value.now) ≡ Some (then_of target)) }
-    ensures wrong { result ≡ Err MemberFault.Wrong → next_of (view value.now) ≡ None }
+fn then_next(alloc: Global, value: &Value) -> Result<ThenParts, MemberFault>
+    ensures read { IfOk result (λ target. then_next (view value.now) ≡ Some (then_of target)) }
+    ensures wrong { result ≡ Err MemberFault.Wrong → then_next (view value.now) ≡ None }
 {
     if !has_only(value, &["kind", "on", "to"]) {
         return Err(MemberFault::Wrong);
@@ -86,10 +86,10 @@ fn exit_status_of(alloc: Global, value: &Value) -> Result<Option<String>, Member
     optional_text_of(alloc, value, "exit-status")
 }
 
-#[tactic(auto, unfolding(crate::specs::Transitions::stop_of))]
-fn stop_of(alloc: Global, value: &Value) -> Result<ThenParts, MemberFault>
-    ensures read { IfOk result (λ target. stop_of (view value.now) ≡ Some (then_of target)) }
-    ensures wrong { result ≡ Err MemberFault.Wrong → stop_of (view value.now) ≡ None }
+#[tactic(auto, unfolding(crate::specs::Transitions::then_stop))]
+fn then_stop(alloc: Global, value: &Value) -> Result<ThenParts, MemberFault>
+    ensures read { IfOk result (λ target. then_stop (view value.now) ≡ Some (then_of target)) }
+    ensures wrong { result ≡ Err MemberFault.Wrong → then_stop (view value.now) ≡ None }
 {
     if !has_only(value, &["kind", "on", "exit-status", "restart"]) {
         return Err(MemberFault::Wrong);

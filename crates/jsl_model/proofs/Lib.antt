@@ -1,6 +1,6 @@
 pub mod Among
 pub mod Held
-pub mod Inside
+pub mod InnerLists
 pub mod Judging
 pub mod Layers
 pub mod Levels

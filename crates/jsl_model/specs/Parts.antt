@@ -55,7 +55,7 @@ pub record Content : Type 0 where
   pub transitions : List Transition
   pub body : Body
 
--- what the parts of each kind give, their members being known: a split has no transition elements, and a decision no `next`
+-- what the parts of each kind give, what is inside them being known: a split has no transition elements, and a decision no `next`
 abbrev pub body_tree : BodyParts-F Content Element SplitFlow → Content
 body_tree (StepOf step) =
     record { next = bytes_of_option step.next; transitions = map transition_of step.transitions; body = Step (step_of step) }

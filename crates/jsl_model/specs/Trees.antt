@@ -28,54 +28,54 @@ is_empty (first ∷ rest) = false
 -- ---- All elements, with the flows of splits, in written order: each before what is inside it
 
 -- an element or a flow of a split by itself; a flow of a split has no transition elements
-pub record Member : Type 0 where
+pub record Node : Type 0 where
   pub id : List ℕ
   pub transitions : List Transition
   -- the artifacts that it names itself, in written order
   pub artifacts : List (List ℕ)
 
 -- a body: the artifacts that it names itself, and all that is inside it
-pub record Inside : Type 0 where
+pub record BodyNodes : Type 0 where
   pub artifacts : List (List ℕ)
-  pub members : List Member
+  pub nodes : List Node
 
 -- the artifacts of a batchlet or a chunk
 abbrev pub task_artifacts : Task → List (List ℕ)
 task_artifacts (Batchlet artifact) = artifact ∷ []
 task_artifacts (Chunk reader processor writer item_count) = reader ∷ (option_to_list processor ++ writer ∷ [])
 
-abbrev pub body_members : Body-F Inside (List Member) (List Member) → Inside
-body_members (Step step) = record { artifacts = task_artifacts step.task; members = [] }
-body_members (Flow elements) = record { artifacts = []; members = joined elements }
-body_members (Split flows) = record { artifacts = []; members = joined flows }
-body_members (Decision artifact) = record { artifacts = artifact ∷ []; members = [] }
+abbrev pub body_nodes : Body-F BodyNodes (List Node) (List Node) → BodyNodes
+body_nodes (Step step) = record { artifacts = task_artifacts step.task; nodes = [] }
+body_nodes (Flow elements) = record { artifacts = []; nodes = joined elements }
+body_nodes (Split flows) = record { artifacts = []; nodes = joined flows }
+body_nodes (Decision artifact) = record { artifacts = artifact ∷ []; nodes = [] }
 
-abbrev pub element_members : Element-F Inside (List Member) (List Member) → List Member
-element_members element =
-    record { id = element.id; transitions = element.transitions; artifacts = element.body.artifacts } ∷ element.body.members
+abbrev pub element_nodes : Element-F BodyNodes (List Node) (List Node) → List Node
+element_nodes element =
+    record { id = element.id; transitions = element.transitions; artifacts = element.body.artifacts } ∷ element.body.nodes
 
-abbrev pub flow_members : SplitFlow-F Inside (List Member) (List Member) → List Member
-flow_members flow = record { id = flow.id; transitions = []; artifacts = [] } ∷ joined flow.elements
+abbrev pub flow_nodes : SplitFlow-F BodyNodes (List Node) (List Node) → List Node
+flow_nodes flow = record { id = flow.id; transitions = []; artifacts = [] } ∷ joined flow.elements
 
 -- an element, and then what is inside it
-abbrev pub members_of : Element → List Member
-members_of = fold-Element Inside (List Member) (List Member) body_members element_members flow_members
+abbrev pub nodes_of : Element → List Node
+nodes_of = fold-Element BodyNodes (List Node) (List Node) body_nodes element_nodes flow_nodes
 
 -- the artifacts that a body names itself, and what is inside it
-abbrev pub inside : Body → Inside
-inside = fold-Body Inside (List Member) (List Member) body_members element_members flow_members
+abbrev pub in_body : Body → BodyNodes
+in_body = fold-Body BodyNodes (List Node) (List Node) body_nodes element_nodes flow_nodes
 
 -- a flow of a split, and then what is inside it
-abbrev pub members_of_flow : SplitFlow → List Member
-members_of_flow = fold-SplitFlow Inside (List Member) (List Member) body_members element_members flow_members
+abbrev pub nodes_of_flow : SplitFlow → List Node
+nodes_of_flow = fold-SplitFlow BodyNodes (List Node) (List Node) body_nodes element_nodes flow_nodes
 
 -- all that a list of elements has, at all depths
-abbrev pub members : List Element → List Member
-members elements = joined (map members_of elements)
+abbrev pub nodes : List Element → List Node
+nodes elements = joined (map nodes_of elements)
 
 -- the artifacts that the elements of a list name at all depths, in written order
 abbrev pub artifacts : List Element → List (List ℕ)
-artifacts elements = joined (map (λ (m : Member). m.artifacts) (members elements))
+artifacts elements = joined (map (λ (m : Node). m.artifacts) (nodes elements))
 
 -- ---- All elements as such, in written order: each before those inside it. A flow of a split is none.
 

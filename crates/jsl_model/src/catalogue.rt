@@ -7,7 +7,7 @@ ghost use Rattle.jsl_model.specs.Catalogues.{AreJobs};
 
 use crate::element::Element;
 use crate::job::{Job, JobFault};
-use crate::member::members_in;
+use crate::node::nodes_in;
 use crate::names::distinct;
 use crate::naming::add_artifacts;
 use batch_ids::{Listed, OutOfMemory};
@@ -143,9 +143,9 @@ fn add_all_artifacts<'a>(
 ) -> Result<(), OutOfMemory>
     ensures { OnOk result (map (λ name. name.now) names.new.items ≡ map (λ name. name.now) names.old.items ++ artifacts elements.now) }
 {
-    let members = members_in(alloc, elements)?;
-    for member in members.as_slice() {
-        if let Some(body) = member.body {
+    let nodes = nodes_in(alloc, elements)?;
+    for node in nodes.as_slice() {
+        if let Some(body) = node.body {
             add_artifacts(body, names)?;
         }
     }

@@ -1,6 +1,6 @@
 ghost use Rattle.std.specs.Prelude.{◌≡◌, Bool, All, None, map, IfOk};
 ghost use Rattle.jsl_model.specs.Faults.{tree_fault, restarts};
-ghost use Rattle.jsl_model.specs.Members.{member};
+ghost use Rattle.jsl_model.specs.Nodes.{node};
 ghost use Rattle.jsl_model.specs.Names.{are_among};
 ghost use Rattle.jsl_model.specs.Targets.{outline, ids, lists_of, HasRanks};
 
@@ -9,7 +9,7 @@ use crate::element::Element;
 use crate::emptiness::is_list_lacking;
 use crate::job::JobFault;
 use crate::lists::lists_in;
-use crate::member::{Member, members_in};
+use crate::node::{Node, nodes_in};
 use crate::names::{are_among, has_twice};
 use crate::naming::{ids_of, own_ids, restarts_of};
 use crate::targets::{has_some_loop, lacks_some_target};
@@ -37,11 +37,11 @@ pub fn fault_in(
     if is_deeper(elements, MOST_DEEP) {
         return Ok(Some(JobFault::TooDeep));
     }
-    let members = members_in(alloc, elements)?;
-    if members.len() > MOST_ELEMENTS {
+    let nodes = nodes_in(alloc, elements)?;
+    if nodes.len() > MOST_ELEMENTS {
         return Ok(Some(JobFault::TooMany));
     }
-    let ids = ids_of(alloc, members.as_slice())?;
+    let ids = ids_of(alloc, nodes.as_slice())?;
     if has_twice(alloc, ids.as_slice())? {
         return Ok(Some(JobFault::DuplicateId));
     }
@@ -52,7 +52,7 @@ pub fn fault_in(
     if has_some_loop(alloc, lists.as_slice())? {
         return Ok(Some(JobFault::Loop));
     }
-    if !are_restarts_own(alloc, members.as_slice(), elements)? {
+    if !are_restarts_own(alloc, nodes.as_slice(), elements)? {
         return Ok(Some(JobFault::RestartNotJobLevel));
     }
     Ok(None)
@@ -61,12 +61,12 @@ pub fn fault_in(
 /// Whether each restart begins at one of these elements.
 fn are_restarts_own(
     alloc: Global,
-    members: &[Member<'_>],
+    nodes: &[Node<'_>],
     elements: &[Element],
 ) -> Result<bool, AllocError>
-    ensures { IfOk result (λ own. own ≡ are_among (ids (outline elements.now)) (restarts (map member members.now))) }
+    ensures { IfOk result (λ own. own ≡ are_among (ids (outline elements.now)) (restarts (map node nodes.now))) }
 {
-    let restarts = restarts_of(alloc, members)?;
+    let restarts = restarts_of(alloc, nodes)?;
     let own = own_ids(alloc, elements)?;
     are_among(alloc, restarts.as_slice(), own.as_slice())
 }

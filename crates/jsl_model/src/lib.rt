@@ -10,7 +10,7 @@ mod faults;
 mod finding;
 mod job;
 mod lists;
-mod member;
+mod node;
 mod names;
 mod naming;
 mod parts;

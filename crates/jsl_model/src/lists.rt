@@ -1,5 +1,5 @@
 ghost use Rattle.std.specs.Prelude.{◌≡◌, ◌++◌, map, IfOk, OnOk};
-ghost use Rattle.jsl_model.specs.Targets.{outline, lists_of, inside_of};
+ghost use Rattle.jsl_model.specs.Targets.{outline, lists_of, lists_inside};
 
 use crate::element::{Body, Element};
 use std::alloc::{AllocError, Global};
@@ -31,7 +31,7 @@ fn add_lists<'a>(lists: &mut Vec<&'a [Element]>, elements: &'a [Element]) -> Res
 
 #[cycle(listing)]
 fn add_inside<'a>(lists: &mut Vec<&'a [Element]>, element: &'a Element) -> Result<(), AllocError>
-    ensures { OnOk result (map (λ list. outline list.now) lists.new.items ≡ map (λ list. outline list.now) lists.old.items ++ inside_of element.now) }
+    ensures { OnOk result (map (λ list. outline list.now) lists.new.items ≡ map (λ list. outline list.now) lists.old.items ++ lists_inside element.now) }
 {
     match &element.body {
         Body::Step(_) => Ok(()),

@@ -10,7 +10,8 @@ use std::alloc::{AllocError, Global};
 /// Lists and objects may nest 127 deep. Of a member that comes twice the last value is kept. A
 /// number that no `f64` comes near is not read.
 ///
-/// Errors: only want of memory.
+/// # Errors
+/// `AllocError` alone: memory was refused.
 pub fn read_value(alloc: Global, bytes: &[u8]) -> Result<Option<Value>, AllocError>
     ensures { IfOk result (λ found. option_map view found ≡ data_of bytes.now) }
 {

@@ -10,7 +10,7 @@ use Rattle.jsl_model.specs.declared.parts.SplitFlowParts.{fold-roll-SplitFlowPar
 use Rattle.jsl_model.specs.Parts.{Content, body_tree, element_tree, flow_tree, element_of, flow_of}
 use Rattle.jsl_json.specs.MemberViews.{kind_in, own_in, own_flow_in}
 use Rattle.jsl_json.specs.Elements.{elements_at, content_at, next_number}
-use Rattle.jsl_json.proofs.Inside.{at_right, flow_wrong, flow_right, element_over, flow_over, list_depth, kind_depth, own_depth, item_depth, element_wrong, element_over-fails, flow_over-fails}
+use Rattle.jsl_json.proofs.Nesting.{at_right, flow_wrong, flow_right, element_over, flow_over, list_depth, kind_depth, own_depth, item_depth, element_wrong, element_over-fails, flow_over-fails}
 use Rattle.jsl_json.proofs.Lists.{elements_in_turn, flows_in_turn, next_read, next_fails, none_unread}
 use Rattle.jsl_json.proofs.element.+elements.Goals as goal
 

@@ -20,7 +20,7 @@ use Rattle.jsl_json.specs.declared.fault.ReadFault.TheVariants.{BadElement, OutO
 use Rattle.jsl_json.specs.declared.member_fault.MemberFault.{MemberFault}
 use Rattle.jsl_json.specs.declared.member_fault.MemberFault.TheVariants.{Wrong, OutOfMemory}
 use Rattle.jsl_json.specs.Catalogues.{is_out_of_memory}
-use Rattle.jsl_json.specs.Members.{Kind, step, flow, split, decision, IsInside, Own, OwnFlow, own_of, own_flow_of, kind_of}
+use Rattle.jsl_json.specs.Members.{Kind, step, flow, split, decision, IsInside, OwnMembers, OwnFlowMembers, own_of, own_flow_of, element_kind}
 use Rattle.jsl_json.specs.Elements.{◌>>=◌, Read, bad, next_number, content_with, element_with, flow_with, element_at, elements_in, elements_at, flow_at, flows_in, flows_at, content_at}
 
 -- ---- what is inside
@@ -95,12 +95,12 @@ content_same job (split next ds) ms n inside =
 content_same job (decision transitions artifact) ms n inside = refl
 
 -- an element with its own members, what it has beside its id being read
-abbrev pub element_over : Own → Read Content → Read Element
+abbrev pub element_over : OwnMembers → Read Content → Read Element
 element_over own content = content >>= λ x. Ok (record { id = own.id; next = x.0.next; transitions = x.0.transitions; body = x.0.body }, x.1)
 
 -- an element whose own members are right
-pub at_right : (job : ℕ) (d : Data) (n : ℕ) (own : Own) → own_of d ≡ Some own → IsInside own.kind d → element_at job d n ≡ element_over own (content_at job own.kind (next_number n))
-unfolding element_at own_of kind_of
+pub at_right : (job : ℕ) (d : Data) (n : ℕ) (own : OwnMembers) → own_of d ≡ Some own → IsInside own.kind d → element_at job d n ≡ element_over own (content_at job own.kind (next_number n))
+unfolding element_at own_of element_kind
 at_right job null n own right inside = cc
 at_right job (boolean b) n own right inside = cc
 at_right job (number x) n own right inside = cc
@@ -125,7 +125,7 @@ abbrev pub flow_over : List ℕ → Read (List Element) → Read SplitFlow
 flow_over id elements = elements >>= λ x. Ok (roll-SplitFlow record { id = id; elements = x.0 }, x.1)
 
 -- a flow of a split whose own members are right
-pub flow_right : (job : ℕ) (d : Data) (n : ℕ) (own : OwnFlow) → own_flow_of d ≡ Some own → list_at (codes "elements") d ≡ Some own.elements → flow_at job d n ≡ flow_over own.id (elements_at job own.elements (next_number n))
+pub flow_right : (job : ℕ) (d : Data) (n : ℕ) (own : OwnFlowMembers) → own_flow_of d ≡ Some own → list_at (codes "elements") d ≡ Some own.elements → flow_at job d n ≡ flow_over own.id (elements_at job own.elements (next_number n))
 unfolding element_at own_flow_of
 flow_right job null n own right inside = cc
 flow_right job (boolean b) n own right inside = cc
@@ -170,8 +170,8 @@ object_depth (split next ds) ms inside = list_depth (codes "flows") (object ms) 
 object_depth (decision transitions artifact) ms inside = omega arith
 
 -- what an element is lies less deep than the element
-pub own_depth : (d : Data) (own : Own) → own_of d ≡ Some own → IsInside own.kind d → kind_depth own.kind < depth d
-unfolding own_of kind_of
+pub own_depth : (d : Data) (own : OwnMembers) → own_of d ≡ Some own → IsInside own.kind d → kind_depth own.kind < depth d
+unfolding own_of element_kind
 own_depth null own right inside = cc
 own_depth (boolean b) own right inside = cc
 own_depth (number x) own right inside = cc
@@ -195,7 +195,7 @@ element_wrong Wrong given job n d wrong memory own other = at_wrong job d n (own
 element_wrong OutOfMemory given job n d wrong memory own other = let e = ap is_out_of_memory (memory refl) in cc
 
 -- a fault inside an element is one of the element
-pub element_over-fails : (own : Own) (content : Read Content) (fault : ReadFault) → content ≡ Err fault → element_over own content ≡ Err fault
+pub element_over-fails : (own : OwnMembers) (content : Read Content) (fault : ReadFault) → content ≡ Err fault → element_over own content ≡ Err fault
 element_over-fails own content fault h = ap (element_over own) h
 
 -- a fault inside a flow of a split is one of the flow
