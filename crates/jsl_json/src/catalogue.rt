@@ -56,7 +56,8 @@ use std::alloc::Global;
 #[tactic(auto, unfolding(crate::specs::Catalogues::catalogue_of))]
 pub fn read_catalogue(alloc: Global, bytes: &[u8]) -> Result<Catalogue, ReadFault>
     ensures read { IfOk result (λ catalogue. catalogue_of bytes.now ≡ Ok catalogue) }
-    ensures fault { IfErr result (λ fault. is_out_of_memory fault ≡ false → catalogue_of bytes.now ≡ Err fault) }
+    ensures fault { IfErr result (λ fault. is_out_of_memory fault ≡ false
+        → catalogue_of bytes.now ≡ Err fault) }
 {
     let value = read_value(alloc, bytes)?;
     match &value {
@@ -68,7 +69,8 @@ pub fn read_catalogue(alloc: Global, bytes: &[u8]) -> Result<Catalogue, ReadFaul
 #[tactic(auto, unfolding(crate::specs::Catalogues::catalogue_in))]
 fn catalogue_of_value(alloc: Global, value: &Value) -> Result<Catalogue, ReadFault>
     ensures read { IfOk result (λ catalogue. catalogue_in (view value.now) ≡ Ok catalogue) }
-    ensures fault { IfErr result (λ fault. is_out_of_memory fault ≡ false → catalogue_in (view value.now) ≡ Err fault) }
+    ensures fault { IfErr result (λ fault. is_out_of_memory fault ≡ false
+        → catalogue_in (view value.now) ≡ Err fault) }
 {
     match jobs_of(value) {
         Some(jobs) => catalogue_of_jobs(alloc, jobs),
@@ -88,7 +90,8 @@ fn jobs_of(value: &Value) -> Option<&[Value]>
 
 fn catalogue_of_jobs(alloc: Global, jobs: &[Value]) -> Result<Catalogue, ReadFault>
     ensures read { IfOk result (λ catalogue. with_jobs [] (items_view jobs.now) ≡ Ok catalogue) }
-    ensures fault { IfErr result (λ fault. is_out_of_memory fault ≡ false → with_jobs [] (items_view jobs.now) ≡ Err fault) }
+    ensures fault { IfErr result (λ fault. is_out_of_memory fault ≡ false
+        → with_jobs [] (items_view jobs.now) ≡ Err fault) }
 {
     let mut catalogue = Catalogue::new(alloc);
     for value in jobs {
@@ -101,7 +104,8 @@ fn catalogue_of_jobs(alloc: Global, jobs: &[Value]) -> Result<Catalogue, ReadFau
 #[tactic(auto, unfolding(crate::specs::Catalogues::with_job))]
 fn add_job(alloc: Global, catalogue: &mut Catalogue, value: &Value) -> Result<(), ReadFault>
     ensures added { OnOk result (with_job catalogue.old (view value.now) ≡ Ok catalogue.new) }
-    ensures fault { IfErr result (λ fault. is_out_of_memory fault ≡ false → with_job catalogue.old (view value.now) ≡ Err fault) }
+    ensures fault { IfErr result (λ fault. is_out_of_memory fault ≡ false
+        → with_job catalogue.old (view value.now) ≡ Err fault) }
 {
     let number = catalogue.len() as u64;
     let parts = job_at(alloc, number, value)?;
@@ -119,7 +123,8 @@ fn add_job(alloc: Global, catalogue: &mut Catalogue, value: &Value) -> Result<()
 #[tactic(auto, unfolding(crate::specs::Catalogues::job_at))]
 fn job_at(alloc: Global, job: u64, value: &Value) -> Result<JobParts, ReadFault>
     ensures read { IfOk result (λ parts. job_at job (view value.now) ≡ Ok (tree_of parts)) }
-    ensures fault { IfErr result (λ fault. is_out_of_memory fault ≡ false → job_at job (view value.now) ≡ Err fault) }
+    ensures fault { IfErr result (λ fault. is_out_of_memory fault ≡ false
+        → job_at job (view value.now) ≡ Err fault) }
 {
     let Some(own) = own_job_of(value) else {
         return Err(ReadFault::BadElement { job, element: None });
@@ -137,7 +142,8 @@ fn job_at(alloc: Global, job: u64, value: &Value) -> Result<JobParts, ReadFault>
 fn add_to(catalogue: &mut Catalogue, job: Job) -> Result<(), JobFault>
     ensures added { OnOk result (catalogue.new ≡ catalogue.old ++ job ∷ []) }
     ensures faultless { OnOk result (entry_fault catalogue.old job ≡ None) }
-    ensures fault { IfErr result (λ fault. is_memory fault ≡ false → entry_fault catalogue.old job ≡ Some fault) }
+    ensures fault { IfErr result (λ fault. is_memory fault ≡ false
+        → entry_fault catalogue.old job ≡ Some fault) }
 {
     catalogue.add(job)
 }

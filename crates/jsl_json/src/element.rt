@@ -26,8 +26,10 @@ pub fn elements_at(
     list: &[Value],
     number: u64,
 ) -> Result<(Listed<ElementParts>, u64), ReadFault>
-    ensures read { IfOk result (λ read. elements_at job (items_view list.now) number ≡ Ok (map element_of read.0, read.1)) }
-    ensures fault { IfErr result (λ fault. is_out_of_memory fault ≡ false → elements_at job (items_view list.now) number ≡ Err fault) }
+    ensures read { IfOk result (λ read. elements_at job (items_view list.now) number
+        ≡ Ok (map element_of read.0, read.1)) }
+    ensures fault { IfErr result (λ fault. is_out_of_memory fault ≡ false
+        → elements_at job (items_view list.now) number ≡ Err fault) }
 {
     let mut elements = Vec::new(alloc);
     let mut next = number;
@@ -46,8 +48,10 @@ fn element_at(
     value: &Value,
     number: u64,
 ) -> Result<(ElementParts, u64), ReadFault>
-    ensures read { IfOk result (λ read. element_at job (view value.now) number ≡ Ok (element_of read.0, read.1)) }
-    ensures fault { IfErr result (λ fault. is_out_of_memory fault ≡ false → element_at job (view value.now) number ≡ Err fault) }
+    ensures read { IfOk result (λ read. element_at job (view value.now) number
+        ≡ Ok (element_of read.0, read.1)) }
+    ensures fault { IfErr result (λ fault. is_out_of_memory fault ≡ false
+        → element_at job (view value.now) number ≡ Err fault) }
 {
     let next = number.saturating_add(1);
     let own = match own_of(alloc, value) {
@@ -65,8 +69,10 @@ fn body_at(
     kind: ElementKind<'_>,
     number: u64,
 ) -> Result<(BodyParts, u64), ReadFault>
-    ensures read { IfOk result (λ read. content_at job (kind_in kind.entry) number ≡ Ok (content_of read.0, read.1)) }
-    ensures fault { IfErr result (λ fault. is_out_of_memory fault ≡ false → content_at job (kind_in kind.entry) number ≡ Err fault) }
+    ensures read { IfOk result (λ read. content_at job (kind_in kind.entry) number
+        ≡ Ok (content_of read.0, read.1)) }
+    ensures fault { IfErr result (λ fault. is_out_of_memory fault ≡ false
+        → content_at job (kind_in kind.entry) number ≡ Err fault) }
 {
     match kind {
         ElementKind::Step(step) => Ok((BodyParts::Step(step), number)),
@@ -107,8 +113,10 @@ fn flows_at(
     list: &[Value],
     number: u64,
 ) -> Result<(Listed<SplitFlowParts>, u64), ReadFault>
-    ensures read { IfOk result (λ read. flows_at job (items_view list.now) number ≡ Ok (map flow_of read.0, read.1)) }
-    ensures fault { IfErr result (λ fault. is_out_of_memory fault ≡ false → flows_at job (items_view list.now) number ≡ Err fault) }
+    ensures read { IfOk result (λ read. flows_at job (items_view list.now) number
+        ≡ Ok (map flow_of read.0, read.1)) }
+    ensures fault { IfErr result (λ fault. is_out_of_memory fault ≡ false
+        → flows_at job (items_view list.now) number ≡ Err fault) }
 {
     let mut flows = Vec::new(alloc);
     let mut next = number;
@@ -127,8 +135,10 @@ fn flow_at(
     value: &Value,
     number: u64,
 ) -> Result<(SplitFlowParts, u64), ReadFault>
-    ensures read { IfOk result (λ read. flow_at job (view value.now) number ≡ Ok (flow_of read.0, read.1)) }
-    ensures fault { IfErr result (λ fault. is_out_of_memory fault ≡ false → flow_at job (view value.now) number ≡ Err fault) }
+    ensures read { IfOk result (λ read. flow_at job (view value.now) number
+        ≡ Ok (flow_of read.0, read.1)) }
+    ensures fault { IfErr result (λ fault. is_out_of_memory fault ≡ false
+        → flow_at job (view value.now) number ≡ Err fault) }
 {
     let next = number.saturating_add(1);
     let Some(own) = own_flow_of(value) else {

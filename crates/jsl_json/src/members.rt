@@ -88,7 +88,8 @@ fn element_kind(alloc: Global, value: &Value) -> Result<ElementKind<'_>, MemberF
 
 #[tactic(auto, unfolding(crate::specs::Members::step_of_data))]
 fn step_of(alloc: Global, value: &Value) -> Result<StepParts, MemberFault>
-    ensures read { IfOk result (λ parts. step_of_data (view value.now) ≡ Some (kind_in (ElementKind.Step parts))) }
+    ensures read { IfOk result (λ parts. step_of_data (view value.now)
+        ≡ Some (kind_in (ElementKind.Step parts))) }
     ensures wrong { result ≡ Err MemberFault.Wrong → step_of_data (view value.now) ≡ None }
 {
     if !has_only(
@@ -176,7 +177,8 @@ fn decision_of(alloc: Global, value: &Value) -> Result<ElementKind<'_>, MemberFa
 #[tactic(auto, unfolding(crate::specs::Members::own_flow_of))]
 pub fn own_flow_of(value: &Value) -> Option<FlowMembers<'_>>
     ensures own { option_map own_flow_in result ≡ own_flow_of (view value.now) }
-    ensures inside { IfSome result (λ own. list_at (codes "elements") (view value.now) ≡ Some (own_flow_in own).elements) }
+    ensures inside { IfSome result (λ own. list_at (codes "elements") (view value.now)
+        ≡ Some (own_flow_in own).elements) }
 {
     if !has_only(value, &["kind", "id", "elements"]) || !is_text(value, "kind", "flow") {
         return None;

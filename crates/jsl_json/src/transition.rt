@@ -14,7 +14,8 @@ use std::alloc::Global;
 /// The transition elements of an element, none where they are left out.
 #[tactic(auto, unfolding(crate::specs::Transitions::transitions_at))]
 pub fn transitions_at(alloc: Global, value: &Value) -> Result<Listed<TransitionParts>, MemberFault>
-    ensures read { IfOk result (λ transitions. transitions_at (view value.now) ≡ Some (map transition_of transitions)) }
+    ensures read { IfOk result (λ transitions. transitions_at (view value.now)
+        ≡ Some (map transition_of transitions)) }
     ensures wrong { result ≡ Err MemberFault.Wrong → transitions_at (view value.now) ≡ None }
 {
     match optional_list(value, "transitions").ok_or(MemberFault::Wrong)? {
@@ -24,7 +25,8 @@ pub fn transitions_at(alloc: Global, value: &Value) -> Result<Listed<TransitionP
 }
 
 fn transitions_of(alloc: Global, list: &[Value]) -> Result<Listed<TransitionParts>, MemberFault>
-    ensures read { IfOk result (λ transitions. transitions_of (items_view list.now) ≡ Some (map transition_of transitions)) }
+    ensures read { IfOk result (λ transitions. transitions_of (items_view list.now)
+        ≡ Some (map transition_of transitions)) }
     ensures wrong { result ≡ Err MemberFault.Wrong → transitions_of (items_view list.now) ≡ None }
 {
     let mut transitions = Vec::new(alloc);
@@ -36,7 +38,8 @@ fn transitions_of(alloc: Global, list: &[Value]) -> Result<Listed<TransitionPart
 
 #[tactic(auto, unfolding(crate::specs::Transitions::transition_of_data))]
 fn transition_of(alloc: Global, value: &Value) -> Result<TransitionParts, MemberFault>
-    ensures read { IfOk result (λ transition. transition_of_data (view value.now) ≡ Some (transition_of transition)) }
+    ensures read { IfOk result (λ transition. transition_of_data (view value.now)
+        ≡ Some (transition_of transition)) }
     ensures wrong { result ≡ Err MemberFault.Wrong → transition_of_data (view value.now) ≡ None }
 {
     let on = text_of(alloc, value, "on")?;
@@ -77,7 +80,8 @@ fn then_next(alloc: Global, value: &Value) -> Result<ThenParts, MemberFault>
 
 /// The exit status of an `end` or a `fail`.
 fn exit_status_of(alloc: Global, value: &Value) -> Result<Option<String>, MemberFault>
-    ensures read { IfOk result (λ status. exit_status_of (view value.now) ≡ Some (bytes_of_option status)) }
+    ensures read { IfOk result (λ status. exit_status_of (view value.now)
+        ≡ Some (bytes_of_option status)) }
     ensures wrong { result ≡ Err MemberFault.Wrong → exit_status_of (view value.now) ≡ None }
 {
     if !has_only(value, &["kind", "on", "exit-status"]) {

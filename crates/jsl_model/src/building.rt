@@ -31,7 +31,8 @@ pub fn build_text(alloc: Global, text: &str) -> Result<T256, JobFault>
 fn build_option(alloc: Global, text: &Option<String>) -> Result<Option<T256>, JobFault>
     ensures same { IfOk result (λ built. built ≡ bytes_of_option text.now) }
     ensures short { OnOk result (is_long_option (bytes_of_option text.now) ≡ false) }
-    ensures long { result ≡ Err JobFault.TextTooLong → is_long_option (bytes_of_option text.now) ≡ true }
+    ensures long { result ≡ Err JobFault.TextTooLong
+        → is_long_option (bytes_of_option text.now) ≡ true }
     ensures fault { IfErr result IsBuildingFault }
 {
     match text {
@@ -77,7 +78,8 @@ fn build_then(alloc: Global, parts: &ThenParts) -> Result<Then, JobFault>
 fn build_transition(alloc: Global, parts: &TransitionParts) -> Result<Transition, JobFault>
     ensures same { IfOk result (λ built. built ≡ transition_of parts.now) }
     ensures short { OnOk result (transition_has_long (transition_of parts.now) ≡ false) }
-    ensures long { result ≡ Err JobFault.TextTooLong → transition_has_long (transition_of parts.now) ≡ true }
+    ensures long { result ≡ Err JobFault.TextTooLong
+        → transition_has_long (transition_of parts.now) ≡ true }
     ensures fault { IfErr result IsBuildingFault }
 {
     let on = build_text(alloc, parts.on.as_str())?;
@@ -90,8 +92,10 @@ fn build_transitions(
     parts: &[TransitionParts],
 ) -> Result<Listed<Transition>, JobFault>
     ensures same { IfOk result (λ built. built ≡ map transition_of parts.now) }
-    ensures short { OnOk result (any_true (map transition_has_long (map transition_of parts.now)) ≡ false) }
-    ensures long { result ≡ Err JobFault.TextTooLong → any_true (map transition_has_long (map transition_of parts.now)) ≡ true }
+    ensures short { OnOk result (any_true (map transition_has_long (map transition_of parts.now))
+        ≡ false) }
+    ensures long { result ≡ Err JobFault.TextTooLong
+        → any_true (map transition_has_long (map transition_of parts.now)) ≡ true }
     ensures fault { IfErr result IsBuildingFault }
 {
     let mut built = Vec::new(alloc);
@@ -132,7 +136,8 @@ fn build_task(alloc: Global, parts: &TaskParts) -> Result<Task, JobFault>
 fn build_step(alloc: Global, parts: &StepParts) -> Result<Step, JobFault>
     ensures same { IfOk result (λ built. built ≡ step_of parts.now) }
     ensures short { OnOk result (task_has_long (task_of parts.now.task) ≡ false) }
-    ensures long { result ≡ Err JobFault.TextTooLong → task_has_long (task_of parts.now.task) ≡ true }
+    ensures long { result ≡ Err JobFault.TextTooLong
+        → task_has_long (task_of parts.now.task) ≡ true }
     ensures fault { IfErr result IsBuildingFault }
 {
     let task = build_task(alloc, &parts.task)?;
@@ -148,7 +153,8 @@ fn build_step(alloc: Global, parts: &StepParts) -> Result<Step, JobFault>
 fn build_next(alloc: Global, parts: &BodyParts) -> Result<Option<T256>, JobFault>
     ensures same { IfOk result (λ built. built ≡ (content_of parts.now).next) }
     ensures short { OnOk result (is_long_option (content_of parts.now).next ≡ false) }
-    ensures long { result ≡ Err JobFault.TextTooLong → is_long_option (content_of parts.now).next ≡ true }
+    ensures long { result ≡ Err JobFault.TextTooLong
+        → is_long_option (content_of parts.now).next ≡ true }
     ensures fault { IfErr result IsBuildingFault }
 {
     match parts {
@@ -177,7 +183,8 @@ fn transitions_in(parts: &BodyParts) -> &[TransitionParts]
 fn build_element(alloc: Global, parts: &ElementParts) -> Result<Element, JobFault>
     ensures same { IfOk result (λ built. built ≡ element_of parts.now) }
     ensures short { OnOk result (element_has_long (element_of parts.now) ≡ false) }
-    ensures long { result ≡ Err JobFault.TextTooLong → element_has_long (element_of parts.now) ≡ true }
+    ensures long { result ≡ Err JobFault.TextTooLong
+        → element_has_long (element_of parts.now) ≡ true }
     ensures fault { IfErr result IsBuildingFault }
 {
     let id = build_text(alloc, parts.id.as_str())?;
@@ -197,7 +204,8 @@ fn build_element(alloc: Global, parts: &ElementParts) -> Result<Element, JobFaul
 fn build_body(alloc: Global, parts: &BodyParts) -> Result<Body, JobFault>
     ensures same { IfOk result (λ built. built ≡ (content_of parts.now).body) }
     ensures short { OnOk result (body_has_long (content_of parts.now).body ≡ false) }
-    ensures long { result ≡ Err JobFault.TextTooLong → body_has_long (content_of parts.now).body ≡ true }
+    ensures long { result ≡ Err JobFault.TextTooLong
+        → body_has_long (content_of parts.now).body ≡ true }
     ensures fault { IfErr result IsBuildingFault }
 {
     match parts {
@@ -218,8 +226,10 @@ fn build_body(alloc: Global, parts: &BodyParts) -> Result<Body, JobFault>
 #[cycle(building)]
 pub fn build_elements(alloc: Global, parts: &[ElementParts]) -> Result<Listed<Element>, JobFault>
     ensures same { IfOk result (λ built. built ≡ map element_of parts.now) }
-    ensures short { OnOk result (any_true (map element_has_long (map element_of parts.now)) ≡ false) }
-    ensures long { result ≡ Err JobFault.TextTooLong → any_true (map element_has_long (map element_of parts.now)) ≡ true }
+    ensures short { OnOk result (any_true (map element_has_long (map element_of parts.now))
+        ≡ false) }
+    ensures long { result ≡ Err JobFault.TextTooLong
+        → any_true (map element_has_long (map element_of parts.now)) ≡ true }
     ensures fault { IfErr result IsBuildingFault }
 {
     let mut built = Vec::new(alloc);
@@ -246,7 +256,8 @@ fn build_flow(alloc: Global, parts: &SplitFlowParts) -> Result<SplitFlow, JobFau
 fn build_flows(alloc: Global, parts: &[SplitFlowParts]) -> Result<Listed<SplitFlow>, JobFault>
     ensures same { IfOk result (λ built. built ≡ map flow_of parts.now) }
     ensures short { OnOk result (any_true (map flow_has_long (map flow_of parts.now)) ≡ false) }
-    ensures long { result ≡ Err JobFault.TextTooLong → any_true (map flow_has_long (map flow_of parts.now)) ≡ true }
+    ensures long { result ≡ Err JobFault.TextTooLong
+        → any_true (map flow_has_long (map flow_of parts.now)) ≡ true }
     ensures fault { IfErr result IsBuildingFault }
 {
     let mut built = Vec::new(alloc);

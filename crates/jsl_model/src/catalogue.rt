@@ -7,9 +7,9 @@ ghost use Rattle.jsl_model.specs.Catalogues.{AreJobs};
 
 use crate::element::Element;
 use crate::job::{Job, JobFault};
-use crate::node::nodes_in;
 use crate::names::distinct;
 use crate::naming::add_artifacts;
+use crate::node::nodes_in;
 use batch_ids::{Listed, OutOfMemory};
 use std::alloc::Global;
 use std::marker::Model;
@@ -52,14 +52,22 @@ impl Catalogue {
         }
     }
 
-    /// Adds a job at the end. A job that is refused is dropped, and the catalogue stays as it was.
+    /// Adds a job at the end. A job that is refused is dropped, and the catalogue stays as it was. It
+    /// costs time as the catalogue has jobs.
     ///
-    /// Errors: `TooMany` exactly where 256 jobs are held; else `DuplicateId` exactly where a job of
-    /// this id is held; else at most `OutOfMemory`. It costs time as the catalogue has jobs.
+    /// # Errors
+    /// The first in this order:
+    /// - `TooMany`: 256 jobs are held;
+    /// - `DuplicateId`: a job of this id is held;
+    /// - `OutOfMemory`: memory was refused.
     pub fn add(&mut self, job: Job) -> Result<(), JobFault>
         ensures too_many { 256 ≤ length self.old → result ≡ Err JobFault.TooMany }
-        ensures duplicate { length self.old < 256 → IsSome (find (λ held. is_text held.id job.id) self.old) → result ≡ Err JobFault.DuplicateId }
-        ensures memory { length self.old < 256 → IsNone (find (λ held. is_text held.id job.id) self.old) → OnErr result (result ≡ Err JobFault.OutOfMemory) }
+        ensures duplicate { length self.old < 256
+            → IsSome (find (λ held. is_text held.id job.id) self.old)
+            → result ≡ Err JobFault.DuplicateId }
+        ensures memory { length self.old < 256
+            → IsNone (find (λ held. is_text held.id job.id) self.old)
+            → OnErr result (result ≡ Err JobFault.OutOfMemory) }
         ensures added { OnOk result (self.new ≡ self.old ++ job ∷ []) }
         ensures unchanged { OnErr result (self.new ≡ self.old) }
     {
@@ -108,7 +116,8 @@ impl Catalogue {
     /// # Errors
     /// `OutOfMemory` alone: memory was refused.
     pub fn artifacts(&self) -> Result<Vec<&str>, OutOfMemory>
-        ensures { IfOk result (λ names. map (λ name. name.now) names.items ≡ distinct (flat_map (λ job. artifacts job.elements) self.now)) }
+        ensures { IfOk result (λ names. map (λ name. name.now) names.items
+            ≡ distinct (flat_map (λ job. artifacts job.elements) self.now)) }
     {
         let mut names = Vec::new(self.alloc);
         for job in self.jobs.as_slice() {
@@ -141,7 +150,8 @@ fn add_all_artifacts<'a>(
     elements: &'a [Element],
     names: &mut Vec<&'a str>,
 ) -> Result<(), OutOfMemory>
-    ensures { OnOk result (map (λ name. name.now) names.new.items ≡ map (λ name. name.now) names.old.items ++ artifacts elements.now) }
+    ensures { OnOk result (map (λ name. name.now) names.new.items
+        ≡ map (λ name. name.now) names.old.items ++ artifacts elements.now) }
 {
     let nodes = nodes_in(alloc, elements)?;
     for node in nodes.as_slice() {

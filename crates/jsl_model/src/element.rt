@@ -117,7 +117,10 @@ pub struct SplitFlow {
 }
 
 impl Then {
-    /// An equal target, or `OutOfMemory`.
+    /// An equal target.
+    ///
+    /// # Errors
+    /// `OutOfMemory` alone: memory was refused.
     pub fn try_clone(&self) -> Result<Then, OutOfMemory>
         ensures { IfOk result (λ copy. copy ≡ self.now) }
     {
@@ -149,7 +152,10 @@ impl Then {
 }
 
 impl Transition {
-    /// An equal transition element, or `OutOfMemory`.
+    /// An equal transition element.
+    ///
+    /// # Errors
+    /// `OutOfMemory` alone: memory was refused.
     pub fn try_clone(&self) -> Result<Transition, OutOfMemory>
         ensures { IfOk result (λ copy. copy ≡ self.now) }
     {
@@ -160,7 +166,10 @@ impl Transition {
 }
 
 impl Task {
-    /// An equal task, or `OutOfMemory`.
+    /// An equal task.
+    ///
+    /// # Errors
+    /// `OutOfMemory` alone: memory was refused.
     pub fn try_clone(&self) -> Result<Task, OutOfMemory>
         ensures { IfOk result (λ copy. copy ≡ self.now) }
     {
@@ -188,7 +197,10 @@ impl Task {
 }
 
 impl Step {
-    /// An equal step, or `OutOfMemory`.
+    /// An equal step.
+    ///
+    /// # Errors
+    /// `OutOfMemory` alone: memory was refused.
     pub fn try_clone(&self) -> Result<Step, OutOfMemory>
         ensures { IfOk result (λ copy. copy ≡ self.now) }
     {

@@ -9,12 +9,12 @@ use crate::element::Element;
 use crate::emptiness::is_list_lacking;
 use crate::job::JobFault;
 use crate::lists::lists_in;
-use crate::node::{Node, nodes_in};
 use crate::names::{are_among, has_twice};
 use crate::naming::{ids_of, own_ids, restarts_of};
+use crate::node::{Node, nodes_in};
 use crate::targets::{has_some_loop, lacks_some_target};
-use batch_ids::T256;
-use std::alloc::{AllocError, Global};
+use batch_ids::{OutOfMemory, T256};
+use std::alloc::Global;
 
 /// How deep an element may stand.
 const MOST_DEEP: usize = 16;
@@ -27,9 +27,10 @@ pub fn fault_in(
     alloc: Global,
     id: &T256,
     elements: &[Element],
-) -> Result<Option<JobFault>, AllocError>
+) -> Result<Option<JobFault>, OutOfMemory>
     ensures ranked { IfOk result (λ found. found ≡ None → All HasRanks (lists_of elements.now)) }
-    ensures first { IfOk result (λ found. (restartable : Bool) → found ≡ tree_fault record { id = id.now; restartable = restartable; elements = elements.now }) }
+    ensures first { IfOk result (λ found. (restartable : Bool) → found
+        ≡ tree_fault record { id = id.now; restartable = restartable; elements = elements.now }) }
 {
     if id.as_str().is_empty() || is_list_lacking(elements) {
         return Ok(Some(JobFault::Empty));
@@ -63,8 +64,9 @@ fn are_restarts_own(
     alloc: Global,
     nodes: &[Node<'_>],
     elements: &[Element],
-) -> Result<bool, AllocError>
-    ensures { IfOk result (λ own. own ≡ are_among (ids (outline elements.now)) (restarts (map node nodes.now))) }
+) -> Result<bool, OutOfMemory>
+    ensures { IfOk result (λ own. own
+        ≡ are_among (ids (outline elements.now)) (restarts (map node nodes.now))) }
 {
     let restarts = restarts_of(alloc, nodes)?;
     let own = own_ids(alloc, elements)?;

@@ -9,7 +9,8 @@ use crate::element::{Body, Element, SplitFlow};
 #[cycle(finding)]
 #[tactic(auto, using(crate::proofs::Opening::in_step, crate::proofs::Opening::in_flow, crate::proofs::Opening::in_split, crate::proofs::Opening::in_decision, crate::proofs::Opening::in_split_flow))]
 pub fn find_element<'a>(elements: &'a [Element], id: &str) -> Option<&'a Element>
-    ensures { option_copied result ≡ find (λ element. is_text element.id id.now) (all_elements elements.now) }
+    ensures { option_copied result
+        ≡ find (λ element. is_text element.id id.now) (all_elements elements.now) }
 {
     for element in elements {
         if element.id.as_str() == id {
@@ -26,7 +27,8 @@ pub fn find_element<'a>(elements: &'a [Element], id: &str) -> Option<&'a Element
 #[cycle(finding)]
 #[tactic(auto, using(crate::proofs::Opening::in_step, crate::proofs::Opening::in_flow, crate::proofs::Opening::in_split, crate::proofs::Opening::in_decision, crate::proofs::Opening::in_split_flow))]
 fn find_in_body<'a>(body: &'a Body, id: &str) -> Option<&'a Element>
-    ensures { option_copied result ≡ find (λ element. is_text element.id id.now) (elements_in_body body.now) }
+    ensures { option_copied result
+        ≡ find (λ element. is_text element.id id.now) (elements_in_body body.now) }
 {
     match body {
         Body::Step(_) => None,
@@ -39,7 +41,8 @@ fn find_in_body<'a>(body: &'a Body, id: &str) -> Option<&'a Element>
 #[cycle(finding)]
 #[tactic(auto, using(crate::proofs::Opening::in_step, crate::proofs::Opening::in_flow, crate::proofs::Opening::in_split, crate::proofs::Opening::in_decision, crate::proofs::Opening::in_split_flow))]
 fn find_in_flows<'a>(flows: &'a [SplitFlow], id: &str) -> Option<&'a Element>
-    ensures { option_copied result ≡ find (λ element. is_text element.id id.now) (flat_map elements_in_flow flows.now) }
+    ensures { option_copied result
+        ≡ find (λ element. is_text element.id id.now) (flat_map elements_in_flow flows.now) }
 {
     for flow in flows {
         let inside = find_element(flow.elements.as_slice(), id);

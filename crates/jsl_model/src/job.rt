@@ -109,16 +109,19 @@ impl Model for Job {
 
     ghost coded = { Prim.hlevel (codes, body.the_row.coded) };
 
-    ghost view = { λ job. record { id = job.id; restartable = job.restartable; elements = job.elements } };
+    ghost view = { λ job.
+        record { id = job.id; restartable = job.restartable; elements = job.elements } };
 
-    ghost invariant = { λ job. IsChecked record { id = job.id; restartable = job.restartable; elements = job.elements } };
+    ghost invariant = { λ job.
+        IsChecked record { id = job.id; restartable = job.restartable; elements = job.elements } };
 }
 
 impl Job {
     /// The job that these parts give, if it is one (Jakarta Batch 2.1, chapter "Job Specification
-    /// Language"). The parts are dropped.
+    /// Language"). The parts are dropped. The time is near linear in the size of the parts.
     ///
-    /// Errors, the first that stands, each tested over the whole job:
+    /// # Errors
+    /// The first that stands, each tested over the whole job:
     /// - `TextTooLong`: a text (an id, a `next`, an artifact's name, an `on`, a `to`, an exit status,
     ///   a `restart`) has more than 256 bytes;
     /// - `Empty`: an id or an artifact's name is empty, a list has no element, a split has no flow, or
@@ -131,11 +134,12 @@ impl Job {
     /// - `Loop`: in one list, the targets of `next` and `to` form a cycle;
     /// - `RestartNotJobLevel`: a `restart` names no element of the job's own list.
     ///
-    /// `OutOfMemory` may stand in place of any answer. The time is near linear in the size of the parts.
+    /// `OutOfMemory` may stand in place of any answer.
     pub fn check(alloc: Global, parts: JobParts) -> Result<Job, JobFault>
         ensures same { IfOk result (λ job. job ≡ tree_of parts) }
         ensures faultless { OnOk result (job_fault (tree_of parts) ≡ None) }
-        ensures fault { IfErr result (λ fault. is_out_of_memory fault ≡ false → job_fault (tree_of parts) ≡ Some fault) }
+        ensures fault { IfErr result (λ fault. is_out_of_memory fault ≡ false
+            → job_fault (tree_of parts) ≡ Some fault) }
     {
         let id = build_text(alloc, parts.id.as_str())?;
         let elements = build_elements(alloc, parts.elements.as_slice())?;
@@ -178,7 +182,8 @@ impl Job {
     ///
     /// It costs time as the job has elements, and no memory.
     pub fn element(&self, id: &str) -> Option<&Element>
-        ensures { option_copied result ≡ find (λ element. is_text element.id id.now) (all_elements self.now.elements) }
+        ensures { option_copied result
+            ≡ find (λ element. is_text element.id id.now) (all_elements self.now.elements) }
     {
         find_element(self.elements(), id)
     }

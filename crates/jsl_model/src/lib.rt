@@ -1,4 +1,5 @@
-//! Jobs as checked trees, and the catalogue of jobs (Jakarta Batch 2.1, "Job Specification Language").
+//! Jobs as checked trees, and the catalogue of jobs (Jakarta Batch 2.1, "Job Specification
+//! Language").
 #![tactic(auto)]
 
 mod building;
@@ -10,9 +11,9 @@ mod faults;
 mod finding;
 mod job;
 mod lists;
-mod node;
 mod names;
 mod naming;
+mod node;
 mod parts;
 mod targets;
 

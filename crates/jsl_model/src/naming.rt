@@ -6,11 +6,13 @@ ghost use Rattle.jsl_model.specs.Faults.{node_ids, restarts, restarts_in};
 
 use crate::element::{Body, Element, Task, Then, Transition};
 use crate::node::Node;
-use std::alloc::{AllocError, Global};
+use batch_ids::OutOfMemory;
+use std::alloc::Global;
 
 /// The ids of these nodes.
-pub fn ids_of<'a>(alloc: Global, nodes: &[Node<'a>]) -> Result<Vec<&'a str>, AllocError>
-    ensures { IfOk result (λ found. map (λ id. id.now) found.items ≡ node_ids (map node nodes.now)) }
+pub fn ids_of<'a>(alloc: Global, nodes: &[Node<'a>]) -> Result<Vec<&'a str>, OutOfMemory>
+    ensures { IfOk result (λ found. map (λ id. id.now) found.items
+        ≡ node_ids (map node nodes.now)) }
 {
     let mut ids = Vec::new(alloc);
     for node in nodes {
@@ -20,7 +22,7 @@ pub fn ids_of<'a>(alloc: Global, nodes: &[Node<'a>]) -> Result<Vec<&'a str>, All
 }
 
 /// The ids of a list's own elements.
-pub fn own_ids(alloc: Global, elements: &[Element]) -> Result<Vec<&str>, AllocError>
+pub fn own_ids(alloc: Global, elements: &[Element]) -> Result<Vec<&str>, OutOfMemory>
     ensures { IfOk result (λ found. map (λ id. id.now) found.items ≡ ids (outline elements.now)) }
 {
     let mut ids = Vec::new(alloc);
@@ -31,8 +33,9 @@ pub fn own_ids(alloc: Global, elements: &[Element]) -> Result<Vec<&str>, AllocEr
 }
 
 /// The elements at which restarts begin, by all transition elements of these nodes.
-pub fn restarts_of<'a>(alloc: Global, nodes: &[Node<'a>]) -> Result<Vec<&'a str>, AllocError>
-    ensures { IfOk result (λ found. map (λ id. id.now) found.items ≡ restarts (map node nodes.now)) }
+pub fn restarts_of<'a>(alloc: Global, nodes: &[Node<'a>]) -> Result<Vec<&'a str>, OutOfMemory>
+    ensures { IfOk result (λ found. map (λ id. id.now) found.items
+        ≡ restarts (map node nodes.now)) }
 {
     let mut found = Vec::new(alloc);
     for node in nodes {
@@ -44,8 +47,9 @@ pub fn restarts_of<'a>(alloc: Global, nodes: &[Node<'a>]) -> Result<Vec<&'a str>
 fn add_restarts<'a>(
     transitions: &'a [Transition],
     found: &mut Vec<&'a str>,
-) -> Result<(), AllocError>
-    ensures { OnOk result (map (λ id. id.now) found.new.items ≡ map (λ id. id.now) found.old.items ++ restarts_in transitions.now) }
+) -> Result<(), OutOfMemory>
+    ensures { OnOk result (map (λ id. id.now) found.new.items
+        ≡ map (λ id. id.now) found.old.items ++ restarts_in transitions.now) }
 {
     for transition in transitions {
         if let Then::Stop {
@@ -60,8 +64,9 @@ fn add_restarts<'a>(
 }
 
 /// Adds the artifacts that a body names itself.
-pub fn add_artifacts<'a>(body: &'a Body, found: &mut Vec<&'a str>) -> Result<(), AllocError>
-    ensures { OnOk result (map (λ name. name.now) found.new.items ≡ map (λ name. name.now) found.old.items ++ (in_body body.now).artifacts) }
+pub fn add_artifacts<'a>(body: &'a Body, found: &mut Vec<&'a str>) -> Result<(), OutOfMemory>
+    ensures { OnOk result (map (λ name. name.now) found.new.items
+        ≡ map (λ name. name.now) found.old.items ++ (in_body body.now).artifacts) }
 {
     match body {
         Body::Step(step) => add_task(&step.task, found),
@@ -74,8 +79,9 @@ pub fn add_artifacts<'a>(body: &'a Body, found: &mut Vec<&'a str>) -> Result<(),
     }
 }
 
-fn add_task<'a>(task: &'a Task, found: &mut Vec<&'a str>) -> Result<(), AllocError>
-    ensures { OnOk result (map (λ name. name.now) found.new.items ≡ map (λ name. name.now) found.old.items ++ task_artifacts task.now) }
+fn add_task<'a>(task: &'a Task, found: &mut Vec<&'a str>) -> Result<(), OutOfMemory>
+    ensures { OnOk result (map (λ name. name.now) found.new.items
+        ≡ map (λ name. name.now) found.old.items ++ task_artifacts task.now) }
 {
     match task {
         Task::Batchlet { artifact } => {

@@ -3,7 +3,8 @@ ghost use Rattle.jsl_model.specs.Trees.{joined, nodes, nodes_of, in_body, nodes_
 ghost use Rattle.jsl_model.specs.Nodes.{node};
 
 use crate::element::{Body, Element, SplitFlow, Transition};
-use std::alloc::{AllocError, Global};
+use batch_ids::OutOfMemory;
+use std::alloc::Global;
 
 /// An element, or a flow of a split, without what is inside it.
 #[derive(Clone, Copy)]
@@ -15,7 +16,7 @@ pub struct Node<'a> {
 }
 
 /// All elements of a list at all depths, flows of splits included, in written order.
-pub fn nodes_in(alloc: Global, elements: &[Element]) -> Result<Vec<Node<'_>>, AllocError>
+pub fn nodes_in(alloc: Global, elements: &[Element]) -> Result<Vec<Node<'_>>, OutOfMemory>
     ensures { IfOk result (λ found. map node found.items ≡ nodes elements.now) }
 {
     let mut found = Vec::new(alloc);
@@ -24,8 +25,9 @@ pub fn nodes_in(alloc: Global, elements: &[Element]) -> Result<Vec<Node<'_>>, Al
 }
 
 #[cycle(adding)]
-fn add_element<'a>(element: &'a Element, found: &mut Vec<Node<'a>>) -> Result<(), AllocError>
-    ensures { OnOk result (map node found.new.items ≡ map node found.old.items ++ nodes_of element.now) }
+fn add_element<'a>(element: &'a Element, found: &mut Vec<Node<'a>>) -> Result<(), OutOfMemory>
+    ensures { OnOk result (map node found.new.items
+        ≡ map node found.old.items ++ nodes_of element.now) }
 {
     found.push(Node {
         id: element.id.as_str(),
@@ -36,8 +38,9 @@ fn add_element<'a>(element: &'a Element, found: &mut Vec<Node<'a>>) -> Result<()
 }
 
 #[cycle(adding)]
-fn add_inside<'a>(body: &'a Body, found: &mut Vec<Node<'a>>) -> Result<(), AllocError>
-    ensures { OnOk result (map node found.new.items ≡ map node found.old.items ++ (in_body body.now).nodes) }
+fn add_inside<'a>(body: &'a Body, found: &mut Vec<Node<'a>>) -> Result<(), OutOfMemory>
+    ensures { OnOk result (map node found.new.items
+        ≡ map node found.old.items ++ (in_body body.now).nodes) }
 {
     match body {
         Body::Step(_) => Ok(()),
@@ -48,8 +51,9 @@ fn add_inside<'a>(body: &'a Body, found: &mut Vec<Node<'a>>) -> Result<(), Alloc
 }
 
 #[cycle(adding)]
-fn add_all<'a>(elements: &'a [Element], found: &mut Vec<Node<'a>>) -> Result<(), AllocError>
-    ensures { OnOk result (map node found.new.items ≡ map node found.old.items ++ nodes elements.now) }
+fn add_all<'a>(elements: &'a [Element], found: &mut Vec<Node<'a>>) -> Result<(), OutOfMemory>
+    ensures { OnOk result (map node found.new.items
+        ≡ map node found.old.items ++ nodes elements.now) }
 {
     for element in elements {
         add_element(element, found)?;
@@ -58,8 +62,9 @@ fn add_all<'a>(elements: &'a [Element], found: &mut Vec<Node<'a>>) -> Result<(),
 }
 
 #[cycle(adding)]
-fn add_flows<'a>(flows: &'a [SplitFlow], found: &mut Vec<Node<'a>>) -> Result<(), AllocError>
-    ensures { OnOk result (map node found.new.items ≡ map node found.old.items ++ joined (map nodes_of_flow flows.now)) }
+fn add_flows<'a>(flows: &'a [SplitFlow], found: &mut Vec<Node<'a>>) -> Result<(), OutOfMemory>
+    ensures { OnOk result (map node found.new.items
+        ≡ map node found.old.items ++ joined (map nodes_of_flow flows.now)) }
 {
     for flow in flows {
         found.push(Node {

@@ -2,6 +2,7 @@ ghost use Rattle.std.specs.Prelude.{◌≡◌, IfOk, option_map};
 ghost use Rattle.serde_json.specs.View.{view};
 ghost use Rattle.json_members.specs.Members.{data_of};
 
+use batch_ids::OutOfMemory;
 use serde_json::Value;
 use std::alloc::{AllocError, Global};
 
@@ -11,8 +12,8 @@ use std::alloc::{AllocError, Global};
 /// number that no `f64` comes near is not read.
 ///
 /// # Errors
-/// `AllocError` alone: memory was refused.
-pub fn read_value(alloc: Global, bytes: &[u8]) -> Result<Option<Value>, AllocError>
+/// `OutOfMemory` alone: memory was refused.
+pub fn read_value(alloc: Global, bytes: &[u8]) -> Result<Option<Value>, OutOfMemory>
     ensures { IfOk result (λ found. option_map view found ≡ data_of bytes.now) }
 {
     match Value::from_slice(alloc, bytes) {

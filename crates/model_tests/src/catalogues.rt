@@ -296,6 +296,62 @@ fn the_order_of_faults(rt: HostRuntime) -> Result<(), Fail> {
     Ok(())
 }
 
+// Elements of a job, and the job's first fault.
+const FAULTS: [(&str, JobFault); 8] = [
+    (
+        r#"{"kind":"decision","id":"d","ref":"a"},{"kind":"decision","id":"d","ref":"a"}"#,
+        JobFault::DuplicateId,
+    ),
+    // A flow of a split has an id like any other.
+    (
+        r#"{"kind":"split","id":"p","flows":[{"kind":"flow","id":"p","elements":[{"kind":"decision","id":"d","ref":"a"}]}]}"#,
+        JobFault::DuplicateId,
+    ),
+    // Two of one id come ahead of a target that is not there.
+    (
+        r#"{"kind":"flow","id":"d","next":"x","elements":[{"kind":"decision","id":"d","ref":"a"}]}"#,
+        JobFault::DuplicateId,
+    ),
+    // A target stands in the same list.
+    (
+        r#"{"kind":"flow","id":"f","next":"d","elements":[{"kind":"decision","id":"d","ref":"a"}]}"#,
+        JobFault::NoSuchTarget,
+    ),
+    (
+        r#"{"kind":"decision","id":"d","ref":"a","transitions":[{"kind":"next","on":"E","to":"d"}]}"#,
+        JobFault::Loop,
+    ),
+    // A target that is not there comes ahead of a cycle.
+    (
+        r#"{"kind":"step","id":"s","next":"s","batchlet":{"ref":"b"},"transitions":[{"kind":"next","on":"E","to":"x"}]}"#,
+        JobFault::NoSuchTarget,
+    ),
+    // A restart begins at an element of the job's own list.
+    (
+        r#"{"kind":"flow","id":"f","elements":[{"kind":"decision","id":"d","ref":"a","transitions":[{"kind":"stop","on":"E","restart":"d"}]}]}"#,
+        JobFault::RestartNotJobLevel,
+    ),
+    (
+        r#"{"kind":"step","id":"s","next":"s","batchlet":{"ref":"b"},"transitions":[{"kind":"stop","on":"E","restart":"x"}]}"#,
+        JobFault::Loop,
+    ),
+];
+
+#[test]
+fn the_first_fault_of_a_job(rt: HostRuntime) -> Result<(), Fail> {
+    let alloc = rt.alloc();
+    for (elements, fault) in FAULTS {
+        let text = format!(in alloc; r#"{{"jobs":[{{"id":"j","elements":[{elements}]}}]}}"#)?;
+        let wanted = ReadFault::InJob { job: 0, fault };
+        assert_eq!(rt;
+            read_catalogue(alloc, text.as_bytes()).err(),
+            Some(wanted),
+            "{text}"
+        );
+    }
+    Ok(())
+}
+
 #[test]
 fn a_fault_prints_as_its_name(rt: HostRuntime) -> Result<(), Fail> {
     let element = None;

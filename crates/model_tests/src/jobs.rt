@@ -154,7 +154,20 @@ fn each_artifact_is_listed_once(rt: HostRuntime) -> Result<(), Fail> {
 
 #[test]
 fn a_fault_prints_as_its_name(rt: HostRuntime) -> Result<(), Fail> {
-    let text = format!(in rt.alloc(); "{}", JobFault::NoSuchTarget)?;
-    assert_eq!(rt; text.as_str(), "NoSuchTarget");
+    let faults = [
+        (JobFault::TextTooLong, "TextTooLong"),
+        (JobFault::Empty, "Empty"),
+        (JobFault::TooDeep, "TooDeep"),
+        (JobFault::TooMany, "TooMany"),
+        (JobFault::DuplicateId, "DuplicateId"),
+        (JobFault::NoSuchTarget, "NoSuchTarget"),
+        (JobFault::Loop, "Loop"),
+        (JobFault::RestartNotJobLevel, "RestartNotJobLevel"),
+        (JobFault::OutOfMemory, "OutOfMemory"),
+    ];
+    for (fault, name) in faults {
+        let text = format!(in rt.alloc(); "{fault}")?;
+        assert_eq!(rt; text.as_str(), name);
+    }
     Ok(())
 }
