@@ -11,7 +11,7 @@ use Rattle.jsl_model.specs.declared.parts.BodyParts.TheOpen.{Step as OpenStepOf,
 use Rattle.jsl_model.specs.declared.element.Step.{Step as StepBody}
 use Rattle.jsl_model.specs.declared.element.Element.{Element, fold_out-Element}
 use Rattle.jsl_model.specs.declared.element.SplitFlow.{SplitFlow, fold-roll-SplitFlow}
-use Rattle.jsl_model.specs.declared.element.Body.{Body, fold-roll-Body}
+use Rattle.jsl_model.specs.declared.element.Body.{fold-roll-Body}
 use Rattle.jsl_model.specs.declared.element.Body.TheVariants.{Step, Flow, Split, Decision, rolls-Step, rolls-Flow, rolls-Split, rolls-Decision}
 use Rattle.jsl_model.specs.declared.element.Body.TheOpen.{Step as OpenStep, Flow as OpenFlow, Split as OpenSplit, Decision as OpenDecision}
 use Rattle.jsl_model.specs.Trees.{any_true}

@@ -1,5 +1,5 @@
 -- Looking for the first element of an id in what several values hold, one after another.
-use Rattle.std.proofs.Common.{◌≡◌, ℕ, ◌+◌, ◌<◌, Bool, true, false, Bor, option_copied, cond, Option, None, Some, is_some, List, [], ◌∷◌, ◌++◌, length, drop, get_or, find, refl, sym, ◌∙◌, ap}
+use Rattle.std.proofs.Common.{◌≡◌, ℕ, ◌+◌, ◌<◌, Bool, true, false, Bor, option_copied, cond, Option, None, Some, is_some, List, ◌∷◌, ◌++◌, length, drop, get_or, find, refl, sym, ◌∙◌, ap}
 use Rattle.std.specs.Option.{option_or}
 use Rattle.std.specs.List.{flat_map}
 use Rattle.std.proofs.lemmas.List.{at_drop_more}

@@ -1,5 +1,5 @@
 -- What has to be there and is empty: an id, an artifact name, a list of elements, the flows of a split, the items of a group.
-use Rattle.std.specs.Prelude.{ℕ, ◌||◌, Bool, false, Option, Some, None, List, map, nat_eq}
+use Rattle.std.specs.Prelude.{ℕ, ◌||◌, Bool, false, Option, Some, None, List, nat_eq}
 use Rattle.jsl_model.specs.declared.element.Task.{Task}
 use Rattle.jsl_model.specs.declared.element.Task.TheVariants.{Batchlet, Chunk}
 use Rattle.jsl_model.specs.declared.element.Element.{Element, Element-F, fold-Element}

@@ -70,7 +70,7 @@ fn add_new<'a>(
         ++ unheld (λ other. hash.contains_by (λ key. bytes_eq other key.now) seen.new) rest
         ≡ map (λ name. name.now) kept.old.items
         ++ unheld (λ other. hash.contains_by (λ key. bytes_eq other key.now) seen.old)
-            (name.now ∷ rest)) }
+        (name.now ∷ rest)) }
 {
     if !seen.insert(name)? {
         return Ok(());

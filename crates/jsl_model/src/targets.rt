@@ -116,7 +116,7 @@ fn places_in<'a>(
 ) -> Result<Vec<usize>, OutOfMemory>
     ensures { IfOk result (λ found. found.items
         ≡ filter_map (λ name. hash.get_by (λ key. bytes_eq name.now key.now) places.now)
-            names.now) }
+        names.now) }
 {
     let mut found = Vec::new(alloc);
     for name in names {

@@ -1,7 +1,6 @@
 use Rattle.std.proofs.Common.{rules, ◌≡◌, ◌∷◌, sym, ◌∙◌, ap, true, false, find, option_copied}
 use Rattle.batch_ids.specs.Texts.{is_text}
 use Rattle.jsl_model.specs.declared.element.Element.{Element}
-use Rattle.jsl_model.specs.declared.element.SplitFlow.{SplitFlow}
 use Rattle.jsl_model.specs.Trees.{all_elements, elements_in_body, elements_in_flow}
 use Rattle.jsl_model.proofs.Opening.{in_split_flow}
 use Rattle.jsl_model.proofs.Searches.{found_here, found_later, first_is_not, copied_there}
