@@ -4,29 +4,24 @@ use jsl_model::{BodyParts, ElementParts, Job, JobParts, SplitFlowParts, StepPart
 use std::alloc::{AllocError, Global};
 use std::test::Fail;
 
-fn element(
-    alloc: Global,
-    id: &str,
-    next: Option<String>,
-    body: BodyParts,
-) -> Result<ElementParts, AllocError> {
+fn element(alloc: Global, id: &str, body: BodyParts) -> Result<ElementParts, AllocError> {
     Ok(ElementParts {
         id: String::from_str(alloc, id)?,
-        next,
-        transitions: Listed::new(alloc),
         body,
     })
 }
 
 fn step(alloc: Global, id: &str, next: Option<String>) -> Result<ElementParts, AllocError> {
     let step = StepParts {
+        next,
+        transitions: Listed::new(alloc),
         start_limit: 0,
         allow_start_if_complete: false,
         task: TaskParts::Batchlet {
             artifact: String::from_str(alloc, "ok")?,
         },
     };
-    element(alloc, id, next, BodyParts::Step(step))
+    element(alloc, id, BodyParts::Step(step))
 }
 
 fn flow_of(alloc: Global, id: &str, only: &str) -> Result<SplitFlowParts, AllocError> {
@@ -45,7 +40,7 @@ fn parts(alloc: Global) -> Result<JobParts, AllocError> {
     flows.push(flow_of(alloc, "f2", "s2")?)?;
     let mut elements = Listed::new(alloc);
     elements.push(step(alloc, "a", Some(String::from_str(alloc, "b")?))?)?;
-    elements.push(element(alloc, "b", None, BodyParts::Split(flows))?)?;
+    elements.push(element(alloc, "b", BodyParts::Split { next: None, flows })?)?;
     Ok(JobParts {
         id: String::from_str(alloc, "j")?,
         restartable: true,

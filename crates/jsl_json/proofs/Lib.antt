@@ -1,2 +1,2 @@
-pub mod Inside
+pub mod Nesting
 pub mod Lists

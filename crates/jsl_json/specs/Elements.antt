@@ -1,19 +1,23 @@
 -- The elements of a job as a tree, each one's own members ahead of what is inside it. They are counted as they are written, from 0 in each job, flows of splits too.
-use Rattle.std.specs.Prelude.{ℕ, ◌+◌, List, [], ◌∷◌, bytes_eq, codes, Option, Some, None, Result, Ok, Err, if◌then◌else◌}
+use Rattle.std.specs.Prelude.{ℕ, ◌+◌, ◌-◌, ◌^◌, min, List, [], ◌∷◌, bytes_eq, codes, Option, Some, None, Result, Ok, Err, if◌then◌else◌}
 use Rattle.serde_json.specs.Data.{Data, array, object, Items, no_items, item, Members, no_members, member}
 use Rattle.jsl_model.specs.declared.element.Element.{Element}
 use Rattle.jsl_model.specs.declared.element.SplitFlow.{SplitFlow, roll-SplitFlow}
-use Rattle.jsl_model.specs.declared.element.Body.{Body}
 use Rattle.jsl_model.specs.declared.element.Body.TheVariants.{Step, Flow, Split, Decision}
+use Rattle.jsl_model.specs.Parts.{Content}
 use Rattle.jsl_json.specs.declared.fault.ReadFault.{ReadFault}
 use Rattle.jsl_json.specs.declared.fault.ReadFault.TheVariants.{BadElement}
-use Rattle.jsl_json.specs.Members.{Kind, step, flow, split, decision, Own, OwnFlow, own_of, own_flow_of}
+use Rattle.jsl_json.specs.Members.{Kind, step, flow, split, decision, OwnMembers, OwnFlowMembers, own_of, own_flow_of}
 
 infixl 10 ◌>>=◌
 -- what comes of what was read, or the fault
 abbrev pub ◌>>=◌ : {A B : Type 0} → Result A ReadFault → (A → Result B ReadFault) → Result B ReadFault
 (Ok found) >>= f = f found
 (Err fault) >>= f = Err fault
+
+-- the number after this one; numbers end at 2^64 - 1, and no line has so many elements
+abbrev pub next_number : ℕ → ℕ
+next_number n = min (n + 1) (2 ^ 64 - 1)
 
 -- what was read, and the number of the next element
 abbrev pub Read : Type 0 → Type 0
@@ -23,21 +27,24 @@ Read A = Result (A × ℕ) ReadFault
 abbrev pub bad : {A : Type 0} → ℕ → ℕ → Read A
 bad job n = Err (BadElement job (Some n))
 
--- what an element is, what is inside it being read
-abbrev pub body_with : Kind → ℕ → Read (List Element) → Read (List SplitFlow) → Read Body
-body_with (step s) n elements flows = Ok (Step s, n)
-body_with (flow ds) n elements flows = elements >>= λ x. Ok (Flow x.0, x.1)
-body_with (split ds) n elements flows = flows >>= λ x. Ok (Split x.0, x.1)
-body_with (decision artifact) n elements flows = Ok (Decision artifact, n)
+-- what an element has beside its id, what is inside it being read: a split has no transition elements, and a decision no `next`
+abbrev pub content_with : Kind → ℕ → Read (List Element) → Read (List SplitFlow) → Read Content
+content_with (step next transitions s) n elements flows = Ok (record { next = next; transitions = transitions; body = Step s }, n)
+content_with (flow next transitions ds) n elements flows =
+    elements >>= λ x. Ok (record { next = next; transitions = transitions; body = Flow x.0 }, x.1)
+content_with (split next ds) n elements flows = flows >>= λ x. Ok (record { next = next; transitions = []; body = Split x.0 }, x.1)
+content_with (decision transitions artifact) n elements flows =
+    Ok (record { next = None; transitions = transitions; body = Decision artifact }, n)
 
 -- an element with its own members, if they are right
-abbrev pub element_with : ℕ → ℕ → Option Own → Read (List Element) → Read (List SplitFlow) → Read Element
+abbrev pub element_with : ℕ → ℕ → Option OwnMembers → Read (List Element) → Read (List SplitFlow) → Read Element
 element_with job n None elements flows = bad job n
 element_with job n (Some own) elements flows =
-    body_with own.kind (n + 1) elements flows >>= λ x. Ok (record { id = own.id; next = own.next; transitions = own.transitions; body = x.0 }, x.1)
+    content_with own.kind (next_number n) elements flows
+    >>= λ x. Ok (record { id = own.id; next = x.0.next; transitions = x.0.transitions; body = x.0.body }, x.1)
 
 -- a flow of a split with its own members, if they are right
-abbrev pub flow_with : ℕ → ℕ → Option OwnFlow → Read (List Element) → Read SplitFlow
+abbrev pub flow_with : ℕ → ℕ → Option OwnFlowMembers → Read (List Element) → Read SplitFlow
 flow_with job n None elements = bad job n
 flow_with job n (Some own) elements = elements >>= λ x. Ok (roll-SplitFlow record { id = own.id; elements = x.0 }, x.1)
 
@@ -49,7 +56,7 @@ followed first rest = first >>= λ x. rest x.1 >>= λ y. Ok (x.0 ∷ y.0, y.1)
 unfoldable mutual
   -- the element that a value is
   pub element_at : ℕ → Data → ℕ → Read Element
-  element_at job (object ms) n = element_with job n (own_of (object ms)) (elements_in job ms (n + 1)) (flows_in job ms (n + 1))
+  element_at job (object ms) n = element_with job n (own_of (object ms)) (elements_in job ms (next_number n)) (flows_in job ms (next_number n))
   element_at job d n = bad job n
 
   -- the elements in the list named `elements`
@@ -65,7 +72,7 @@ unfoldable mutual
 
   -- the flow of a split that a value is
   pub flow_at : ℕ → Data → ℕ → Read SplitFlow
-  flow_at job (object ms) n = flow_with job n (own_flow_of (object ms)) (elements_in job ms (n + 1))
+  flow_at job (object ms) n = flow_with job n (own_flow_of (object ms)) (elements_in job ms (next_number n))
   flow_at job d n = bad job n
 
   -- the flows in the list named `flows`
@@ -79,9 +86,10 @@ unfoldable mutual
   flows_at job no_items n = Ok ([], n)
   flows_at job (item d ds) n = followed (flow_at job d n) (λ k. flows_at job ds k)
 
--- the body of an element of this kind, the values inside it being read, counted from n on
-abbrev pub body_at : ℕ → Kind → ℕ → Read Body
-body_at job (step s) n = Ok (Step s, n)
-body_at job (flow ds) n = elements_at job ds n >>= λ x. Ok (Flow x.0, x.1)
-body_at job (split ds) n = flows_at job ds n >>= λ x. Ok (Split x.0, x.1)
-body_at job (decision artifact) n = Ok (Decision artifact, n)
+-- what an element of this kind has beside its id, the values inside it being read, counted from n on
+abbrev pub content_at : ℕ → Kind → ℕ → Read Content
+content_at job (step next transitions s) n = Ok (record { next = next; transitions = transitions; body = Step s }, n)
+content_at job (flow next transitions ds) n =
+    elements_at job ds n >>= λ x. Ok (record { next = next; transitions = transitions; body = Flow x.0 }, x.1)
+content_at job (split next ds) n = flows_at job ds n >>= λ x. Ok (record { next = next; transitions = []; body = Split x.0 }, x.1)
+content_at job (decision transitions artifact) n = Ok (record { next = None; transitions = transitions; body = Decision artifact }, n)

@@ -10,18 +10,16 @@ use Rattle.jsl_json.specs.Transitions.{transitions_at}
 
 -- What an element is, what is inside it being values still
 
--- a step, a flow with the values of its elements, a split with those of its flows, or a decision with its artifact
+-- a step, a flow with the values of its elements, a split with those of its flows, or a decision with its artifact; each with the `next` and the transition elements that its kind may have
 pub data Kind : Type 0 where
-  step : StepRecord → Kind
-  flow : Items → Kind
-  split : Items → Kind
-  decision : List ℕ → Kind
+  step : Option (List ℕ) → List Transition → StepRecord → Kind
+  flow : Option (List ℕ) → List Transition → Items → Kind
+  split : Option (List ℕ) → Items → Kind
+  decision : List Transition → List ℕ → Kind
 
 -- an element's own members
-pub record Own : Type 0 where
+pub record OwnMembers : Type 0 where
   pub id : List ℕ
-  pub next : Option (List ℕ)
-  pub transitions : List Transition
   pub kind : Kind
 
 -- the members that a step lists
@@ -45,27 +43,48 @@ unfoldable pub step_of_data : Data → Option Kind
 step_of_data d =
     if has_only step_names d
     then (do
+      next ← optional_text (codes "next") d
+      transitions ← transitions_at d
       start_limit ← count_or (codes "start-limit") 0 d
       again ← truth_or (codes "allow-start-if-complete") false d
       task ← task_at d
-      Some (step (record { start_limit = start_limit; allow_start_if_complete = again; task = task })))
+      Some (step next transitions (record { start_limit = start_limit; allow_start_if_complete = again; task = task })))
     else None
 
 -- the flow that an object is
-abbrev pub flow_of_data : Data → Option Kind
-flow_of_data d = if has_only flow_names d then option_map flow (list_at (codes "elements") d) else None
+unfoldable pub flow_of_data : Data → Option Kind
+flow_of_data d =
+    if has_only flow_names d
+    then (do
+      next ← optional_text (codes "next") d
+      transitions ← transitions_at d
+      elements ← list_at (codes "elements") d
+      Some (flow next transitions elements))
+    else None
 
 -- the split that an object is
-abbrev pub split_of_data : Data → Option Kind
-split_of_data d = if has_only split_names d then option_map split (list_at (codes "flows") d) else None
+unfoldable pub split_of_data : Data → Option Kind
+split_of_data d =
+    if has_only split_names d
+    then (do
+      next ← optional_text (codes "next") d
+      flows ← list_at (codes "flows") d
+      Some (split next flows))
+    else None
 
 -- the decision that an object is
-abbrev pub decision_of_data : Data → Option Kind
-decision_of_data d = if has_only decision_names d then option_map decision (text_at (codes "ref") d) else None
+unfoldable pub decision_of_data : Data → Option Kind
+decision_of_data d =
+    if has_only decision_names d
+    then (do
+      transitions ← transitions_at d
+      artifact ← text_at (codes "ref") d
+      Some (decision transitions artifact))
+    else None
 
 -- what an element is, by its kind
-unfoldable pub kind_of : Data → Option Kind
-kind_of d =
+unfoldable pub element_kind : Data → Option Kind
+element_kind d =
     if is_text (codes "kind") (codes "step") d then step_of_data d
     else (if is_text (codes "kind") (codes "flow") d then flow_of_data d
     else (if is_text (codes "kind") (codes "split") d then split_of_data d
@@ -73,22 +92,20 @@ kind_of d =
 
 -- the values inside are those of the object's list of that name
 abbrev pub IsInside : Kind → Data → Type 0
-IsInside (step s) d = Unit {0}
-IsInside (flow ds) d = list_at (codes "elements") d ≡ Some ds
-IsInside (split ds) d = list_at (codes "flows") d ≡ Some ds
-IsInside (decision artifact) d = Unit {0}
+IsInside (step next transitions s) d = Unit {0}
+IsInside (flow next transitions ds) d = list_at (codes "elements") d ≡ Some ds
+IsInside (split next ds) d = list_at (codes "flows") d ≡ Some ds
+IsInside (decision transitions artifact) d = Unit {0}
 
--- an element's own members, where none is wrong; a member that its kind does not list, as the `next` of a decision, counts as left out
-unfoldable pub own_of : Data → Option Own
+-- an element's own members, where none is wrong
+unfoldable pub own_of : Data → Option OwnMembers
 own_of d = do
-  kind ← kind_of d
+  kind ← element_kind d
   id ← text_at (codes "id") d
-  next ← optional_text (codes "next") d
-  transitions ← transitions_at d
-  Some (record { id = id; next = next; transitions = transitions; kind = kind })
+  Some (record { id = id; kind = kind })
 
 -- a flow of a split: its id, and the values of its elements
-pub record OwnFlow : Type 0 where
+pub record OwnFlowMembers : Type 0 where
   pub id : List ℕ
   pub elements : Items
 
@@ -97,7 +114,7 @@ abbrev pub split_flow_names : List (List ℕ)
 split_flow_names = codes "kind" ∷ codes "id" ∷ codes "elements" ∷ []
 
 -- the own members of a flow of a split, where none is wrong
-unfoldable pub own_flow_of : Data → Option OwnFlow
+unfoldable pub own_flow_of : Data → Option OwnFlowMembers
 own_flow_of d =
     if has_only split_flow_names d && is_text (codes "kind") (codes "flow") d
     then (do
@@ -107,7 +124,7 @@ own_flow_of d =
     else None
 
 -- a job: its id, whether it may be restarted, and the values of its elements
-pub record OwnJob : Type 0 where
+pub record OwnJobMembers : Type 0 where
   pub id : List ℕ
   pub restartable : Bool
   pub elements : Items
@@ -117,7 +134,7 @@ abbrev pub job_names : List (List ℕ)
 job_names = codes "id" ∷ codes "restartable" ∷ codes "elements" ∷ []
 
 -- the own members of a job, where none is wrong; it may be restarted where it says nothing else
-unfoldable pub own_job_of : Data → Option OwnJob
+unfoldable pub own_job_of : Data → Option OwnJobMembers
 own_job_of d =
     if has_only job_names d
     then (do

@@ -20,16 +20,16 @@ abbrev pub stop_names : List (List ℕ)
 stop_names = codes "kind" ∷ codes "on" ∷ codes "exit-status" ∷ codes "restart" ∷ []
 
 -- on to the element that `to` names
-abbrev pub next_of : Data → Option Then
-next_of d = if has_only next_names d then option_map Next (text_at (codes "to") d) else None
+abbrev pub then_next : Data → Option Then
+then_next d = if has_only next_names d then option_map Next (text_at (codes "to") d) else None
 
 -- the exit status of an `end` or a `fail`
 abbrev pub exit_status_of : Data → Option (Option (List ℕ))
 exit_status_of d = if has_only end_names d then optional_text (codes "exit-status") d else None
 
 -- a stop, with its exit status and the element of a restart
-unfoldable pub stop_of : Data → Option Then
-stop_of d =
+unfoldable pub then_stop : Data → Option Then
+then_stop d =
     if has_only stop_names d
     then (do
       exit_status ← optional_text (codes "exit-status") d
@@ -40,10 +40,10 @@ stop_of d =
 -- where a transition element leads, by its kind
 unfoldable pub then_of_data : Data → Option Then
 then_of_data d =
-    if is_text (codes "kind") (codes "next") d then next_of d
+    if is_text (codes "kind") (codes "next") d then then_next d
     else (if is_text (codes "kind") (codes "end") d then option_map End (exit_status_of d)
     else (if is_text (codes "kind") (codes "fail") d then option_map Fail (exit_status_of d)
-    else (if is_text (codes "kind") (codes "stop") d then stop_of d else None)))
+    else (if is_text (codes "kind") (codes "stop") d then then_stop d else None)))
 
 -- the transition element that a value is
 unfoldable pub transition_of_data : Data → Option Transition

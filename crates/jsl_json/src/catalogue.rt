@@ -38,7 +38,13 @@ use std::alloc::Global;
 ///
 /// A member for which nothing else is said is a text.
 ///
-/// Errors, the first in this order:
+/// The elements of a job are counted from 0 as they are written, an element ahead of those inside
+/// it, and the flows of splits are counted too.
+///
+/// It costs time and memory as the text has bytes, and as the catalogue has jobs for each job.
+///
+/// # Errors
+/// The first in this order:
 /// - `NotJson`: the bytes are not UTF-8 or not one JSON value;
 /// - `NotACatalogue`: the value is no object of just `jobs`, a list;
 /// - then for each job in turn, counted from 0: `BadElement` without an element, for the job's own
@@ -46,14 +52,12 @@ use std::alloc::Global;
 ///   its artifacts and transition elements; `InJob` with the faults of `Job::check`; `InJob` with
 ///   those of `Catalogue::add`.
 ///
-/// The elements of a job are counted from 0 as they are written, an element ahead of those inside
-/// it, and the flows of splits are counted too. `OutOfMemory` may stand in place of any answer.
-///
-/// It costs time and memory as the text has bytes, and as the catalogue has jobs for each job.
+/// `OutOfMemory` may stand in place of any answer.
 #[tactic(auto, unfolding(crate::specs::Catalogues::catalogue_of))]
 pub fn read_catalogue(alloc: Global, bytes: &[u8]) -> Result<Catalogue, ReadFault>
     ensures read { IfOk result (λ catalogue. catalogue_of bytes.now ≡ Ok catalogue) }
-    ensures fault { IfErr result (λ fault. is_out_of_memory fault ≡ false → catalogue_of bytes.now ≡ Err fault) }
+    ensures fault { IfErr result (λ fault. is_out_of_memory fault ≡ false
+        → catalogue_of bytes.now ≡ Err fault) }
 {
     let value = read_value(alloc, bytes)?;
     match &value {
@@ -65,7 +69,8 @@ pub fn read_catalogue(alloc: Global, bytes: &[u8]) -> Result<Catalogue, ReadFaul
 #[tactic(auto, unfolding(crate::specs::Catalogues::catalogue_in))]
 fn catalogue_of_value(alloc: Global, value: &Value) -> Result<Catalogue, ReadFault>
     ensures read { IfOk result (λ catalogue. catalogue_in (view value.now) ≡ Ok catalogue) }
-    ensures fault { IfErr result (λ fault. is_out_of_memory fault ≡ false → catalogue_in (view value.now) ≡ Err fault) }
+    ensures fault { IfErr result (λ fault. is_out_of_memory fault ≡ false
+        → catalogue_in (view value.now) ≡ Err fault) }
 {
     match jobs_of(value) {
         Some(jobs) => catalogue_of_jobs(alloc, jobs),
@@ -85,7 +90,8 @@ fn jobs_of(value: &Value) -> Option<&[Value]>
 
 fn catalogue_of_jobs(alloc: Global, jobs: &[Value]) -> Result<Catalogue, ReadFault>
     ensures read { IfOk result (λ catalogue. with_jobs [] (items_view jobs.now) ≡ Ok catalogue) }
-    ensures fault { IfErr result (λ fault. is_out_of_memory fault ≡ false → with_jobs [] (items_view jobs.now) ≡ Err fault) }
+    ensures fault { IfErr result (λ fault. is_out_of_memory fault ≡ false
+        → with_jobs [] (items_view jobs.now) ≡ Err fault) }
 {
     let mut catalogue = Catalogue::new(alloc);
     for value in jobs {
@@ -98,7 +104,8 @@ fn catalogue_of_jobs(alloc: Global, jobs: &[Value]) -> Result<Catalogue, ReadFau
 #[tactic(auto, unfolding(crate::specs::Catalogues::with_job))]
 fn add_job(alloc: Global, catalogue: &mut Catalogue, value: &Value) -> Result<(), ReadFault>
     ensures added { OnOk result (with_job catalogue.old (view value.now) ≡ Ok catalogue.new) }
-    ensures fault { IfErr result (λ fault. is_out_of_memory fault ≡ false → with_job catalogue.old (view value.now) ≡ Err fault) }
+    ensures fault { IfErr result (λ fault. is_out_of_memory fault ≡ false
+        → with_job catalogue.old (view value.now) ≡ Err fault) }
 {
     let number = catalogue.len() as u64;
     let parts = job_at(alloc, number, value)?;
@@ -106,7 +113,7 @@ fn add_job(alloc: Global, catalogue: &mut Catalogue, value: &Value) -> Result<()
         Ok(job) => job,
         Err(fault) => return Err(in_job(number, fault)),
     };
-    match entered(catalogue, job) {
+    match add_to(catalogue, job) {
         Ok(()) => Ok(()),
         Err(fault) => Err(in_job(number, fault)),
     }
@@ -116,7 +123,8 @@ fn add_job(alloc: Global, catalogue: &mut Catalogue, value: &Value) -> Result<()
 #[tactic(auto, unfolding(crate::specs::Catalogues::job_at))]
 fn job_at(alloc: Global, job: u64, value: &Value) -> Result<JobParts, ReadFault>
     ensures read { IfOk result (λ parts. job_at job (view value.now) ≡ Ok (tree_of parts)) }
-    ensures fault { IfErr result (λ fault. is_out_of_memory fault ≡ false → job_at job (view value.now) ≡ Err fault) }
+    ensures fault { IfErr result (λ fault. is_out_of_memory fault ≡ false
+        → job_at job (view value.now) ≡ Err fault) }
 {
     let Some(own) = own_job_of(value) else {
         return Err(ReadFault::BadElement { job, element: None });
@@ -131,10 +139,11 @@ fn job_at(alloc: Global, job: u64, value: &Value) -> Result<JobParts, ReadFault>
 }
 
 /// Adds a job to a catalogue.
-fn entered(catalogue: &mut Catalogue, job: Job) -> Result<(), JobFault>
+fn add_to(catalogue: &mut Catalogue, job: Job) -> Result<(), JobFault>
     ensures added { OnOk result (catalogue.new ≡ catalogue.old ++ job ∷ []) }
     ensures faultless { OnOk result (entry_fault catalogue.old job ≡ None) }
-    ensures fault { IfErr result (λ fault. is_memory fault ≡ false → entry_fault catalogue.old job ≡ Some fault) }
+    ensures fault { IfErr result (λ fault. is_memory fault ≡ false
+        → entry_fault catalogue.old job ≡ Some fault) }
 {
     catalogue.add(job)
 }

@@ -1,8 +1,8 @@
-ghost use Rattle.std.specs.Prelude.{◌≡◌, ◌+◌, false, Some, Ok, Err, map, IfOk, IfErr};
+ghost use Rattle.std.specs.Prelude.{◌≡◌, false, Some, Ok, Err, map, IfOk, IfErr};
 ghost use Rattle.serde_json.specs.View.{view, items_view};
-ghost use Rattle.jsl_model.specs.Parts.{element_of, body_of, flow_of};
+ghost use Rattle.jsl_model.specs.Parts.{element_of, content_of, flow_of};
 ghost use Rattle.jsl_json.specs.MemberViews.{kind_in};
-ghost use Rattle.jsl_json.specs.Elements.{element_at, elements_at, flow_at, flows_at, body_at};
+ghost use Rattle.jsl_json.specs.Elements.{element_at, elements_at, flow_at, flows_at, content_at};
 ghost use Rattle.jsl_json.specs.Catalogues.{is_out_of_memory};
 
 use crate::fault::ReadFault;
@@ -16,8 +16,9 @@ use std::alloc::Global;
 /// The elements of a list and what is inside them, and the number after the last one. The first of
 /// them has this number in its job.
 ///
-/// Errors, the first as they are written: `BadElement` for an element with wrong members of its own,
-/// ahead of those inside it. `OutOfMemory` may stand in place of any answer.
+/// # Errors
+/// The first as they are written: `BadElement` for an element with wrong members of its own, ahead of
+/// those inside it. `OutOfMemory` may stand in place of any answer.
 #[cycle(elements)]
 pub fn elements_at(
     alloc: Global,
@@ -25,8 +26,10 @@ pub fn elements_at(
     list: &[Value],
     number: u64,
 ) -> Result<(Listed<ElementParts>, u64), ReadFault>
-    ensures read { IfOk result (λ read. elements_at job (items_view list.now) number ≡ Ok (map element_of read.0, read.1)) }
-    ensures fault { IfErr result (λ fault. is_out_of_memory fault ≡ false → elements_at job (items_view list.now) number ≡ Err fault) }
+    ensures read { IfOk result (λ read. elements_at job (items_view list.now) number
+        ≡ Ok (map element_of read.0, read.1)) }
+    ensures fault { IfErr result (λ fault. is_out_of_memory fault ≡ false
+        → elements_at job (items_view list.now) number ≡ Err fault) }
 {
     let mut elements = Vec::new(alloc);
     let mut next = number;
@@ -45,22 +48,18 @@ fn element_at(
     value: &Value,
     number: u64,
 ) -> Result<(ElementParts, u64), ReadFault>
-    ensures read { IfOk result (λ read. element_at job (view value.now) number ≡ Ok (element_of read.0, read.1)) }
-    ensures fault { IfErr result (λ fault. is_out_of_memory fault ≡ false → element_at job (view value.now) number ≡ Err fault) }
+    ensures read { IfOk result (λ read. element_at job (view value.now) number
+        ≡ Ok (element_of read.0, read.1)) }
+    ensures fault { IfErr result (λ fault. is_out_of_memory fault ≡ false
+        → element_at job (view value.now) number ≡ Err fault) }
 {
-    let next = after(number)?;
+    let next = number.saturating_add(1);
     let own = match own_of(alloc, value) {
         Ok(own) => own,
         Err(fault) => return Err(in_element(job, number, fault)),
     };
     let (body, next) = body_at(alloc, job, own.kind, next)?;
-    let element = ElementParts {
-        id: own.id,
-        next: own.next,
-        transitions: own.transitions,
-        body,
-    };
-    Ok((element, next))
+    Ok((ElementParts { id: own.id, body }, next))
 }
 
 #[cycle(elements)]
@@ -70,20 +69,40 @@ fn body_at(
     kind: ElementKind<'_>,
     number: u64,
 ) -> Result<(BodyParts, u64), ReadFault>
-    ensures read { IfOk result (λ read. body_at job (kind_in kind.entry) number ≡ Ok (body_of read.0, read.1)) }
-    ensures fault { IfErr result (λ fault. is_out_of_memory fault ≡ false → body_at job (kind_in kind.entry) number ≡ Err fault) }
+    ensures read { IfOk result (λ read. content_at job (kind_in kind.entry) number
+        ≡ Ok (content_of read.0, read.1)) }
+    ensures fault { IfErr result (λ fault. is_out_of_memory fault ≡ false
+        → content_at job (kind_in kind.entry) number ≡ Err fault) }
 {
     match kind {
         ElementKind::Step(step) => Ok((BodyParts::Step(step), number)),
-        ElementKind::Flow(list) => {
-            let (elements, next) = elements_at(alloc, job, list, number)?;
-            Ok((BodyParts::Flow(elements), next))
+        ElementKind::Flow {
+            next,
+            transitions,
+            elements,
+        } => {
+            let (elements, after) = elements_at(alloc, job, elements, number)?;
+            let flow = BodyParts::Flow {
+                next,
+                transitions,
+                elements,
+            };
+            Ok((flow, after))
         }
-        ElementKind::Split(list) => {
-            let (flows, next) = flows_at(alloc, job, list, number)?;
-            Ok((BodyParts::Split(flows), next))
+        ElementKind::Split { next, flows } => {
+            let (flows, after) = flows_at(alloc, job, flows, number)?;
+            Ok((BodyParts::Split { next, flows }, after))
         }
-        ElementKind::Decision(artifact) => Ok((BodyParts::Decision(artifact), number)),
+        ElementKind::Decision {
+            transitions,
+            artifact,
+        } => {
+            let decision = BodyParts::Decision {
+                transitions,
+                artifact,
+            };
+            Ok((decision, number))
+        }
     }
 }
 
@@ -94,8 +113,10 @@ fn flows_at(
     list: &[Value],
     number: u64,
 ) -> Result<(Listed<SplitFlowParts>, u64), ReadFault>
-    ensures read { IfOk result (λ read. flows_at job (items_view list.now) number ≡ Ok (map flow_of read.0, read.1)) }
-    ensures fault { IfErr result (λ fault. is_out_of_memory fault ≡ false → flows_at job (items_view list.now) number ≡ Err fault) }
+    ensures read { IfOk result (λ read. flows_at job (items_view list.now) number
+        ≡ Ok (map flow_of read.0, read.1)) }
+    ensures fault { IfErr result (λ fault. is_out_of_memory fault ≡ false
+        → flows_at job (items_view list.now) number ≡ Err fault) }
 {
     let mut flows = Vec::new(alloc);
     let mut next = number;
@@ -114,27 +135,18 @@ fn flow_at(
     value: &Value,
     number: u64,
 ) -> Result<(SplitFlowParts, u64), ReadFault>
-    ensures read { IfOk result (λ read. flow_at job (view value.now) number ≡ Ok (flow_of read.0, read.1)) }
-    ensures fault { IfErr result (λ fault. is_out_of_memory fault ≡ false → flow_at job (view value.now) number ≡ Err fault) }
+    ensures read { IfOk result (λ read. flow_at job (view value.now) number
+        ≡ Ok (flow_of read.0, read.1)) }
+    ensures fault { IfErr result (λ fault. is_out_of_memory fault ≡ false
+        → flow_at job (view value.now) number ≡ Err fault) }
 {
-    let next = after(number)?;
+    let next = number.saturating_add(1);
     let Some(own) = own_flow_of(value) else {
         return Err(in_element(job, number, MemberFault::Wrong));
     };
     let id = String::from_str(alloc, own.id)?;
     let (elements, next) = elements_at(alloc, job, own.elements, next)?;
     Ok((SplitFlowParts { id, elements }, next))
-}
-
-/// The number after this one. No memory holds as many elements as there are numbers.
-fn after(number: u64) -> Result<u64, ReadFault>
-    ensures next { IfOk result (λ next. next ≡ number + 1) }
-    ensures fault { IfErr result (λ fault. fault ≡ ReadFault.OutOfMemory) }
-{
-    match number.checked_add(1) {
-        Some(next) => Ok(next),
-        None => Err(ReadFault::OutOfMemory),
-    }
 }
 
 /// What stands for wrong members of the element of this number.

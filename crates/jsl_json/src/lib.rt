@@ -12,8 +12,3 @@ mod transition;
 
 pub use catalogue::read_catalogue;
 pub use fault::ReadFault;
-
-#[cfg(test)]
-mod check_tests;
-#[cfg(test)]
-mod tests;

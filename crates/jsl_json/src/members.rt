@@ -1,9 +1,8 @@
 ghost use Rattle.std.specs.Prelude.{◌≡◌, Some, None, Err, codes, option_map, IfOk, IfSome};
 ghost use Rattle.serde_json.specs.View.{view};
 ghost use Rattle.json_members.specs.Members.{list_at};
-ghost use Rattle.jsl_json.specs.Members.{IsInside, step, step_of_data, flow_of_data, split_of_data, decision_of_data, kind_of, own_of, own_flow_of, own_job_of};
+ghost use Rattle.jsl_json.specs.Members.{IsInside, step_of_data, flow_of_data, split_of_data, decision_of_data, element_kind, own_of, own_flow_of, own_job_of};
 ghost use Rattle.jsl_json.specs.MemberViews.{kind_in, own_in, own_flow_in, own_job_in};
-ghost use Rattle.jsl_model.specs.Parts.{step_of};
 
 use crate::member_fault::MemberFault;
 use crate::task::{count_or, task_at, truth_or};
@@ -15,25 +14,29 @@ use json_members::{has_only, is_text, list_at, text_at};
 use serde_json::Value;
 use std::alloc::Global;
 
-/// What an element is. What is inside it is not read yet.
+/// What an element is, with what its kind may have. What is inside it is not read yet.
 #[derive(Drop)]
 pub enum ElementKind<'v> {
-    /// A step.
     Step(StepParts),
-    /// A flow, with the values of its elements.
-    Flow(&'v [Value]),
-    /// A split, with the values of its flows.
-    Split(&'v [Value]),
-    /// A decision, with the name of its artifact.
-    Decision(String),
+    Flow {
+        next: Option<String>,
+        transitions: Listed<TransitionParts>,
+        elements: &'v [Value],
+    },
+    Split {
+        next: Option<String>,
+        flows: &'v [Value],
+    },
+    Decision {
+        transitions: Listed<TransitionParts>,
+        artifact: String,
+    },
 }
 
 /// An element's own members.
 #[derive(Drop)]
 pub struct ElementMembers<'v> {
     pub id: String,
-    pub next: Option<String>,
-    pub transitions: Listed<TransitionParts>,
     pub kind: ElementKind<'v>,
 }
 
@@ -52,38 +55,30 @@ pub struct JobMembers<'v> {
     pub elements: &'v [Value],
 }
 
-/// The own members of an element. A split lists no `transitions` and a decision no `next`, so that
-/// they have none.
+/// The own members of an element.
 #[tactic(auto, unfolding(crate::specs::Members::own_of))]
 pub fn own_of(alloc: Global, value: &Value) -> Result<ElementMembers<'_>, MemberFault>
     ensures read { IfOk result (λ own. own_of (view value.now) ≡ Some (own_in own)) }
     ensures inside { IfOk result (λ own. IsInside (kind_in own.kind) (view value.now)) }
     ensures wrong { result ≡ Err MemberFault.Wrong → own_of (view value.now) ≡ None }
 {
-    let kind = kind_of(alloc, value)?;
+    let kind = element_kind(alloc, value)?;
     let id = text_of(alloc, value, "id")?;
-    let next = optional_text_of(alloc, value, "next")?;
-    let transitions = transitions_at(alloc, value)?;
-    Ok(ElementMembers {
-        id,
-        next,
-        transitions,
-        kind,
-    })
+    Ok(ElementMembers { id, kind })
 }
 
-#[tactic(auto, unfolding(crate::specs::Members::kind_of))]
-fn kind_of(alloc: Global, value: &Value) -> Result<ElementKind<'_>, MemberFault>
-    ensures read { IfOk result (λ kind. kind_of (view value.now) ≡ Some (kind_in kind)) }
+#[tactic(auto, unfolding(crate::specs::Members::element_kind))]
+fn element_kind(alloc: Global, value: &Value) -> Result<ElementKind<'_>, MemberFault>
+    ensures read { IfOk result (λ kind. element_kind (view value.now) ≡ Some (kind_in kind)) }
     ensures inside { IfOk result (λ kind. IsInside (kind_in kind) (view value.now)) }
-    ensures wrong { result ≡ Err MemberFault.Wrong → kind_of (view value.now) ≡ None }
+    ensures wrong { result ≡ Err MemberFault.Wrong → element_kind (view value.now) ≡ None }
 {
     if is_text(value, "kind", "step") {
         Ok(ElementKind::Step(step_of(alloc, value)?))
     } else if is_text(value, "kind", "flow") {
-        flow_of(value)
+        flow_of(alloc, value)
     } else if is_text(value, "kind", "split") {
-        split_of(value)
+        split_of(alloc, value)
     } else if is_text(value, "kind", "decision") {
         decision_of(alloc, value)
     } else {
@@ -93,7 +88,8 @@ fn kind_of(alloc: Global, value: &Value) -> Result<ElementKind<'_>, MemberFault>
 
 #[tactic(auto, unfolding(crate::specs::Members::step_of_data))]
 fn step_of(alloc: Global, value: &Value) -> Result<StepParts, MemberFault>
-    ensures read { IfOk result (λ parts. step_of_data (view value.now) ≡ Some (step (step_of parts))) }
+    ensures read { IfOk result (λ parts. step_of_data (view value.now)
+        ≡ Some (kind_in (ElementKind.Step parts))) }
     ensures wrong { result ≡ Err MemberFault.Wrong → step_of_data (view value.now) ≡ None }
 {
     if !has_only(
@@ -111,19 +107,24 @@ fn step_of(alloc: Global, value: &Value) -> Result<StepParts, MemberFault>
     ) {
         return Err(MemberFault::Wrong);
     }
+    let next = optional_text_of(alloc, value, "next")?;
+    let transitions = transitions_at(alloc, value)?;
     let start_limit = count_or(value, "start-limit", 0).ok_or(MemberFault::Wrong)?;
     let allow_start_if_complete = truth_or(value, "allow-start-if-complete", false).ok_or(
         MemberFault::Wrong,
     )?;
     let task = task_at(alloc, value)?;
     Ok(StepParts {
+        next,
+        transitions,
         start_limit,
         allow_start_if_complete,
         task,
     })
 }
 
-fn flow_of(value: &Value) -> Result<ElementKind<'_>, MemberFault>
+#[tactic(auto, unfolding(crate::specs::Members::flow_of_data))]
+fn flow_of(alloc: Global, value: &Value) -> Result<ElementKind<'_>, MemberFault>
     ensures read { IfOk result (λ kind. flow_of_data (view value.now) ≡ Some (kind_in kind)) }
     ensures inside { IfOk result (λ kind. IsInside (kind_in kind) (view value.now)) }
     ensures wrong { result ≡ Err MemberFault.Wrong → flow_of_data (view value.now) ≡ None }
@@ -131,13 +132,18 @@ fn flow_of(value: &Value) -> Result<ElementKind<'_>, MemberFault>
     if !has_only(value, &["kind", "id", "next", "elements", "transitions"]) {
         return Err(MemberFault::Wrong);
     }
-    match list_at(value, "elements") {
-        Some(elements) => Ok(ElementKind::Flow(elements)),
-        None => Err(MemberFault::Wrong),
-    }
+    let next = optional_text_of(alloc, value, "next")?;
+    let transitions = transitions_at(alloc, value)?;
+    let elements = list_at(value, "elements").ok_or(MemberFault::Wrong)?;
+    Ok(ElementKind::Flow {
+        next,
+        transitions,
+        elements,
+    })
 }
 
-fn split_of(value: &Value) -> Result<ElementKind<'_>, MemberFault>
+#[tactic(auto, unfolding(crate::specs::Members::split_of_data))]
+fn split_of(alloc: Global, value: &Value) -> Result<ElementKind<'_>, MemberFault>
     ensures read { IfOk result (λ kind. split_of_data (view value.now) ≡ Some (kind_in kind)) }
     ensures inside { IfOk result (λ kind. IsInside (kind_in kind) (view value.now)) }
     ensures wrong { result ≡ Err MemberFault.Wrong → split_of_data (view value.now) ≡ None }
@@ -145,12 +151,12 @@ fn split_of(value: &Value) -> Result<ElementKind<'_>, MemberFault>
     if !has_only(value, &["kind", "id", "next", "flows"]) {
         return Err(MemberFault::Wrong);
     }
-    match list_at(value, "flows") {
-        Some(flows) => Ok(ElementKind::Split(flows)),
-        None => Err(MemberFault::Wrong),
-    }
+    let next = optional_text_of(alloc, value, "next")?;
+    let flows = list_at(value, "flows").ok_or(MemberFault::Wrong)?;
+    Ok(ElementKind::Split { next, flows })
 }
 
+#[tactic(auto, unfolding(crate::specs::Members::decision_of_data))]
 fn decision_of(alloc: Global, value: &Value) -> Result<ElementKind<'_>, MemberFault>
     ensures read { IfOk result (λ kind. decision_of_data (view value.now) ≡ Some (kind_in kind)) }
     ensures inside { IfOk result (λ kind. IsInside (kind_in kind) (view value.now)) }
@@ -159,14 +165,20 @@ fn decision_of(alloc: Global, value: &Value) -> Result<ElementKind<'_>, MemberFa
     if !has_only(value, &["kind", "id", "ref", "transitions"]) {
         return Err(MemberFault::Wrong);
     }
-    Ok(ElementKind::Decision(text_of(alloc, value, "ref")?))
+    let transitions = transitions_at(alloc, value)?;
+    let artifact = text_of(alloc, value, "ref")?;
+    Ok(ElementKind::Decision {
+        transitions,
+        artifact,
+    })
 }
 
 /// The own members of a flow of a split.
 #[tactic(auto, unfolding(crate::specs::Members::own_flow_of))]
 pub fn own_flow_of(value: &Value) -> Option<FlowMembers<'_>>
     ensures own { option_map own_flow_in result ≡ own_flow_of (view value.now) }
-    ensures inside { IfSome result (λ own. list_at (codes "elements") (view value.now) ≡ Some (own_flow_in own).elements) }
+    ensures inside { IfSome result (λ own. list_at (codes "elements") (view value.now)
+        ≡ Some (own_flow_in own).elements) }
 {
     if !has_only(value, &["kind", "id", "elements"]) || !is_text(value, "kind", "flow") {
         return None;

@@ -64,7 +64,8 @@ fn artifact_at<'v>(value: &'v Value, name: &str) -> Option<&'v str>
 
 #[tactic(auto, unfolding(crate::specs::Tasks::optional_artifact))]
 fn optional_artifact<'v>(value: &'v Value, name: &str) -> Option<Option<&'v str>>
-    ensures { option_map (option_map (λ artifact. artifact.now)) result ≡ optional_artifact name.now (view value.now) }
+    ensures { option_map (option_map (λ artifact. artifact.now)) result
+        ≡ optional_artifact name.now (view value.now) }
 {
     match optional_object(value, name)? {
         Some(found) => Some(Some(artifact_of(found)?)),
@@ -73,7 +74,8 @@ fn optional_artifact<'v>(value: &'v Value, name: &str) -> Option<Option<&'v str>
 }
 
 fn batchlet_of(alloc: Global, value: &Value) -> Result<TaskParts, MemberFault>
-    ensures read { IfOk result (λ task. option_map Batchlet (artifact_of (view value.now)) ≡ Some (task_of task)) }
+    ensures read { IfOk result (λ task. option_map Batchlet (artifact_of (view value.now))
+        ≡ Some (task_of task)) }
     ensures wrong { result ≡ Err MemberFault.Wrong → artifact_of (view value.now) ≡ None }
 {
     let artifact = artifact_of(value).ok_or(MemberFault::Wrong)?;

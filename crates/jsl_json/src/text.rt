@@ -5,12 +5,14 @@ ghost use Rattle.jsl_model.specs.Parts.{bytes_of_option};
 
 use crate::member_fault::MemberFault;
 use json_members::{optional_text, text_at};
+use batch_ids::OutOfMemory;
 use serde_json::Value;
-use std::alloc::{AllocError, Global};
+use std::alloc::Global;
 
 /// A copy of a text that may be left out.
-pub fn copy_of(alloc: Global, text: Option<&str>) -> Result<Option<String>, AllocError>
-    ensures { IfOk result (λ copy. bytes_of_option copy ≡ option_map (λ text. text.now) text.entry) }
+pub fn copy_of(alloc: Global, text: Option<&str>) -> Result<Option<String>, OutOfMemory>
+    ensures { IfOk result (λ copy. bytes_of_option copy
+        ≡ option_map (λ text. text.now) text.entry) }
 {
     match text {
         Some(text) => Ok(Some(String::from_str(alloc, text)?)),
@@ -20,7 +22,8 @@ pub fn copy_of(alloc: Global, text: Option<&str>) -> Result<Option<String>, Allo
 
 /// The text that a member is.
 pub fn text_of(alloc: Global, value: &Value, name: &str) -> Result<String, MemberFault>
-    ensures read { IfOk result (λ text. text_at name.now (view value.now) ≡ Some (string_bytes text)) }
+    ensures read { IfOk result (λ text. text_at name.now (view value.now)
+        ≡ Some (string_bytes text)) }
     ensures wrong { result ≡ Err MemberFault.Wrong → text_at name.now (view value.now) ≡ None }
 {
     match text_at(value, name) {
@@ -35,8 +38,10 @@ pub fn optional_text_of(
     value: &Value,
     name: &str,
 ) -> Result<Option<String>, MemberFault>
-    ensures read { IfOk result (λ text. optional_text name.now (view value.now) ≡ Some (bytes_of_option text)) }
-    ensures wrong { result ≡ Err MemberFault.Wrong → optional_text name.now (view value.now) ≡ None }
+    ensures read { IfOk result (λ text. optional_text name.now (view value.now)
+        ≡ Some (bytes_of_option text)) }
+    ensures wrong { result ≡ Err MemberFault.Wrong
+        → optional_text name.now (view value.now) ≡ None }
 {
     match optional_text(value, name) {
         Some(text) => Ok(copy_of(alloc, text)?),

@@ -1,5 +1,5 @@
 -- What the faults of a job that was built say of the parts that it was built from.
-use Rattle.std.proofs.Common.{◌≡◌, ◌||◌, ℕ, ◌<◌, All, Bool, Bor, subst, true, false, Option, None, Some, List, [], ◌∷◌, length, map, string_bytes, refl, sym, ◌∙◌, ap, arith}
+use Rattle.std.proofs.Common.{◌≡◌, ℕ, ◌<◌, All, Bool, Bor, subst, false, Option, None, List, [], ◌∷◌, length, map, string_bytes, refl, sym, ◌∙◌, ap, arith}
 use Rattle.jsl_model.specs.declared.element.Element.{Element}
 use Rattle.jsl_model.specs.declared.job.JobFault.{JobFault}
 use Rattle.jsl_model.specs.declared.parts.JobParts.{JobParts}
@@ -9,7 +9,7 @@ use Rattle.jsl_model.specs.LongTexts.{is_long, element_has_long}
 use Rattle.jsl_model.specs.Jobs.{JobTree}
 use Rattle.jsl_model.specs.Targets.{Item, outline, lists_of, HasRanks}
 use Rattle.jsl_model.specs.Parts.{tree_of, element_of}
-use Rattle.jsl_model.specs.Faults.{tree_fault, job_fault, has_long_text, has_empty, IsChecked}
+use Rattle.jsl_model.specs.Faults.{tree_fault, job_fault, IsChecked}
 
 -- a job with a first fault, or none, behind texts that are short enough
 pub short_fault : (job : JobTree) → is_long job.id ≡ false → any_true (map element_has_long job.elements) ≡ false → tree_fault job ≡ job_fault job

@@ -1,7 +1,9 @@
 pub mod Among
 pub mod Held
-pub mod Inside
+pub mod InnerLists
 pub mod Judging
 pub mod Layers
 pub mod Levels
+pub mod Opening
 pub mod Places
+pub mod Searches

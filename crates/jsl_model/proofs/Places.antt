@@ -9,7 +9,7 @@ use Rattle.target_graph.specs.Graph.{IsGraph}
 use Rattle.jsl_model.specs.declared.element.Element.{Element}
 use Rattle.jsl_model.specs.Targets.{Item, item_of, outline, ids, place_in, graph_of, HasRanks}
 use Rattle.jsl_model.proofs.Among.{texts}
-use Rattle.jsl_model.proofs.Inside.{outlines}
+use Rattle.jsl_model.proofs.InnerLists.{outlines}
 
 -- ---- The place of an id
 

@@ -1,5 +1,5 @@
 -- What has to be there and is empty: an id, an artifact name, a list of elements, the flows of a split, the items of a group.
-use Rattle.std.specs.Prelude.{ℕ, ◌||◌, Bool, false, Option, Some, None, List, map, nat_eq}
+use Rattle.std.specs.Prelude.{ℕ, ◌||◌, Bool, false, Option, Some, None, List, nat_eq}
 use Rattle.jsl_model.specs.declared.element.Task.{Task}
 use Rattle.jsl_model.specs.declared.element.Task.TheVariants.{Batchlet, Chunk}
 use Rattle.jsl_model.specs.declared.element.Element.{Element, Element-F, fold-Element}
@@ -13,9 +13,9 @@ abbrev pub is_empty_option : Option (List ℕ) → Bool
 is_empty_option None = false
 is_empty_option (Some text) = is_empty text
 
--- whether a list has no member, or a member in which something is empty
+-- whether a list has nothing in it, or something with an empty part
 abbrev pub is_lacking : List Bool → Bool
-is_lacking members = is_empty members || any_true members
+is_lacking tests = is_empty tests || any_true tests
 
 -- whether a task has an empty artifact name, or groups of no item
 abbrev pub task_has_empty : Task → Bool
@@ -23,7 +23,7 @@ task_has_empty (Batchlet artifact) = is_empty artifact
 task_has_empty (Chunk reader processor writer item_count) =
     is_empty reader || is_empty_option processor || is_empty writer || nat_eq item_count 0
 
--- whether something is empty in a body, which is known of its members
+-- whether something is empty in a body, which is known of what is inside it
 abbrev pub body_empty : Body-F Bool Bool Bool → Bool
 body_empty (Step step) = task_has_empty step.task
 body_empty (Flow elements) = is_lacking elements

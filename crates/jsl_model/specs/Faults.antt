@@ -6,7 +6,7 @@ use Rattle.jsl_model.specs.declared.job.JobFault.TheVariants.{TextTooLong, Empty
 use Rattle.jsl_model.specs.declared.element.Then.{Then}
 use Rattle.jsl_model.specs.declared.element.Then.TheVariants.{Next, End, Fail, Stop}
 use Rattle.jsl_model.specs.declared.element.Transition.{Transition}
-use Rattle.jsl_model.specs.Trees.{is_empty, any_true, joined, Member, members, depth}
+use Rattle.jsl_model.specs.Trees.{is_empty, any_true, joined, Node, nodes, depth}
 use Rattle.jsl_model.specs.Names.{has_twice, are_among}
 use Rattle.jsl_model.specs.Targets.{outline, ids, lists_of, lacks_some_target, has_some_loop, HasRanks}
 use Rattle.jsl_model.specs.LongTexts.{is_long, element_has_long}
@@ -63,15 +63,15 @@ is_too_deep job = nat_lt 16 (depth job.elements)
 
 -- whether there are more than 1,000 elements, flows of splits included
 abbrev pub has_too_many : JobTree → Bool
-has_too_many job = nat_lt 1000 (length (members job.elements))
+has_too_many job = nat_lt 1000 (length (nodes job.elements))
 
 -- the ids of these
-abbrev pub member_ids : List Member → List (List ℕ)
-member_ids all = map (λ (m : Member). m.id) all
+abbrev pub node_ids : List Node → List (List ℕ)
+node_ids all = map (λ (m : Node). m.id) all
 
 -- whether two elements, flows of splits included, have one id
 abbrev pub has_duplicate : JobTree → Bool
-has_duplicate job = has_twice (member_ids (members job.elements))
+has_duplicate job = has_twice (node_ids (nodes job.elements))
 
 -- the element at which a restart begins, where a stop names one
 abbrev pub restart_at : Then → Option (List ℕ)
@@ -85,12 +85,12 @@ abbrev pub restarts_in : List Transition → List (List ℕ)
 restarts_in transitions = filter_map (λ (t : Transition). restart_at t.then) transitions
 
 -- the elements at which restarts begin, by all transition elements
-abbrev pub restarts : List Member → List (List ℕ)
-restarts all = joined (map (λ (m : Member). restarts_in m.transitions) all)
+abbrev pub restarts : List Node → List (List ℕ)
+restarts all = joined (map (λ (m : Node). restarts_in m.transitions) all)
 
 -- whether each restart begins at an element of the job's own list
 abbrev pub has_restarts : JobTree → Bool
-has_restarts job = are_among (ids (outline job.elements)) (restarts (members job.elements))
+has_restarts job = are_among (ids (outline job.elements)) (restarts (nodes job.elements))
 
 -- the first fault of a job whose texts are short enough, each tested over the whole job
 abbrev pub tree_fault : JobTree → Option JobFault

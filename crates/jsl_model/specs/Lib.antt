@@ -3,8 +3,8 @@ pub mod Emptiness
 pub mod Faults
 pub mod Jobs
 pub mod LongTexts
-pub mod Members
 pub mod Names
+pub mod Nodes
 pub mod Parts
 pub mod Targets
 pub mod Trees

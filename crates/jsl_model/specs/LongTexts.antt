@@ -36,7 +36,7 @@ abbrev pub task_has_long : Task → Bool
 task_has_long (Batchlet artifact) = is_long artifact
 task_has_long (Chunk reader processor writer item_count) = is_long reader || is_long_option processor || is_long writer
 
--- whether a body has a text that is too long, which is known of its members
+-- whether a body has a text that is too long, which is known of what is inside it
 abbrev pub body_long : Body-F Bool Bool Bool → Bool
 body_long (Step step) = task_has_long step.task
 body_long (Flow elements) = any_true elements

@@ -1,5 +1,5 @@
 -- The parts of a job, and the tree that they give.
-use Rattle.std.specs.Prelude.{ℕ, Option, option_map, List, map, String, string_bytes}
+use Rattle.std.specs.Prelude.{ℕ, Option, None, option_map, List, [], map, String, string_bytes}
 use Rattle.std.specs.declared.alloc.Global.{Global}
 use Rattle.jsl_model.specs.declared.parts.ThenParts.{ThenParts}
 use Rattle.jsl_model.specs.declared.parts.ThenParts.TheVariants.{Next as NextParts, End as EndParts, Fail as FailParts, Stop as StopParts}
@@ -49,33 +49,42 @@ task_of (ChunkParts reader processor writer item_count) =
 abbrev pub step_of : StepParts → StepRecord
 step_of parts = record { start_limit = parts.start_limit; allow_start_if_complete = parts.allow_start_if_complete; task = task_of parts.task }
 
--- a body, whose members are known
-abbrev pub body_tree : BodyParts-F Body Element SplitFlow → Body
-body_tree (StepOf step) = Step (step_of step)
-body_tree (FlowOf elements) = Flow elements
-body_tree (SplitOf flows) = Split flows
-body_tree (DecisionOf artifact) = Decision (string_bytes artifact)
+-- what an element has beside its id
+pub record Content : Type 0 where
+  pub next : Option (List ℕ)
+  pub transitions : List Transition
+  pub body : Body
 
--- an element, whose body is known
-abbrev pub element_tree : ElementParts-F Body Element SplitFlow → Element
+-- what the parts of each kind give, what is inside them being known: a split has no transition elements, and a decision no `next`
+abbrev pub body_tree : BodyParts-F Content Element SplitFlow → Content
+body_tree (StepOf step) =
+    record { next = bytes_of_option step.next; transitions = map transition_of step.transitions; body = Step (step_of step) }
+body_tree (FlowOf next transitions elements) =
+    record { next = bytes_of_option next; transitions = map transition_of transitions; body = Flow elements }
+body_tree (SplitOf next flows) = record { next = bytes_of_option next; transitions = []; body = Split flows }
+body_tree (DecisionOf transitions artifact) =
+    record { next = None; transitions = map transition_of transitions; body = Decision (string_bytes artifact) }
+
+-- an element, of which all but its id is known
+abbrev pub element_tree : ElementParts-F Content Element SplitFlow → Element
 element_tree parts =
-    record { id = string_bytes parts.id; next = bytes_of_option parts.next; transitions = map transition_of parts.transitions; body = parts.body }
+    record { id = string_bytes parts.id; next = parts.body.next; transitions = parts.body.transitions; body = parts.body.body }
 
 -- a flow of a split, whose elements are known
-abbrev pub flow_tree : SplitFlowParts-F Body Element SplitFlow → SplitFlow
+abbrev pub flow_tree : SplitFlowParts-F Content Element SplitFlow → SplitFlow
 flow_tree parts = roll-SplitFlow record { id = string_bytes parts.id; elements = parts.elements }
 
 -- the element that its parts give, each text as its bytes
 abbrev pub element_of : ElementParts → Element
-element_of = fold-ElementParts Body Element SplitFlow body_tree element_tree flow_tree
+element_of = fold-ElementParts Content Element SplitFlow body_tree element_tree flow_tree
 
--- the body that its parts give
-abbrev pub body_of : BodyParts → Body
-body_of = fold-BodyParts Body Element SplitFlow body_tree element_tree flow_tree
+-- what the parts of a body give an element
+abbrev pub content_of : BodyParts → Content
+content_of = fold-BodyParts Content Element SplitFlow body_tree element_tree flow_tree
 
 -- the flow of a split that its parts give
 abbrev pub flow_of : SplitFlowParts → SplitFlow
-flow_of = fold-SplitFlowParts Body Element SplitFlow body_tree element_tree flow_tree
+flow_of = fold-SplitFlowParts Content Element SplitFlow body_tree element_tree flow_tree
 
 -- the job that its parts give, each text as its bytes
 abbrev pub tree_of : JobParts → JobTree

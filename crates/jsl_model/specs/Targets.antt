@@ -41,48 +41,48 @@ outline elements = map item_of elements
 -- ---- The lists of a job
 
 -- an element's item, and the lists inside the element
-pub record Part : Type 0 where
+pub record ItemLists : Type 0 where
   pub item : Item
   pub inside : List (List Item)
 
--- the list that these parts make, and then the lists inside them
-abbrev pub lists_of_parts : List Part → List (List Item)
-lists_of_parts parts = map (λ part. part.item) parts ∷ flat_map (λ part. part.inside) parts
+-- the list that these make, and then the lists inside them
+abbrev pub lists_of_items : List ItemLists → List (List Item)
+lists_of_items elements = map (λ element. element.item) elements ∷ flat_map (λ element. element.inside) elements
 
--- the lists inside a body, whose members are known
-abbrev pub body_lists : Body-F (List (List Item)) Part (List (List Item)) → List (List Item)
+-- the lists inside a body, what is inside it being known
+abbrev pub body_lists : Body-F (List (List Item)) ItemLists (List (List Item)) → List (List Item)
 body_lists (Step step) = []
-body_lists (Flow parts) = lists_of_parts parts
+body_lists (Flow elements) = lists_of_items elements
 body_lists (Split flows) = flat_map (λ lists. lists) flows
 body_lists (Decision artifact) = []
 
--- an element's part, whose body is known
-abbrev pub element_part : Element-F (List (List Item)) Part (List (List Item)) → Part
-element_part element = record { item = record { id = element.id; targets = named_in element.next element.transitions }; inside = element.body }
+-- an element's item and the lists inside it, its body being known
+abbrev pub element_lists : Element-F (List (List Item)) ItemLists (List (List Item)) → ItemLists
+element_lists element = record { item = record { id = element.id; targets = named_in element.next element.transitions }; inside = element.body }
 
 -- the lists of a flow of a split, whose elements are known
-abbrev pub flow_lists : SplitFlow-F (List (List Item)) Part (List (List Item)) → List (List Item)
-flow_lists flow = lists_of_parts flow.elements
+abbrev pub flow_lists : SplitFlow-F (List (List Item)) ItemLists (List (List Item)) → List (List Item)
+flow_lists flow = lists_of_items flow.elements
 
--- an element's part
-abbrev pub part_of : Element → Part
-part_of = fold-Element (List (List Item)) Part (List (List Item)) body_lists element_part flow_lists
+-- an element's item and the lists inside it
+abbrev pub item_lists_of : Element → ItemLists
+item_lists_of = fold-Element (List (List Item)) ItemLists (List (List Item)) body_lists element_lists flow_lists
 
 -- the lists inside an element, in written order
-abbrev pub inside_of : Element → List (List Item)
-inside_of element = (part_of element).inside
+abbrev pub lists_inside : Element → List (List Item)
+lists_inside element = (item_lists_of element).inside
 
 -- the lists of a flow of a split
 abbrev pub lists_of_flow : SplitFlow → List (List Item)
-lists_of_flow = fold-SplitFlow (List (List Item)) Part (List (List Item)) body_lists element_part flow_lists
+lists_of_flow = fold-SplitFlow (List (List Item)) ItemLists (List (List Item)) body_lists element_lists flow_lists
 
 -- the lists inside a body
-abbrev pub inside_body : Body → List (List Item)
-inside_body = fold-Body (List (List Item)) Part (List (List Item)) body_lists element_part flow_lists
+abbrev pub lists_in_body : Body → List (List Item)
+lists_in_body = fold-Body (List (List Item)) ItemLists (List (List Item)) body_lists element_lists flow_lists
 
 -- all lists of a job: a list, and then those inside its elements, in written order
 abbrev pub lists_of : List Element → List (List Item)
-lists_of elements = outline elements ∷ flat_map inside_of elements
+lists_of elements = outline elements ∷ flat_map lists_inside elements
 
 -- ---- Targets that are not there
 

@@ -1,14 +1,15 @@
 -- The tree of a job's elements: what stands in it at all depths, and how deep it is.
 use Rattle.std.specs.Prelude.{ℕ, ◌+◌, Bool, true, false, List, [], ◌∷◌, ◌++◌, map, nat_lt, if◌then◌else◌}
-use Rattle.std.specs.List.{list_any}
+use Rattle.std.specs.List.{list_any, flat_map}
 use Rattle.std.specs.Option.{option_to_list}
 use Rattle.jsl_model.specs.declared.element.Task.{Task}
 use Rattle.jsl_model.specs.declared.element.Task.TheVariants.{Batchlet, Chunk}
 use Rattle.jsl_model.specs.declared.element.Transition.{Transition}
 use Rattle.jsl_model.specs.declared.element.Element.{Element, Element-F, fold-Element}
-use Rattle.jsl_model.specs.declared.element.SplitFlow.{SplitFlow, SplitFlow-F, fold-SplitFlow}
+use Rattle.jsl_model.specs.declared.element.SplitFlow.{SplitFlow, SplitFlow-F, fold-SplitFlow, roll-SplitFlow}
 use Rattle.jsl_model.specs.declared.element.Body.{Body, Body-F, fold-Body}
 use Rattle.jsl_model.specs.declared.element.Body.TheOpen.{Step, Flow, Split, Decision}
+use Rattle.jsl_model.specs.declared.element.Body.TheVariants.{Step as StepBody, Flow as FlowBody, Split as SplitBody, Decision as DecisionBody}
 
 -- lists one after another
 abbrev pub joined : {X : Type 0} → List (List X) → List X
@@ -27,54 +28,109 @@ is_empty (first ∷ rest) = false
 -- ---- All elements, with the flows of splits, in written order: each before what is inside it
 
 -- an element or a flow of a split by itself; a flow of a split has no transition elements
-pub record Member : Type 0 where
+pub record Node : Type 0 where
   pub id : List ℕ
   pub transitions : List Transition
   -- the artifacts that it names itself, in written order
   pub artifacts : List (List ℕ)
 
 -- a body: the artifacts that it names itself, and all that is inside it
-pub record Inside : Type 0 where
+pub record BodyNodes : Type 0 where
   pub artifacts : List (List ℕ)
-  pub members : List Member
+  pub nodes : List Node
 
 -- the artifacts of a batchlet or a chunk
 abbrev pub task_artifacts : Task → List (List ℕ)
 task_artifacts (Batchlet artifact) = artifact ∷ []
 task_artifacts (Chunk reader processor writer item_count) = reader ∷ (option_to_list processor ++ writer ∷ [])
 
-abbrev pub body_members : Body-F Inside (List Member) (List Member) → Inside
-body_members (Step step) = record { artifacts = task_artifacts step.task; members = [] }
-body_members (Flow elements) = record { artifacts = []; members = joined elements }
-body_members (Split flows) = record { artifacts = []; members = joined flows }
-body_members (Decision artifact) = record { artifacts = artifact ∷ []; members = [] }
+abbrev pub body_nodes : Body-F BodyNodes (List Node) (List Node) → BodyNodes
+body_nodes (Step step) = record { artifacts = task_artifacts step.task; nodes = [] }
+body_nodes (Flow elements) = record { artifacts = []; nodes = joined elements }
+body_nodes (Split flows) = record { artifacts = []; nodes = joined flows }
+body_nodes (Decision artifact) = record { artifacts = artifact ∷ []; nodes = [] }
 
-abbrev pub element_members : Element-F Inside (List Member) (List Member) → List Member
-element_members element =
-    record { id = element.id; transitions = element.transitions; artifacts = element.body.artifacts } ∷ element.body.members
+abbrev pub element_nodes : Element-F BodyNodes (List Node) (List Node) → List Node
+element_nodes element =
+    record { id = element.id; transitions = element.transitions; artifacts = element.body.artifacts } ∷ element.body.nodes
 
-abbrev pub flow_members : SplitFlow-F Inside (List Member) (List Member) → List Member
-flow_members flow = record { id = flow.id; transitions = []; artifacts = [] } ∷ joined flow.elements
+abbrev pub flow_nodes : SplitFlow-F BodyNodes (List Node) (List Node) → List Node
+flow_nodes flow = record { id = flow.id; transitions = []; artifacts = [] } ∷ joined flow.elements
 
 -- an element, and then what is inside it
-abbrev pub members_of : Element → List Member
-members_of = fold-Element Inside (List Member) (List Member) body_members element_members flow_members
+abbrev pub nodes_of : Element → List Node
+nodes_of = fold-Element BodyNodes (List Node) (List Node) body_nodes element_nodes flow_nodes
 
 -- the artifacts that a body names itself, and what is inside it
-abbrev pub inside : Body → Inside
-inside = fold-Body Inside (List Member) (List Member) body_members element_members flow_members
+abbrev pub in_body : Body → BodyNodes
+in_body = fold-Body BodyNodes (List Node) (List Node) body_nodes element_nodes flow_nodes
 
 -- a flow of a split, and then what is inside it
-abbrev pub members_of_flow : SplitFlow → List Member
-members_of_flow = fold-SplitFlow Inside (List Member) (List Member) body_members element_members flow_members
+abbrev pub nodes_of_flow : SplitFlow → List Node
+nodes_of_flow = fold-SplitFlow BodyNodes (List Node) (List Node) body_nodes element_nodes flow_nodes
 
 -- all that a list of elements has, at all depths
-abbrev pub members : List Element → List Member
-members elements = joined (map members_of elements)
+abbrev pub nodes : List Element → List Node
+nodes elements = joined (map nodes_of elements)
 
 -- the artifacts that the elements of a list name at all depths, in written order
 abbrev pub artifacts : List Element → List (List ℕ)
-artifacts elements = joined (map (λ (m : Member). m.artifacts) (members elements))
+artifacts elements = joined (map (λ (m : Node). m.artifacts) (nodes elements))
+
+-- ---- All elements as such, in written order: each before those inside it. A flow of a split is none.
+
+-- an element, a body or a flow of a split, and all elements inside it
+pub record Opened (X : Type 0) : Type 0 where
+  pub whole : X
+  pub inside : List Element
+
+-- the elements of opened ones, each before those inside it
+abbrev pub opened_elements : List (Opened Element) → List Element
+opened_elements elements = flat_map (λ (e : Opened Element). e.whole ∷ e.inside) elements
+
+abbrev pub body_opened : Body-F (Opened Body) (Opened Element) (Opened SplitFlow) → Opened Body
+body_opened (Step step) = record { whole = StepBody step; inside = [] }
+body_opened (Flow elements) =
+    record { whole = FlowBody (map (λ (e : Opened Element). e.whole) elements); inside = opened_elements elements }
+body_opened (Split flows) =
+    record { whole = SplitBody (map (λ (f : Opened SplitFlow). f.whole) flows); inside = flat_map (λ (f : Opened SplitFlow). f.inside) flows }
+body_opened (Decision artifact) = record { whole = DecisionBody artifact; inside = [] }
+
+abbrev pub element_opened : Element-F (Opened Body) (Opened Element) (Opened SplitFlow) → Opened Element
+element_opened element = record {
+  whole = record { id = element.id; next = element.next; transitions = element.transitions; body = element.body.whole };
+  inside = element.body.inside;
+}
+
+abbrev pub flow_opened : SplitFlow-F (Opened Body) (Opened Element) (Opened SplitFlow) → Opened SplitFlow
+flow_opened flow = record {
+  whole = roll-SplitFlow record { id = flow.id; elements = map (λ (e : Opened Element). e.whole) flow.elements };
+  inside = opened_elements flow.elements;
+}
+
+-- an element, and all elements inside it
+abbrev pub open_element : Element → Opened Element
+open_element = fold-Element (Opened Body) (Opened Element) (Opened SplitFlow) body_opened element_opened flow_opened
+
+-- a body, and all elements inside it
+abbrev pub open_body : Body → Opened Body
+open_body = fold-Body (Opened Body) (Opened Element) (Opened SplitFlow) body_opened element_opened flow_opened
+
+-- a flow of a split, and all elements inside it
+abbrev pub open_flow : SplitFlow → Opened SplitFlow
+open_flow = fold-SplitFlow (Opened Body) (Opened Element) (Opened SplitFlow) body_opened element_opened flow_opened
+
+-- the elements inside a body
+abbrev pub elements_in_body : Body → List Element
+elements_in_body body = (open_body body).inside
+
+-- the elements inside a flow of a split
+abbrev pub elements_in_flow : SplitFlow → List Element
+elements_in_flow flow = (open_flow flow).inside
+
+-- all elements of a list, at all depths
+abbrev pub all_elements : List Element → List Element
+all_elements elements = flat_map (λ (e : Element). e ∷ elements_in_body e.body) elements
 
 -- ---- Depth: the elements of a list stand at 1, those inside a flow one deeper than it, the flows of a split too
 

@@ -1,6 +1,6 @@
 ghost use Rattle.std.specs.Prelude.{◌≡◌, true, false, map, Err, IfOk, IfErr, OnOk};
 ghost use Rattle.jsl_model.specs.Faults.{IsBuildingFault};
-ghost use Rattle.jsl_model.specs.Parts.{bytes_of_option, then_of, transition_of, task_of, step_of, body_of, element_of, flow_of};
+ghost use Rattle.jsl_model.specs.Parts.{bytes_of_option, then_of, transition_of, task_of, step_of, content_of, element_of, flow_of};
 ghost use Rattle.jsl_model.specs.LongTexts.{is_long, is_long_option, then_has_long, transition_has_long, task_has_long, body_has_long, element_has_long, flow_has_long};
 ghost use Rattle.jsl_model.specs.Trees.{any_true};
 
@@ -31,7 +31,8 @@ pub fn build_text(alloc: Global, text: &str) -> Result<T256, JobFault>
 fn build_option(alloc: Global, text: &Option<String>) -> Result<Option<T256>, JobFault>
     ensures same { IfOk result (λ built. built ≡ bytes_of_option text.now) }
     ensures short { OnOk result (is_long_option (bytes_of_option text.now) ≡ false) }
-    ensures long { result ≡ Err JobFault.TextTooLong → is_long_option (bytes_of_option text.now) ≡ true }
+    ensures long { result ≡ Err JobFault.TextTooLong
+        → is_long_option (bytes_of_option text.now) ≡ true }
     ensures fault { IfErr result IsBuildingFault }
 {
     match text {
@@ -77,7 +78,8 @@ fn build_then(alloc: Global, parts: &ThenParts) -> Result<Then, JobFault>
 fn build_transition(alloc: Global, parts: &TransitionParts) -> Result<Transition, JobFault>
     ensures same { IfOk result (λ built. built ≡ transition_of parts.now) }
     ensures short { OnOk result (transition_has_long (transition_of parts.now) ≡ false) }
-    ensures long { result ≡ Err JobFault.TextTooLong → transition_has_long (transition_of parts.now) ≡ true }
+    ensures long { result ≡ Err JobFault.TextTooLong
+        → transition_has_long (transition_of parts.now) ≡ true }
     ensures fault { IfErr result IsBuildingFault }
 {
     let on = build_text(alloc, parts.on.as_str())?;
@@ -90,8 +92,10 @@ fn build_transitions(
     parts: &[TransitionParts],
 ) -> Result<Listed<Transition>, JobFault>
     ensures same { IfOk result (λ built. built ≡ map transition_of parts.now) }
-    ensures short { OnOk result (any_true (map transition_has_long (map transition_of parts.now)) ≡ false) }
-    ensures long { result ≡ Err JobFault.TextTooLong → any_true (map transition_has_long (map transition_of parts.now)) ≡ true }
+    ensures short { OnOk result (any_true (map transition_has_long (map transition_of parts.now))
+        ≡ false) }
+    ensures long { result ≡ Err JobFault.TextTooLong
+        → any_true (map transition_has_long (map transition_of parts.now)) ≡ true }
     ensures fault { IfErr result IsBuildingFault }
 {
     let mut built = Vec::new(alloc);
@@ -132,7 +136,8 @@ fn build_task(alloc: Global, parts: &TaskParts) -> Result<Task, JobFault>
 fn build_step(alloc: Global, parts: &StepParts) -> Result<Step, JobFault>
     ensures same { IfOk result (λ built. built ≡ step_of parts.now) }
     ensures short { OnOk result (task_has_long (task_of parts.now.task) ≡ false) }
-    ensures long { result ≡ Err JobFault.TextTooLong → task_has_long (task_of parts.now.task) ≡ true }
+    ensures long { result ≡ Err JobFault.TextTooLong
+        → task_has_long (task_of parts.now.task) ≡ true }
     ensures fault { IfErr result IsBuildingFault }
 {
     let task = build_task(alloc, &parts.task)?;
@@ -143,17 +148,48 @@ fn build_step(alloc: Global, parts: &StepParts) -> Result<Step, JobFault>
     })
 }
 
+/// The `next` of an element; a decision has none.
+#[tactic(auto, using(crate::proofs::Layers::step_given, crate::proofs::Layers::flow_given, crate::proofs::Layers::split_given, crate::proofs::Layers::decision_given))]
+fn build_next(alloc: Global, parts: &BodyParts) -> Result<Option<T256>, JobFault>
+    ensures same { IfOk result (λ built. built ≡ (content_of parts.now).next) }
+    ensures short { OnOk result (is_long_option (content_of parts.now).next ≡ false) }
+    ensures long { result ≡ Err JobFault.TextTooLong
+        → is_long_option (content_of parts.now).next ≡ true }
+    ensures fault { IfErr result IsBuildingFault }
+{
+    match parts {
+        BodyParts::Step(step) => build_option(alloc, &step.next),
+        BodyParts::Flow { next, .. } => build_option(alloc, next),
+        BodyParts::Split { next, .. } => build_option(alloc, next),
+        BodyParts::Decision { .. } => Ok(None),
+    }
+}
+
+/// The transition elements of an element; a split has none.
+#[tactic(auto, using(crate::proofs::Layers::step_given, crate::proofs::Layers::flow_given, crate::proofs::Layers::split_given, crate::proofs::Layers::decision_given))]
+fn transitions_in(parts: &BodyParts) -> &[TransitionParts]
+    ensures { map transition_of result.now ≡ (content_of parts.now).transitions }
+{
+    match parts {
+        BodyParts::Step(step) => step.transitions.as_slice(),
+        BodyParts::Flow { transitions, .. } => transitions.as_slice(),
+        BodyParts::Split { .. } => &[],
+        BodyParts::Decision { transitions, .. } => transitions.as_slice(),
+    }
+}
+
 #[cycle(building)]
-#[tactic(auto, using(crate::proofs::Layers::element_long_of))]
+#[tactic(auto, using(crate::proofs::Layers::element_given, crate::proofs::Layers::element_long_of))]
 fn build_element(alloc: Global, parts: &ElementParts) -> Result<Element, JobFault>
     ensures same { IfOk result (λ built. built ≡ element_of parts.now) }
     ensures short { OnOk result (element_has_long (element_of parts.now) ≡ false) }
-    ensures long { result ≡ Err JobFault.TextTooLong → element_has_long (element_of parts.now) ≡ true }
+    ensures long { result ≡ Err JobFault.TextTooLong
+        → element_has_long (element_of parts.now) ≡ true }
     ensures fault { IfErr result IsBuildingFault }
 {
     let id = build_text(alloc, parts.id.as_str())?;
-    let next = build_option(alloc, &parts.next)?;
-    let transitions = build_transitions(alloc, parts.transitions.as_slice())?;
+    let next = build_next(alloc, &parts.body)?;
+    let transitions = build_transitions(alloc, transitions_in(&parts.body))?;
     let body = build_body(alloc, &parts.body)?;
     Ok(Element {
         id,
@@ -164,18 +200,21 @@ fn build_element(alloc: Global, parts: &ElementParts) -> Result<Element, JobFaul
 }
 
 #[cycle(building)]
-#[tactic(auto, using(crate::proofs::Layers::step_long, crate::proofs::Layers::flow_body_long, crate::proofs::Layers::split_long, crate::proofs::Layers::decision_long))]
+#[tactic(auto, using(crate::proofs::Layers::step_given, crate::proofs::Layers::flow_given, crate::proofs::Layers::split_given, crate::proofs::Layers::decision_given, crate::proofs::Layers::step_long, crate::proofs::Layers::flow_body_long, crate::proofs::Layers::split_long, crate::proofs::Layers::decision_long))]
 fn build_body(alloc: Global, parts: &BodyParts) -> Result<Body, JobFault>
-    ensures same { IfOk result (λ built. built ≡ body_of parts.now) }
-    ensures short { OnOk result (body_has_long (body_of parts.now) ≡ false) }
-    ensures long { result ≡ Err JobFault.TextTooLong → body_has_long (body_of parts.now) ≡ true }
+    ensures same { IfOk result (λ built. built ≡ (content_of parts.now).body) }
+    ensures short { OnOk result (body_has_long (content_of parts.now).body ≡ false) }
+    ensures long { result ≡ Err JobFault.TextTooLong
+        → body_has_long (content_of parts.now).body ≡ true }
     ensures fault { IfErr result IsBuildingFault }
 {
     match parts {
         BodyParts::Step(step) => Ok(Body::Step(build_step(alloc, step)?)),
-        BodyParts::Flow(elements) => Ok(Body::Flow(build_elements(alloc, elements.as_slice())?)),
-        BodyParts::Split(flows) => Ok(Body::Split(build_flows(alloc, flows.as_slice())?)),
-        BodyParts::Decision(artifact) => {
+        BodyParts::Flow { elements, .. } => {
+            Ok(Body::Flow(build_elements(alloc, elements.as_slice())?))
+        }
+        BodyParts::Split { flows, .. } => Ok(Body::Split(build_flows(alloc, flows.as_slice())?)),
+        BodyParts::Decision { artifact, .. } => {
             Ok(Body::Decision {
                 artifact: build_text(alloc, artifact.as_str())?,
             })
@@ -187,8 +226,10 @@ fn build_body(alloc: Global, parts: &BodyParts) -> Result<Body, JobFault>
 #[cycle(building)]
 pub fn build_elements(alloc: Global, parts: &[ElementParts]) -> Result<Listed<Element>, JobFault>
     ensures same { IfOk result (λ built. built ≡ map element_of parts.now) }
-    ensures short { OnOk result (any_true (map element_has_long (map element_of parts.now)) ≡ false) }
-    ensures long { result ≡ Err JobFault.TextTooLong → any_true (map element_has_long (map element_of parts.now)) ≡ true }
+    ensures short { OnOk result (any_true (map element_has_long (map element_of parts.now))
+        ≡ false) }
+    ensures long { result ≡ Err JobFault.TextTooLong
+        → any_true (map element_has_long (map element_of parts.now)) ≡ true }
     ensures fault { IfErr result IsBuildingFault }
 {
     let mut built = Vec::new(alloc);
@@ -215,7 +256,8 @@ fn build_flow(alloc: Global, parts: &SplitFlowParts) -> Result<SplitFlow, JobFau
 fn build_flows(alloc: Global, parts: &[SplitFlowParts]) -> Result<Listed<SplitFlow>, JobFault>
     ensures same { IfOk result (λ built. built ≡ map flow_of parts.now) }
     ensures short { OnOk result (any_true (map flow_has_long (map flow_of parts.now)) ≡ false) }
-    ensures long { result ≡ Err JobFault.TextTooLong → any_true (map flow_has_long (map flow_of parts.now)) ≡ true }
+    ensures long { result ≡ Err JobFault.TextTooLong
+        → any_true (map flow_has_long (map flow_of parts.now)) ≡ true }
     ensures fault { IfErr result IsBuildingFault }
 {
     let mut built = Vec::new(alloc);

@@ -7,9 +7,9 @@ ghost use Rattle.jsl_model.specs.Catalogues.{AreJobs};
 
 use crate::element::Element;
 use crate::job::{Job, JobFault};
-use crate::member::members_in;
 use crate::names::distinct;
 use crate::naming::add_artifacts;
+use crate::node::nodes_in;
 use batch_ids::{Listed, OutOfMemory};
 use std::alloc::Global;
 use std::marker::Model;
@@ -21,6 +21,7 @@ const MOST_JOBS: usize = 256;
 /// jobs, in the order in which they were added.
 #[derive(Debug, Drop)]
 pub struct Catalogue {
+    alloc: Global,
     jobs: Listed<Job>,
 }
 
@@ -46,18 +47,27 @@ impl Catalogue {
         ensures { result ≡ [] }
     {
         Catalogue {
+            alloc,
             jobs: Listed::new(alloc),
         }
     }
 
-    /// Adds a job at the end. A job that is refused is dropped, and the catalogue stays as it was.
+    /// Adds a job at the end. A job that is refused is dropped, and the catalogue stays as it was. It
+    /// costs time as the catalogue has jobs.
     ///
-    /// Errors: `TooMany` exactly where 256 jobs are held; else `DuplicateId` exactly where a job of
-    /// this id is held; else at most `OutOfMemory`. It costs time as the catalogue has jobs.
+    /// # Errors
+    /// The first in this order:
+    /// - `TooMany`: 256 jobs are held;
+    /// - `DuplicateId`: a job of this id is held;
+    /// - `OutOfMemory`: memory was refused.
     pub fn add(&mut self, job: Job) -> Result<(), JobFault>
         ensures too_many { 256 ≤ length self.old → result ≡ Err JobFault.TooMany }
-        ensures duplicate { length self.old < 256 → IsSome (find (λ held. is_text held.id job.id) self.old) → result ≡ Err JobFault.DuplicateId }
-        ensures memory { length self.old < 256 → IsNone (find (λ held. is_text held.id job.id) self.old) → OnErr result (result ≡ Err JobFault.OutOfMemory) }
+        ensures duplicate { length self.old < 256
+            → IsSome (find (λ held. is_text held.id job.id) self.old)
+            → result ≡ Err JobFault.DuplicateId }
+        ensures memory { length self.old < 256
+            → IsNone (find (λ held. is_text held.id job.id) self.old)
+            → OnErr result (result ≡ Err JobFault.OutOfMemory) }
         ensures added { OnOk result (self.new ≡ self.old ++ job ∷ []) }
         ensures unchanged { OnErr result (self.new ≡ self.old) }
     {
@@ -100,27 +110,35 @@ impl Catalogue {
         self.jobs.is_empty()
     }
 
-    /// The names of all artifacts that its jobs name, each once, the first use first, or `OutOfMemory`.
-    /// It costs time and memory as its jobs have elements.
-    pub fn artifacts(&self, alloc: Global) -> Result<Vec<&str>, OutOfMemory>
-        ensures { IfOk result (λ names. map (λ name. name.now) names.items ≡ distinct (flat_map (λ job. artifacts job.elements) self.now)) }
+    /// The names of all artifacts that its jobs name, each once, the first use first. It costs time
+    /// and memory as its jobs have elements.
+    ///
+    /// # Errors
+    /// `OutOfMemory` alone: memory was refused.
+    pub fn artifacts(&self) -> Result<Vec<&str>, OutOfMemory>
+        ensures { IfOk result (λ names. map (λ name. name.now) names.items
+            ≡ distinct (flat_map (λ job. artifacts job.elements) self.now)) }
     {
-        let mut names = Vec::new(alloc);
+        let mut names = Vec::new(self.alloc);
         for job in self.jobs.as_slice() {
-            add_all_artifacts(alloc, job.elements(), &mut names)?;
+            add_all_artifacts(self.alloc, job.elements(), &mut names)?;
         }
-        distinct(alloc, names.as_slice())
+        distinct(self.alloc, names.as_slice())
     }
 
-    /// An equal catalogue, or `OutOfMemory`. It costs time and memory as its jobs have elements.
-    pub fn try_clone(&self, alloc: Global) -> Result<Catalogue, OutOfMemory>
+    /// An equal catalogue. It costs time and memory as its jobs have elements.
+    ///
+    /// # Errors
+    /// `OutOfMemory` alone: memory was refused.
+    pub fn try_clone(&self) -> Result<Catalogue, OutOfMemory>
         ensures { IfOk result (λ copy. copy ≡ self.now) }
     {
-        let mut jobs = Vec::new(alloc);
+        let mut jobs = Vec::new(self.alloc);
         for job in self.jobs.as_slice() {
-            jobs.push(job.try_clone(alloc)?)?;
+            jobs.push(job.try_clone()?)?;
         }
         Ok(Catalogue {
+            alloc: self.alloc,
             jobs: Listed::from_vec(jobs),
         })
     }
@@ -132,11 +150,12 @@ fn add_all_artifacts<'a>(
     elements: &'a [Element],
     names: &mut Vec<&'a str>,
 ) -> Result<(), OutOfMemory>
-    ensures { OnOk result (map (λ name. name.now) names.new.items ≡ map (λ name. name.now) names.old.items ++ artifacts elements.now) }
+    ensures { OnOk result (map (λ name. name.now) names.new.items
+        ≡ map (λ name. name.now) names.old.items ++ artifacts elements.now) }
 {
-    let members = members_in(alloc, elements)?;
-    for member in members.as_slice() {
-        if let Some(body) = member.body {
+    let nodes = nodes_in(alloc, elements)?;
+    for node in nodes.as_slice() {
+        if let Some(body) = node.body {
             add_artifacts(body, names)?;
         }
     }

@@ -16,7 +16,8 @@ fn is_body_deeper(body: &Body, most: usize) -> bool
     }
 }
 
-/// Whether an element stands deeper than so many levels, those of this list being at 1. It looks no deeper than that.
+/// Whether an element stands deeper than so many levels, those of this list being at 1. It looks no
+/// deeper than that.
 #[cycle(depth)]
 #[tactic(auto, using(crate::proofs::Levels::greatest_more, crate::proofs::Levels::element_levels, crate::proofs::Levels::flow_levels))]
 pub fn is_deeper(elements: &[Element], most: usize) -> bool

@@ -117,7 +117,10 @@ pub struct SplitFlow {
 }
 
 impl Then {
-    /// An equal target, or `OutOfMemory`.
+    /// An equal target.
+    ///
+    /// # Errors
+    /// `OutOfMemory` alone: memory was refused.
     pub fn try_clone(&self) -> Result<Then, OutOfMemory>
         ensures { IfOk result (λ copy. copy ≡ self.now) }
     {
@@ -149,7 +152,10 @@ impl Then {
 }
 
 impl Transition {
-    /// An equal transition element, or `OutOfMemory`.
+    /// An equal transition element.
+    ///
+    /// # Errors
+    /// `OutOfMemory` alone: memory was refused.
     pub fn try_clone(&self) -> Result<Transition, OutOfMemory>
         ensures { IfOk result (λ copy. copy ≡ self.now) }
     {
@@ -160,7 +166,10 @@ impl Transition {
 }
 
 impl Task {
-    /// An equal task, or `OutOfMemory`.
+    /// An equal task.
+    ///
+    /// # Errors
+    /// `OutOfMemory` alone: memory was refused.
     pub fn try_clone(&self) -> Result<Task, OutOfMemory>
         ensures { IfOk result (λ copy. copy ≡ self.now) }
     {
@@ -188,7 +197,10 @@ impl Task {
 }
 
 impl Step {
-    /// An equal step, or `OutOfMemory`.
+    /// An equal step.
+    ///
+    /// # Errors
+    /// `OutOfMemory` alone: memory was refused.
     pub fn try_clone(&self) -> Result<Step, OutOfMemory>
         ensures { IfOk result (λ copy. copy ≡ self.now) }
     {
@@ -214,40 +226,35 @@ fn copies_of_transitions(
     Ok(Listed::from_vec(copies))
 }
 
-impl Element {
-    /// An equal element, or `OutOfMemory`.
-    #[cycle(copying)]
-    pub fn try_clone(&self, alloc: Global) -> Result<Element, OutOfMemory>
-        ensures { IfOk result (λ copy. copy ≡ self.now) }
-    {
-        let id = self.id.try_clone()?;
-        let next = try_clone_option(&self.next)?;
-        let transitions = copies_of_transitions(alloc, self.transitions.as_slice())?;
-        let body = self.body.try_clone(alloc)?;
-        Ok(Element {
-            id,
-            next,
-            transitions,
-            body,
-        })
-    }
+/// An equal element.
+#[cycle(copying)]
+fn copy_of(alloc: Global, element: &Element) -> Result<Element, OutOfMemory>
+    ensures { IfOk result (λ copy. copy ≡ element.now) }
+{
+    let id = element.id.try_clone()?;
+    let next = try_clone_option(&element.next)?;
+    let transitions = copies_of_transitions(alloc, element.transitions.as_slice())?;
+    let body = copy_of_body(alloc, &element.body)?;
+    Ok(Element {
+        id,
+        next,
+        transitions,
+        body,
+    })
 }
 
-impl Body {
-    /// An equal body, or `OutOfMemory`.
-    #[cycle(copying)]
-    pub fn try_clone(&self, alloc: Global) -> Result<Body, OutOfMemory>
-        ensures { IfOk result (λ copy. copy ≡ self.now) }
-    {
-        match self {
-            Body::Step(step) => Ok(Body::Step(step.try_clone()?)),
-            Body::Flow(elements) => Ok(Body::Flow(copies_of(alloc, elements.as_slice())?)),
-            Body::Split(flows) => Ok(Body::Split(copies_of_flows(alloc, flows.as_slice())?)),
-            Body::Decision { artifact } => {
-                Ok(Body::Decision {
-                    artifact: artifact.try_clone()?,
-                })
-            }
+#[cycle(copying)]
+fn copy_of_body(alloc: Global, body: &Body) -> Result<Body, OutOfMemory>
+    ensures { IfOk result (λ copy. copy ≡ body.now) }
+{
+    match body {
+        Body::Step(step) => Ok(Body::Step(step.try_clone()?)),
+        Body::Flow(elements) => Ok(Body::Flow(copies_of(alloc, elements.as_slice())?)),
+        Body::Split(flows) => Ok(Body::Split(copies_of_flows(alloc, flows.as_slice())?)),
+        Body::Decision { artifact } => {
+            Ok(Body::Decision {
+                artifact: artifact.try_clone()?,
+            })
         }
     }
 }
@@ -259,7 +266,7 @@ pub fn copies_of(alloc: Global, elements: &[Element]) -> Result<Listed<Element>,
 {
     let mut copies = Vec::new(alloc);
     for element in elements {
-        copies.push(element.try_clone(alloc)?)?;
+        copies.push(copy_of(alloc, element)?)?;
     }
     Ok(Listed::from_vec(copies))
 }

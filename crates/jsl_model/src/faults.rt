@@ -1,6 +1,6 @@
 ghost use Rattle.std.specs.Prelude.{◌≡◌, Bool, All, None, map, IfOk};
 ghost use Rattle.jsl_model.specs.Faults.{tree_fault, restarts};
-ghost use Rattle.jsl_model.specs.Members.{member};
+ghost use Rattle.jsl_model.specs.Nodes.{node};
 ghost use Rattle.jsl_model.specs.Names.{are_among};
 ghost use Rattle.jsl_model.specs.Targets.{outline, ids, lists_of, HasRanks};
 
@@ -9,12 +9,12 @@ use crate::element::Element;
 use crate::emptiness::is_list_lacking;
 use crate::job::JobFault;
 use crate::lists::lists_in;
-use crate::member::{Member, members_in};
 use crate::names::{are_among, has_twice};
 use crate::naming::{ids_of, own_ids, restarts_of};
+use crate::node::{Node, nodes_in};
 use crate::targets::{has_some_loop, lacks_some_target};
-use batch_ids::T256;
-use std::alloc::{AllocError, Global};
+use batch_ids::{OutOfMemory, T256};
+use std::alloc::Global;
 
 /// How deep an element may stand.
 const MOST_DEEP: usize = 16;
@@ -27,9 +27,10 @@ pub fn fault_in(
     alloc: Global,
     id: &T256,
     elements: &[Element],
-) -> Result<Option<JobFault>, AllocError>
+) -> Result<Option<JobFault>, OutOfMemory>
     ensures ranked { IfOk result (λ found. found ≡ None → All HasRanks (lists_of elements.now)) }
-    ensures first { IfOk result (λ found. (restartable : Bool) → found ≡ tree_fault record { id = id.now; restartable = restartable; elements = elements.now }) }
+    ensures first { IfOk result (λ found. (restartable : Bool) → found
+        ≡ tree_fault record { id = id.now; restartable = restartable; elements = elements.now }) }
 {
     if id.as_str().is_empty() || is_list_lacking(elements) {
         return Ok(Some(JobFault::Empty));
@@ -37,11 +38,11 @@ pub fn fault_in(
     if is_deeper(elements, MOST_DEEP) {
         return Ok(Some(JobFault::TooDeep));
     }
-    let members = members_in(alloc, elements)?;
-    if members.len() > MOST_ELEMENTS {
+    let nodes = nodes_in(alloc, elements)?;
+    if nodes.len() > MOST_ELEMENTS {
         return Ok(Some(JobFault::TooMany));
     }
-    let ids = ids_of(alloc, members.as_slice())?;
+    let ids = ids_of(alloc, nodes.as_slice())?;
     if has_twice(alloc, ids.as_slice())? {
         return Ok(Some(JobFault::DuplicateId));
     }
@@ -52,7 +53,7 @@ pub fn fault_in(
     if has_some_loop(alloc, lists.as_slice())? {
         return Ok(Some(JobFault::Loop));
     }
-    if !are_restarts_own(alloc, members.as_slice(), elements)? {
+    if !are_restarts_own(alloc, nodes.as_slice(), elements)? {
         return Ok(Some(JobFault::RestartNotJobLevel));
     }
     Ok(None)
@@ -61,12 +62,13 @@ pub fn fault_in(
 /// Whether each restart begins at one of these elements.
 fn are_restarts_own(
     alloc: Global,
-    members: &[Member<'_>],
+    nodes: &[Node<'_>],
     elements: &[Element],
-) -> Result<bool, AllocError>
-    ensures { IfOk result (λ own. own ≡ are_among (ids (outline elements.now)) (restarts (map member members.now))) }
+) -> Result<bool, OutOfMemory>
+    ensures { IfOk result (λ own. own
+        ≡ are_among (ids (outline elements.now)) (restarts (map node nodes.now))) }
 {
-    let restarts = restarts_of(alloc, members)?;
+    let restarts = restarts_of(alloc, nodes)?;
     let own = own_ids(alloc, elements)?;
     are_among(alloc, restarts.as_slice(), own.as_slice())
 }

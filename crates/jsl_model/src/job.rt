@@ -1,11 +1,13 @@
 ghost use Rattle.std.specs.Prelude.{◌≡◌, ◌≤◌, false, length, find, option_copied, Some, None, Err, IfOk, IfErr, OnOk};
 ghost use Rattle.batch_ids.specs.Texts.{is_text};
 ghost use Rattle.jsl_model.specs.Parts.{tree_of};
+ghost use Rattle.jsl_model.specs.Trees.{all_elements};
 ghost use Rattle.jsl_model.specs.Faults.{fault_name, is_out_of_memory, job_fault, IsChecked};
 
 use crate::building::{build_elements, build_text};
 use crate::element::{Body, Element, copies_of};
 use crate::faults::fault_in;
+use crate::finding::find_element;
 use crate::parts::JobParts;
 use batch_ids::{Listed, OutOfMemory, T256};
 use std::alloc::{AllocError, AllocFailed, Global};
@@ -91,6 +93,7 @@ impl<T: Drop> From<AllocFailed<T>> for JobFault {
 /// id, whether it may be restarted, and its elements.
 #[derive(Debug, Drop)]
 pub struct Job {
+    alloc: Global,
     id: T256,
     restartable: bool,
     elements: Listed<Element>,
@@ -106,16 +109,19 @@ impl Model for Job {
 
     ghost coded = { Prim.hlevel (codes, body.the_row.coded) };
 
-    ghost view = { λ job. record { id = job.id; restartable = job.restartable; elements = job.elements } };
+    ghost view = { λ job.
+        record { id = job.id; restartable = job.restartable; elements = job.elements } };
 
-    ghost invariant = { λ job. IsChecked record { id = job.id; restartable = job.restartable; elements = job.elements } };
+    ghost invariant = { λ job.
+        IsChecked record { id = job.id; restartable = job.restartable; elements = job.elements } };
 }
 
 impl Job {
     /// The job that these parts give, if it is one (Jakarta Batch 2.1, chapter "Job Specification
-    /// Language"). The parts are dropped.
+    /// Language"). The parts are dropped. The time is near linear in the size of the parts.
     ///
-    /// Errors, the first that stands, each tested over the whole job:
+    /// # Errors
+    /// The first that stands, each tested over the whole job:
     /// - `TextTooLong`: a text (an id, a `next`, an artifact's name, an `on`, a `to`, an exit status,
     ///   a `restart`) has more than 256 bytes;
     /// - `Empty`: an id or an artifact's name is empty, a list has no element, a split has no flow, or
@@ -128,17 +134,19 @@ impl Job {
     /// - `Loop`: in one list, the targets of `next` and `to` form a cycle;
     /// - `RestartNotJobLevel`: a `restart` names no element of the job's own list.
     ///
-    /// `OutOfMemory` may stand in place of any answer. The time is near linear in the size of the parts.
+    /// `OutOfMemory` may stand in place of any answer.
     pub fn check(alloc: Global, parts: JobParts) -> Result<Job, JobFault>
         ensures same { IfOk result (λ job. job ≡ tree_of parts) }
         ensures faultless { OnOk result (job_fault (tree_of parts) ≡ None) }
-        ensures fault { IfErr result (λ fault. is_out_of_memory fault ≡ false → job_fault (tree_of parts) ≡ Some fault) }
+        ensures fault { IfErr result (λ fault. is_out_of_memory fault ≡ false
+            → job_fault (tree_of parts) ≡ Some fault) }
     {
         let id = build_text(alloc, parts.id.as_str())?;
         let elements = build_elements(alloc, parts.elements.as_slice())?;
         match fault_in(alloc, &id, elements.as_slice())? {
             Some(fault) => Err(fault),
             None => Ok(Job {
+                alloc,
                 id,
                 restartable: parts.restartable,
                 elements,
@@ -169,26 +177,28 @@ impl Job {
         self.elements.as_slice()
     }
 
-    /// The element of the job's own list that has this id, if there is one (an element inside a flow or
-    /// a split is not looked for). It costs time as the list has elements.
+    /// The element that has this id, at any depth, if there is one. A flow that stands directly in a
+    /// split is no element and is not found, but the elements inside it are.
+    ///
+    /// It costs time as the job has elements, and no memory.
     pub fn element(&self, id: &str) -> Option<&Element>
-        ensures { option_copied result ≡ find (λ element. is_text element.id id.now) self.now.elements }
+        ensures { option_copied result
+            ≡ find (λ element. is_text element.id id.now) (all_elements self.now.elements) }
     {
-        for element in self.elements() {
-            if element.id.as_str() == id {
-                return Some(element);
-            }
-        }
-        None
+        find_element(self.elements(), id)
     }
 
-    /// An equal job, or `OutOfMemory`. It costs time and memory as the job has elements.
-    pub fn try_clone(&self, alloc: Global) -> Result<Job, OutOfMemory>
+    /// An equal job. It costs time and memory as the job has elements.
+    ///
+    /// # Errors
+    /// `OutOfMemory` alone: memory was refused.
+    pub fn try_clone(&self) -> Result<Job, OutOfMemory>
         ensures { IfOk result (λ copy. copy ≡ self.now) }
     {
         let id = self.id.try_clone()?;
-        let elements = copies_of(alloc, self.elements())?;
+        let elements = copies_of(self.alloc, self.elements())?;
         Ok(Job {
+            alloc: self.alloc,
             id,
             restartable: self.restartable(),
             elements,

@@ -1,4 +1,5 @@
-//! Jobs as checked trees, and the catalogue of jobs (Jakarta Batch 2.1, "Job Specification Language").
+//! Jobs as checked trees, and the catalogue of jobs (Jakarta Batch 2.1, "Job Specification
+//! Language").
 #![tactic(auto)]
 
 mod building;
@@ -7,11 +8,12 @@ mod depth;
 mod element;
 mod emptiness;
 mod faults;
+mod finding;
 mod job;
 mod lists;
-mod member;
 mod names;
 mod naming;
+mod node;
 mod parts;
 mod targets;
 

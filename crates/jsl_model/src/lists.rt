@@ -1,17 +1,19 @@
 ghost use Rattle.std.specs.Prelude.{◌≡◌, ◌++◌, map, IfOk, OnOk};
-ghost use Rattle.jsl_model.specs.Targets.{outline, lists_of, inside_of};
+ghost use Rattle.jsl_model.specs.Targets.{outline, lists_of, lists_inside};
 
 use crate::element::{Body, Element};
-use std::alloc::{AllocError, Global};
+use batch_ids::OutOfMemory;
+use std::alloc::Global;
 
 /// All lists of a job, in written order: this one, and then those inside its elements, or
-/// `AllocError` where memory is refused. It costs time as there are elements at all depths, and
+/// `OutOfMemory`. It costs time as there are elements at all depths, and
 /// memory as there are lists.
 pub fn lists_in<'a>(
     alloc: Global,
     elements: &'a [Element],
-) -> Result<Vec<&'a [Element]>, AllocError>
-    ensures { IfOk result (λ lists. map (λ list. outline list.now) lists.items ≡ lists_of elements.now) }
+) -> Result<Vec<&'a [Element]>, OutOfMemory>
+    ensures { IfOk result (λ lists. map (λ list. outline list.now) lists.items
+        ≡ lists_of elements.now) }
 {
     let mut lists = Vec::new(alloc);
     add_lists(&mut lists, elements)?;
@@ -19,8 +21,9 @@ pub fn lists_in<'a>(
 }
 
 #[cycle(listing)]
-fn add_lists<'a>(lists: &mut Vec<&'a [Element]>, elements: &'a [Element]) -> Result<(), AllocError>
-    ensures { OnOk result (map (λ list. outline list.now) lists.new.items ≡ map (λ list. outline list.now) lists.old.items ++ lists_of elements.now) }
+fn add_lists<'a>(lists: &mut Vec<&'a [Element]>, elements: &'a [Element]) -> Result<(), OutOfMemory>
+    ensures { OnOk result (map (λ list. outline list.now) lists.new.items
+        ≡ map (λ list. outline list.now) lists.old.items ++ lists_of elements.now) }
 {
     lists.push(elements)?;
     for element in elements {
@@ -30,8 +33,9 @@ fn add_lists<'a>(lists: &mut Vec<&'a [Element]>, elements: &'a [Element]) -> Res
 }
 
 #[cycle(listing)]
-fn add_inside<'a>(lists: &mut Vec<&'a [Element]>, element: &'a Element) -> Result<(), AllocError>
-    ensures { OnOk result (map (λ list. outline list.now) lists.new.items ≡ map (λ list. outline list.now) lists.old.items ++ inside_of element.now) }
+fn add_inside<'a>(lists: &mut Vec<&'a [Element]>, element: &'a Element) -> Result<(), OutOfMemory>
+    ensures { OnOk result (map (λ list. outline list.now) lists.new.items
+        ≡ map (λ list. outline list.now) lists.old.items ++ lists_inside element.now) }
 {
     match &element.body {
         Body::Step(_) => Ok(()),

@@ -1,26 +1,28 @@
 ghost use Rattle.std.specs.Prelude.{◌≡◌, ◌++◌, map, OnOk, IfOk};
-ghost use Rattle.jsl_model.specs.Members.{member};
-ghost use Rattle.jsl_model.specs.Trees.{inside, task_artifacts};
+ghost use Rattle.jsl_model.specs.Nodes.{node};
+ghost use Rattle.jsl_model.specs.Trees.{in_body, task_artifacts};
 ghost use Rattle.jsl_model.specs.Targets.{outline, ids};
-ghost use Rattle.jsl_model.specs.Faults.{member_ids, restarts, restarts_in};
+ghost use Rattle.jsl_model.specs.Faults.{node_ids, restarts, restarts_in};
 
 use crate::element::{Body, Element, Task, Then, Transition};
-use crate::member::Member;
-use std::alloc::{AllocError, Global};
+use crate::node::Node;
+use batch_ids::OutOfMemory;
+use std::alloc::Global;
 
-/// The ids of these members.
-pub fn ids_of<'a>(alloc: Global, members: &[Member<'a>]) -> Result<Vec<&'a str>, AllocError>
-    ensures { IfOk result (λ found. map (λ id. id.now) found.items ≡ member_ids (map member members.now)) }
+/// The ids of these nodes.
+pub fn ids_of<'a>(alloc: Global, nodes: &[Node<'a>]) -> Result<Vec<&'a str>, OutOfMemory>
+    ensures { IfOk result (λ found. map (λ id. id.now) found.items
+        ≡ node_ids (map node nodes.now)) }
 {
     let mut ids = Vec::new(alloc);
-    for member in members {
-        ids.push(member.id)?;
+    for node in nodes {
+        ids.push(node.id)?;
     }
     Ok(ids)
 }
 
 /// The ids of a list's own elements.
-pub fn own_ids(alloc: Global, elements: &[Element]) -> Result<Vec<&str>, AllocError>
+pub fn own_ids(alloc: Global, elements: &[Element]) -> Result<Vec<&str>, OutOfMemory>
     ensures { IfOk result (λ found. map (λ id. id.now) found.items ≡ ids (outline elements.now)) }
 {
     let mut ids = Vec::new(alloc);
@@ -30,13 +32,14 @@ pub fn own_ids(alloc: Global, elements: &[Element]) -> Result<Vec<&str>, AllocEr
     Ok(ids)
 }
 
-/// The elements at which restarts begin, by all transition elements of these members.
-pub fn restarts_of<'a>(alloc: Global, members: &[Member<'a>]) -> Result<Vec<&'a str>, AllocError>
-    ensures { IfOk result (λ found. map (λ id. id.now) found.items ≡ restarts (map member members.now)) }
+/// The elements at which restarts begin, by all transition elements of these nodes.
+pub fn restarts_of<'a>(alloc: Global, nodes: &[Node<'a>]) -> Result<Vec<&'a str>, OutOfMemory>
+    ensures { IfOk result (λ found. map (λ id. id.now) found.items
+        ≡ restarts (map node nodes.now)) }
 {
     let mut found = Vec::new(alloc);
-    for member in members {
-        add_restarts(member.transitions, &mut found)?;
+    for node in nodes {
+        add_restarts(node.transitions, &mut found)?;
     }
     Ok(found)
 }
@@ -44,8 +47,9 @@ pub fn restarts_of<'a>(alloc: Global, members: &[Member<'a>]) -> Result<Vec<&'a 
 fn add_restarts<'a>(
     transitions: &'a [Transition],
     found: &mut Vec<&'a str>,
-) -> Result<(), AllocError>
-    ensures { OnOk result (map (λ id. id.now) found.new.items ≡ map (λ id. id.now) found.old.items ++ restarts_in transitions.now) }
+) -> Result<(), OutOfMemory>
+    ensures { OnOk result (map (λ id. id.now) found.new.items
+        ≡ map (λ id. id.now) found.old.items ++ restarts_in transitions.now) }
 {
     for transition in transitions {
         if let Then::Stop {
@@ -60,8 +64,9 @@ fn add_restarts<'a>(
 }
 
 /// Adds the artifacts that a body names itself.
-pub fn add_artifacts<'a>(body: &'a Body, found: &mut Vec<&'a str>) -> Result<(), AllocError>
-    ensures { OnOk result (map (λ name. name.now) found.new.items ≡ map (λ name. name.now) found.old.items ++ (inside body.now).artifacts) }
+pub fn add_artifacts<'a>(body: &'a Body, found: &mut Vec<&'a str>) -> Result<(), OutOfMemory>
+    ensures { OnOk result (map (λ name. name.now) found.new.items
+        ≡ map (λ name. name.now) found.old.items ++ (in_body body.now).artifacts) }
 {
     match body {
         Body::Step(step) => add_task(&step.task, found),
@@ -74,8 +79,9 @@ pub fn add_artifacts<'a>(body: &'a Body, found: &mut Vec<&'a str>) -> Result<(),
     }
 }
 
-fn add_task<'a>(task: &'a Task, found: &mut Vec<&'a str>) -> Result<(), AllocError>
-    ensures { OnOk result (map (λ name. name.now) found.new.items ≡ map (λ name. name.now) found.old.items ++ task_artifacts task.now) }
+fn add_task<'a>(task: &'a Task, found: &mut Vec<&'a str>) -> Result<(), OutOfMemory>
+    ensures { OnOk result (map (λ name. name.now) found.new.items
+        ≡ map (λ name. name.now) found.old.items ++ task_artifacts task.now) }
 {
     match task {
         Task::Batchlet { artifact } => {

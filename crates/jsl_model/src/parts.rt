@@ -18,42 +18,60 @@ pub struct JobParts {
 pub struct ElementParts {
     /// Its id.
     pub id: String,
-    /// The id of the element that follows it.
-    pub next: Option<String>,
-    /// Its transition elements.
-    pub transitions: Listed<TransitionParts>,
-    /// What it is.
+    /// What it is, and all else that an element of its kind may have.
     pub body: BodyParts,
 }
 
 /// What an element is, in parts (Jakarta Batch 2.1, "Job Specification Language", sections "Step",
-/// "Flow", "Split" and "Decision").
+/// "Flow", "Split" and "Decision"). Each kind has what it may have: a split has no transition
+/// elements, and a decision no `next`.
 #[cycle(parts)]
 #[derive(Debug, Drop)]
 pub enum BodyParts {
     /// A step.
     Step(StepParts),
-    /// A flow, by its elements.
-    Flow(Listed<ElementParts>),
-    /// A split, by its flows.
-    Split(Listed<SplitFlowParts>),
-    /// A decision, by the name of its artifact.
-    Decision(String),
+    /// A flow.
+    Flow {
+        /// The id of the element that follows it.
+        next: Option<String>,
+        /// Its transition elements.
+        transitions: Listed<TransitionParts>,
+        /// Its elements; it begins at the first of them.
+        elements: Listed<ElementParts>,
+    },
+    /// A split.
+    Split {
+        /// The id of the element that follows it.
+        next: Option<String>,
+        /// Its flows, which run concurrently.
+        flows: Listed<SplitFlowParts>,
+    },
+    /// A decision.
+    Decision {
+        /// Its transition elements.
+        transitions: Listed<TransitionParts>,
+        /// The name of its artifact.
+        artifact: String,
+    },
 }
 
-/// The parts of a flow that stands directly in a split.
+/// The parts of a flow that stands directly in a split. It has no `next` and no transition elements.
 #[cycle(parts)]
 #[derive(Debug, Drop)]
 pub struct SplitFlowParts {
     /// Its id.
     pub id: String,
-    /// Its elements.
+    /// Its elements; it begins at the first of them.
     pub elements: Listed<ElementParts>,
 }
 
 /// The parts of a step (Jakarta Batch 2.1, "Job Specification Language", section "Step").
 #[derive(Debug, Drop)]
 pub struct StepParts {
+    /// The id of the element that follows it.
+    pub next: Option<String>,
+    /// Its transition elements.
+    pub transitions: Listed<TransitionParts>,
     /// How often the step may be started in one job instance; 0 sets no limit.
     pub start_limit: u32,
     /// Whether a restart runs the step again although it is COMPLETED.

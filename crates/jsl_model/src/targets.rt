@@ -6,15 +6,17 @@ ghost use Rattle.jsl_model.specs.Targets.{item_of, outline, ids, targets_in, lac
 use crate::element::{Element, Then};
 use crate::names::are_among;
 use crate::naming::own_ids;
-use std::alloc::{AllocError, Global};
+use batch_ids::OutOfMemory;
+use std::alloc::Global;
 use std::collections::HashMap;
 use target_graph::{Graph, ranks};
 
 /// Whether an element of one of these lists names, by `next` or `to`, an id that no element of its
-/// list has (Jakarta Batch 2.1, "Job Specification Language"), or `AllocError` where memory is
-/// refused. It costs about as much time as there are elements and targets.
-pub fn lacks_some_target(alloc: Global, lists: &[&[Element]]) -> Result<bool, AllocError>
-    ensures { IfOk result (λ lacks. lacks ≡ list_any lacks_target (map (λ list. outline list.now) lists.now)) }
+/// list has (Jakarta Batch 2.1, "Job Specification Language"), or `OutOfMemory`. It costs about as
+/// much time as there are elements and targets.
+pub fn lacks_some_target(alloc: Global, lists: &[&[Element]]) -> Result<bool, OutOfMemory>
+    ensures { IfOk result (λ lacks. lacks
+        ≡ list_any lacks_target (map (λ list. outline list.now) lists.now)) }
 {
     for list in lists {
         if lacks_target(alloc, *list)? {
@@ -25,12 +27,14 @@ pub fn lacks_some_target(alloc: Global, lists: &[&[Element]]) -> Result<bool, Al
 }
 
 /// Whether the targets of `next` and `to` form a cycle in one of these lists (Jakarta Batch 2.1,
-/// "Job Specification Language"), or `AllocError` where memory is refused. Where two elements of a
+/// "Job Specification Language"), or `OutOfMemory`. Where two elements of a
 /// list have one id, the first is its target. It costs about as much time as there are elements and
 /// targets, and a call stack as deep as a list has elements.
-pub fn has_some_loop(alloc: Global, lists: &[&[Element]]) -> Result<bool, AllocError>
-    ensures same { IfOk result (λ loops. loops ≡ list_any has_loop (map (λ list. outline list.now) lists.now)) }
-    ensures ranked { IfOk result (λ loops. loops ≡ false → All HasRanks (map (λ list. outline list.now) lists.now)) }
+pub fn has_some_loop(alloc: Global, lists: &[&[Element]]) -> Result<bool, OutOfMemory>
+    ensures same { IfOk result (λ loops. loops
+        ≡ list_any has_loop (map (λ list. outline list.now) lists.now)) }
+    ensures ranked { IfOk result (λ loops. loops ≡ false
+        → All HasRanks (map (λ list. outline list.now) lists.now)) }
 {
     for list in lists {
         if has_loop(alloc, *list)? {
@@ -40,7 +44,7 @@ pub fn has_some_loop(alloc: Global, lists: &[&[Element]]) -> Result<bool, AllocE
     Ok(false)
 }
 
-fn lacks_target(alloc: Global, elements: &[Element]) -> Result<bool, AllocError>
+fn lacks_target(alloc: Global, elements: &[Element]) -> Result<bool, OutOfMemory>
     ensures { IfOk result (λ lacks. lacks ≡ lacks_target (outline elements.now)) }
 {
     let ids = own_ids(alloc, elements)?;
@@ -51,7 +55,7 @@ fn lacks_target(alloc: Global, elements: &[Element]) -> Result<bool, AllocError>
     Ok(!are_among(alloc, &targets, &ids)?)
 }
 
-fn has_loop(alloc: Global, elements: &[Element]) -> Result<bool, AllocError>
+fn has_loop(alloc: Global, elements: &[Element]) -> Result<bool, OutOfMemory>
     ensures same { IfOk result (λ loops. loops ≡ has_loop (outline elements.now)) }
     ensures ranked { IfOk result (λ loops. loops ≡ false → HasRanks (outline elements.now)) }
 {
@@ -60,7 +64,7 @@ fn has_loop(alloc: Global, elements: &[Element]) -> Result<bool, AllocError>
     Ok(found.is_none())
 }
 
-fn graph_of(alloc: Global, elements: &[Element]) -> Result<Graph, AllocError>
+fn graph_of(alloc: Global, elements: &[Element]) -> Result<Graph, OutOfMemory>
     ensures { IfOk result (λ graph. graph ≡ graph_of (outline elements.now)) }
 {
     let places = places_of(alloc, elements)?;
@@ -74,8 +78,9 @@ fn graph_of(alloc: Global, elements: &[Element]) -> Result<Graph, AllocError>
 }
 
 // Adds the ids that an element names.
-fn add_targets<'a>(targets: &mut Vec<&'a str>, element: &'a Element) -> Result<(), AllocError>
-    ensures { OnOk result (map (λ name. name.now) targets.new.items ≡ map (λ name. name.now) targets.old.items ++ (item_of element.now).targets) }
+fn add_targets<'a>(targets: &mut Vec<&'a str>, element: &'a Element) -> Result<(), OutOfMemory>
+    ensures { OnOk result (map (λ name. name.now) targets.new.items
+        ≡ map (λ name. name.now) targets.old.items ++ (item_of element.now).targets) }
 {
     if let Some(next) = &element.next {
         targets.push(next.as_str())?;
@@ -92,8 +97,9 @@ fn add_targets<'a>(targets: &mut Vec<&'a str>, element: &'a Element) -> Result<(
 fn places_of<'a>(
     alloc: Global,
     elements: &'a [Element],
-) -> Result<HashMap<&'a str, usize>, AllocError>
-    ensures { IfOk result (λ places. (q : List ℕ) → hash.get_by (λ key. bytes_eq q key.now) places ≡ place_in (ids (outline elements.now)) q) }
+) -> Result<HashMap<&'a str, usize>, OutOfMemory>
+    ensures { IfOk result (λ places. (q : List ℕ) → hash.get_by (λ key. bytes_eq q key.now) places
+        ≡ place_in (ids (outline elements.now)) q) }
 {
     let mut places = HashMap::new(alloc);
     for (place, element) in elements.iter().enumerate() {
@@ -107,8 +113,10 @@ fn places_in<'a>(
     alloc: Global,
     places: &HashMap<&'a str, usize>,
     names: &[&'a str],
-) -> Result<Vec<usize>, AllocError>
-    ensures { IfOk result (λ found. found.items ≡ filter_map (λ name. hash.get_by (λ key. bytes_eq name.now key.now) places.now) names.now) }
+) -> Result<Vec<usize>, OutOfMemory>
+    ensures { IfOk result (λ found. found.items
+        ≡ filter_map (λ name. hash.get_by (λ key. bytes_eq name.now key.now) places.now)
+        names.now) }
 {
     let mut found = Vec::new(alloc);
     for name in names {

@@ -13,6 +13,3 @@ pub use optional::{
     optional_list, optional_number, optional_object, optional_text, optional_truth,
 };
 pub use value::read_value;
-
-#[cfg(test)]
-mod tests;

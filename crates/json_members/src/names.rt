@@ -19,7 +19,9 @@ pub fn has_only(value: &Value, names: &[&str]) -> bool
 }
 
 fn keys_among(members: &Map<String, Value>, names: &[&str]) -> bool
-    ensures { result ≡ list_all (λ key. list_any (λ listed. bytes_eq (string_bytes key) listed.now) names.now) (keys members.now) }
+    ensures { result ≡ list_all
+        (λ key. list_any (λ listed. bytes_eq (string_bytes key) listed.now) names.now)
+        (keys members.now) }
 {
     members.keys().all(|key| is_listed(key.as_str(), names))
 }

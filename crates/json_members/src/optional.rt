@@ -10,7 +10,8 @@ use serde_json::Value;
 /// The text of a member that may be left out: `Some(None)` where it is left out, `None` where it
 /// is there and no text (null included).
 pub fn optional_text<'v>(value: &'v Value, name: &str) -> Option<Option<&'v str>>
-    ensures { option_map (option_map (λ text. text.now)) result ≡ optional_text name.now (view value.now) }
+    ensures { option_map (option_map (λ text. text.now)) result
+        ≡ optional_text name.now (view value.now) }
 {
     match value.get(name) {
         Some(member) => Some(Some(member.as_str()?)),
@@ -43,7 +44,8 @@ pub fn optional_truth(value: &Value, name: &str) -> Option<Option<bool>>
 /// The list of a member that may be left out: `Some(None)` where it is left out, `None` where it
 /// is there and no list (null included).
 pub fn optional_list<'v>(value: &'v Value, name: &str) -> Option<Option<&'v [Value]>>
-    ensures { option_map (option_map (λ list. items_view list.now)) result ≡ optional_list name.now (view value.now) }
+    ensures { option_map (option_map (λ list. items_view list.now)) result
+        ≡ optional_list name.now (view value.now) }
 {
     match value.get(name) {
         Some(member) => Some(Some(member.as_array()?.as_slice())),
@@ -54,7 +56,8 @@ pub fn optional_list<'v>(value: &'v Value, name: &str) -> Option<Option<&'v [Val
 /// The object of a member that may be left out: `Some(None)` where it is left out, `None` where it
 /// is there and no object (null included).
 pub fn optional_object<'v>(value: &'v Value, name: &str) -> Option<Option<&'v Value>>
-    ensures { option_map (option_map (λ found. view found.now)) result ≡ optional_object name.now (view value.now) }
+    ensures { option_map (option_map (λ found. view found.now)) result
+        ≡ optional_object name.now (view value.now) }
 {
     match value.get(name) {
         Some(member) => Some(Some(as_object_value(member)?)),

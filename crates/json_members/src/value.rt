@@ -2,6 +2,7 @@ ghost use Rattle.std.specs.Prelude.{◌≡◌, IfOk, option_map};
 ghost use Rattle.serde_json.specs.View.{view};
 ghost use Rattle.json_members.specs.Members.{data_of};
 
+use batch_ids::OutOfMemory;
 use serde_json::Value;
 use std::alloc::{AllocError, Global};
 
@@ -10,8 +11,9 @@ use std::alloc::{AllocError, Global};
 /// Lists and objects may nest 127 deep. Of a member that comes twice the last value is kept. A
 /// number that no `f64` comes near is not read.
 ///
-/// Errors: only want of memory.
-pub fn read_value(alloc: Global, bytes: &[u8]) -> Result<Option<Value>, AllocError>
+/// # Errors
+/// `OutOfMemory` alone: memory was refused.
+pub fn read_value(alloc: Global, bytes: &[u8]) -> Result<Option<Value>, OutOfMemory>
     ensures { IfOk result (λ found. option_map view found ≡ data_of bytes.now) }
 {
     match Value::from_slice(alloc, bytes) {

@@ -15,9 +15,9 @@ fn chunk(alloc: Global) -> Result<ElementParts, AllocError> {
     };
     Ok(ElementParts {
         id: String::from_str(alloc, "copy")?,
-        next: None,
-        transitions: Listed::new(alloc),
         body: BodyParts::Step(StepParts {
+            next: None,
+            transitions: Listed::new(alloc),
             start_limit: 0,
             allow_start_if_complete: false,
             task,

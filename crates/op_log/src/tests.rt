@@ -15,14 +15,14 @@ fn one_job<const LIMIT: u64>(alloc: Global) -> Result<Book<LIMIT>, Fail>
 {
     let artifact = String::from_str(alloc, "ok")?;
     let step = StepParts {
+        next: None,
+        transitions: Listed::new(alloc),
         start_limit: 0,
         allow_start_if_complete: false,
         task: TaskParts::Batchlet { artifact },
     };
     let element = ElementParts {
         id: String::from_str(alloc, "s")?,
-        next: None,
-        transitions: Listed::new(alloc),
         body: BodyParts::Step(step),
     };
     let mut elements = Listed::new(alloc);

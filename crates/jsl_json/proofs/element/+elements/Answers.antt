@@ -3,15 +3,14 @@ use Rattle.std.proofs.lemmas.Result.{err_from_is_err_and}
 use Rattle.std.proofs.lemmas.List.{map_push}
 use Rattle.serde_json.specs.View.{view, items_view}
 use Rattle.serde_json.specs.Data.{items_depth}
-use Rattle.jsl_model.specs.declared.element.Body.{Body}
 use Rattle.jsl_model.specs.declared.element.Element.{Element}
 use Rattle.jsl_model.specs.declared.element.SplitFlow.{SplitFlow}
 use Rattle.jsl_model.specs.declared.parts.ElementParts.{fold-roll-ElementParts}
 use Rattle.jsl_model.specs.declared.parts.SplitFlowParts.{fold-roll-SplitFlowParts}
-use Rattle.jsl_model.specs.Parts.{body_tree, element_tree, flow_tree, element_of, flow_of}
+use Rattle.jsl_model.specs.Parts.{Content, body_tree, element_tree, flow_tree, element_of, flow_of}
 use Rattle.jsl_json.specs.MemberViews.{kind_in, own_in, own_flow_in}
-use Rattle.jsl_json.specs.Elements.{elements_at, body_at}
-use Rattle.jsl_json.proofs.Inside.{at_right, flow_wrong, flow_right, element_over, flow_over, list_depth, kind_depth, own_depth, item_depth, element_wrong, element_over-fails, flow_over-fails}
+use Rattle.jsl_json.specs.Elements.{elements_at, content_at, next_number}
+use Rattle.jsl_json.proofs.Nesting.{at_right, flow_wrong, flow_right, element_over, flow_over, list_depth, kind_depth, own_depth, item_depth, element_wrong, element_over-fails, flow_over-fails}
 use Rattle.jsl_json.proofs.Lists.{elements_in_turn, flows_in_turn, next_read, next_fails, none_unread}
 use Rattle.jsl_json.proofs.element.+elements.Goals as goal
 
@@ -19,12 +18,12 @@ use Rattle.jsl_json.proofs.element.+elements.Goals as goal
 
 pub body_at-elements_at-requires : goal.body_at-elements_at-requires
 body_at-elements_at-requires t c =
-    let d : kind_depth (kind_in c.args.kind) ≡ items_depth (items_view c.in-Flow.list.now) = ap (λ x. kind_depth (kind_in x)) c.in-Flow.is in
+    let d : kind_depth (kind_in c.args.kind) ≡ items_depth (items_view c.in-Flow.elements.now) = ap (λ x. kind_depth (kind_in x)) c.in-Flow.is in
     (omega (arith, d), tt)
 
 pub body_at-flows_at-requires : goal.body_at-flows_at-requires
 body_at-flows_at-requires t c =
-    let d : kind_depth (kind_in c.args.kind) ≡ items_depth (items_view c.in-Split.list.now) = ap (λ x. kind_depth (kind_in x)) c.in-Split.is in
+    let d : kind_depth (kind_in c.args.kind) ≡ items_depth (items_view c.in-Split.flows.now) = ap (λ x. kind_depth (kind_in x)) c.in-Split.is in
     (omega (arith, d), tt)
 
 pub element_at-body_at-requires : goal.element_at-body_at-requires
@@ -57,17 +56,17 @@ element_at-returns-in-Err-clause-fault t c =
 pub element_at-returns-in_err-body-clause-fault : goal.element_at-returns-in_err-body-clause-fault
 element_at-returns-in_err-body-clause-fault t c =
     let own = own_in c.in-Ok.own in
-    let p = err_from_is_err_and c.from_residual-in_err-body.result c.from_residual-in_err-body.ensures.1 in
+    let p = err_from_is_err_and c.from_residual.result c.from_residual.ensures.1 in
     rw (p.1, p.2) (λ other. at_right c.args.job (view c.args.value.now) c.args.number own c.in-Ok.ensures.read c.in-Ok.ensures.inside
-    ∙ element_over-fails own (body_at c.args.job own.kind (c.args.number + 1)) c.in_err-body.field-0.0 (ap (body_at c.args.job own.kind) (sym c.in_ok-next.ensures.next) ∙ c.in_err-body.ensures.fault other))
+    ∙ element_over-fails own (content_at c.args.job own.kind (next_number c.args.number)) c.in_err-body.field-0.0 (ap (content_at c.args.job own.kind) (sym c.saturating_add-next.ensures) ∙ c.in_err-body.ensures.fault other))
 
 pub element_at-returns-clause-read : goal.element_at-returns-clause-read
 element_at-returns-clause-read t c =
     let own = own_in c.in-Ok.own in
     at_right c.args.job (view c.args.value.now) c.args.number own c.in-Ok.ensures.read c.in-Ok.ensures.inside
-    ∙ ap (element_over own) (ap (body_at c.args.job own.kind) (sym c.in_ok-next.ensures.next) ∙ c.in_ok-body.ensures.read)
-    ∙ ap (λ (e : Element). Ok (e, c.in_ok-body.next)) (sym (fold-roll-ElementParts Body Element SplitFlow body_tree element_tree flow_tree
-    record { id = c.in-Ok.own.id; next = c.in-Ok.own.next; transitions = c.in-Ok.own.transitions; body = c.in_ok-body.body }))
+    ∙ ap (element_over own) (ap (content_at c.args.job own.kind) (sym c.saturating_add-next.ensures) ∙ c.in_ok-body.ensures.read)
+    ∙ ap (λ (e : Element). Ok (e, c.in_ok-body.next)) (sym (fold-roll-ElementParts Content Element SplitFlow body_tree element_tree flow_tree
+    record { id = c.in-Ok.own.id; body = c.in_ok-body.body }))
 
 -- ---- a flow of a split
 
@@ -79,15 +78,15 @@ flow_at-returns-in_err-elements-clause-fault t c =
     let own = own_flow_in c.in-Some.own in
     let p = err_from_is_err_and c.from_residual-in_err-elements.result c.from_residual-in_err-elements.ensures.1 in
     rw (p.1, p.2) (λ other. flow_right c.args.job (view c.args.value.now) c.args.number own (sym c.in-Some.ensures.own) c.in-Some.ensures.inside
-    ∙ flow_over-fails own.id (elements_at c.args.job own.elements (c.args.number + 1)) c.in_err-elements.field-0.0 (ap (elements_at c.args.job own.elements) (sym c.in_ok-next.ensures.next) ∙ c.in_err-elements.ensures.fault other))
+    ∙ flow_over-fails own.id (elements_at c.args.job own.elements (next_number c.args.number)) c.in_err-elements.field-0.0 (ap (elements_at c.args.job own.elements) (sym c.saturating_add-next.ensures) ∙ c.in_err-elements.ensures.fault other))
 
 pub flow_at-returns-clause-read : goal.flow_at-returns-clause-read
 flow_at-returns-clause-read t c =
     let own = own_flow_in c.in-Some.own in
     flow_right c.args.job (view c.args.value.now) c.args.number own (sym c.in-Some.ensures.own) c.in-Some.ensures.inside
-    ∙ ap (flow_over own.id) (ap (elements_at c.args.job own.elements) (sym c.in_ok-next.ensures.next) ∙ c.in_ok-elements.ensures.read)
+    ∙ ap (flow_over own.id) (ap (elements_at c.args.job own.elements) (sym c.saturating_add-next.ensures) ∙ c.in_ok-elements.ensures.read)
     ∙ ap (λ id. flow_over id (Ok (map element_of c.in_ok-elements.elements, c.in_ok-elements.next))) (sym c.in_ok-id.ensures.ok)
-    ∙ ap (λ (f : SplitFlow). Ok (f, c.in_ok-elements.next)) (sym (fold-roll-SplitFlowParts Body Element SplitFlow body_tree element_tree flow_tree
+    ∙ ap (λ (f : SplitFlow). Ok (f, c.in_ok-elements.next)) (sym (fold-roll-SplitFlowParts Content Element SplitFlow body_tree element_tree flow_tree
     record { id = c.in_ok-id.id; elements = c.in_ok-elements.elements }))
 
 -- ---- lists

@@ -4,7 +4,7 @@ use Rattle.serde_json.specs.View.{view, items_view}
 use Rattle.jsl_model.specs.Parts.{element_of, flow_of}
 use Rattle.jsl_json.specs.MemberViews.{kind_in}
 use Rattle.jsl_json.specs.Elements.{elements_at, flows_at}
-use Rattle.jsl_json.proofs.Inside.{kind_depth}
+use Rattle.jsl_json.proofs.Nesting.{kind_depth}
 use Rattle.jsl_json.proofs.Lists.{with_front}
 use Rattle.jsl_json.proofs.element.+elements.Given as goal
 

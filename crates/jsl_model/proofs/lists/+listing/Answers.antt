@@ -1,8 +1,8 @@
-use Rattle.std.proofs.Common.{◌≡◌, ◌++◌, ◌∙◌, List, refl, sym, subst, ap}
+use Rattle.std.proofs.Common.{◌≡◌, ◌++◌, ◌∙◌, List, sym, subst, ap}
 use Rattle.std.specs.List.{flat_map}
 use Rattle.std.specs.Result.{OnOk}
-use Rattle.jsl_model.specs.Targets.{Item, lists_of, lists_of_flow, inside_of}
-use Rattle.jsl_model.proofs.Inside.{outlines, inside-step, inside-decision, inside-flow, inside-split, flow-lists, added-first, added-next, added-all, added-none}
+use Rattle.jsl_model.specs.Targets.{Item, lists_of, lists_of_flow, lists_inside}
+use Rattle.jsl_model.proofs.InnerLists.{outlines, inside-step, inside-decision, inside-flow, inside-split, flow-lists, added-first, added-next, added-all, added-none}
 use Rattle.jsl_model.proofs.lists.+listing.Goals as goal
 
 pub add_lists-loop-element-init : goal.add_lists-loop-element-init
@@ -10,11 +10,11 @@ add_lists-loop-element-init t c = added-first c.args.lists.now.items c.push.new.
 
 pub add_lists-loop-element-preserved : goal.add_lists-loop-element-preserved
 add_lists-loop-element-preserved t c =
-    added-next inside_of c.args.elements.now c.loop-element.element-index c.element-item.result (outlines c.loop-element.lists.items) _ _
+    added-next lists_inside c.args.elements.now c.loop-element.element-index c.element-item.result (outlines c.loop-element.lists.items) _ _
     c.loop-element-test.true c.element-item.is c.in_ok-add_inside.ensures c.loop-element.invariant
 
 pub add_lists-returns : goal.add_lists-returns
-add_lists-returns t c = added-all inside_of c.args.elements.now c.loop-element.element-index _ _ c.loop-element-test.false c.loop-element.invariant
+add_lists-returns t c = added-all lists_inside c.args.elements.now c.loop-element.element-index _ _ c.loop-element-test.false c.loop-element.invariant
 
 pub add_inside-returns-in-Step : goal.add_inside-returns-in-Step
 add_inside-returns-in-Step t c = added-none _ _ (inside-step c.args.element.now c.in-Step.field-0 c.in-Step.is)

@@ -1,4 +1,4 @@
-use Rattle.std.proofs.Common.{◌∙◌, ℕ, Bor, List, [], ◌∷◌, bytes_eq, sym}
+use Rattle.std.proofs.Common.{◌∷◌, bytes_eq}
 use Rattle.std.specs.HashSet as hash
 use Rattle.jsl_model.specs.Names.{unheld}
 use Rattle.jsl_model.proofs.Among.{kept-more, unheld-new, was-new}

@@ -1,4 +1,4 @@
-use Rattle.std.proofs.Common.{◌∙◌, ap, arith, Some, unwrap_or, cond, bytes_eq, List, ℕ}
+use Rattle.std.proofs.Common.{arith, bytes_eq}
 use Rattle.std.specs.HashMap as hash
 use Rattle.std.proofs.lemmas.Map.Text.{text_keys}
 use Rattle.jsl_model.proofs.Places.{place-more}

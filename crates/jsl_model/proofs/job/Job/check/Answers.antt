@@ -1,6 +1,4 @@
-use Rattle.std.proofs.Common.{rules, ◌≡◌, false, Some, None, sym, ◌∙◌}
-use Rattle.jsl_model.specs.Parts.{tree_of}
-use Rattle.jsl_model.specs.Faults.{is_out_of_memory, job_fault, IsChecked}
+use Rattle.std.proofs.Common.{rules, ◌∙◌}
 use Rattle.jsl_model.proofs.Judging.{found_fault, checked, same_ranked}
 use Rattle.jsl_model.proofs.job.Job.check.Goals as goal
 

@@ -13,15 +13,15 @@ use Rattle.serde_json.specs.declared.value.Value.{Value}
 use Rattle.json_members.specs.Members.{list_at}
 use Rattle.jsl_model.specs.declared.element.Element.{Element}
 use Rattle.jsl_model.specs.declared.element.SplitFlow.{SplitFlow, roll-SplitFlow}
-use Rattle.jsl_model.specs.declared.element.Body.{Body}
+use Rattle.jsl_model.specs.Parts.{Content}
 use Rattle.jsl_model.specs.declared.element.Body.TheVariants.{Flow, Split}
 use Rattle.jsl_json.specs.declared.fault.ReadFault.{ReadFault}
 use Rattle.jsl_json.specs.declared.fault.ReadFault.TheVariants.{BadElement, OutOfMemory as NoMemory}
 use Rattle.jsl_json.specs.declared.member_fault.MemberFault.{MemberFault}
 use Rattle.jsl_json.specs.declared.member_fault.MemberFault.TheVariants.{Wrong, OutOfMemory}
 use Rattle.jsl_json.specs.Catalogues.{is_out_of_memory}
-use Rattle.jsl_json.specs.Members.{Kind, step, flow, split, decision, IsInside, Own, OwnFlow, own_of, own_flow_of, kind_of}
-use Rattle.jsl_json.specs.Elements.{◌>>=◌, Read, bad, body_with, element_with, flow_with, element_at, elements_in, elements_at, flow_at, flows_in, flows_at, body_at}
+use Rattle.jsl_json.specs.Members.{Kind, step, flow, split, decision, IsInside, OwnMembers, OwnFlowMembers, own_of, own_flow_of, element_kind}
+use Rattle.jsl_json.specs.Elements.{◌>>=◌, Read, bad, next_number, content_with, element_with, flow_with, element_at, elements_in, elements_at, flow_at, flows_in, flows_at, content_at}
 
 -- ---- what is inside
 
@@ -81,30 +81,34 @@ at_wrong job (boolean b) n wrong = refl
 at_wrong job (number x) n wrong = refl
 at_wrong job (string s) n wrong = refl
 at_wrong job (array ds) n wrong = refl
-at_wrong job (object ms) n wrong = ap (λ own. element_with job n own (elements_in job ms (n + 1)) (flows_in job ms (n + 1))) wrong
+at_wrong job (object ms) n wrong = ap (λ own. element_with job n own (elements_in job ms (next_number n)) (flows_in job ms (next_number n))) wrong
 
 -- what is inside an object, by its members and by its list
-body_same : (job : ℕ) (kind : Kind) (ms : Members) (n : ℕ) → IsInside kind (object ms) → body_with kind n (elements_in job ms n) (flows_in job ms n) ≡ body_at job kind n
-body_same job (step s) ms n inside = refl
-body_same job (flow ds) ms n inside = ap (λ (r : Read (List Element)). r >>= λ x. Ok (Flow x.0, x.1)) (elements_in-get job ms ds n (is_array (get_member (codes "elements") ms) ds inside))
-body_same job (split ds) ms n inside = ap (λ (r : Read (List SplitFlow)). r >>= λ x. Ok (Split x.0, x.1)) (flows_in-get job ms ds n (is_array (get_member (codes "flows") ms) ds inside))
-body_same job (decision artifact) ms n inside = refl
+content_same : (job : ℕ) (kind : Kind) (ms : Members) (n : ℕ) → IsInside kind (object ms) → content_with kind n (elements_in job ms n) (flows_in job ms n) ≡ content_at job kind n
+content_same job (step next transitions s) ms n inside = refl
+content_same job (flow next transitions ds) ms n inside =
+    ap (λ (r : Read (List Element)). r >>= λ x. Ok (record { next = next; transitions = transitions; body = Flow x.0 }, x.1))
+    (elements_in-get job ms ds n (is_array (get_member (codes "elements") ms) ds inside))
+content_same job (split next ds) ms n inside =
+    ap (λ (r : Read (List SplitFlow)). r >>= λ x. Ok (record { next = next; transitions = []; body = Split x.0 }, x.1))
+    (flows_in-get job ms ds n (is_array (get_member (codes "flows") ms) ds inside))
+content_same job (decision transitions artifact) ms n inside = refl
 
--- an element with its own members, what it is being read
-abbrev pub element_over : Own → Read Body → Read Element
-element_over own body = body >>= λ x. Ok (record { id = own.id; next = own.next; transitions = own.transitions; body = x.0 }, x.1)
+-- an element with its own members, what it has beside its id being read
+abbrev pub element_over : OwnMembers → Read Content → Read Element
+element_over own content = content >>= λ x. Ok (record { id = own.id; next = x.0.next; transitions = x.0.transitions; body = x.0.body }, x.1)
 
 -- an element whose own members are right
-pub at_right : (job : ℕ) (d : Data) (n : ℕ) (own : Own) → own_of d ≡ Some own → IsInside own.kind d → element_at job d n ≡ element_over own (body_at job own.kind (n + 1))
-unfolding element_at own_of kind_of
+pub at_right : (job : ℕ) (d : Data) (n : ℕ) (own : OwnMembers) → own_of d ≡ Some own → IsInside own.kind d → element_at job d n ≡ element_over own (content_at job own.kind (next_number n))
+unfolding element_at own_of element_kind
 at_right job null n own right inside = cc
 at_right job (boolean b) n own right inside = cc
 at_right job (number x) n own right inside = cc
 at_right job (string s) n own right inside = cc
 at_right job (array ds) n own right inside = cc
 at_right job (object ms) n own right inside =
-    ap (λ o. element_with job n o (elements_in job ms (n + 1)) (flows_in job ms (n + 1))) right
-    ∙ ap (element_over own) (body_same job own.kind ms (n + 1) inside)
+    ap (λ o. element_with job n o (elements_in job ms (next_number n)) (flows_in job ms (next_number n))) right
+    ∙ ap (element_over own) (content_same job own.kind ms (next_number n) inside)
 
 -- a flow of a split whose own members are wrong
 pub flow_wrong : (job : ℕ) (d : Data) (n : ℕ) → own_flow_of d ≡ None → flow_at job d n ≡ bad job n
@@ -114,14 +118,14 @@ flow_wrong job (boolean b) n wrong = refl
 flow_wrong job (number x) n wrong = refl
 flow_wrong job (string s) n wrong = refl
 flow_wrong job (array ds) n wrong = refl
-flow_wrong job (object ms) n wrong = ap (λ own. flow_with job n own (elements_in job ms (n + 1))) wrong
+flow_wrong job (object ms) n wrong = ap (λ own. flow_with job n own (elements_in job ms (next_number n))) wrong
 
 -- a flow of a split with its own members, its elements being read
 abbrev pub flow_over : List ℕ → Read (List Element) → Read SplitFlow
 flow_over id elements = elements >>= λ x. Ok (roll-SplitFlow record { id = id; elements = x.0 }, x.1)
 
 -- a flow of a split whose own members are right
-pub flow_right : (job : ℕ) (d : Data) (n : ℕ) (own : OwnFlow) → own_flow_of d ≡ Some own → list_at (codes "elements") d ≡ Some own.elements → flow_at job d n ≡ flow_over own.id (elements_at job own.elements (n + 1))
+pub flow_right : (job : ℕ) (d : Data) (n : ℕ) (own : OwnFlowMembers) → own_flow_of d ≡ Some own → list_at (codes "elements") d ≡ Some own.elements → flow_at job d n ≡ flow_over own.id (elements_at job own.elements (next_number n))
 unfolding element_at own_flow_of
 flow_right job null n own right inside = cc
 flow_right job (boolean b) n own right inside = cc
@@ -129,8 +133,8 @@ flow_right job (number x) n own right inside = cc
 flow_right job (string s) n own right inside = cc
 flow_right job (array ds) n own right inside = cc
 flow_right job (object ms) n own right inside =
-    ap (λ o. flow_with job n o (elements_in job ms (n + 1))) right
-    ∙ ap (flow_over own.id) (elements_in-get job ms own.elements (n + 1) (is_array (get_member (codes "elements") ms) own.elements inside))
+    ap (λ o. flow_with job n o (elements_in job ms (next_number n))) right
+    ∙ ap (flow_over own.id) (elements_in-get job ms own.elements (next_number n) (is_array (get_member (codes "elements") ms) own.elements inside))
 
 -- ---- how deep what is inside lies
 
@@ -154,20 +158,20 @@ list_depth name (object ms) ds h = let b = get_member_depth name ms (array ds) (
 
 -- how deep the values inside an element are
 abbrev pub kind_depth : Kind → ℕ
-kind_depth (step s) = 0
-kind_depth (flow ds) = items_depth ds
-kind_depth (split ds) = items_depth ds
-kind_depth (decision artifact) = 0
+kind_depth (step next transitions s) = 0
+kind_depth (flow next transitions ds) = items_depth ds
+kind_depth (split next ds) = items_depth ds
+kind_depth (decision transitions artifact) = 0
 
 object_depth : (kind : Kind) (ms : Members) → IsInside kind (object ms) → kind_depth kind < depth (object ms)
-object_depth (step s) ms inside = omega arith
-object_depth (flow ds) ms inside = list_depth (codes "elements") (object ms) ds inside
-object_depth (split ds) ms inside = list_depth (codes "flows") (object ms) ds inside
-object_depth (decision artifact) ms inside = omega arith
+object_depth (step next transitions s) ms inside = omega arith
+object_depth (flow next transitions ds) ms inside = list_depth (codes "elements") (object ms) ds inside
+object_depth (split next ds) ms inside = list_depth (codes "flows") (object ms) ds inside
+object_depth (decision transitions artifact) ms inside = omega arith
 
 -- what an element is lies less deep than the element
-pub own_depth : (d : Data) (own : Own) → own_of d ≡ Some own → IsInside own.kind d → kind_depth own.kind < depth d
-unfolding own_of kind_of
+pub own_depth : (d : Data) (own : OwnMembers) → own_of d ≡ Some own → IsInside own.kind d → kind_depth own.kind < depth d
+unfolding own_of element_kind
 own_depth null own right inside = cc
 own_depth (boolean b) own right inside = cc
 own_depth (number x) own right inside = cc
@@ -191,8 +195,8 @@ element_wrong Wrong given job n d wrong memory own other = at_wrong job d n (own
 element_wrong OutOfMemory given job n d wrong memory own other = let e = ap is_out_of_memory (memory refl) in cc
 
 -- a fault inside an element is one of the element
-pub element_over-fails : (own : Own) (body : Read Body) (fault : ReadFault) → body ≡ Err fault → element_over own body ≡ Err fault
-element_over-fails own body fault h = ap (element_over own) h
+pub element_over-fails : (own : OwnMembers) (content : Read Content) (fault : ReadFault) → content ≡ Err fault → element_over own content ≡ Err fault
+element_over-fails own content fault h = ap (element_over own) h
 
 -- a fault inside a flow of a split is one of the flow
 pub flow_over-fails : (id : List ℕ) (elements : Read (List Element)) (fault : ReadFault) → elements ≡ Err fault → flow_over id elements ≡ Err fault

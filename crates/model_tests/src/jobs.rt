@@ -8,8 +8,6 @@ use std::test::Fail;
 fn element(alloc: Global, id: &str, body: BodyParts) -> Result<ElementParts, AllocError> {
     Ok(ElementParts {
         id: String::from_str(alloc, id)?,
-        next: None,
-        transitions: Listed::new(alloc),
         body,
     })
 }
@@ -17,6 +15,8 @@ fn element(alloc: Global, id: &str, body: BodyParts) -> Result<ElementParts, All
 fn step(alloc: Global, id: &str, artifact: &str) -> Result<ElementParts, AllocError> {
     let artifact = String::from_str(alloc, artifact)?;
     let body = BodyParts::Step(StepParts {
+        next: None,
+        transitions: Listed::new(alloc),
         start_limit: 0,
         allow_start_if_complete: false,
         task: TaskParts::Batchlet { artifact },
@@ -45,7 +45,12 @@ fn nested(alloc: Global, flows: u32) -> Result<JobParts, AllocError> {
         let id = format!(in alloc; "{number}")?;
         let mut elements = Listed::new(alloc);
         elements.push(inside)?;
-        inside = element(alloc, id.as_str(), BodyParts::Flow(elements))?;
+        let flow = BodyParts::Flow {
+            next: None,
+            transitions: Listed::new(alloc),
+            elements,
+        };
+        inside = element(alloc, id.as_str(), flow)?;
     }
     let mut elements = Listed::new(alloc);
     elements.push(inside)?;
@@ -65,9 +70,22 @@ fn steps(alloc: Global, count: u32) -> Result<JobParts, AllocError> {
 #[test]
 fn a_job_of_one_step_is_a_job(rt: HostRuntime) -> Result<(), Fail> {
     let job = Job::check(rt.alloc(), one_step(rt.alloc(), "a", "ok")?)?;
-    let copy = job.try_clone(rt.alloc())?;
-    assert_eq!(rt; copy.id().as_str(), "a");
-    assert_eq!(rt; copy.elements().len(), 1);
+    assert_eq!(rt; job.id().as_str(), "a");
+    assert!(rt; job.restartable());
+    assert_eq!(rt; job.elements().len(), 1);
+    Ok(())
+}
+
+#[test]
+fn a_text_has_at_most_256_bytes(rt: HostRuntime) -> Result<(), Fail> {
+    let alloc = rt.alloc();
+    let most = "x".repeat(alloc, 256)?;
+    assert!(rt; Job::check(alloc, one_step(alloc, most.as_str(), most.as_str())?).is_ok());
+    let long = "x".repeat(alloc, 257)?;
+    let fault = Job::check(alloc, one_step(alloc, long.as_str(), "ok")?).err();
+    assert_eq!(rt; fault, Some(JobFault::TextTooLong));
+    let fault = Job::check(alloc, one_step(alloc, "a", long.as_str())?).err();
+    assert_eq!(rt; fault, Some(JobFault::TextTooLong));
     Ok(())
 }
 
@@ -98,7 +116,7 @@ fn a_catalogue_holds_256_jobs_of_different_ids(rt: HostRuntime) -> Result<(), Fa
         };
         assert_eq!(rt; catalogue.add(again), Err(wanted));
     }
-    assert!(rt; catalogue.try_clone(alloc)?.job("255").is_some());
+    assert!(rt; catalogue.try_clone()?.job("255").is_some());
     Ok(())
 }
 
@@ -129,14 +147,27 @@ fn each_artifact_is_listed_once(rt: HostRuntime) -> Result<(), Fail> {
     catalogue.add(Job::check(alloc, one_step(alloc, "a", "load")?)?)?;
     catalogue.add(Job::check(alloc, one_step(alloc, "b", "send")?)?)?;
     catalogue.add(Job::check(alloc, one_step(alloc, "c", "load")?)?)?;
-    let names = catalogue.artifacts(alloc)?;
+    let names = catalogue.artifacts()?;
     assert_eq!(rt; names.as_slice(), ["load", "send"].as_slice());
     Ok(())
 }
 
 #[test]
 fn a_fault_prints_as_its_name(rt: HostRuntime) -> Result<(), Fail> {
-    let text = format!(in rt.alloc(); "{}", JobFault::NoSuchTarget)?;
-    assert_eq!(rt; text.as_str(), "NoSuchTarget");
+    let faults = [
+        (JobFault::TextTooLong, "TextTooLong"),
+        (JobFault::Empty, "Empty"),
+        (JobFault::TooDeep, "TooDeep"),
+        (JobFault::TooMany, "TooMany"),
+        (JobFault::DuplicateId, "DuplicateId"),
+        (JobFault::NoSuchTarget, "NoSuchTarget"),
+        (JobFault::Loop, "Loop"),
+        (JobFault::RestartNotJobLevel, "RestartNotJobLevel"),
+        (JobFault::OutOfMemory, "OutOfMemory"),
+    ];
+    for (fault, name) in faults {
+        let text = format!(in rt.alloc(); "{fault}")?;
+        assert_eq!(rt; text.as_str(), name);
+    }
     Ok(())
 }

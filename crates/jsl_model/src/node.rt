@@ -1,13 +1,14 @@
 ghost use Rattle.std.specs.Prelude.{◌≡◌, ◌++◌, map, OnOk, IfOk};
-ghost use Rattle.jsl_model.specs.Trees.{joined, members, members_of, inside, members_of_flow};
-ghost use Rattle.jsl_model.specs.Members.{member};
+ghost use Rattle.jsl_model.specs.Trees.{joined, nodes, nodes_of, in_body, nodes_of_flow};
+ghost use Rattle.jsl_model.specs.Nodes.{node};
 
 use crate::element::{Body, Element, SplitFlow, Transition};
-use std::alloc::{AllocError, Global};
+use batch_ids::OutOfMemory;
+use std::alloc::Global;
 
 /// An element, or a flow of a split, without what is inside it.
 #[derive(Clone, Copy)]
-pub struct Member<'a> {
+pub struct Node<'a> {
     pub id: &'a str,
     pub transitions: &'a [Transition],
     /// What it is; a flow of a split is nothing more.
@@ -15,8 +16,8 @@ pub struct Member<'a> {
 }
 
 /// All elements of a list at all depths, flows of splits included, in written order.
-pub fn members_in(alloc: Global, elements: &[Element]) -> Result<Vec<Member<'_>>, AllocError>
-    ensures { IfOk result (λ found. map member found.items ≡ members elements.now) }
+pub fn nodes_in(alloc: Global, elements: &[Element]) -> Result<Vec<Node<'_>>, OutOfMemory>
+    ensures { IfOk result (λ found. map node found.items ≡ nodes elements.now) }
 {
     let mut found = Vec::new(alloc);
     add_all(elements, &mut found)?;
@@ -24,10 +25,11 @@ pub fn members_in(alloc: Global, elements: &[Element]) -> Result<Vec<Member<'_>>
 }
 
 #[cycle(adding)]
-fn add_element<'a>(element: &'a Element, found: &mut Vec<Member<'a>>) -> Result<(), AllocError>
-    ensures { OnOk result (map member found.new.items ≡ map member found.old.items ++ members_of element.now) }
+fn add_element<'a>(element: &'a Element, found: &mut Vec<Node<'a>>) -> Result<(), OutOfMemory>
+    ensures { OnOk result (map node found.new.items
+        ≡ map node found.old.items ++ nodes_of element.now) }
 {
-    found.push(Member {
+    found.push(Node {
         id: element.id.as_str(),
         transitions: element.transitions.as_slice(),
         body: Some(&element.body),
@@ -36,8 +38,9 @@ fn add_element<'a>(element: &'a Element, found: &mut Vec<Member<'a>>) -> Result<
 }
 
 #[cycle(adding)]
-fn add_inside<'a>(body: &'a Body, found: &mut Vec<Member<'a>>) -> Result<(), AllocError>
-    ensures { OnOk result (map member found.new.items ≡ map member found.old.items ++ (inside body.now).members) }
+fn add_inside<'a>(body: &'a Body, found: &mut Vec<Node<'a>>) -> Result<(), OutOfMemory>
+    ensures { OnOk result (map node found.new.items
+        ≡ map node found.old.items ++ (in_body body.now).nodes) }
 {
     match body {
         Body::Step(_) => Ok(()),
@@ -48,8 +51,9 @@ fn add_inside<'a>(body: &'a Body, found: &mut Vec<Member<'a>>) -> Result<(), All
 }
 
 #[cycle(adding)]
-fn add_all<'a>(elements: &'a [Element], found: &mut Vec<Member<'a>>) -> Result<(), AllocError>
-    ensures { OnOk result (map member found.new.items ≡ map member found.old.items ++ members elements.now) }
+fn add_all<'a>(elements: &'a [Element], found: &mut Vec<Node<'a>>) -> Result<(), OutOfMemory>
+    ensures { OnOk result (map node found.new.items
+        ≡ map node found.old.items ++ nodes elements.now) }
 {
     for element in elements {
         add_element(element, found)?;
@@ -58,11 +62,12 @@ fn add_all<'a>(elements: &'a [Element], found: &mut Vec<Member<'a>>) -> Result<(
 }
 
 #[cycle(adding)]
-fn add_flows<'a>(flows: &'a [SplitFlow], found: &mut Vec<Member<'a>>) -> Result<(), AllocError>
-    ensures { OnOk result (map member found.new.items ≡ map member found.old.items ++ joined (map members_of_flow flows.now)) }
+fn add_flows<'a>(flows: &'a [SplitFlow], found: &mut Vec<Node<'a>>) -> Result<(), OutOfMemory>
+    ensures { OnOk result (map node found.new.items
+        ≡ map node found.old.items ++ joined (map nodes_of_flow flows.now)) }
 {
     for flow in flows {
-        found.push(Member {
+        found.push(Node {
             id: flow.id.as_str(),
             transitions: &[],
             body: None,

@@ -1,4 +1,4 @@
-use crate::*;
+use jsl_json::{ReadFault, read_catalogue};
 use jsl_model::{Body, Element, Job, JobFault, Step, Task, Then};
 use std::test::Fail;
 
@@ -296,6 +296,62 @@ fn the_order_of_faults(rt: HostRuntime) -> Result<(), Fail> {
     Ok(())
 }
 
+// Elements of a job, and the job's first fault.
+const FAULTS: [(&str, JobFault); 8] = [
+    (
+        r#"{"kind":"decision","id":"d","ref":"a"},{"kind":"decision","id":"d","ref":"a"}"#,
+        JobFault::DuplicateId,
+    ),
+    // A flow of a split has an id like any other.
+    (
+        r#"{"kind":"split","id":"p","flows":[{"kind":"flow","id":"p","elements":[{"kind":"decision","id":"d","ref":"a"}]}]}"#,
+        JobFault::DuplicateId,
+    ),
+    // Two of one id come ahead of a target that is not there.
+    (
+        r#"{"kind":"flow","id":"d","next":"x","elements":[{"kind":"decision","id":"d","ref":"a"}]}"#,
+        JobFault::DuplicateId,
+    ),
+    // A target stands in the same list.
+    (
+        r#"{"kind":"flow","id":"f","next":"d","elements":[{"kind":"decision","id":"d","ref":"a"}]}"#,
+        JobFault::NoSuchTarget,
+    ),
+    (
+        r#"{"kind":"decision","id":"d","ref":"a","transitions":[{"kind":"next","on":"E","to":"d"}]}"#,
+        JobFault::Loop,
+    ),
+    // A target that is not there comes ahead of a cycle.
+    (
+        r#"{"kind":"step","id":"s","next":"s","batchlet":{"ref":"b"},"transitions":[{"kind":"next","on":"E","to":"x"}]}"#,
+        JobFault::NoSuchTarget,
+    ),
+    // A restart begins at an element of the job's own list.
+    (
+        r#"{"kind":"flow","id":"f","elements":[{"kind":"decision","id":"d","ref":"a","transitions":[{"kind":"stop","on":"E","restart":"d"}]}]}"#,
+        JobFault::RestartNotJobLevel,
+    ),
+    (
+        r#"{"kind":"step","id":"s","next":"s","batchlet":{"ref":"b"},"transitions":[{"kind":"stop","on":"E","restart":"x"}]}"#,
+        JobFault::Loop,
+    ),
+];
+
+#[test]
+fn the_first_fault_of_a_job(rt: HostRuntime) -> Result<(), Fail> {
+    let alloc = rt.alloc();
+    for (elements, fault) in FAULTS {
+        let text = format!(in alloc; r#"{{"jobs":[{{"id":"j","elements":[{elements}]}}]}}"#)?;
+        let wanted = ReadFault::InJob { job: 0, fault };
+        assert_eq!(rt;
+            read_catalogue(alloc, text.as_bytes()).err(),
+            Some(wanted),
+            "{text}"
+        );
+    }
+    Ok(())
+}
+
 #[test]
 fn a_fault_prints_as_its_name(rt: HostRuntime) -> Result<(), Fail> {
     let element = None;
@@ -319,10 +375,53 @@ fn each_artifact_of_a_chunk_is_listed(rt: HostRuntime) -> Result<(), Fail> {
     let text = br#"{"jobs":[{"id":"c","elements":[{"kind":"step","id":"s","chunk":{"item-count":2,
         "reader":{"ref":"count:5"},"processor":{"ref":"odd"},"writer":{"ref":"sink"}}}]}]}"#;
     let catalogue = read_catalogue(rt.alloc(), text)?;
-    let copy = catalogue.try_clone(rt.alloc())?;
+    let copy = catalogue.try_clone()?;
     for one in [&catalogue, &copy] {
-        let names = one.artifacts(rt.alloc())?;
+        let names = one.artifacts()?;
         assert_eq!(rt; names.as_slice(), ["count:5", "odd", "sink"].as_slice());
+    }
+    Ok(())
+}
+
+#[test]
+fn a_copy_says_what_its_original_says(rt: HostRuntime) -> Result<(), Fail> {
+    let alloc = rt.alloc();
+    let catalogue = read_catalogue(alloc, FORMS)?;
+    let said = format!(in alloc; "{catalogue:?}")?;
+    let copy = catalogue.try_clone()?;
+    let repeated = format!(in alloc; "{copy:?}")?;
+    assert_eq!(rt; repeated.as_str(), said.as_str());
+    let job = catalogue.job("j").ok_or("no job")?;
+    let said = format!(in alloc; "{job:?}")?;
+    let copy = job.try_clone()?;
+    let repeated = format!(in alloc; "{copy:?}")?;
+    assert_eq!(rt; repeated.as_str(), said.as_str());
+    assert_eq!(rt; said_of(&copy), said_of(job));
+    Ok(())
+}
+
+#[test]
+fn an_element_is_found_at_any_depth(rt: HostRuntime) -> Result<(), Fail> {
+    let text = br#"{"jobs":[{"id":"j","elements":[
+        {"kind":"flow","id":"f","next":"p","elements":[
+            {"kind":"step","id":"s","start-limit":3,"allow-start-if-complete":true,
+             "batchlet":{"ref":"b"}}]},
+        {"kind":"split","id":"p","flows":[{"kind":"flow","id":"q","elements":[
+            {"kind":"flow","id":"g","elements":[
+                {"kind":"step","id":"t","start-limit":7,"batchlet":{"ref":"b"}}]}]}]}]}]}"#;
+    let catalogue = read_catalogue(rt.alloc(), text)?;
+    let job = catalogue.job("j").ok_or("no job")?;
+    for id in ["f", "s", "p", "g", "t"] {
+        let found = job.element(id).ok_or("no element")?;
+        assert_eq!(rt; found.id.as_str(), id);
+    }
+    assert!(rt; job.element("q").is_none());
+    assert!(rt; job.element("j").is_none());
+    let limits = [("s", 3u32, true), ("t", 7, false)];
+    for (id, start_limit, allowed) in limits {
+        let step = job.element(id).and_then(|found| step_in(&found.body)).ok_or("no step")?;
+        assert_eq!(rt; step.start_limit, start_limit);
+        assert_eq!(rt; step.allow_start_if_complete, allowed);
     }
     Ok(())
 }

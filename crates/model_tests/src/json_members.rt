@@ -1,4 +1,6 @@
-use crate::*;
+use json_members::{
+    has_only, is_text, list_at, number_at, object_at, optional_number, read_value, truth_at,
+};
 use std::test::Fail;
 
 #[test]

@@ -1,0 +1,15 @@
+-- What the borrowed nodes of a job's tree stand for.
+use Rattle.std.specs.Prelude.{ℕ, Option, Some, None, List, []}
+use Rattle.std.specs.Borrow.{Bor}
+use Rattle.jsl_model.specs.declared.element.Body.{Body}
+use Rattle.jsl_model.specs.declared.node.Node.{Node as BorrowedNode}
+use Rattle.jsl_model.specs.Trees.{Node, in_body}
+
+-- the artifacts that a body names itself, where there is one
+abbrev pub artifacts_in : Option (Bor Body) → List (List ℕ)
+artifacts_in None = []
+artifacts_in (Some body) = (in_body body.now).artifacts
+
+-- a node, as its id, its transition elements and its artifacts
+abbrev pub node : BorrowedNode → Node
+node borrowed = record { id = borrowed.id.now; transitions = borrowed.transitions.now; artifacts = artifacts_in borrowed.body }
