@@ -24,6 +24,3 @@ pub use sqlite_items::Items as Listed;
 pub use status::{BatchStatus, Moment, WorkOutcome};
 pub use text::{T256, Text, try_clone_option};
 pub use work_id::WorkId;
-
-#[cfg(test)]
-mod tests;

@@ -1,3 +1,4 @@
 pub mod Cuts
 pub mod Decided
+pub mod Found
 pub mod Retries

@@ -1,4 +1,4 @@
-use crate::{Graph, ranks};
+use target_graph::{Graph, ranks};
 use std::test::Fail;
 
 #[test]

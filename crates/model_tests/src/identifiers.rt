@@ -1,4 +1,4 @@
-use crate::{Metric, MetricStep, Metrics, Parameters, Refusal, T256, Text};
+use batch_ids::{Metric, MetricStep, Metrics, Parameters, Refusal, T256, Text};
 use std::alloc::{AllocError, Global};
 use std::test::Fail;
 

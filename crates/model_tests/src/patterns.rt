@@ -1,4 +1,4 @@
-use crate::matches;
+use transitions::matches;
 
 #[test]
 fn patterns_match_by_pieces(rt: HostRuntime) {

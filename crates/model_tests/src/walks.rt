@@ -1,4 +1,4 @@
-use crate::{Cursor, Plan, Value};
+use job_walk::{Cursor, Plan, Value};
 use batch_ids::{Listed, OutOfMemory, Refusal, T256, WorkOutcome};
 use jsl_model::{BodyParts, ElementParts, Job, JobParts, SplitFlowParts, StepParts, TaskParts};
 use std::alloc::{AllocError, Global};
@@ -145,7 +145,7 @@ fn told_twice(
     mut cursor: Cursor,
     acts: &[(&str, Option<WorkOutcome>)],
 ) -> Result<(String, String), OutOfMemory> {
-    let mut copy = cursor.try_clone(alloc)?;
+    let mut copy = cursor.try_clone()?;
     let first = told(alloc, &mut cursor, acts)?;
     let second = told(alloc, &mut copy, acts)?;
     Ok((first, second))
