@@ -8,7 +8,7 @@ use std::alloc::Global;
 
 /// What an element comes to by itself, before its transition elements and its `next` are looked at.
 #[derive(Debug, Drop)]
-pub(crate) enum ElementResult {
+pub enum ElementResult {
     /// The list that it stands in comes to this value.
     ListValue(Value),
     /// It came to this outcome with this exit status.

@@ -1,4 +1,3 @@
 pub mod Cuts
 pub mod Decided
-pub mod Found
 pub mod Retries

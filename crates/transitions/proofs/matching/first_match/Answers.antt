@@ -4,7 +4,7 @@ use Rattle.std.proofs.lemmas.List.{get_or_default}
 use Rattle.std.proofs.lemmas.List.Elements.{AllWithin-more}
 use Rattle.transitions.specs.Transitions.{MatchesOn, matches_on}
 use Rattle.transitions.specs.Patterns.{Matches, is_match}
-use Rattle.transitions.proofs.Found.{find_at_place, find_past_place}
+use Rattle.batch_ids.proofs.Found.{find_at_place, find_past_place}
 use Rattle.transitions.proofs.matching.first_match.Goals as goal
 
 pub loop-i-preserved : goal.loop-i-preserved

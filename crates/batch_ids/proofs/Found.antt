@@ -14,10 +14,13 @@ find_at_place p xs k x lt is holds =
     first ∙ (here ∙ (ap Some (sym is) ∙ sym got))
 
 -- what fails it is passed over
+pub find_past : {X : Type 0} (p : X → Bool) (xs : List X) (k : ℕ) (d : X) → k < length xs → p (get_or xs k d) ≡ false
+    → find p (drop (k + 1) xs) ≡ find p (drop k xs)
+find_past p xs k d lt fails =
+    let first = at_drop_more (find p) xs k d lt in
+    let here : cond (p (get_or xs k d)) (Some (get_or xs k d)) (find p (drop (k + 1) xs)) ≡ find p (drop (k + 1) xs) = rw fails refl in
+    sym (first ∙ here)
+
 pub find_past_place : {X : Type 0} (p : X → Bool) (xs : List X) (k : ℕ) (x : X) → k < length xs → x ≡ get_or xs k x → p x ≡ false
     → find p (drop (k + 1) xs) ≡ find p (drop k xs)
-find_past_place p xs k x lt is fails =
-    let first = at_drop_more (find p) xs k x lt in
-    let n : p (get_or xs k x) ≡ false = rw (← is) fails in
-    let here : cond (p (get_or xs k x)) (Some (get_or xs k x)) (find p (drop (k + 1) xs)) ≡ find p (drop (k + 1) xs) = rw n refl in
-    sym (first ∙ here)
+find_past_place p xs k x lt is fails = find_past p xs k x lt (rw (← is) fails)
