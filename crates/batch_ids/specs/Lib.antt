@@ -3,4 +3,3 @@ pub mod Names
 pub mod Parameters
 pub mod Refusals
 pub mod Statuses
-pub mod Texts

@@ -1,4 +1,4 @@
-ghost use Rattle.std.specs.Prelude.{◌≡◌, ◌||◌, ◌⊎◌, ◌↔◌, ◌<◌, ◌≤◌, ℕ, List, [], true, false, nat_lt, length, slice_set, option_copied, Err, IsTrue, IfOk, IfErr, OnOk, OnErr};
+ghost use Rattle.std.specs.Prelude.{◌≡◌, ◌||◌, ◌⊎◌, ◌↔◌, ◌<◌, ◌≤◌, ℕ, List, [], true, false, nat_lt, length, slice_set, option_copied, Err, Ok, IsTrue, IfOk, IfErr, OnOk, OnErr};
 ghost use Rattle.std.specs.List.{insert};
 ghost use Rattle.std.specs.Slice.Iter.{iter_rest};
 ghost use Rattle.std.specs.Iterator.Adapters.{IterYieldsInOrder};
@@ -78,7 +78,8 @@ impl Parameters {
     /// The parameters that these pairs of a key and a value give. Of a key given twice the last value
     /// counts.
     ///
-    /// For each pair it copies the texts and compares at most 64 keys.
+    /// For each pair it copies the texts and compares at most 64 keys. Where none is given, it takes no
+    /// memory.
     ///
     /// # Errors
     ///
@@ -92,6 +93,7 @@ impl Parameters {
             → (result ≡ Err Refusal.TextTooLong) ⊎ (result ≡ Err Refusal.OutOfMemory) }
         ensures fault { IfErr result (λ refusal. (refusal ≡ Refusal.OutOfMemory)
             ⊎ (refusal ≡ Refusal.TextTooLong × (is_too_large (pairs_of given.items) ≡ true))) }
+        ensures none_given { given.items ≡ [] → result ≡ Ok [] }
     {
         let mut made = Parameters::none(alloc);
         for pair in &given {
@@ -153,13 +155,15 @@ impl Parameters {
         self.held.is_empty()
     }
 
-    /// Equal parameters. It costs time and memory as their texts have bytes.
+    /// Equal parameters. It costs time and memory as their texts have bytes, and none where there are
+    /// none.
     ///
     /// # Errors
     ///
     /// `OutOfMemory` where memory is refused.
     pub fn try_clone(&self) -> Result<Parameters, OutOfMemory>
-        ensures { IfOk result (λ copy. copy ≡ self.now) }
+        ensures same { IfOk result (λ copy. copy ≡ self.now) }
+        ensures none_held { self.now ≡ [] → result ≡ Ok [] }
     {
         let mut held = Vec::new(*self.held.allocator());
         for parameter in self.held.as_slice() {

@@ -1,5 +1,5 @@
 ghost use Rattle.std.specs.Prelude.{◌≡◌, ◌≤◌, false, length, find, option_copied, Some, None, Err, IfOk, IfErr, OnOk};
-ghost use Rattle.batch_ids.specs.Texts.{is_text};
+ghost use Rattle.std.specs.Str.{bytes_eq};
 ghost use Rattle.jsl_model.specs.Parts.{tree_of};
 ghost use Rattle.jsl_model.specs.Faults.{fault_name, is_out_of_memory, job_fault, IsChecked};
 
@@ -172,7 +172,7 @@ impl Job {
     /// The element of the job's own list that has this id, if there is one (an element inside a flow or
     /// a split is not looked for). It costs time as the list has elements.
     pub fn element(&self, id: &str) -> Option<&Element>
-        ensures { option_copied result ≡ find (λ element. is_text element.id id.now) self.now.elements }
+        ensures { option_copied result ≡ find (λ element. bytes_eq element.id id.now) self.now.elements }
     {
         for element in self.elements() {
             if element.id.as_str() == id {

@@ -7,5 +7,5 @@ use Rattle.batch_ids.proofs.status.BatchStatusFromStr.from_str.Goals as goal
 pub loop-status-preserved : goal.loop-status-preserved
 loop-status-preserved c =
     find_past (λ status. bytes_eq (status_name status) c.args.text.now) all_statuses c.loop-status.status-index _ c.loop-status-test.true
-        (ap (λ name. bytes_eq name c.args.text.now) (sym c.name.ensures.name) ∙ (sym c.eq.ensures ∙ c.if-eq.false))
+    (ap (λ name. bytes_eq name c.args.text.now) (sym c.name.ensures.name) ∙ (sym c.eq.ensures ∙ c.if-eq.false))
     ∙ c.loop-status.invariant

@@ -1,8 +1,8 @@
 use Rattle.std.proofs.Common.{◌≡◌, drop, find}
-use Rattle.batch_ids.specs.Texts.{is_text}
+use Rattle.std.specs.Str.{bytes_eq}
 use Rattle.jsl_model.specs.declared.element.Element.{Element}
 use Rattle.jsl_model.proofs.job.Job.element.Given as goal
 
 abbrev pub invariant-loop-element : goal.invariant-loop-element
 invariant-loop-element l =
-    find (λ (e : Element). is_text e.id l.id) (drop l.element-index l.self.elements) ≡ find (λ (e : Element). is_text e.id l.id) l.self.elements
+    find (λ (e : Element). bytes_eq e.id l.id) (drop l.element-index l.self.elements) ≡ find (λ (e : Element). bytes_eq e.id l.id) l.self.elements
