@@ -1,4 +1,7 @@
-use batch_ids::{Metric, MetricStep, Metrics, Parameters, Refusal, T256, Text};
+use batch_ids::{
+    BatchStatus, Metric, MetricStep, Metrics, Parameters, Refusal, T256, Text, UnknownName, WorkOutcome,
+    try_clone_option,
+};
 use std::alloc::{AllocError, Global};
 use std::test::Fail;
 
@@ -125,4 +128,132 @@ fn a_step_is_added_to_the_metrics(rt: HostRuntime) -> Result<(), Fail> {
     assert_eq!(rt; metrics.count(Metric::ReadCount), 0);
     assert_eq!(rt; Metric::FilterCount.name(), "FILTER_COUNT");
     Ok(())
+}
+
+// Each status, and what it prints as.
+const STATUSES: [(BatchStatus, &str); 7] = [
+    (BatchStatus::Starting, "STARTING"),
+    (BatchStatus::Started, "STARTED"),
+    (BatchStatus::Stopping, "STOPPING"),
+    (BatchStatus::Stopped, "STOPPED"),
+    (BatchStatus::Failed, "FAILED"),
+    (BatchStatus::Completed, "COMPLETED"),
+    (BatchStatus::Abandoned, "ABANDONED"),
+];
+
+#[test]
+fn a_status_prints_as_its_name_and_is_read_from_it(rt: HostRuntime) -> Result<(), Fail> {
+    for (status, printed) in STATUSES {
+        assert_eq!(rt; status.to_string(rt.alloc())?.as_str(), printed);
+        assert_eq!(rt; printed.parse::<BatchStatus>(), Ok(status));
+    }
+    for text in ["", "starting", "STARTED ", "START", "COMPLETE", "COMPLETED\0"] {
+        assert_eq!(rt; text.parse::<BatchStatus>(), Err(UnknownName), "{text}");
+    }
+    Ok(())
+}
+
+#[test]
+fn an_outcome_prints_as_its_name_and_is_read_from_it(rt: HostRuntime) -> Result<(), Fail> {
+    let outcomes = [
+        (WorkOutcome::Completed, "COMPLETED"),
+        (WorkOutcome::Failed, "FAILED"),
+        (WorkOutcome::Stopped, "STOPPED"),
+    ];
+    for (outcome, printed) in outcomes {
+        assert_eq!(rt; outcome.name(), printed);
+        assert_eq!(rt; outcome.to_string(rt.alloc())?.as_str(), printed);
+        assert_eq!(rt; printed.parse::<WorkOutcome>(), Ok(outcome));
+    }
+    for text in ["", "failed", "STARTED", "ABANDONED", "STOPPED."] {
+        assert_eq!(rt; text.parse::<WorkOutcome>(), Err(UnknownName), "{text}");
+    }
+    Ok(())
+}
+
+#[test]
+fn a_metric_prints_as_its_name_and_is_read_from_it(rt: HostRuntime) -> Result<(), Fail> {
+    let metrics = [
+        (Metric::ReadCount, "READ_COUNT"),
+        (Metric::WriteCount, "WRITE_COUNT"),
+        (Metric::CommitCount, "COMMIT_COUNT"),
+        (Metric::RollbackCount, "ROLLBACK_COUNT"),
+        (Metric::ReadSkipCount, "READ_SKIP_COUNT"),
+        (Metric::ProcessSkipCount, "PROCESS_SKIP_COUNT"),
+        (Metric::FilterCount, "FILTER_COUNT"),
+        (Metric::WriteSkipCount, "WRITE_SKIP_COUNT"),
+    ];
+    for (metric, printed) in metrics {
+        assert_eq!(rt; metric.to_string(rt.alloc())?.as_str(), printed);
+        assert_eq!(rt; printed.parse::<Metric>(), Ok(metric));
+    }
+    for text in ["", "read_count", "READ COUNT", "READ_COUNTS"] {
+        assert_eq!(rt; text.parse::<Metric>(), Err(UnknownName), "{text}");
+    }
+    Ok(())
+}
+
+#[test]
+fn what_is_no_name_says_so(rt: HostRuntime) -> Result<(), Fail> {
+    assert_eq!(rt; UnknownName.to_string(rt.alloc())?.as_str(), "not a printed name");
+    Ok(())
+}
+
+#[test]
+fn a_printed_name_keeps_to_its_width(rt: HostRuntime) -> Result<(), Fail> {
+    let padded = format!(in rt.alloc(); "{:>8}|{:<8}|", BatchStatus::Failed, WorkOutcome::Failed)?;
+    assert_eq!(rt; padded.as_str(), "  FAILED|FAILED  |");
+    Ok(())
+}
+
+#[test]
+fn counts_are_zero_by_default(rt: HostRuntime) {
+    assert_eq!(rt; Metrics::default(), Metrics::zero());
+    assert_eq!(rt; MetricStep::default(), MetricStep::zero());
+}
+
+#[test]
+fn parameters_are_walked_over_by_rising_keys(rt: HostRuntime) -> Result<(), Fail> {
+    let alloc = rt.alloc();
+    let mut given = Vec::new(alloc);
+    for (key, value) in [("b", "1"), ("a", "2"), ("c", "3")] {
+        given.push((
+            String::from_str(alloc, key)?,
+            String::from_str(alloc, value)?,
+        ))?;
+    }
+    let parameters = Parameters::new(alloc, given)?;
+    let mut walked = String::new(alloc);
+    for parameter in &parameters {
+        walked.push_str(parameter.key().as_str())?;
+        walked.push_str(parameter.value().as_str())?;
+    }
+    assert_eq!(rt; walked.as_str(), "a2b1c3");
+    assert_eq!(rt; parameters.iter().len(), 3);
+    Ok(())
+}
+
+#[test]
+fn a_text_that_is_left_out_is_copied(rt: HostRuntime) -> Result<(), Fail> {
+    let held = Some(T256::new(rt.alloc(), "a")?);
+    assert_eq!(rt; try_clone_option(&held)?, held);
+    assert_eq!(rt; try_clone_option::<256>(&None)?, None);
+    Ok(())
+}
+
+#[test]
+fn refusals_are_numbered_1_to_16_and_18(rt: HostRuntime) {
+    let mut number = 0;
+    for (refusal, name) in PRINTED {
+        number += if number == 16 { 2 } else { 1 };
+        assert_eq!(rt; refusal.number(), number, "{name}");
+    }
+}
+
+#[test]
+fn an_execution_is_unfinished_while_it_is_under_way(rt: HostRuntime) {
+    for (status, printed) in STATUSES {
+        let expected = matches!(printed, "STARTING" | "STARTED" | "STOPPING");
+        assert_eq!(rt; status.is_unfinished(), expected, "{printed}");
+    }
 }
