@@ -13,6 +13,7 @@ mod splits;
 mod walk;
 
 pub use cursor::Cursor;
+pub use element_result::ElementResult;
 pub use facts::{Fact, Known, Value};
 pub use law::the_newest_fact_counts;
 pub use plan::Plan;

@@ -1,6 +1,6 @@
 use batch_ids::{
-    BatchStatus, Metric, MetricStep, Metrics, Parameters, Refusal, T256, Text, UnknownName, WorkOutcome,
-    try_clone_option,
+    BatchStatus, Metric, MetricStep, Metrics, Parameters, Refusal, T256, Text, UnknownName,
+    WorkOutcome, try_clone_option,
 };
 use std::alloc::{AllocError, Global};
 use std::test::Fail;
@@ -147,7 +147,14 @@ fn a_status_prints_as_its_name_and_is_read_from_it(rt: HostRuntime) -> Result<()
         assert_eq!(rt; status.to_string(rt.alloc())?.as_str(), printed);
         assert_eq!(rt; printed.parse::<BatchStatus>(), Ok(status));
     }
-    for text in ["", "starting", "STARTED ", "START", "COMPLETE", "COMPLETED\0"] {
+    for text in [
+        "",
+        "starting",
+        "STARTED ",
+        "START",
+        "COMPLETE",
+        "COMPLETED\0",
+    ] {
         assert_eq!(rt; text.parse::<BatchStatus>(), Err(UnknownName), "{text}");
     }
     Ok(())
@@ -195,7 +202,10 @@ fn a_metric_prints_as_its_name_and_is_read_from_it(rt: HostRuntime) -> Result<()
 
 #[test]
 fn what_is_no_name_says_so(rt: HostRuntime) -> Result<(), Fail> {
-    assert_eq!(rt; UnknownName.to_string(rt.alloc())?.as_str(), "not a printed name");
+    assert_eq!(rt;
+        UnknownName.to_string(rt.alloc())?.as_str(),
+        "not a printed name"
+    );
     Ok(())
 }
 

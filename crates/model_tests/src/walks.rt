@@ -1,5 +1,5 @@
-use job_walk::{Cursor, Plan, Value};
 use batch_ids::{Listed, OutOfMemory, Refusal, T256, WorkOutcome};
+use job_walk::{Cursor, Plan, Value};
 use jsl_model::{
     BodyParts, ElementParts, Job, JobParts, SplitFlowParts, StepParts, TaskParts, ThenParts,
     TransitionParts,
@@ -264,7 +264,9 @@ fn parts_with_transitions(alloc: Global) -> Result<JobParts, AllocError> {
     first.transitions.push(transition(alloc, "E?", end)?)?;
     let fail = ThenParts::Fail { exit_status: None };
     first.transitions.push(transition(alloc, "*!", fail)?)?;
-    first.transitions.push(transition(alloc, "N", ThenParts::Next { to: b })?)?;
+    first
+        .transitions
+        .push(transition(alloc, "N", ThenParts::Next { to: b })?)?;
     let mut elements = Listed::new(alloc);
     elements.push(first)?;
     elements.push(step(alloc, "b", None)?)?;
@@ -290,7 +292,11 @@ fn after_a(alloc: Global, outcome: WorkOutcome, exit: &str) -> Result<String, Fa
 #[test]
 fn transition_elements_decide_before_next(rt: HostRuntime) -> Result<(), Fail> {
     let cases = [
-        (WorkOutcome::Completed, "S1", "STOPPED STOPPED, restart at b"),
+        (
+            WorkOutcome::Completed,
+            "S1",
+            "STOPPED STOPPED, restart at b",
+        ),
         (WorkOutcome::Completed, "E1", "COMPLETED DONE"),
         (WorkOutcome::Completed, "x!", "FAILED FAILED"),
         (WorkOutcome::Completed, "N", "ready b, busy"),
