@@ -2,7 +2,7 @@
 -- a moment, the newest first.
 use Rattle.std.specs.Prelude.{ℕ, ◌+◌, ◌==◌, ◌||◌, ◌&&◌, Bool, true, false, Option, Some, None, unwrap_or, List, [], ◌∷◌, ◌++◌, length, find, filter, if◌then◌else◌}
 use Rattle.std.specs.Option.{option_map, option_and_then}
-use Rattle.batch_ids.specs.Texts.{is_text}
+use Rattle.std.specs.Str.{bytes_eq}
 use Rattle.batch_ids.specs.Parameters.{Pair}
 use Rattle.batch_ids.specs.Metrics.{zero_metrics, added}
 use Rattle.batch_ids.specs.Statuses.{status_name, outcome_name, is_unfinished}
@@ -232,7 +232,7 @@ pub record Place : Type 0 where
   pub step : List ℕ
 
 abbrev pub is_place : Place → CheckpointRow → Bool
-is_place p row = row.instance == p.instance && is_text row.step p.step
+is_place p row = row.instance == p.instance && bytes_eq row.step p.step
 
 abbrev pub is_elsewhere : Place → CheckpointRow → Bool
 is_elsewhere p row = if is_place p row then false else true
@@ -349,7 +349,7 @@ first_element (e ∷ rest) = e.id
 
 -- the job of this id in the catalogue
 abbrev pub job_named : List JobTree → List ℕ → Option JobTree
-job_named catalogue name = find (λ job. is_text job.id name) catalogue
+job_named catalogue name = find (λ job. bytes_eq job.id name) catalogue
 
 -- a walk begins at the job's first element
 abbrev pub walk_of : List Known → Option JobTree → Value

@@ -1,5 +1,5 @@
 pub mod Metrics
+pub mod Names
 pub mod Parameters
 pub mod Refusals
 pub mod Statuses
-pub mod Texts

@@ -1,5 +1,6 @@
 -- The metrics of a step execution.
-use Rattle.std.specs.Prelude.{ℕ, ◌+◌, ◌*◌, ◌<◌, ◌≤◌, ◌^◌, List, codes}
+use Rattle.std.specs.Prelude.{ℕ, ◌+◌, ◌*◌, ◌<◌, ◌≤◌, ◌^◌, Option, List, [], ◌∷◌, codes, find}
+use Rattle.std.specs.Str.{bytes_eq}
 use Rattle.batch_ids.specs.declared.metric.Metric.{Metric}
 use Rattle.batch_ids.specs.declared.metric.Metric.TheVariants.{ReadCount, WriteCount, CommitCount, RollbackCount, ReadSkipCount, ProcessSkipCount, FilterCount, WriteSkipCount}
 use Rattle.batch_ids.specs.declared.metrics.Metrics.{Metrics}
@@ -15,6 +16,14 @@ metric_name ReadSkipCount = codes "READ_SKIP_COUNT"
 metric_name ProcessSkipCount = codes "PROCESS_SKIP_COUNT"
 metric_name FilterCount = codes "FILTER_COUNT"
 metric_name WriteSkipCount = codes "WRITE_SKIP_COUNT"
+
+-- every metric
+abbrev pub all_metrics : List Metric
+all_metrics = ReadCount ∷ WriteCount ∷ CommitCount ∷ RollbackCount ∷ ReadSkipCount ∷ ProcessSkipCount ∷ FilterCount ∷ WriteSkipCount ∷ []
+
+-- the metric that a text is the name of
+abbrev pub metric_named : List ℕ → Option Metric
+metric_named text = find (λ metric. bytes_eq (metric_name metric) text) all_metrics
 
 -- the count of a metric
 abbrev pub metric_count : Metrics → Metric → ℕ

@@ -6,7 +6,7 @@ use Rattle.std.specs.Cmp.Lexicographic.{slice_cmp}
 use Rattle.std.specs.declared.cmp.Ordering.{Ordering}
 use Rattle.std.specs.declared.cmp.Ordering.TheVariants.{Less, Equal, Greater}
 use Rattle.std.specs.declared.alloc.Global.{Global}
-use Rattle.batch_ids.specs.Texts.{is_text}
+use Rattle.std.specs.Str.{bytes_eq}
 
 -- a key, then its value
 abbrev pub Pair : Type 0
@@ -61,7 +61,7 @@ is_too_large given = list_any is_long given || nat_lt 64 (length (parameters_of 
 
 -- the value of a key, if there is one
 abbrev pub value_of : List Pair → List ℕ → Option (List ℕ)
-value_of pairs key = option_map (λ pair. pair.1) (find (λ pair. is_text pair.0 key) pairs)
+value_of pairs key = option_map (λ pair. pair.1) (find (λ pair. bytes_eq pair.0 key) pairs)
 
 -- the bytes of a given key and of its value
 abbrev pub pair_of : String Global × String Global → Pair

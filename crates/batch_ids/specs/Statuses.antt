@@ -1,5 +1,6 @@
 -- The statuses by their names, and which of them are finished.
-use Rattle.std.specs.Prelude.{ℕ, Bool, true, false, List, codes}
+use Rattle.std.specs.Prelude.{ℕ, Bool, true, false, Option, List, [], ◌∷◌, codes, find}
+use Rattle.std.specs.Str.{bytes_eq}
 use Rattle.batch_ids.specs.declared.status.BatchStatus.{BatchStatus}
 use Rattle.batch_ids.specs.declared.status.BatchStatus.TheVariants.{Starting, Started, Stopping, Stopped, Failed, Completed, Abandoned}
 use Rattle.batch_ids.specs.declared.status.WorkOutcome.{WorkOutcome}
@@ -14,6 +15,14 @@ status_name Stopped = codes "STOPPED"
 status_name Failed = codes "FAILED"
 status_name Completed = codes "COMPLETED"
 status_name Abandoned = codes "ABANDONED"
+
+-- every status
+abbrev pub all_statuses : List BatchStatus
+all_statuses = Starting ∷ Started ∷ Stopping ∷ Stopped ∷ Failed ∷ Completed ∷ Abandoned ∷ []
+
+-- the status that a text is the name of
+abbrev pub status_named : List ℕ → Option BatchStatus
+status_named text = find (λ status. bytes_eq (status_name status) text) all_statuses
 
 -- an execution is unfinished while it is STARTING, STARTED or STOPPING
 abbrev pub is_unfinished : BatchStatus → Bool
@@ -31,6 +40,14 @@ outcome_status CameCompleted = Completed
 outcome_status CameFailed = Failed
 outcome_status CameStopped = Stopped
 
--- the default exit status of an outcome: the name of its status
+-- the name of an outcome, which is also the default exit status: that of its status
 abbrev pub outcome_name : WorkOutcome → List ℕ
 outcome_name outcome = status_name (outcome_status outcome)
+
+-- every outcome
+abbrev pub all_outcomes : List WorkOutcome
+all_outcomes = CameCompleted ∷ CameFailed ∷ CameStopped ∷ []
+
+-- the outcome that a text is the name of
+abbrev pub outcome_named : List ℕ → Option WorkOutcome
+outcome_named text = find (λ outcome. bytes_eq (outcome_name outcome) text) all_outcomes

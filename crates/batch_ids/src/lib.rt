@@ -11,6 +11,7 @@ mod parameters;
 mod refusal;
 mod status;
 mod text;
+mod unknown_name;
 mod work_id;
 
 pub use execution_id::ExecutionId;
@@ -23,7 +24,5 @@ pub use refusal::{OutOfMemory, Refusal};
 pub use sqlite_items::Items as Listed;
 pub use status::{BatchStatus, Moment, WorkOutcome};
 pub use text::{T256, Text, try_clone_option};
+pub use unknown_name::UnknownName;
 pub use work_id::WorkId;
-
-#[cfg(test)]
-mod tests;

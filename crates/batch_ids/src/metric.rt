@@ -1,7 +1,14 @@
-ghost use Rattle.std.specs.Prelude.{◌≡◌, ◌≤◌, length};
-ghost use Rattle.batch_ids.specs.Metrics.{metric_name};
+ghost use Rattle.std.specs.Prelude.{◌≡◌, ◌≤◌, Some, length};
+ghost use Rattle.std.specs.Fmt.{padded};
+ghost use Rattle.batch_ids.specs.Metrics.{metric_name, metric_named};
+ghost use Rattle.batch_ids.specs.Names.{IsRead};
 
-/// One of the counts that a step execution keeps (Jakarta Batch 2.1, "Metric").
+use crate::UnknownName;
+use std::fmt;
+use std::str::FromStr;
+
+/// One of the counts that a step execution keeps (Jakarta Batch 2.1, "Metric"). It prints as its
+/// name, and is read from it.
 #[derive(Clone, Copy, PartialEq, Eq, Hash, Debug)]
 pub enum Metric {
     /// Items read.
@@ -38,5 +45,45 @@ impl Metric {
             Metric::FilterCount => "FILTER_COUNT",
             Metric::WriteSkipCount => "WRITE_SKIP_COUNT",
         }
+    }
+}
+
+impl fmt::Display for Metric {
+    ghost output = { λ metric. Some (metric_name metric) };
+
+    ghost styled_output = { λ metric spec. Some (padded spec (metric_name metric)) };
+
+    fn fmt<W: fmt::Write>(&self, f: &mut fmt::Formatter<W>) -> fmt::Result {
+        f.pad(self.name())
+    }
+}
+
+/// Reads a metric's printed name, byte for byte.
+///
+/// # Errors
+///
+/// `UnknownName` for any other text.
+impl FromStr for Metric {
+    type Err = UnknownName;
+
+    ghost from_str_gives = { λ text read. IsRead (metric_named text) read };
+
+    fn from_str(text: &str) -> Result<Metric, UnknownName> {
+        let metrics = [
+            Metric::ReadCount,
+            Metric::WriteCount,
+            Metric::CommitCount,
+            Metric::RollbackCount,
+            Metric::ReadSkipCount,
+            Metric::ProcessSkipCount,
+            Metric::FilterCount,
+            Metric::WriteSkipCount,
+        ];
+        for metric in metrics {
+            if metric.name() == text {
+                return Ok(metric);
+            }
+        }
+        Err(UnknownName)
     }
 }

@@ -3,7 +3,8 @@ ghost use Rattle.batch_ids.specs.Metrics.{zero_step, step_with};
 
 use crate::Metric;
 
-/// What is added to the counts of a step execution at once, one for each `Metric`.
+/// What is added to the counts of a step execution at once, one for each `Metric` (Jakarta Batch 2.1,
+/// "Metric").
 #[derive(Clone, Copy, PartialEq, Eq, Debug)]
 pub struct MetricStep {
     /// Items read.
@@ -57,5 +58,13 @@ impl MetricStep {
             Metric::WriteSkipCount => step.write_skip_count = count,
         }
         step
+    }
+}
+
+impl Default for MetricStep {
+    ghost is_default = { λ step. step ≡ zero_step };
+
+    fn default() -> MetricStep {
+        MetricStep::zero()
     }
 }

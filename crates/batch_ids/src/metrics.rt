@@ -72,3 +72,11 @@ impl Metrics {
         }
     }
 }
+
+impl Default for Metrics {
+    ghost is_default = { λ metrics. metrics ≡ zero_metrics };
+
+    fn default() -> Metrics {
+        Metrics::zero()
+    }
+}

@@ -1,11 +1,14 @@
-ghost use Rattle.std.specs.Prelude.{◌≡◌, ◌||◌, ◌⊎◌, ◌↔◌, ◌<◌, ◌≤◌, ℕ, List, [], true, false, nat_lt, length, slice_set, option_copied, Err, IsTrue, IfOk, IfErr, OnOk, OnErr};
+ghost use Rattle.std.specs.Prelude.{◌≡◌, ◌||◌, ◌⊎◌, ◌↔◌, ◌<◌, ◌≤◌, ℕ, List, [], true, false, nat_lt, length, slice_set, option_copied, Err, Ok, IsTrue, IfOk, IfErr, OnOk, OnErr};
 ghost use Rattle.std.specs.List.{insert};
-ghost use Rattle.batch_ids.specs.Parameters.{AreParameters, with_pair, parameters_of, pairs_of, is_long, is_too_large, value_of};
+ghost use Rattle.std.specs.Slice.Iter.{iter_rest};
+ghost use Rattle.std.specs.Iterator.Adapters.{IterYieldsInOrder};
+ghost use Rattle.batch_ids.specs.Parameters.{Pair, AreParameters, with_pair, parameters_of, pairs_of, is_long, is_too_large, value_of};
 
 use crate::{OutOfMemory, Refusal, T256, Text};
 use std::alloc::Global;
 use std::cmp::Ordering;
 use std::marker::Model;
+use std::slice;
 
 /// How many parameters a job execution has at most.
 const MOST_PARAMETERS: usize = 64;
@@ -75,9 +78,14 @@ impl Parameters {
     /// The parameters that these pairs of a key and a value give. Of a key given twice the last value
     /// counts.
     ///
-    /// Errors: where a given key has more than 256 bytes, a given value more than 4,096, or more than
-    /// 64 different keys are given, `TextTooLong`, or `OutOfMemory` if memory is refused before that is
-    /// seen; else at most `OutOfMemory`. For each pair it copies the texts and compares at most 64 keys.
+    /// For each pair it copies the texts and compares at most 64 keys. Where none is given, it takes no
+    /// memory.
+    ///
+    /// # Errors
+    ///
+    /// Where a given key has more than 256 bytes, a given value more than 4,096, or more than 64
+    /// different keys are given, `TextTooLong`, or `OutOfMemory` if memory is refused before that is
+    /// seen; else `OutOfMemory` where memory is refused.
     pub fn new(alloc: Global, given: Vec<(String, String)>) -> Result<Parameters, Refusal>
         ensures same { IfOk result (λ made. made ≡ parameters_of (pairs_of given.items)) }
         ensures fits { OnOk result (is_too_large (pairs_of given.items) ≡ false) }
@@ -85,6 +93,7 @@ impl Parameters {
             → (result ≡ Err Refusal.TextTooLong) ⊎ (result ≡ Err Refusal.OutOfMemory) }
         ensures fault { IfErr result (λ refusal. (refusal ≡ Refusal.OutOfMemory)
             ⊎ (refusal ≡ Refusal.TextTooLong × (is_too_large (pairs_of given.items) ≡ true))) }
+        ensures none_given { given.items ≡ [] → result ≡ Ok [] }
     {
         let mut made = Parameters::none(alloc);
         for pair in &given {
@@ -122,6 +131,15 @@ impl Parameters {
         self.held.as_slice()
     }
 
+    /// The parameters one after another, by rising keys (in the order of their bytes).
+    pub fn iter(&self) -> slice::Iter<'_, Parameter>
+        ensures rest { iter_rest result ≡ self.now }
+        ensures few { length (iter_rest result) ≤ 64 }
+        ensures runs { IterYieldsInOrder Pair }
+    {
+        self.held.as_slice().iter()
+    }
+
     /// How many there are, at most 64.
     pub fn len(&self) -> usize
         ensures number { result ≡ length self.now }
@@ -137,9 +155,15 @@ impl Parameters {
         self.held.is_empty()
     }
 
-    /// Equal parameters, or `OutOfMemory`. It costs time and memory as their texts have bytes.
+    /// Equal parameters. It costs time and memory as their texts have bytes, and none where there are
+    /// none.
+    ///
+    /// # Errors
+    ///
+    /// `OutOfMemory` where memory is refused.
     pub fn try_clone(&self) -> Result<Parameters, OutOfMemory>
-        ensures { IfOk result (λ copy. copy ≡ self.now) }
+        ensures same { IfOk result (λ copy. copy ≡ self.now) }
+        ensures none_held { self.now ≡ [] → result ≡ Ok [] }
     {
         let mut held = Vec::new(*self.held.allocator());
         for parameter in self.held.as_slice() {
@@ -189,6 +213,21 @@ impl Parameters {
             }
         }
         Err(self.len())
+    }
+}
+
+impl<'a> IntoIterator for &'a Parameters {
+    ghost use Rattle.batch_ids.specs.Parameters.{Pair};
+
+    type Item = &'a Parameter;
+
+    type IntoIter = slice::Iter<'a, Parameter>;
+
+    ghost into_iter_gives = { λ parameters made. (iter_rest made ≡ parameters.now)
+        × (length (iter_rest made) ≤ 64) × IterYieldsInOrder Pair };
+
+    fn into_iter(self) -> slice::Iter<'a, Parameter> {
+        self.iter()
     }
 }
 

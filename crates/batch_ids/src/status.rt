@@ -1,11 +1,17 @@
-ghost use Rattle.std.specs.Prelude.{◌≡◌, ◌≤◌, length};
-ghost use Rattle.batch_ids.specs.Statuses.{status_name, is_unfinished, outcome_status};
+ghost use Rattle.std.specs.Prelude.{◌≡◌, ◌≤◌, Some, length};
+ghost use Rattle.std.specs.Fmt.{padded};
+ghost use Rattle.batch_ids.specs.Names.{IsRead};
+ghost use Rattle.batch_ids.specs.Statuses.{status_name, status_named, is_unfinished, outcome_status, outcome_name, outcome_named};
+
+use crate::UnknownName;
+use std::fmt;
+use std::str::FromStr;
 
 /// A moment, in whole milliseconds. Moments are handed in with each call, and nothing compares them.
 pub type Moment = u64;
 
 /// The status of a job execution or of a step execution (Jakarta Batch 2.1, "Batch and Exit
-/// Status").
+/// Status"). It prints as its name, and is read from it.
 #[derive(Clone, Copy, PartialEq, Eq, Hash, Debug)]
 pub enum BatchStatus {
     /// Started or restarted, and no work of it was handed out yet.
@@ -20,18 +26,19 @@ pub enum BatchStatus {
     Failed,
     /// Ended well.
     Completed,
-    /// Given up by the operator: it is never restarted.
+    /// Abandoned by the operator: it is never restarted.
     Abandoned,
 }
 
-/// How a work item ended.
+/// How a work item ended: the batch status that its step execution then has (Jakarta Batch 2.1,
+/// "Batch and Exit Status"). It prints as its name, and is read from it.
 #[derive(Clone, Copy, PartialEq, Eq, Hash, Debug)]
 pub enum WorkOutcome {
     /// It ended well.
     Completed,
     /// It failed.
     Failed,
-    /// It stopped because a stop of its job execution was asked for.
+    /// It stopped because a stop of its job execution was requested.
     Stopped,
 }
 
@@ -69,6 +76,14 @@ impl BatchStatus {
 }
 
 impl WorkOutcome {
+    /// The name that is printed, which is also the default exit status: that of its status.
+    pub fn name(self) -> &'static str
+        ensures name { result.now ≡ outcome_name self }
+        ensures short { length result.now ≤ 16 }
+    {
+        self.status().name()
+    }
+
     /// The status that a step execution has once its work item ended so.
     pub fn status(self) -> BatchStatus
         ensures { result ≡ outcome_status self }
@@ -78,5 +93,79 @@ impl WorkOutcome {
             WorkOutcome::Failed => BatchStatus::Failed,
             WorkOutcome::Stopped => BatchStatus::Stopped,
         }
+    }
+}
+
+impl fmt::Display for BatchStatus {
+    ghost output = { λ status. Some (status_name status) };
+
+    ghost styled_output = { λ status spec. Some (padded spec (status_name status)) };
+
+    fn fmt<W: fmt::Write>(&self, f: &mut fmt::Formatter<W>) -> fmt::Result {
+        f.pad(self.name())
+    }
+}
+
+impl fmt::Display for WorkOutcome {
+    ghost output = { λ outcome. Some (outcome_name outcome) };
+
+    ghost styled_output = { λ outcome spec. Some (padded spec (outcome_name outcome)) };
+
+    fn fmt<W: fmt::Write>(&self, f: &mut fmt::Formatter<W>) -> fmt::Result {
+        f.pad(self.name())
+    }
+}
+
+/// Reads a status's printed name, byte for byte.
+///
+/// # Errors
+///
+/// `UnknownName` for any other text.
+impl FromStr for BatchStatus {
+    type Err = UnknownName;
+
+    ghost from_str_gives = { λ text read. IsRead (status_named text) read };
+
+    fn from_str(text: &str) -> Result<BatchStatus, UnknownName> {
+        let statuses = [
+            BatchStatus::Starting,
+            BatchStatus::Started,
+            BatchStatus::Stopping,
+            BatchStatus::Stopped,
+            BatchStatus::Failed,
+            BatchStatus::Completed,
+            BatchStatus::Abandoned,
+        ];
+        for status in statuses {
+            if status.name() == text {
+                return Ok(status);
+            }
+        }
+        Err(UnknownName)
+    }
+}
+
+/// Reads an outcome's printed name, byte for byte.
+///
+/// # Errors
+///
+/// `UnknownName` for any other text.
+impl FromStr for WorkOutcome {
+    type Err = UnknownName;
+
+    ghost from_str_gives = { λ text read. IsRead (outcome_named text) read };
+
+    fn from_str(text: &str) -> Result<WorkOutcome, UnknownName> {
+        let outcomes = [
+            WorkOutcome::Completed,
+            WorkOutcome::Failed,
+            WorkOutcome::Stopped,
+        ];
+        for outcome in outcomes {
+            if outcome.name() == text {
+                return Ok(outcome);
+            }
+        }
+        Err(UnknownName)
     }
 }

@@ -1,4 +1,4 @@
-ghost use Rattle.std.specs.Prelude.{◌≡◌, ◌<◌, ◌≤◌, length, Err, OnErr, OnOk, IfOk, []};
+ghost use Rattle.std.specs.Prelude.{◌≡◌, ◌<◌, ◌≤◌, length, Err, None, Ok, OnErr, OnOk, IfOk, []};
 
 use crate::{OutOfMemory, Refusal};
 use std::alloc::Global;
@@ -28,8 +28,10 @@ impl<const MAX: usize> Model for Text<MAX> {
 impl<const MAX: usize> Text<MAX> {
     /// The text of these bytes. There is no lower bound: the empty text is one.
     ///
-    /// Errors: `TextTooLong` exactly for a text of more than `MAX` bytes, else at most
-    /// `OutOfMemory`.
+    /// # Errors
+    ///
+    /// `TextTooLong` exactly for a text of more than `MAX` bytes, else `OutOfMemory` where memory is
+    /// refused.
     pub fn new(alloc: Global, text: &str) -> Result<Text<MAX>, Refusal>
         ensures same { IfOk result (λ made. made ≡ text.now) }
         ensures fits { OnOk result (length text.now ≤ MAX) }
@@ -45,7 +47,11 @@ impl<const MAX: usize> Text<MAX> {
         }
     }
 
-    /// The text of these bytes, which are known to be few enough.
+    /// The text of these bytes, which the caller knows to be at most `MAX`.
+    ///
+    /// # Errors
+    ///
+    /// `OutOfMemory` where memory is refused.
     pub fn within(alloc: Global, text: &str) -> Result<Text<MAX>, OutOfMemory>
         requires { length text.now ≤ MAX }
         ensures { IfOk result (λ made. made ≡ text.now) }
@@ -71,7 +77,11 @@ impl<const MAX: usize> Text<MAX> {
         self.inner.as_str()
     }
 
-    /// An equal text, or `OutOfMemory`.
+    /// An equal text.
+    ///
+    /// # Errors
+    ///
+    /// `OutOfMemory` where memory is refused.
     pub fn try_clone(&self) -> Result<Text<MAX>, OutOfMemory>
         ensures { IfOk result (λ copy. copy ≡ self.now) }
     {
@@ -80,11 +90,16 @@ impl<const MAX: usize> Text<MAX> {
     }
 }
 
-/// A copy of a text that may be left out.
+/// A copy of a text that may be left out. Where it is, no memory is taken.
+///
+/// # Errors
+///
+/// `OutOfMemory` where memory is refused.
 pub fn try_clone_option<const MAX: usize>(
     text: &Option<Text<MAX>>,
 ) -> Result<Option<Text<MAX>>, OutOfMemory>
-    ensures { IfOk result (λ copy. copy ≡ text.now) }
+    ensures same { IfOk result (λ copy. copy ≡ text.now) }
+    ensures left_out { text.now ≡ None → result ≡ Ok None }
 {
     match text {
         None => Ok(None),

@@ -4,7 +4,7 @@ use Rattle.std.proofs.Common.{◌≡◌, ◌≢◌, inl, inr, ℕ, ◌==◌, Boo
 use Rattle.std.specs.Option.{option_map}
 use Rattle.std.specs.Cmp.Lexicographic.{bytes_decides}
 use Rattle.std.proofs.lemmas.Bool.{eqb-true, eq-eqb}
-use Rattle.batch_ids.specs.Texts.{is_text}
+use Rattle.std.specs.Str.{bytes_eq}
 use Rattle.batch_ids.specs.declared.metric_step.MetricStep.{MetricStep}
 use Rattle.batch_ids.specs.declared.status.WorkOutcome.{WorkOutcome}
 use Rattle.jsl_model.specs.Jobs.{JobTree}
@@ -50,7 +50,7 @@ none-seen id (Ended status exit point) = refl
 pub first-seen : (id : List ℕ) (v : Value) → first_ready v ≡ Some id → seen ready_sight id v ≡ true
 first-seen id (Open (i ∷ ready) busy) h =
     let same : i ≡ id = cc in
-    let here : is_text id i ≡ true = (bytes_decides id i).1 (sym same) in
+    let here : bytes_eq id i ≡ true = (bytes_decides id i).1 (sym same) in
     rw here refl
 first-seen id (Open [] busy) h = cc
 first-seen id (IsDone exit) h = cc

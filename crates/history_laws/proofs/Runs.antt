@@ -6,7 +6,7 @@ use Rattle.std.specs.Option.{option_map}
 use Rattle.std.specs.Cmp.Lexicographic.{bytes_decides}
 use Rattle.std.proofs.lemmas.Simd.{map-map}
 use Rattle.std.proofs.lemmas.List.Folds.{list_any-append}
-use Rattle.batch_ids.specs.Texts.{is_text}
+use Rattle.std.specs.Str.{bytes_eq}
 use Rattle.batch_ids.specs.declared.status.BatchStatus.TheVariants.{Failed as StatusFailed, Stopped as StatusStopped, Completed as StatusCompleted}
 use Rattle.batch_ids.specs.declared.status.WorkOutcome.{WorkOutcome}
 use Rattle.batch_ids.specs.declared.status.WorkOutcome.TheVariants.{Completed, Failed, Stopped}
@@ -18,16 +18,16 @@ use Rattle.jsl_model.specs.declared.element.Element.{Element, ind-Element, map-E
 use Rattle.jsl_model.specs.declared.element.SplitFlow.{SplitFlow, fold-roll-SplitFlow}
 use Rattle.jsl_model.specs.declared.element.Body.{Body, Body-F, map-Body, fold-Body, fold-roll-Body}
 use Rattle.jsl_model.specs.declared.element.Body.TheOpen.{Step, Flow, Split, Decision}
-use Rattle.transitions.specs.Transitions.{first_match}
+use Rattle.transitions.specs.Transitions.{matching_transition}
 use Rattle.job_walk.specs.declared.facts.Fact.{Fact}
 use Rattle.job_walk.specs.declared.facts.Fact.TheVariants.{Nothing, Carried, Busy, Over, Barred}
 use Rattle.job_walk.specs.declared.facts.Known.{Known}
 use Rattle.job_walk.specs.declared.facts.Value.{Value}
 use Rattle.job_walk.specs.declared.facts.Value.TheVariants.{Open, Done, Ended}
-use Rattle.job_walk.specs.declared.facts.Own.{Own}
-use Rattle.job_walk.specs.declared.facts.Own.TheVariants.{Halts, Came}
+use Rattle.job_walk.specs.declared.element_result.ElementResult.{ElementResult}
+use Rattle.job_walk.specs.declared.element_result.ElementResult.TheVariants.{ListValue, Outcome}
 use Rattle.job_walk.specs.declared.runnable.Runnable.{Runnable}
-use Rattle.job_walk.specs.Walk.{Row, Part, IsStep, IsDecision, IsWhole, step_own, decision_own, taken, goes, arrives, at_row, follow, list_value, whole_value, flow_own, all_ready, all_busy, any_open, ended_as, split_own, body_part, part_own, element_row, flow_value, row_of, part_of, value_of_flow, value_of, fact_of}
+use Rattle.job_walk.specs.Walk.{WalkedElement, BodyResult, IsStep, IsDecision, HasResult, step_result, decision_result, value_by_transition, value_after_outcome, value_by_result, value_at, follow, list_value, whole_value, flow_result, all_ready, all_busy, any_open, ended_as, split_result, body_result, element_result, element_with_result, flow_value, walked_element, walked_body, value_of_flow, value_of, fact_of}
 use Rattle.job_walk.specs.Runnables.{Leaf, Inside, IsRun, Holds, body_leaves, leaves_at, element_leaves, flow_leaves, leaves, leaves_of_flow, all_leaves, runnable_in}
 use Rattle.batch_history.specs.History.{walk_of}
 use Rattle.batch_history.specs.Rows.{runs_in}
@@ -35,29 +35,29 @@ use Rattle.history_laws.proofs.Walks.{part_at, Sight, seen, own_seen, all_seen, 
 
 -- whether one of these leaves has this id
 abbrev has : List Leaf → List ℕ → Bool
-has all id = list_any (λ leaf. is_text leaf.id id) all
+has all id = list_any (λ leaf. bytes_eq leaf.id id) all
 
 has-first : (one rest : List Leaf) (id : List ℕ) → has one id ≡ true → has (one ++ rest) id ≡ true
-has-first one rest id h = list_any-append (λ leaf. is_text leaf.id id) one rest ∙ or_left _ _ h
+has-first one rest id h = list_any-append (λ leaf. bytes_eq leaf.id id) one rest ∙ or_left _ _ h
 
 has-rest : (one rest : List Leaf) (id : List ℕ) → has rest id ≡ true → has (one ++ rest) id ≡ true
-has-rest one rest id h = list_any-append (λ leaf. is_text leaf.id id) one rest ∙ or_right _ _ h
+has-rest one rest id h = list_any-append (λ leaf. bytes_eq leaf.id id) one rest ∙ or_right _ _ h
 
 -- ---- Lists
 
 goes-has : {P : Type 0} (s : Sight) (id : List ℕ) (on : List ℕ → Value) → ((to : List ℕ) → seen s id (on to) ≡ true → P)
-    → (next : Option (List ℕ)) (transition : Option Transition) (outcome : WorkOutcome) (exit : List ℕ) → seen s id (goes on next transition outcome exit) ≡ true → P
+    → (next : Option (List ℕ)) (transition : Option Transition) (outcome : WorkOutcome) (exit : List ℕ) → seen s id (value_after_outcome on next transition outcome exit) ≡ true → P
 goes-has s id on h next None Stopped exit shown = cc
 goes-has s id on h next (Some transition) Stopped exit shown = cc
 goes-has {P = P} s id on h next (Some transition) Completed exit shown =
-    (elim transition.then as (λ then. seen s id (taken on then) ≡ true → P) [
+    (elim transition.then as (λ then. seen s id (value_by_transition on then) ≡ true → P) [
       | Next to ↦ λ e. h to e
       | End exit ↦ λ e. cc
       | Fail exit ↦ λ e. cc
       | Stop exit point ↦ λ e. cc
     ]) shown
 goes-has {P = P} s id on h next (Some transition) Failed exit shown =
-    (elim transition.then as (λ then. seen s id (taken on then) ≡ true → P) [
+    (elim transition.then as (λ then. seen s id (value_by_transition on then) ≡ true → P) [
       | Next to ↦ λ e. h to e
       | End exit ↦ λ e. cc
       | Fail exit ↦ λ e. cc
@@ -68,33 +68,33 @@ goes-has s id on h (Some to) None Completed exit shown = h to shown
 goes-has s id on h None None Completed exit shown = cc
 
 arrives-has : {P : Type 0} (s : Sight) (id : List ℕ) (on : List ℕ → Value) → ((to : List ℕ) → seen s id (on to) ≡ true → P)
-    → (row : Row) (own : Own) → (own_seen s id own ≡ true → P) → seen s id (arrives on row own) ≡ true → P
-arrives-has s id on h row (Halts value) here shown = here shown
-arrives-has s id on h row (Came outcome exit) here shown = goes-has s id on h row.next (first_match row.transitions exit) outcome exit shown
+    → (row : WalkedElement) (own_result : ElementResult) → (own_seen s id own_result ≡ true → P) → seen s id (value_by_result on row own_result) ≡ true → P
+arrives-has s id on h row (ListValue value) here shown = here shown
+arrives-has s id on h row (Outcome outcome exit) here shown = goes-has s id on h row.next (matching_transition row.transitions exit) outcome exit shown
 
-at-has : {X : Type 0} (s : Sight) (id : List ℕ) (f : X → Row) (g : X → List Leaf) → ((x : X) → own_seen s id (f x).own ≡ true → has (g x) id ≡ true)
+at-has : {X : Type 0} (s : Sight) (id : List ℕ) (f : X → WalkedElement) (g : X → List Leaf) → ((x : X) → own_seen s id (f x).own_result ≡ true → has (g x) id ≡ true)
     → {P : Type 0} (on : List ℕ → Value) → ((to : List ℕ) → seen s id (on to) ≡ true → P) → (from : List ℕ) (xs : List X)
-    → (has (joined (map g xs)) id ≡ true → P) → seen s id (at_row on (find (λ row. is_text row.id from) (map f xs))) ≡ true → P
+    → (has (joined (map g xs)) id ≡ true → P) → seen s id (value_at on (find (λ row. bytes_eq row.id from) (map f xs))) ≡ true → P
 at-has s id f g rel on h from [] whole shown = cc
 at-has s id f g rel {P = P} on h from (x ∷ xs) whole shown =
-    (elim (is_text (f x).id from) as (λ b. seen s id (at_row on (cond b (Some (f x)) (find (λ row. is_text row.id from) (map f xs)))) ≡ true → P) [
-      | true ↦ λ e. arrives-has s id on h (f x) (f x).own (λ own. whole (has-first (g x) (joined (map g xs)) id (rel x own))) e
+    (elim (bytes_eq (f x).id from) as (λ b. seen s id (value_at on (cond b (Some (f x)) (find (λ row. bytes_eq row.id from) (map f xs)))) ≡ true → P) [
+      | true ↦ λ e. arrives-has s id on h (f x) (f x).own_result (λ own_result. whole (has-first (g x) (joined (map g xs)) id (rel x own_result))) e
       | false ↦ λ e. at-has s id f g rel on h from xs (λ rest. whole (has-rest (g x) (joined (map g xs)) id rest)) e
     ]) shown
 
-follow-has : {X : Type 0} (s : Sight) (id : List ℕ) (f : X → Row) (g : X → List Leaf) → ((x : X) → own_seen s id (f x).own ≡ true → has (g x) id ≡ true)
+follow-has : {X : Type 0} (s : Sight) (id : List ℕ) (f : X → WalkedElement) (g : X → List Leaf) → ((x : X) → own_seen s id (f x).own_result ≡ true → has (g x) id ≡ true)
     → (xs : List X) (n : ℕ) (from : List ℕ) → seen s id (follow n (map f xs) from) ≡ true → has (joined (map g xs)) id ≡ true
 follow-has s id f g rel xs zero from shown = cc
 follow-has s id f g rel xs (suc n) from shown =
     at-has s id f g rel (follow n (map f xs)) (λ to e. follow-has s id f g rel xs n to e) from xs (λ h. h) shown
 
-list-has : {X : Type 0} (s : Sight) (id : List ℕ) (f : X → Row) (g : X → List Leaf) → ((x : X) → own_seen s id (f x).own ≡ true → has (g x) id ≡ true)
+list-has : {X : Type 0} (s : Sight) (id : List ℕ) (f : X → WalkedElement) (g : X → List Leaf) → ((x : X) → own_seen s id (f x).own_result ≡ true → has (g x) id ≡ true)
     → (xs : List X) (from : List ℕ) → seen s id (list_value (map f xs) from) ≡ true → has (joined (map g xs)) id ≡ true
 list-has s id f g rel xs from shown = follow-has s id f g rel xs (length (map f xs)) from shown
 
 -- ---- Flows and splits
 
-flow-has : (s : Sight) (id : List ℕ) (v : Value) → own_seen s id (flow_own v) ≡ true → seen s id v ≡ true
+flow-has : (s : Sight) (id : List ℕ) (v : Value) → own_seen s id (flow_result v) ≡ true → seen s id v ≡ true
 flow-has s id (Open ready busy) h = h
 flow-has s id (Done exit) h = cc
 flow-has s id (Ended status exit point) h = cc
@@ -109,9 +109,9 @@ flows-have s id f g rel (x ∷ xs) h =
     ]
 
 -- a split shows what its flows show
-split-seen : (s : Sight) (id : List ℕ) (flows : List Value) → own_seen s id (split_own flows) ≡ true → all_seen s id flows ≡ true
+split-seen : (s : Sight) (id : List ℕ) (flows : List Value) → own_seen s id (split_result flows) ≡ true → all_seen s id flows ≡ true
 split-seen s id flows h =
-    (elim (any_open flows) as (λ b. any_open flows ≡ b → own_seen s id (cond b (Halts (Open (all_ready flows) (all_busy flows))) (split_ended flows)) ≡ true → all_seen s id flows ≡ true) [
+    (elim (any_open flows) as (λ b. any_open flows ≡ b → own_seen s id (cond b (ListValue (Open (all_ready flows) (all_busy flows))) (split_ended flows)) ≡ true → all_seen s id flows ≡ true) [
       | true ↦ λ e shown. shown
       | false ↦ λ e shown.
           let unseen = strongest-unseen s id _ _ _ (find-closed (ended_as StatusFailed) flows e) (find-closed (ended_as StatusStopped) flows e)
@@ -136,45 +136,45 @@ named-busy false true false h = cc
 named-busy false false false h = cc
 
 -- a step or a decision shows itself alone
-step-named : (s : Sight) (id i : List ℕ) (fact : Fact) → own_seen s id (step_own i fact) ≡ true → is_text id i ≡ true
-step-named s id i Nothing h = named-alone s.of_ready s.of_busy (is_text id i) h
-step-named s id i Busy h = named-busy s.of_ready s.of_busy (is_text id i) h
+step-named : (s : Sight) (id i : List ℕ) (fact : Fact) → own_seen s id (step_result i fact) ≡ true → bytes_eq id i ≡ true
+step-named s id i Nothing h = named-alone s.of_ready s.of_busy (bytes_eq id i) h
+step-named s id i Busy h = named-busy s.of_ready s.of_busy (bytes_eq id i) h
 step-named s id i (Carried exit) h = cc
 step-named s id i (Over outcome exit) h = cc
 step-named s id i Barred h = cc
 
-decision-named : (s : Sight) (id i : List ℕ) (fact : Fact) → own_seen s id (decision_own i fact) ≡ true → is_text id i ≡ true
-decision-named s id i Nothing h = named-alone s.of_ready s.of_busy (is_text id i) h
-decision-named s id i Busy h = named-busy s.of_ready s.of_busy (is_text id i) h
-decision-named s id i (Carried exit) h = named-alone s.of_ready s.of_busy (is_text id i) h
+decision-named : (s : Sight) (id i : List ℕ) (fact : Fact) → own_seen s id (decision_result i fact) ≡ true → bytes_eq id i ≡ true
+decision-named s id i Nothing h = named-alone s.of_ready s.of_busy (bytes_eq id i) h
+decision-named s id i Busy h = named-busy s.of_ready s.of_busy (bytes_eq id i) h
+decision-named s id i (Carried exit) h = named-alone s.of_ready s.of_busy (bytes_eq id i) h
 decision-named s id i (Over outcome exit) h = cc
-decision-named s id i Barred h = named-alone s.of_ready s.of_busy (is_text id i) h
+decision-named s id i Barred h = named-alone s.of_ready s.of_busy (bytes_eq id i) h
 
 -- what is inside an element whose part this is
-abbrev PartHas : Sight → List ℕ → Part → Inside → Type 0
+abbrev PartHas : Sight → List ℕ → BodyResult → Inside → Type 0
 PartHas s id IsStep inside = (runs : Runnable) × (inside ≡ IsRun runs)
 PartHas s id IsDecision inside = (runs : Runnable) × (inside ≡ IsRun runs)
-PartHas s id (IsWhole own) inside = (all : List Leaf) × (inside ≡ Holds all) × (own_seen s id own ≡ true → has all id ≡ true)
+PartHas s id (HasResult own_result) inside = (all : List Leaf) × (inside ≡ Holds all) × (own_seen s id own_result ≡ true → has all id ≡ true)
 
-has-itself : (id i : List ℕ) (runs : Runnable) → is_text id i ≡ true → has (leaves_at i (IsRun runs)) id ≡ true
+has-itself : (id i : List ℕ) (runs : Runnable) → bytes_eq id i ≡ true → has (leaves_at i (IsRun runs)) id ≡ true
 has-itself id i runs h =
-    let here : is_text i id ≡ true = (bytes_decides i id).1 (sym ((bytes_decides id i).0 h)) in
+    let here : bytes_eq i id ≡ true = (bytes_decides i id).1 (sym ((bytes_decides id i).0 h)) in
     rw here refl
 
-part-has : (s : Sight) (id : List ℕ) (facts : List ℕ → Fact) (i : List ℕ) (part : Part) (inside : Inside) → PartHas s id part inside
-    → own_seen s id (part_own i (facts i) part) ≡ true → has (leaves_at i inside) id ≡ true
+part-has : (s : Sight) (id : List ℕ) (facts : List ℕ → Fact) (i : List ℕ) (part : BodyResult) (inside : Inside) → PartHas s id part inside
+    → own_seen s id (element_result i (facts i) part) ≡ true → has (leaves_at i inside) id ≡ true
 part-has s id facts i IsStep inside p h = rw p.1 (has-itself id i p.0 (step-named s id i (facts i) h))
 part-has s id facts i IsDecision inside p h = rw p.1 (has-itself id i p.0 (decision-named s id i (facts i) h))
-part-has s id facts i (IsWhole own) inside p h = rw p.1 (p.2 h)
+part-has s id facts i (HasResult own_result) inside p h = rw p.1 (p.2 h)
 
 abbrev insides : Body → Inside
 insides = fold-Body Inside (List Leaf) (List Leaf) body_leaves element_leaves flow_leaves
 
 abbrev BodyHas : Sight → List ℕ → (List ℕ → Fact) → Body → Type 0
-BodyHas s id facts body = PartHas s id (part_of facts body) (insides body)
+BodyHas s id facts body = PartHas s id (walked_body facts body) (insides body)
 
 abbrev ElementHas : Sight → List ℕ → (List ℕ → Fact) → Element → Type 0
-ElementHas s id facts e = own_seen s id (row_of facts e).own ≡ true → has (leaves e) id ≡ true
+ElementHas s id facts e = own_seen s id (walked_element facts e).own_result ≡ true → has (leaves e) id ≡ true
 
 abbrev FlowHas : Sight → List ℕ → (List ℕ → Fact) → SplitFlow → Type 0
 FlowHas s id facts flow = seen s id (value_of_flow facts flow) ≡ true → has (leaves_of_flow flow) id ≡ true
@@ -188,41 +188,41 @@ body-has : (s : Sight) (id : List ℕ) (facts : List ℕ → Fact)
 body-has s id facts (Step step) = (_, refl)
 body-has s id facts (Decision artifact) = (_, refl)
 body-has s id facts (Flow es) =
-    rw (map-map (row_of facts) (λ (e : (x : Element) × ElementHas s id facts x). e.0) es)
+    rw (map-map (walked_element facts) (λ (e : (x : Element) × ElementHas s id facts x). e.0) es)
     (rw (map-map leaves (λ (e : (x : Element) × ElementHas s id facts x). e.0) es)
-    (_, refl, λ h. list-has s id (λ e. row_of facts e.0) (λ e. leaves e.0) (λ e. e.1) es _ (flow-has s id _ h)))
+    (_, refl, λ h. list-has s id (λ e. walked_element facts e.0) (λ e. leaves e.0) (λ e. e.1) es _ (flow-has s id _ h)))
 body-has s id facts (Split flows) =
     rw (map-map (value_of_flow facts) (λ (e : (x : SplitFlow) × FlowHas s id facts x). e.0) flows)
     (rw (map-map leaves_of_flow (λ (e : (x : SplitFlow) × FlowHas s id facts x). e.0) flows)
     (_, refl, λ h. flows-have s id (λ e. value_of_flow facts e.0) (λ e. leaves_of_flow e.0) (λ e. e.1) flows (split-seen s id (map (λ e. value_of_flow facts e.0) flows) h)))
 
-element-has : (s : Sight) (id : List ℕ) (facts : List ℕ → Fact) → (e : Element) → own_seen s id (row_of facts e).own ≡ true → has (leaves e) id ≡ true
+element-has : (s : Sight) (id : List ℕ) (facts : List ℕ → Fact) → (e : Element) → own_seen s id (walked_element facts e).own_result ≡ true → has (leaves e) id ≡ true
 element-has s id facts =
     ind-Element (BodyHas s id facts) (ElementHas s id facts) (FlowHas s id facts)
     (λ x y is.
-    rw (fold-roll-Body Part Row Value body_part (element_row facts) flow_value x)
+    rw (fold-roll-Body BodyResult WalkedElement Value body_result (element_with_result facts) flow_value x)
     (rw (fold-roll-Body Inside (List Leaf) (List Leaf) body_leaves element_leaves flow_leaves x)
     (subst (λ z. PartHas s id (part_at facts z) (inside_at z)) is (body-has s id facts y))))
     (λ x y is.
-    rw (fold-roll-Element Part Row Value body_part (element_row facts) flow_value x)
+    rw (fold-roll-Element BodyResult WalkedElement Value body_result (element_with_result facts) flow_value x)
     (rw (fold-roll-Element Inside (List Leaf) (List Leaf) body_leaves element_leaves flow_leaves x)
-    (subst (λ z. own_seen s id (element_row facts (map-Element Body Element SplitFlow Part Row Value (part_of facts) (row_of facts) (value_of_flow facts) z)).own ≡ true
+    (subst (λ z. own_seen s id (element_with_result facts (map-Element Body Element SplitFlow BodyResult WalkedElement Value (walked_body facts) (walked_element facts) (value_of_flow facts) z)).own_result ≡ true
     → has (element_leaves (map-Element Body Element SplitFlow Inside (List Leaf) (List Leaf) insides leaves leaves_of_flow z)) id ≡ true) is
     (λ h. part-has s id facts y.id _ _ y.body.1 h))))
     (λ x y is.
-    rw (fold-roll-SplitFlow Part Row Value body_part (element_row facts) flow_value x)
+    rw (fold-roll-SplitFlow BodyResult WalkedElement Value body_result (element_with_result facts) flow_value x)
     (rw (fold-roll-SplitFlow Inside (List Leaf) (List Leaf) body_leaves element_leaves flow_leaves x)
-    (subst (λ z. seen s id (whole_value (map (row_of facts) z.elements)) ≡ true → has (joined (map leaves z.elements)) id ≡ true) is
-    (rw (map-map (row_of facts) (λ (e : (x : Element) × ElementHas s id facts x). e.0) y.elements)
+    (subst (λ z. seen s id (whole_value (map (walked_element facts) z.elements)) ≡ true → has (joined (map leaves z.elements)) id ≡ true) is
+    (rw (map-map (walked_element facts) (λ (e : (x : Element) × ElementHas s id facts x). e.0) y.elements)
     (rw (map-map leaves (λ (e : (x : Element) × ElementHas s id facts x). e.0) y.elements)
-    (λ h. list-has s id (λ e. row_of facts e.0) (λ e. leaves e.0) (λ e. e.1) y.elements _ h))))))
+    (λ h. list-has s id (λ e. walked_element facts e.0) (λ e. leaves e.0) (λ e. e.1) y.elements _ h))))))
 
 -- ---- Jobs
 
 has-runs : (all : List Leaf) (id : List ℕ) → has all id ≡ true → is_some (runnable_in all id) ≡ true
 has-runs [] id h = cc
 has-runs (leaf ∷ rest) id h =
-    (elim (is_text leaf.id id) as (λ b. (b || has rest id) ≡ true → is_some (option_map (λ (l : Leaf). l.runs) (cond b (Some leaf) (find (λ (l : Leaf). is_text l.id id) rest))) ≡ true) [
+    (elim (bytes_eq leaf.id id) as (λ b. (b || has rest id) ≡ true → is_some (option_map (λ (l : Leaf). l.runs) (cond b (Some leaf) (find (λ (l : Leaf). bytes_eq l.id id) rest))) ≡ true) [
       | true ↦ λ e. refl
       | false ↦ λ e. has-runs rest id e
     ]) h
@@ -231,7 +231,7 @@ has-runs (leaf ∷ rest) id h =
 pub elements-run : (s : Sight) (id : List ℕ) (facts : List ℕ → Fact) (elements : List Element) (from : List ℕ) → seen s id (value_of facts elements from) ≡ true
     → is_some (runnable_in (all_leaves elements) id) ≡ true
 elements-run s id facts elements from h =
-    has-runs (all_leaves elements) id (list-has s id (row_of facts) leaves (element-has s id facts) elements from h)
+    has-runs (all_leaves elements) id (list-has s id (walked_element facts) leaves (element-has s id facts) elements from h)
 
 -- what a job execution's walk shows is run
 pub walk-runs : (s : Sight) (id : List ℕ) (known : List Known) (job : Option JobTree) → seen s id (walk_of known job) ≡ true → is_some (runs_in job id) ≡ true

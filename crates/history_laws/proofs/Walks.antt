@@ -5,7 +5,7 @@ use Rattle.std.proofs.lemmas.List.{length-map}
 use Rattle.std.proofs.lemmas.Simd.{map-map}
 use Rattle.std.proofs.lemmas.List.Folds.{list_any-append}
 use Rattle.std.specs.Cmp.Lexicographic.{bytes_decides}
-use Rattle.batch_ids.specs.Texts.{is_text}
+use Rattle.std.specs.Str.{bytes_eq}
 use Rattle.batch_ids.specs.declared.status.BatchStatus.TheVariants.{Failed as StatusFailed, Stopped as StatusStopped, Completed as StatusCompleted}
 use Rattle.batch_ids.specs.declared.status.WorkOutcome.{WorkOutcome}
 use Rattle.batch_ids.specs.declared.status.WorkOutcome.TheVariants.{Completed, Failed, Stopped}
@@ -17,15 +17,15 @@ use Rattle.jsl_model.specs.declared.element.Element.{Element, ind-Element, map-E
 use Rattle.jsl_model.specs.declared.element.SplitFlow.{SplitFlow, fold-roll-SplitFlow}
 use Rattle.jsl_model.specs.declared.element.Body.{Body, Body-F, map-Body, fold-roll-Body}
 use Rattle.jsl_model.specs.declared.element.Body.TheOpen.{Step, Flow, Split, Decision}
-use Rattle.transitions.specs.Transitions.{first_match}
+use Rattle.transitions.specs.Transitions.{matching_transition}
 use Rattle.job_walk.specs.declared.facts.Fact.{Fact}
 use Rattle.job_walk.specs.declared.facts.Fact.TheVariants.{Nothing, Carried, Busy, Over, Barred}
 use Rattle.job_walk.specs.declared.facts.Value.{Value}
 use Rattle.job_walk.specs.declared.facts.Value.TheVariants.{Open, Done, Ended}
-use Rattle.job_walk.specs.declared.facts.Own.{Own}
-use Rattle.job_walk.specs.declared.facts.Own.TheVariants.{Halts, Came}
+use Rattle.job_walk.specs.declared.element_result.ElementResult.{ElementResult}
+use Rattle.job_walk.specs.declared.element_result.ElementResult.TheVariants.{ListValue, Outcome}
 use Rattle.job_walk.proofs.Newest.{differing}
-use Rattle.job_walk.specs.Walk.{Row, Part, IsStep, IsDecision, IsWhole, step_own, decision_own, ready_own, busy_own, taken, goes, arrives, at_row, follow, list_value, first_id, whole_value, flow_own, all_ready, all_busy, is_open, any_open, ended_as, strongest, split_own, body_part, element_row, flow_value, row_of, part_of, part_own, value_of_flow, value_of}
+use Rattle.job_walk.specs.Walk.{WalkedElement, BodyResult, IsStep, IsDecision, HasResult, step_result, decision_result, ready_result, busy_result, value_by_transition, value_after_outcome, value_by_result, value_at, follow, list_value, first_id, whole_value, flow_result, all_ready, all_busy, is_open, any_open, ended_as, strongest_end, split_result, body_result, element_with_result, flow_value, walked_element, walked_body, element_result, value_of_flow, value_of}
 
 -- ---- Values
 
@@ -58,24 +58,24 @@ pub record GoesOn (s t : Sight) (id : List ℕ) (before after : Value) : Type 0 
   pub same : is_open before ≡ false → after ≡ before
   pub kept : seen s id before ≡ true → seen t id after ≡ true
 
-abbrev own_open : Own → Bool
-own_open (Halts value) = is_open value
-own_open (Came outcome exit) = false
+abbrev own_open : ElementResult → Bool
+own_open (ListValue value) = is_open value
+own_open (Outcome outcome exit) = false
 
-abbrev pub own_seen : Sight → List ℕ → Own → Bool
-own_seen s id (Halts value) = seen s id value
-own_seen s id (Came outcome exit) = false
+abbrev pub own_seen : Sight → List ℕ → ElementResult → Bool
+own_seen s id (ListValue value) = seen s id value
+own_seen s id (Outcome outcome exit) = false
 
 -- the same of what an element comes to by itself
-pub record OwnGoesOn (s t : Sight) (id : List ℕ) (before after : Own) : Type 0 where
+pub record OwnGoesOn (s t : Sight) (id : List ℕ) (before after : ElementResult) : Type 0 where
   pub same : own_open before ≡ false → after ≡ before
   pub kept : own_seen s id before ≡ true → own_seen t id after ≡ true
 
-pub record RowGoesOn (s t : Sight) (id : List ℕ) (before after : Row) : Type 0 where
+pub record RowGoesOn (s t : Sight) (id : List ℕ) (before after : WalkedElement) : Type 0 where
   pub id_same : after.id ≡ before.id
   pub next_same : after.next ≡ before.next
   pub transitions_same : after.transitions ≡ before.transitions
-  pub own : OwnGoesOn s t id before.own after.own
+  pub own_result : OwnGoesOn s t id before.own_result after.own_result
 
 -- what has ended shows nothing
 closed-unseen : (s : Sight) (id : List ℕ) (v : Value) → is_open v ≡ false → seen s id v ≡ false
@@ -90,7 +90,7 @@ closed-goes s t id v h = record { same = λ _. refl; kept = λ h2. let unseen = 
 -- ---- Lists
 
 taken-goes : (s t : Sight) (id : List ℕ) (on on2 : List ℕ → Value) → ((to : List ℕ) → GoesOn s t id (on to) (on2 to)) → (then : Then)
-    → GoesOn s t id (taken on then) (taken on2 then)
+    → GoesOn s t id (value_by_transition on then) (value_by_transition on2 then)
 taken-goes s t id on on2 h (Next to) = h to
 taken-goes s t id on on2 h (End exit) = closed-goes s t id _ refl
 taken-goes s t id on on2 h (Fail exit) = closed-goes s t id _ refl
@@ -98,7 +98,7 @@ taken-goes s t id on on2 h (Stop exit point) = closed-goes s t id _ refl
 
 goes-goes : (s t : Sight) (id : List ℕ) (on on2 : List ℕ → Value) → ((to : List ℕ) → GoesOn s t id (on to) (on2 to))
     → (next : Option (List ℕ)) (transition : Option Transition) (outcome : WorkOutcome) (exit : List ℕ)
-    → GoesOn s t id (goes on next transition outcome exit) (goes on2 next transition outcome exit)
+    → GoesOn s t id (value_after_outcome on next transition outcome exit) (value_after_outcome on2 next transition outcome exit)
 goes-goes s t id on on2 h next None Stopped exit = closed-goes s t id _ refl
 goes-goes s t id on on2 h next (Some transition) Stopped exit = closed-goes s t id _ refl
 goes-goes s t id on on2 h next (Some transition) Completed exit = taken-goes s t id on on2 h transition.then
@@ -108,66 +108,66 @@ goes-goes s t id on on2 h (Some to) None Completed exit = h to
 goes-goes s t id on on2 h None None Completed exit = closed-goes s t id _ refl
 
 -- what an element shows, its list shows
-arrives-seen : (t : Sight) (id : List ℕ) (on : List ℕ → Value) (row : Row) (own : Own) → own_seen t id own ≡ true → seen t id (arrives on row own) ≡ true
-arrives-seen t id on row (Halts value) h = h
-arrives-seen t id on row (Came outcome exit) h = cc
+arrives-seen : (t : Sight) (id : List ℕ) (on : List ℕ → Value) (row : WalkedElement) (own_result : ElementResult) → own_seen t id own_result ≡ true → seen t id (value_by_result on row own_result) ≡ true
+arrives-seen t id on row (ListValue value) h = h
+arrives-seen t id on row (Outcome outcome exit) h = cc
 
 arrives-goes : (s t : Sight) (id : List ℕ) (on on2 : List ℕ → Value) → ((to : List ℕ) → GoesOn s t id (on to) (on2 to))
-    → (row row2 : Row) → row2.next ≡ row.next → row2.transitions ≡ row.transitions → (own own2 : Own) → OwnGoesOn s t id own own2
-    → GoesOn s t id (arrives on row own) (arrives on2 row2 own2)
-arrives-goes s t id on on2 h row row2 next transitions (Halts (Open ready busy)) own2 g =
+    → (row row2 : WalkedElement) → row2.next ≡ row.next → row2.transitions ≡ row.transitions → (own_result own2 : ElementResult) → OwnGoesOn s t id own_result own2
+    → GoesOn s t id (value_by_result on row own_result) (value_by_result on2 row2 own2)
+arrives-goes s t id on on2 h row row2 next transitions (ListValue (Open ready busy)) own2 g =
     record { same = λ closed. cc; kept = λ h2. arrives-seen t id on2 row2 own2 (g.kept h2) }
-arrives-goes s t id on on2 h row row2 next transitions (Halts (Done exit)) own2 g =
+arrives-goes s t id on on2 h row row2 next transitions (ListValue (Done exit)) own2 g =
     rw (g.same refl) (closed-goes s t id _ refl)
-arrives-goes s t id on on2 h row row2 next transitions (Halts (Ended status exit point)) own2 g =
+arrives-goes s t id on on2 h row row2 next transitions (ListValue (Ended status exit point)) own2 g =
     rw (g.same refl) (closed-goes s t id _ refl)
-arrives-goes s t id on on2 h row row2 next transitions (Came outcome exit) own2 g =
-    rw (g.same refl) (rw next (rw transitions (goes-goes s t id on on2 h row.next (first_match row.transitions exit) outcome exit)))
+arrives-goes s t id on on2 h row row2 next transitions (Outcome outcome exit) own2 g =
+    rw (g.same refl) (rw next (rw transitions (goes-goes s t id on on2 h row.next (matching_transition row.transitions exit) outcome exit)))
 
-at-goes : {X : Type 0} (s t : Sight) (id : List ℕ) (f g : X → Row) → ((x : X) → RowGoesOn s t id (f x) (g x))
+at-goes : {X : Type 0} (s t : Sight) (id : List ℕ) (f g : X → WalkedElement) → ((x : X) → RowGoesOn s t id (f x) (g x))
     → (on on2 : List ℕ → Value) → ((to : List ℕ) → GoesOn s t id (on to) (on2 to)) → (from : List ℕ) (xs : List X)
-    → GoesOn s t id (at_row on (find (λ row. is_text row.id from) (map f xs))) (at_row on2 (find (λ row. is_text row.id from) (map g xs)))
+    → GoesOn s t id (value_at on (find (λ row. bytes_eq row.id from) (map f xs))) (value_at on2 (find (λ row. bytes_eq row.id from) (map g xs)))
 at-goes s t id f g rel on on2 h from [] = closed-goes s t id _ refl
 at-goes s t id f g rel on on2 h from (x ∷ xs) =
-    let p : Row → Bool = λ row. is_text row.id from in
-    subst (λ i. GoesOn s t id (at_row on (cond (is_text (f x).id from) (Some (f x)) (find p (map f xs)))) (at_row on2 (cond (is_text i from) (Some (g x)) (find p (map g xs)))))
+    let p : WalkedElement → Bool = λ row. bytes_eq row.id from in
+    subst (λ i. GoesOn s t id (value_at on (cond (bytes_eq (f x).id from) (Some (f x)) (find p (map f xs)))) (value_at on2 (cond (bytes_eq i from) (Some (g x)) (find p (map g xs)))))
     (sym (rel x).id_same)
-    (elim (is_text (f x).id from) as (λ b. GoesOn s t id (at_row on (cond b (Some (f x)) (find p (map f xs)))) (at_row on2 (cond b (Some (g x)) (find p (map g xs))))) [
-      | true ↦ arrives-goes s t id on on2 h (f x) (g x) (rel x).next_same (rel x).transitions_same (f x).own (g x).own (rel x).own
+    (elim (bytes_eq (f x).id from) as (λ b. GoesOn s t id (value_at on (cond b (Some (f x)) (find p (map f xs)))) (value_at on2 (cond b (Some (g x)) (find p (map g xs))))) [
+      | true ↦ arrives-goes s t id on on2 h (f x) (g x) (rel x).next_same (rel x).transitions_same (f x).own_result (g x).own_result (rel x).own_result
       | false ↦ at-goes s t id f g rel on on2 h from xs
     ])
 
-follow-goes : {X : Type 0} (s t : Sight) (id : List ℕ) (f g : X → Row) → ((x : X) → RowGoesOn s t id (f x) (g x)) → (xs : List X) (n : ℕ) (from : List ℕ)
+follow-goes : {X : Type 0} (s t : Sight) (id : List ℕ) (f g : X → WalkedElement) → ((x : X) → RowGoesOn s t id (f x) (g x)) → (xs : List X) (n : ℕ) (from : List ℕ)
     → GoesOn s t id (follow n (map f xs) from) (follow n (map g xs) from)
 follow-goes s t id f g rel xs zero from = closed-goes s t id _ refl
 follow-goes s t id f g rel xs (suc n) from =
     at-goes s t id f g rel (follow n (map f xs)) (follow n (map g xs)) (λ to. follow-goes s t id f g rel xs n to) from xs
 
-list-goes : {X : Type 0} (s t : Sight) (id : List ℕ) (f g : X → Row) → ((x : X) → RowGoesOn s t id (f x) (g x)) → (xs : List X) (from : List ℕ)
+list-goes : {X : Type 0} (s t : Sight) (id : List ℕ) (f g : X → WalkedElement) → ((x : X) → RowGoesOn s t id (f x) (g x)) → (xs : List X) (from : List ℕ)
     → GoesOn s t id (list_value (map f xs) from) (list_value (map g xs) from)
 list-goes s t id f g rel xs from =
     rw (length-map xs f) (rw (length-map xs g) (follow-goes s t id f g rel xs (length xs) from))
 
-first-same : {X : Type 0} (s t : Sight) (id : List ℕ) (f g : X → Row) → ((x : X) → RowGoesOn s t id (f x) (g x)) → (xs : List X)
+first-same : {X : Type 0} (s t : Sight) (id : List ℕ) (f g : X → WalkedElement) → ((x : X) → RowGoesOn s t id (f x) (g x)) → (xs : List X)
     → first_id (map g xs) ≡ first_id (map f xs)
 first-same s t id f g rel [] = refl
 first-same s t id f g rel (x ∷ xs) = (rel x).id_same
 
-whole-goes : {X : Type 0} (s t : Sight) (id : List ℕ) (f g : X → Row) → ((x : X) → RowGoesOn s t id (f x) (g x)) → (xs : List X)
+whole-goes : {X : Type 0} (s t : Sight) (id : List ℕ) (f g : X → WalkedElement) → ((x : X) → RowGoesOn s t id (f x) (g x)) → (xs : List X)
     → GoesOn s t id (whole_value (map f xs)) (whole_value (map g xs))
 whole-goes s t id f g rel xs = rw (first-same s t id f g rel xs) (list-goes s t id f g rel xs (first_id (map f xs)))
 
 -- ---- Flows and splits
 
-flow-seen : (t : Sight) (id : List ℕ) (w : Value) → seen t id w ≡ true → own_seen t id (flow_own w) ≡ true
+flow-seen : (t : Sight) (id : List ℕ) (w : Value) → seen t id w ≡ true → own_seen t id (flow_result w) ≡ true
 flow-seen t id (Open ready busy) h = h
 flow-seen t id (Done exit) h = cc
 flow-seen t id (Ended status exit point) h = cc
 
-flow-goes : (s t : Sight) (id : List ℕ) (v w : Value) → GoesOn s t id v w → OwnGoesOn s t id (flow_own v) (flow_own w)
+flow-goes : (s t : Sight) (id : List ℕ) (v w : Value) → GoesOn s t id v w → OwnGoesOn s t id (flow_result v) (flow_result w)
 flow-goes s t id (Open ready busy) w g = record { same = λ closed. cc; kept = λ h. flow-seen t id w (g.kept h) }
-flow-goes s t id (Done exit) w g = record { same = λ _. ap flow_own (g.same refl); kept = λ h. cc }
-flow-goes s t id (Ended status exit point) w g = record { same = λ _. ap flow_own (g.same refl); kept = λ h. cc }
+flow-goes s t id (Done exit) w g = record { same = λ _. ap flow_result (g.same refl); kept = λ h. cc }
+flow-goes s t id (Ended status exit point) w g = record { same = λ _. ap flow_result (g.same refl); kept = λ h. cc }
 
 -- whether flows show an element
 abbrev pub all_seen : Sight → List ℕ → List Value → Bool
@@ -210,7 +210,7 @@ together : (s : Sight) (id : List ℕ) (ready busy : List (List ℕ)) (rest : Li
     → all_seen s id (Open ready busy ∷ rest)
     ≡ ((s.of_ready && (is_in id ready || is_in id (all_ready rest))) || (s.of_busy && (is_in id busy || is_in id (all_busy rest))))
 together s id ready busy rest =
-    rw (list_any-append (is_text id) ready (all_ready rest)) (rw (list_any-append (is_text id) busy (all_busy rest)) refl)
+    rw (list_any-append (bytes_eq id) ready (all_ready rest)) (rw (list_any-append (bytes_eq id) busy (all_busy rest)) refl)
 
 -- a flow shows an element, or the others do
 pub seen-either : (s : Sight) (id : List ℕ) (v : Value) (rest : List Value) → all_seen s id (v ∷ rest) ≡ true → (seen s id v ≡ true) ⊎ (all_seen s id rest ≡ true)
@@ -275,20 +275,20 @@ find-closed p (v ∷ rest) h =
     ]
 
 pub strongest-unseen : (s : Sight) (id : List ℕ) (failed stopped completed : Option Value) → IsClosed failed → IsClosed stopped → IsClosed completed
-    → own_seen s id (strongest failed stopped completed) ≡ false
+    → own_seen s id (strongest_end failed stopped completed) ≡ false
 strongest-unseen s id (Some v) stopped completed h1 h2 h3 = closed-unseen s id v h1
 strongest-unseen s id None (Some v) completed h1 h2 h3 = closed-unseen s id v h2
 strongest-unseen s id None None (Some v) h1 h2 h3 = closed-unseen s id v h3
 strongest-unseen s id None None None h1 h2 h3 = refl
 
-abbrev pub split_ended : List Value → Own
-split_ended flows = strongest (find (ended_as StatusFailed) flows) (find (ended_as StatusStopped) flows) (find (ended_as StatusCompleted) flows)
+abbrev pub split_ended : List Value → ElementResult
+split_ended flows = strongest_end (find (ended_as StatusFailed) flows) (find (ended_as StatusStopped) flows) (find (ended_as StatusCompleted) flows)
 
 split-goes : {X : Type 0} (s t : Sight) (id : List ℕ) (f g : X → Value) → ((x : X) → GoesOn s t id (f x) (g x)) → (xs : List X)
-    → OwnGoesOn s t id (split_own (map f xs)) (split_own (map g xs))
+    → OwnGoesOn s t id (split_result (map f xs)) (split_result (map g xs))
 split-goes s t id f g rel xs =
     (elim (any_open (map f xs)) as (λ b. any_open (map f xs) ≡ b
-    → OwnGoesOn s t id (cond b (Halts (Open (all_ready (map f xs)) (all_busy (map f xs)))) (split_ended (map f xs))) (split_own (map g xs))) [
+    → OwnGoesOn s t id (cond b (ListValue (Open (all_ready (map f xs)) (all_busy (map f xs)))) (split_ended (map f xs))) (split_result (map g xs))) [
       | true ↦ λ e. record {
         same = λ closed. cc;
         kept = λ h. let shown = flows-seen s t id f g rel xs h in rw (seen-open t id (map g xs) shown) shown;
@@ -297,39 +297,39 @@ split-goes s t id f g rel xs =
           let alike : map g xs ≡ map f xs = flows-same s t id f g rel xs e in
           let unseen = strongest-unseen s id _ _ _ (find-closed (ended_as StatusFailed) (map f xs) e) (find-closed (ended_as StatusStopped) (map f xs) e)
           (find-closed (ended_as StatusCompleted) (map f xs) e) in
-          record { same = λ _. ap split_own alike ∙ rw e refl; kept = λ h. cc }
+          record { same = λ _. ap split_result alike ∙ rw e refl; kept = λ h. cc }
     ]) refl
 
 -- ---- Elements
 
 -- what the body of an element comes to, before and after
-abbrev PartGoesOn : Sight → Sight → List ℕ → Part → Part → Type 0
+abbrev PartGoesOn : Sight → Sight → List ℕ → BodyResult → BodyResult → Type 0
 PartGoesOn s t id IsStep after = after ≡ IsStep
 PartGoesOn s t id IsDecision after = after ≡ IsDecision
-PartGoesOn s t id (IsWhole before) after = (own : Own) × (after ≡ IsWhole own) × OwnGoesOn s t id before own
+PartGoesOn s t id (HasResult before) after = (own_result : ElementResult) × (after ≡ HasResult own_result) × OwnGoesOn s t id before own_result
 
 -- what is learnt of steps and decisions alone
 pub record Learns (s t : Sight) (id : List ℕ) (facts later : List ℕ → Fact) : Type 0 where
-  pub step : (i : List ℕ) → OwnGoesOn s t id (step_own i (facts i)) (step_own i (later i))
-  pub decision : (i : List ℕ) → OwnGoesOn s t id (decision_own i (facts i)) (decision_own i (later i))
+  pub step : (i : List ℕ) → OwnGoesOn s t id (step_result i (facts i)) (step_result i (later i))
+  pub decision : (i : List ℕ) → OwnGoesOn s t id (decision_result i (facts i)) (decision_result i (later i))
 
-part-goes : (s t : Sight) (id : List ℕ) (facts later : List ℕ → Fact) → Learns s t id facts later → (i : List ℕ) (part part2 : Part) → PartGoesOn s t id part part2
-    → OwnGoesOn s t id (part_own i (facts i) part) (part_own i (later i) part2)
+part-goes : (s t : Sight) (id : List ℕ) (facts later : List ℕ → Fact) → Learns s t id facts later → (i : List ℕ) (part part2 : BodyResult) → PartGoesOn s t id part part2
+    → OwnGoesOn s t id (element_result i (facts i) part) (element_result i (later i) part2)
 part-goes s t id facts later learns i IsStep part2 g = rw g (learns.step i)
 part-goes s t id facts later learns i IsDecision part2 g = rw g (learns.decision i)
-part-goes s t id facts later learns i (IsWhole own) part2 g = rw g.1 g.2
+part-goes s t id facts later learns i (HasResult own_result) part2 g = rw g.1 g.2
 
 abbrev BodyGoes : Sight → Sight → List ℕ → (List ℕ → Fact) → (List ℕ → Fact) → Body → Type 0
-BodyGoes s t id facts later body = PartGoesOn s t id (part_of facts body) (part_of later body)
+BodyGoes s t id facts later body = PartGoesOn s t id (walked_body facts body) (walked_body later body)
 
 abbrev ElementGoes : Sight → Sight → List ℕ → (List ℕ → Fact) → (List ℕ → Fact) → Element → Type 0
-ElementGoes s t id facts later e = RowGoesOn s t id (row_of facts e) (row_of later e)
+ElementGoes s t id facts later e = RowGoesOn s t id (walked_element facts e) (walked_element later e)
 
 abbrev FlowGoes : Sight → Sight → List ℕ → (List ℕ → Fact) → (List ℕ → Fact) → SplitFlow → Type 0
 FlowGoes s t id facts later flow = GoesOn s t id (value_of_flow facts flow) (value_of_flow later flow)
 
-abbrev pub part_at : (List ℕ → Fact) → Body-F Body Element SplitFlow → Part
-part_at facts x = body_part (map-Body Body Element SplitFlow Part Row Value (part_of facts) (row_of facts) (value_of_flow facts) x)
+abbrev pub part_at : (List ℕ → Fact) → Body-F Body Element SplitFlow → BodyResult
+part_at facts x = body_result (map-Body Body Element SplitFlow BodyResult WalkedElement Value (walked_body facts) (walked_element facts) (value_of_flow facts) x)
 
 body-inside : (s t : Sight) (id : List ℕ) (facts later : List ℕ → Fact)
     → (y : Body-F ((b : Body) × BodyGoes s t id facts later b) ((e : Element) × ElementGoes s t id facts later e) ((f : SplitFlow) × FlowGoes s t id facts later f))
@@ -338,70 +338,70 @@ body-inside : (s t : Sight) (id : List ℕ) (facts later : List ℕ → Fact)
 body-inside s t id facts later (Step step) = refl
 body-inside s t id facts later (Decision artifact) = refl
 body-inside s t id facts later (Flow es) =
-    rw (map-map (row_of facts) (λ (e : (x : Element) × ElementGoes s t id facts later x). e.0) es)
-    (rw (map-map (row_of later) (λ (e : (x : Element) × ElementGoes s t id facts later x). e.0) es)
-    (_, refl, flow-goes s t id _ _ (whole-goes s t id (λ e. row_of facts e.0) (λ e. row_of later e.0) (λ e. e.1) es)))
+    rw (map-map (walked_element facts) (λ (e : (x : Element) × ElementGoes s t id facts later x). e.0) es)
+    (rw (map-map (walked_element later) (λ (e : (x : Element) × ElementGoes s t id facts later x). e.0) es)
+    (_, refl, flow-goes s t id _ _ (whole-goes s t id (λ e. walked_element facts e.0) (λ e. walked_element later e.0) (λ e. e.1) es)))
 body-inside s t id facts later (Split flows) =
     rw (map-map (value_of_flow facts) (λ (e : (x : SplitFlow) × FlowGoes s t id facts later x). e.0) flows)
     (rw (map-map (value_of_flow later) (λ (e : (x : SplitFlow) × FlowGoes s t id facts later x). e.0) flows)
     (_, refl, split-goes s t id (λ e. value_of_flow facts e.0) (λ e. value_of_flow later e.0) (λ e. e.1) flows))
 
 -- every element goes on as what is learnt of steps and decisions does
-pub element-goes : (s t : Sight) (id : List ℕ) (facts later : List ℕ → Fact) → Learns s t id facts later → (e : Element) → RowGoesOn s t id (row_of facts e) (row_of later e)
+pub element-goes : (s t : Sight) (id : List ℕ) (facts later : List ℕ → Fact) → Learns s t id facts later → (e : Element) → RowGoesOn s t id (walked_element facts e) (walked_element later e)
 element-goes s t id facts later learns =
     ind-Element (BodyGoes s t id facts later) (ElementGoes s t id facts later) (FlowGoes s t id facts later)
     (λ x y is.
-    rw (fold-roll-Body Part Row Value body_part (element_row facts) flow_value x)
-    (rw (fold-roll-Body Part Row Value body_part (element_row later) flow_value x)
+    rw (fold-roll-Body BodyResult WalkedElement Value body_result (element_with_result facts) flow_value x)
+    (rw (fold-roll-Body BodyResult WalkedElement Value body_result (element_with_result later) flow_value x)
     (subst (λ z. PartGoesOn s t id (part_at facts z) (part_at later z)) is (body-inside s t id facts later y))))
     (λ x y is.
-    rw (fold-roll-Element Part Row Value body_part (element_row facts) flow_value x)
-    (rw (fold-roll-Element Part Row Value body_part (element_row later) flow_value x)
-    (subst (λ z. RowGoesOn s t id (element_row facts (map-Element Body Element SplitFlow Part Row Value (part_of facts) (row_of facts) (value_of_flow facts) z))
-    (element_row later (map-Element Body Element SplitFlow Part Row Value (part_of later) (row_of later) (value_of_flow later) z))) is
-    record { id_same = refl; next_same = refl; transitions_same = refl; own = part-goes s t id facts later learns y.id _ _ y.body.1 })))
+    rw (fold-roll-Element BodyResult WalkedElement Value body_result (element_with_result facts) flow_value x)
+    (rw (fold-roll-Element BodyResult WalkedElement Value body_result (element_with_result later) flow_value x)
+    (subst (λ z. RowGoesOn s t id (element_with_result facts (map-Element Body Element SplitFlow BodyResult WalkedElement Value (walked_body facts) (walked_element facts) (value_of_flow facts) z))
+    (element_with_result later (map-Element Body Element SplitFlow BodyResult WalkedElement Value (walked_body later) (walked_element later) (value_of_flow later) z))) is
+    record { id_same = refl; next_same = refl; transitions_same = refl; own_result = part-goes s t id facts later learns y.id _ _ y.body.1 })))
     (λ x y is.
-    rw (fold-roll-SplitFlow Part Row Value body_part (element_row facts) flow_value x)
-    (rw (fold-roll-SplitFlow Part Row Value body_part (element_row later) flow_value x)
-    (subst (λ z. GoesOn s t id (whole_value (map (row_of facts) z.elements)) (whole_value (map (row_of later) z.elements))) is
-    (rw (map-map (row_of facts) (λ (e : (x : Element) × ElementGoes s t id facts later x). e.0) y.elements)
-    (rw (map-map (row_of later) (λ (e : (x : Element) × ElementGoes s t id facts later x). e.0) y.elements)
-    (whole-goes s t id (λ e. row_of facts e.0) (λ e. row_of later e.0) (λ e. e.1) y.elements))))))
+    rw (fold-roll-SplitFlow BodyResult WalkedElement Value body_result (element_with_result facts) flow_value x)
+    (rw (fold-roll-SplitFlow BodyResult WalkedElement Value body_result (element_with_result later) flow_value x)
+    (subst (λ z. GoesOn s t id (whole_value (map (walked_element facts) z.elements)) (whole_value (map (walked_element later) z.elements))) is
+    (rw (map-map (walked_element facts) (λ (e : (x : Element) × ElementGoes s t id facts later x). e.0) y.elements)
+    (rw (map-map (walked_element later) (λ (e : (x : Element) × ElementGoes s t id facts later x). e.0) y.elements)
+    (whole-goes s t id (λ e. walked_element facts e.0) (λ e. walked_element later e.0) (λ e. e.1) y.elements))))))
 
 -- THE WALK GOES ON: so does a list of elements
 pub walk-goes : (s t : Sight) (id : List ℕ) (facts later : List ℕ → Fact) → Learns s t id facts later → (elements : List Element) (from : List ℕ)
     → GoesOn s t id (value_of facts elements from) (value_of later elements from)
 walk-goes s t id facts later learns elements from =
-    list-goes s t id (row_of facts) (row_of later) (element-goes s t id facts later learns) elements from
+    list-goes s t id (walked_element facts) (walked_element later) (element-goes s t id facts later learns) elements from
 
 -- ---- What is learnt
 
-same-own : (s : Sight) (id : List ℕ) (own : Own) → OwnGoesOn s s id own own
-same-own s id own = record { same = λ _. refl; kept = λ h. h }
+same-own : (s : Sight) (id : List ℕ) (own_result : ElementResult) → OwnGoesOn s s id own_result own_result
+same-own s id own_result = record { same = λ _. refl; kept = λ h. h }
 
 -- at an element, or away from it
 pub at-or-not : {P : Type 0} (i id : List ℕ) → (i ≡ id → P) → (i ≢ id → P) → P
 at-or-not {P = P} i id here away =
-    (elim (is_text i id) as (λ b. is_text i id ≡ b → P) [
+    (elim (bytes_eq i id) as (λ b. bytes_eq i id ≡ b → P) [
       | true ↦ λ e. here ((bytes_decides i id).0 e)
-      | false ↦ λ e. away (λ s. let yes : is_text i id ≡ true = (bytes_decides i id).1 s in cc)
+      | false ↦ λ e. away (λ s. let yes : bytes_eq i id ≡ true = (bytes_decides i id).1 s in cc)
     ]) refl
 
 -- an element that is not the one looked for shows nothing of it
-away-own : (s t : Sight) (id i : List ℕ) → i ≢ id → (fact : Fact) → OwnGoesOn s t id (step_own i fact) (step_own i fact)
+away-own : (s t : Sight) (id i : List ℕ) → i ≢ id → (fact : Fact) → OwnGoesOn s t id (step_result i fact) (step_result i fact)
 away-own s t id i other (Carried exit) = record { same = λ _. refl; kept = λ h. cc }
 away-own s t id i other (Over outcome exit) = record { same = λ _. refl; kept = λ h. cc }
 away-own s t id i other Barred = record { same = λ _. refl; kept = λ h. cc }
 away-own s t id i other Busy =
-    let off : is_text id i ≡ false = differing id i (λ e. other (sym e)) in
+    let off : bytes_eq id i ≡ false = differing id i (λ e. other (sym e)) in
     let none = nothing-seen s.of_ready s.of_busy in
     record { same = λ _. refl; kept = rw off (λ h. cc) }
 away-own s t id i other Nothing =
-    let off : is_text id i ≡ false = differing id i (λ e. other (sym e)) in
+    let off : bytes_eq id i ≡ false = differing id i (λ e. other (sym e)) in
     let none = nothing-seen s.of_ready s.of_busy in
     record { same = λ _. refl; kept = rw off (λ h. cc) }
 
-away-decision : (s t : Sight) (id i : List ℕ) → i ≢ id → (fact : Fact) → OwnGoesOn s t id (decision_own i fact) (decision_own i fact)
+away-decision : (s t : Sight) (id i : List ℕ) → i ≢ id → (fact : Fact) → OwnGoesOn s t id (decision_result i fact) (decision_result i fact)
 away-decision s t id i other (Carried exit) = away-own s t id i other Nothing
 away-decision s t id i other Busy = away-own s t id i other Busy
 away-decision s t id i other (Over outcome exit) = record { same = λ _. refl; kept = λ h. cc }
@@ -413,9 +413,9 @@ abbrev pub DifferAt : List ℕ → (List ℕ → Fact) → (List ℕ → Fact) �
 DifferAt id facts later = (i : List ℕ) → i ≢ id → later i ≡ facts i
 
 -- what was ready is busy
-ready-busy : (id : List ℕ) → OwnGoesOn ready_sight busy_sight id (ready_own id) (busy_own id)
+ready-busy : (id : List ℕ) → OwnGoesOn ready_sight busy_sight id (ready_result id) (busy_result id)
 ready-busy id =
-    let here : is_text id id ≡ true = (bytes_decides id id).1 refl in
+    let here : bytes_eq id id ≡ true = (bytes_decides id id).1 refl in
     record { same = λ closed. cc; kept = λ h. rw here refl }
 
 -- a claim of an element that nothing is known of: it was ready, and is busy
@@ -428,7 +428,7 @@ claim-here id facts later differ was is =
     }
 
 -- what was ready shows nothing as busy
-ready-unseen : (id i : List ℕ) (after : Own) → OwnGoesOn busy_sight busy_sight id (ready_own i) after
+ready-unseen : (id i : List ℕ) (after : ElementResult) → OwnGoesOn busy_sight busy_sight id (ready_result i) after
 ready-unseen id i after = record { same = λ closed. cc; kept = λ h. cc }
 
 -- the same claim, seen at a busy element
@@ -436,14 +436,14 @@ pub claim-away : (id claimed : List ℕ) (facts later : List ℕ → Fact) → D
     → Learns busy_sight busy_sight id facts later
 claim-away id claimed facts later differ was =
     record {
-      step = λ i. at-or-not i claimed (λ e. rw e (rw was (ready-unseen id claimed _))) (λ off. rw (differ i off) (same-own busy_sight id (step_own i (facts i))));
-      decision = λ i. at-or-not i claimed (λ e. rw e (rw was (ready-unseen id claimed _))) (λ off. rw (differ i off) (same-own busy_sight id (decision_own i (facts i))));
+      step = λ i. at-or-not i claimed (λ e. rw e (rw was (ready-unseen id claimed _))) (λ off. rw (differ i off) (same-own busy_sight id (step_result i (facts i))));
+      decision = λ i. at-or-not i claimed (λ e. rw e (rw was (ready-unseen id claimed _))) (λ off. rw (differ i off) (same-own busy_sight id (decision_result i (facts i))));
     }
 
 -- what was busy comes to something: no other element sees it
-busy-over : (id i : List ℕ) (after : Own) → id ≢ i → OwnGoesOn busy_sight busy_sight id (busy_own i) after
+busy-over : (id i : List ℕ) (after : ElementResult) → id ≢ i → OwnGoesOn busy_sight busy_sight id (busy_result i) after
 busy-over id i after other =
-    let off : is_text id i ≡ false = differing id i other in
+    let off : bytes_eq id i ≡ false = differing id i other in
     record { same = λ closed. cc; kept = rw off (λ h. cc) }
 
 -- a report of a busy element, seen at another
@@ -451,8 +451,8 @@ pub report-away : (id reported : List ℕ) (facts later : List ℕ → Fact) →
     → Learns busy_sight busy_sight id facts later
 report-away id reported facts later differ was other =
     record {
-      step = λ i. at-or-not i reported (λ e. rw e (rw was (busy-over id reported _ other))) (λ off. rw (differ i off) (same-own busy_sight id (step_own i (facts i))));
-      decision = λ i. at-or-not i reported (λ e. rw e (rw was (busy-over id reported _ other))) (λ off. rw (differ i off) (same-own busy_sight id (decision_own i (facts i))));
+      step = λ i. at-or-not i reported (λ e. rw e (rw was (busy-over id reported _ other))) (λ off. rw (differ i off) (same-own busy_sight id (step_result i (facts i))));
+      decision = λ i. at-or-not i reported (λ e. rw e (rw was (busy-over id reported _ other))) (λ off. rw (differ i off) (same-own busy_sight id (decision_result i (facts i))));
     }
 
 -- whether there is a work item of an element
@@ -463,14 +463,14 @@ is_worked (Carried exit) = false
 is_worked Barred = false
 is_worked Nothing = false
 
-worked-step : (id : List ℕ) (fact : Fact) → is_worked fact ≡ true → OwnGoesOn ready_sight no_sight id (step_own id fact) (step_own id fact)
+worked-step : (id : List ℕ) (fact : Fact) → is_worked fact ≡ true → OwnGoesOn ready_sight no_sight id (step_result id fact) (step_result id fact)
 worked-step id Busy h = record { same = λ _. refl; kept = λ e. cc }
 worked-step id (Over outcome exit) h = record { same = λ _. refl; kept = λ e. cc }
 worked-step id (Carried exit) h = cc
 worked-step id Barred h = cc
 worked-step id Nothing h = cc
 
-worked-decision : (id : List ℕ) (fact : Fact) → is_worked fact ≡ true → OwnGoesOn ready_sight no_sight id (decision_own id fact) (decision_own id fact)
+worked-decision : (id : List ℕ) (fact : Fact) → is_worked fact ≡ true → OwnGoesOn ready_sight no_sight id (decision_result id fact) (decision_result id fact)
 worked-decision id Busy h = record { same = λ _. refl; kept = λ e. cc }
 worked-decision id (Over outcome exit) h = record { same = λ _. refl; kept = λ e. cc }
 worked-decision id (Carried exit) h = cc

@@ -1,23 +1,21 @@
 //! The walk of a job execution: what the job's lists come to, by what is known of each element.
 #![tactic(auto)]
 
+mod continuation;
 mod copies;
 mod cursor;
+mod element_result;
 mod facts;
 mod law;
-mod own;
 mod plan;
 mod runnable;
 mod splits;
-mod turns;
 mod walk;
 
 pub use cursor::Cursor;
-pub use facts::{Fact, Known, Own, Turn, Value};
+pub use element_result::ElementResult;
+pub use facts::{Fact, Known, Value};
 pub use law::the_newest_fact_counts;
 pub use plan::Plan;
 pub use runnable::{Runnable, find_runnable};
 pub use walk::walk_value;
-
-#[cfg(test)]
-mod tests;

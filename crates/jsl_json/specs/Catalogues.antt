@@ -2,7 +2,7 @@
 use Rattle.std.specs.Prelude.{ℕ, List, [], ◌∷◌, ◌++◌, Bool, true, false, length, nat_le, codes, find, is_some, Option, Some, None, Result, Ok, Err, if◌then◌else◌}
 use Rattle.serde_json.specs.Data.{Data, Items, no_items, item}
 use Rattle.json_members.specs.Members.{data_of, has_only, list_at}
-use Rattle.batch_ids.specs.Texts.{is_text}
+use Rattle.std.specs.Str.{bytes_eq}
 use Rattle.jsl_model.specs.declared.job.JobFault.{JobFault}
 use Rattle.jsl_model.specs.declared.job.JobFault.TheVariants.{TooMany, DuplicateId}
 use Rattle.jsl_model.specs.Jobs.{JobTree}
@@ -45,7 +45,7 @@ job_at job d = do
 abbrev pub entry_fault : List JobTree → JobTree → Option JobFault
 entry_fault held job =
     if nat_le 256 (length held) then Some TooMany
-    else (if is_some (find (λ other. is_text other.id job.id) held) then Some DuplicateId else None)
+    else (if is_some (find (λ other. bytes_eq other.id job.id) held) then Some DuplicateId else None)
 
 -- a catalogue with one job more, whose number is that of the jobs before it
 unfoldable pub with_job : List JobTree → Data → Result (List JobTree) ReadFault

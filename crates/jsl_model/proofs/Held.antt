@@ -3,7 +3,7 @@ use Rattle.std.proofs.Common.{◌≡◌, ◌≢◌, ℕ, zero, suc, ◌<◌, Boo
 use Rattle.std.specs.Cmp.Lexicographic.{bytes_decides}
 use Rattle.std.proofs.lemmas.List.Elements.{All-push}
 use Rattle.std.proofs.lemmas.List.Quantifiers.{all_pairs_push}
-use Rattle.batch_ids.specs.Texts.{is_text}
+use Rattle.std.specs.Str.{bytes_eq}
 use Rattle.jsl_model.specs.Jobs.{JobTree}
 use Rattle.jsl_model.specs.Faults.{IsChecked}
 use Rattle.jsl_model.specs.Catalogues.{AreJobs}
@@ -20,32 +20,32 @@ find_none-at p (x ∷ xs) zero d none below = (cond_none (p x) x (find p xs) non
 find_none-at p (x ∷ xs) (suc k) d none below = find_none-at p xs k d (cond_none (p x) x (find p xs) none).1 (omega arith)
 
 -- texts whose test fails differ
-differ : (one other : List ℕ) → is_text one other ≡ false → one ≢ other
-differ one other fails same = let holds : is_text one other ≡ true = (bytes_decides one other).1 same in cc
+differ : (one other : List ℕ) → bytes_eq one other ≡ false → one ≢ other
+differ one other fails same = let holds : bytes_eq one other ≡ true = (bytes_decides one other).1 same in cc
 
 -- one more job of a new id
 pub jobs_push : (jobs : List JobTree) (job : JobTree) → AreJobs jobs → IsChecked job → length jobs < 256
-    → find (λ held. is_text held.id job.id) jobs ≡ None → AreJobs (jobs ++ job ∷ [])
+    → find (λ held. bytes_eq held.id job.id) jobs ≡ None → AreJobs (jobs ++ job ∷ [])
 jobs_push jobs job kept checked room none = record {
   few = omega (arith, length-append jobs (job ∷ []));
   checked = All-push IsChecked jobs job kept.checked checked;
   distinct = all_pairs_push (λ one other. one.id ≢ other.id) jobs job kept.distinct
-      (λ k d below. differ (get_or jobs k d).id job.id (find_none-at (λ held. is_text held.id job.id) jobs k d none below));
+      (λ k d below. differ (get_or jobs k d).id job.id (find_none-at (λ held. bytes_eq held.id job.id) jobs k d none below));
 }
 
 -- what a look-up that found nothing tells of the new job's id
 pub not_held : (jobs : List JobTree) (job : JobTree) (id : List ℕ) (found : Option (Bor JobTree))
-    → option_copied found ≡ find (λ held. is_text held.id id) jobs → id ≡ job.id → found ≡ None
-    → find (λ held. is_text held.id job.id) jobs ≡ None
+    → option_copied found ≡ find (λ held. bytes_eq held.id id) jobs → id ≡ job.id → found ≡ None
+    → find (λ held. bytes_eq held.id job.id) jobs ≡ None
 not_held jobs job id found told same none =
-    ap (λ (sought : List ℕ). find (λ (held : JobTree). is_text held.id sought) jobs) (sym same) ∙ (sym told ∙ ap option_copied none)
+    ap (λ (sought : List ℕ). find (λ (held : JobTree). bytes_eq held.id sought) jobs) (sym same) ∙ (sym told ∙ ap option_copied none)
 
 -- what a look-up that found a job tells of the new job's id
 pub is_held : (jobs : List JobTree) (job : JobTree) (id : List ℕ) (found : Option (Bor JobTree)) (one : Bor JobTree)
-    → option_copied found ≡ find (λ held. is_text held.id id) jobs → id ≡ job.id → found ≡ Some one
-    → find (λ held. is_text held.id job.id) jobs ≡ Some one.now
+    → option_copied found ≡ find (λ held. bytes_eq held.id id) jobs → id ≡ job.id → found ≡ Some one
+    → find (λ held. bytes_eq held.id job.id) jobs ≡ Some one.now
 is_held jobs job id found one told same some =
-    ap (λ (sought : List ℕ). find (λ (held : JobTree). is_text held.id sought) jobs) (sym same) ∙ (sym told ∙ ap option_copied some)
+    ap (λ (sought : List ℕ). find (λ (held : JobTree). bytes_eq held.id sought) jobs) (sym same) ∙ (sym told ∙ ap option_copied some)
 
 -- a search that finds nothing finds no job
 pub none_not_some : {X : Type 0} (sought : Option X) → sought ≡ None → IsSome sought → ⊥

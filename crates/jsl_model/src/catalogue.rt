@@ -1,6 +1,6 @@
 ghost use Rattle.std.specs.Prelude.{◌≡◌, ◌≤◌, ◌<◌, ◌↔◌, [], ◌++◌, ◌∷◌, find, length, map, option_copied, IsTrue, IsSome, IsNone, IfOk, OnOk, OnErr, Err};
 ghost use Rattle.std.specs.List.{flat_map};
-ghost use Rattle.batch_ids.specs.Texts.{is_text};
+ghost use Rattle.std.specs.Str.{bytes_eq};
 ghost use Rattle.jsl_model.specs.Trees.{artifacts};
 ghost use Rattle.jsl_model.specs.Names.{distinct};
 ghost use Rattle.jsl_model.specs.Catalogues.{AreJobs};
@@ -63,10 +63,10 @@ impl Catalogue {
     pub fn add(&mut self, job: Job) -> Result<(), JobFault>
         ensures too_many { 256 ≤ length self.old → result ≡ Err JobFault.TooMany }
         ensures duplicate { length self.old < 256
-            → IsSome (find (λ held. is_text held.id job.id) self.old)
+            → IsSome (find (λ held. bytes_eq held.id job.id) self.old)
             → result ≡ Err JobFault.DuplicateId }
         ensures memory { length self.old < 256
-            → IsNone (find (λ held. is_text held.id job.id) self.old)
+            → IsNone (find (λ held. bytes_eq held.id job.id) self.old)
             → OnErr result (result ≡ Err JobFault.OutOfMemory) }
         ensures added { OnOk result (self.new ≡ self.old ++ job ∷ []) }
         ensures unchanged { OnErr result (self.new ≡ self.old) }
@@ -85,7 +85,7 @@ impl Catalogue {
 
     /// The job with this id, if it is held. It costs time as the catalogue has jobs.
     pub fn job(&self, id: &str) -> Option<&Job>
-        ensures { option_copied result ≡ find (λ job. is_text job.id id.now) self.now }
+        ensures { option_copied result ≡ find (λ job. bytes_eq job.id id.now) self.now }
     {
         for job in self.jobs.as_slice() {
             if job.id().as_str() == id {

@@ -1,5 +1,5 @@
 ghost use Rattle.std.specs.Prelude.{◌≡◌, ◌≤◌, false, length, find, option_copied, Some, None, Err, IfOk, IfErr, OnOk};
-ghost use Rattle.batch_ids.specs.Texts.{is_text};
+ghost use Rattle.std.specs.Str.{bytes_eq};
 ghost use Rattle.jsl_model.specs.Parts.{tree_of};
 ghost use Rattle.jsl_model.specs.Trees.{all_elements};
 ghost use Rattle.jsl_model.specs.Faults.{fault_name, is_out_of_memory, job_fault, IsChecked};
@@ -183,7 +183,7 @@ impl Job {
     /// It costs time as the job has elements, and no memory.
     pub fn element(&self, id: &str) -> Option<&Element>
         ensures { option_copied result
-            ≡ find (λ element. is_text element.id id.now) (all_elements self.now.elements) }
+            ≡ find (λ element. bytes_eq element.id id.now) (all_elements self.now.elements) }
     {
         find_element(self.elements(), id)
     }

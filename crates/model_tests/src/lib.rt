@@ -1,9 +1,17 @@
-//! Tests of the jobs: their parts, their JSON, and what is read of it.
+//! Tests of the crates below the repository: identifiers, graphs, jobs and their JSON, transition elements and walks.
 #![tactic(auto)]
 
 #[cfg(test)]
 mod catalogues;
 #[cfg(test)]
+mod identifiers;
+#[cfg(test)]
 mod jobs;
 #[cfg(test)]
 mod json_members;
+#[cfg(test)]
+mod patterns;
+#[cfg(test)]
+mod target_graphs;
+#[cfg(test)]
+mod walks;

@@ -3,7 +3,7 @@
 use Rattle.std.specs.Prelude.{ℕ, zero, suc, ◌+◌, ◌==◌, ◌&&◌, ◌||◌, Bool, true, false, Option, Some, None, List, [], ◌∷◌, ◌++◌, map, find, filter_map, count_by, if◌then◌else◌}
 use Rattle.std.specs.Option.{option_map}
 use Rattle.std.specs.List.{list_any}
-use Rattle.batch_ids.specs.Texts.{is_text}
+use Rattle.std.specs.Str.{bytes_eq}
 use Rattle.batch_ids.specs.Parameters.{Pair}
 use Rattle.batch_ids.specs.Metrics.{zero_metrics, added}
 use Rattle.batch_ids.specs.declared.metric_step.MetricStep.{MetricStep}
@@ -289,7 +289,7 @@ place_found past w = place_by (instance_found past) (find (is_work w) (works_fou
 -- whether it is this step of this job instance
 abbrev pub is_here : Place → Option Place → Bool
 is_here p None = false
-is_here p (Some q) = q.instance == p.instance && is_text q.step p.step
+is_here p (Some q) = q.instance == p.instance && bytes_eq q.step p.step
 
 -- a work item that completes leaves no checkpoint
 abbrev pub mark_left : WorkOutcome → Option (List ℕ) → Option (List ℕ)

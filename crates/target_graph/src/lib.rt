@@ -8,6 +8,3 @@ mod search;
 pub use graph::Graph;
 pub use laws::{cycle_is_a_path, ranked_has_no_cycle};
 pub use search::ranks;
-
-#[cfg(test)]
-mod tests;

@@ -4,7 +4,8 @@ ghost use Rattle.target_graph.specs.Graph.{IsRanked, leads, has_cycle};
 ghost use Rattle.target_graph.specs.Search.{rank_in, stage_of, open_in, IsPartRanked, IsVisited};
 
 use crate::graph::Graph;
-use std::alloc::{AllocError, Global};
+use batch_ids::OutOfMemory;
+use std::alloc::Global;
 
 /// What the search knows of a vertex.
 #[derive(Clone, Copy, PartialEq, Eq, Debug)]
@@ -32,9 +33,13 @@ impl Mark {
 /// Numbers, one for each vertex and each below how many there are, that rise along each target.
 /// `None`: the graph has a cycle.
 ///
-/// Errors: `AllocError` where memory is refused. It costs time as there are vertices and targets,
-/// memory as there are vertices, and a call stack as deep as there are vertices on one path.
-pub fn ranks(alloc: Global, graph: &Graph) -> Result<Option<Vec<usize>>, AllocError>
+/// It costs time as there are vertices and targets, memory as there are vertices, and a call stack
+/// as deep as there are vertices on one path.
+///
+/// # Errors
+///
+/// `OutOfMemory` where memory is refused.
+pub fn ranks(alloc: Global, graph: &Graph) -> Result<Option<Vec<usize>>, OutOfMemory>
     ensures ranked { IfOk result (λ found. IfSome found (λ ranks. IsRanked ranks.items graph.now)) }
     ensures cycle { IfOk result (λ found. is_none found ≡ has_cycle graph.now) }
 {
@@ -81,7 +86,7 @@ fn visit(graph: &Graph, vertex: usize, marks: &mut [Mark], left: usize) -> Optio
     Some(rest)
 }
 
-fn ranks_in(alloc: Global, marks: &[Mark]) -> Result<Vec<usize>, AllocError>
+fn ranks_in(alloc: Global, marks: &[Mark]) -> Result<Vec<usize>, OutOfMemory>
     ensures { IfOk result (λ ranks. ranks.items ≡ map rank_in marks.now) }
 {
     marks.iter().map(|mark| mark.rank()).collect(alloc)

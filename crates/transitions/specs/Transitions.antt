@@ -4,14 +4,14 @@ use Rattle.std.specs.Str.{chars}
 use Rattle.jsl_model.specs.declared.element.Transition.{Transition}
 use Rattle.transitions.specs.Patterns.{Matches, is_match}
 
--- whether the exit status matches the pattern of a transition element
-abbrev pub is_on : List ℕ → Transition → Bool
-is_on exit transition = is_match (chars transition.on) (chars exit)
+-- whether the exit status matches the `on` of a transition element
+abbrev pub matches_on : List ℕ → Transition → Bool
+matches_on exit transition = is_match (chars transition.on) (chars exit)
 
 -- the first written transition element whose `on` matches the exit status
-abbrev pub first_match : List Transition → List ℕ → Option Transition
-first_match transitions exit = find (is_on exit) transitions
+abbrev pub matching_transition : List Transition → List ℕ → Option Transition
+matching_transition transitions exit = find (matches_on exit) transitions
 
--- the exit status can be cut into pieces that the pattern of a transition element faces
-abbrev pub IsOpenTo : List ℕ → Transition → Type 0
-IsOpenTo exit transition = Matches (chars transition.on) (chars exit)
+-- the exit status can be cut into pieces that the `on` of a transition element faces
+abbrev pub MatchesOn : List ℕ → Transition → Type 0
+MatchesOn exit transition = Matches (chars transition.on) (chars exit)

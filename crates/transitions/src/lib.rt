@@ -1,11 +1,8 @@
 //! Transition elements: which of them an exit status matches.
 #![tactic(auto)]
 
-mod first;
+mod matching;
 mod pattern;
 
-pub use first::{find_match, first_match};
+pub use matching::{find_match, first_match};
 pub use pattern::{ANY_CHARACTER, ANY_TEXT, matches};
-
-#[cfg(test)]
-mod tests;

@@ -10,7 +10,8 @@ pub const ANY_CHARACTER: char = '?';
 
 // The first character of a text, and what follows it.
 fn split_first_char(s: &str) -> Option<(char, &str)>
-    ensures { MatchOption result (chars s.now ≡ []) (λ parts. chars s.now ≡ parts.0 ∷ chars parts.1.now) }
+    ensures { MatchOption result (chars s.now ≡ [])
+        (λ parts. chars s.now ≡ parts.0 ∷ chars parts.1.now) }
 {
     let mut characters = s.chars();
     let first = characters.next()?;

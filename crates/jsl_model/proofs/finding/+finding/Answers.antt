@@ -1,5 +1,5 @@
 use Rattle.std.proofs.Common.{rules, ◌≡◌, ◌∷◌, sym, ◌∙◌, ap, true, false, find, option_copied}
-use Rattle.batch_ids.specs.Texts.{is_text}
+use Rattle.std.specs.Str.{bytes_eq}
 use Rattle.jsl_model.specs.declared.element.Element.{Element}
 use Rattle.jsl_model.specs.Trees.{all_elements, elements_in_body, elements_in_flow}
 use Rattle.jsl_model.proofs.Opening.{in_split_flow}
@@ -9,8 +9,8 @@ use Rattle.jsl_model.proofs.finding.+finding.Goals as goal
 pub find_element-returns-then-is_some : goal.find_element-returns-then-is_some
 find_element-returns-then-is_some t c =
     let e = c.element-item.result in
-    let test = λ (one : Element). is_text one.id c.args.id.now in
-    let fails : is_text e.id c.args.id.now ≡ false = search rules in
+    let test = λ (one : Element). bytes_eq one.id c.args.id.now in
+    let fails : bytes_eq e.id c.args.id.now ≡ false = search rules in
     found_here test (λ (one : Element). one ∷ elements_in_body one.body) c.args.elements.now c.loop-element.element-index e (option_copied c.find_in_body-inside.result) _
     c.loop-element-test.true c.element-item.is
     (first_is_not test e (elements_in_body e.body) _ fails c.find_in_body-inside.ensures)
@@ -19,8 +19,8 @@ find_element-returns-then-is_some t c =
 pub find_element-loop-element-preserved : goal.find_element-loop-element-preserved
 find_element-loop-element-preserved t c =
     let e = c.element-item.result in
-    let test = λ (one : Element). is_text one.id c.args.id.now in
-    let fails : is_text e.id c.args.id.now ≡ false = search rules in
+    let test = λ (one : Element). bytes_eq one.id c.args.id.now in
+    let fails : bytes_eq e.id c.args.id.now ≡ false = search rules in
     found_later test (λ (one : Element). one ∷ elements_in_body one.body) c.args.elements.now c.loop-element.element-index e (option_copied c.find_in_body-inside.result) _
     c.loop-element-test.true c.element-item.is
     (first_is_not test e (elements_in_body e.body) _ fails c.find_in_body-inside.ensures)
@@ -29,7 +29,7 @@ find_element-loop-element-preserved t c =
 pub find_in_flows-returns-then-is_some : goal.find_in_flows-returns-then-is_some
 find_in_flows-returns-then-is_some t c =
     let f = c.flow-item.result in
-    let test = λ (one : Element). is_text one.id c.args.id.now in
+    let test = λ (one : Element). bytes_eq one.id c.args.id.now in
     let told : option_copied c.find_element-inside.result ≡ find test (elements_in_flow f) =
     c.find_element-inside.ensures ∙ ap (find test) (ap all_elements c.as_slice.ensures ∙ sym (in_split_flow f)) in
     found_here test elements_in_flow c.args.flows.now c.loop-flow.flow-index f (option_copied c.find_element-inside.result) _
@@ -39,7 +39,7 @@ find_in_flows-returns-then-is_some t c =
 pub find_in_flows-loop-flow-preserved : goal.find_in_flows-loop-flow-preserved
 find_in_flows-loop-flow-preserved t c =
     let f = c.flow-item.result in
-    let test = λ (one : Element). is_text one.id c.args.id.now in
+    let test = λ (one : Element). bytes_eq one.id c.args.id.now in
     let told : option_copied c.find_element-inside.result ≡ find test (elements_in_flow f) =
     c.find_element-inside.ensures ∙ ap (find test) (ap all_elements c.as_slice.ensures ∙ sym (in_split_flow f)) in
     found_later test elements_in_flow c.args.flows.now c.loop-flow.flow-index f (option_copied c.find_element-inside.result) _

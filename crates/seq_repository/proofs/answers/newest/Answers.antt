@@ -1,6 +1,6 @@
 use Rattle.std.proofs.Common.{◌≡◌, ◌-◌, ◌<◌, ◌++◌, true, List, [], ◌∷◌, length, take, reverse, ◌∙◌, ap, sym, subst, arith}
 use Rattle.std.proofs.lemmas.List.{length-append}
-use Rattle.batch_ids.specs.Texts.{is_text}
+use Rattle.std.specs.Str.{bytes_eq}
 use Rattle.batch_history.specs.declared.rows.JobInstance.{JobInstance}
 use Rattle.batch_history.specs.Answers.{named, page}
 use Rattle.seq_repository.proofs.Pages.{left_out, gathered}
@@ -8,9 +8,9 @@ use Rattle.seq_repository.proofs.answers.newest.Goals as goal
 
 pub loop-place-preserved-then-left_out-start : goal.loop-place-preserved-then-left_out-start
 loop-place-preserved-then-left_out-start c =
-    let matched : is_text c.index-rows-place.result.job c.args.job.now ≡ true =
-    ap (λ one. is_text one c.args.job.now) (sym c.as_str.ensures.same)
-    ∙ (ap (λ other. is_text c.as_str.result.now other) (sym c.as_str-in-loop-place.ensures.same) ∙ (sym c.eq.ensures ∙ c.if-eq.true)) in
+    let matched : bytes_eq c.index-rows-place.result.job c.args.job.now ≡ true =
+    ap (λ one. bytes_eq one c.args.job.now) (sym c.as_str.ensures.same)
+    ∙ (ap (λ other. bytes_eq c.as_str.result.now other) (sym c.as_str-in-loop-place.ensures.same) ∙ (sym c.eq.ensures ∙ c.if-eq.true)) in
     record {
       found = left_out c.args.job.now c.args.rows.now c.loop-place.found.items _ c.args.start c.loop-place.left_out _ c.loop-place.place c.index-rows-place.result
           (omega (arith, c.loop-place-test.true)) c.loop-place.invariant.place c.index-rows-place.is matched c.if-left_out-start.true c.loop-place.invariant.found;
@@ -23,9 +23,9 @@ pub loop-place-preserved-in_ok-push : goal.loop-place-preserved-in_ok-push
 loop-place-preserved-in_ok-push c =
     let row : JobInstance = c.index-rows-place.result in
     let found : List JobInstance = c.loop-place.found.items in
-    let matched : is_text row.job c.args.job.now ≡ true =
-    ap (λ one. is_text one c.args.job.now) (sym c.as_str.ensures.same)
-    ∙ (ap (λ other. is_text c.as_str.result.now other) (sym c.as_str-in-loop-place.ensures.same) ∙ (sym c.eq.ensures ∙ c.if-eq.true)) in
+    let matched : bytes_eq row.job c.args.job.now ≡ true =
+    ap (λ one. bytes_eq one c.args.job.now) (sym c.as_str.ensures.same)
+    ∙ (ap (λ other. bytes_eq c.as_str.result.now other) (sym c.as_str-in-loop-place.ensures.same) ∙ (sym c.eq.ensures ∙ c.if-eq.true)) in
     let pushed : c.push.new.self.items ≡ found ++ row ∷ [] =
     c.in_ok-push.ensures.items ∙ ap (λ (r : JobInstance). found ++ r ∷ []) c.in_ok-try_clone.ensures in
     let few : length found < c.args.count = omega (arith, c.if-len-count.true, c.len.ensures) in

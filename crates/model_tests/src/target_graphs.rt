@@ -1,5 +1,5 @@
-use crate::{Graph, ranks};
 use std::test::Fail;
+use target_graph::{Graph, ranks};
 
 #[test]
 fn ranks_rise_along_targets(rt: HostRuntime) -> Result<(), Fail> {

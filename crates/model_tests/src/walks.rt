@@ -1,6 +1,9 @@
-use crate::{Cursor, Plan, Value};
 use batch_ids::{Listed, OutOfMemory, Refusal, T256, WorkOutcome};
-use jsl_model::{BodyParts, ElementParts, Job, JobParts, SplitFlowParts, StepParts, TaskParts};
+use job_walk::{Cursor, Plan, Value};
+use jsl_model::{
+    BodyParts, ElementParts, Job, JobParts, SplitFlowParts, StepParts, TaskParts, ThenParts,
+    TransitionParts,
+};
 use std::alloc::{AllocError, Global};
 use std::test::Fail;
 
@@ -84,10 +87,21 @@ fn add_value(text: &mut String, value: &Value) -> Result<(), AllocError> {
             text.push_str("done ")?;
             text.push_str(exit.as_str())
         }
-        Value::Ended { status, exit, .. } => {
+        Value::Ended {
+            status,
+            exit,
+            point,
+        } => {
             text.push_str(status.name())?;
             text.push_str(" ")?;
-            text.push_str(exit.as_str())
+            text.push_str(exit.as_str())?;
+            match point {
+                None => Ok(()),
+                Some(point) => {
+                    text.push_str(", restart at ")?;
+                    text.push_str(point.as_str())
+                }
+            }
         }
     }
 }
@@ -140,7 +154,7 @@ fn told_twice(
     mut cursor: Cursor,
     acts: &[(&str, Option<WorkOutcome>)],
 ) -> Result<(String, String), OutOfMemory> {
-    let mut copy = cursor.try_clone(alloc)?;
+    let mut copy = cursor.try_clone()?;
     let first = told(alloc, &mut cursor, acts)?;
     let second = told(alloc, &mut copy, acts)?;
     Ok((first, second))
@@ -185,5 +199,110 @@ fn a_carried_step_is_passed_and_a_barred_one_fails(rt: HostRuntime) -> Result<()
         first.as_str(),
         "ready s1, busy; ready, busy s1; FAILED FAILED"
     );
+    Ok(())
+}
+
+/// A walk from the split, with its first flow's step taken.
+fn half_walked(alloc: Global) -> Result<Option<Cursor>, Fail> {
+    let job = Job::check(alloc, parts(alloc)?)?;
+    let plan = plan_of(alloc, "b", &[], &[])?;
+    let mut found = begun(alloc, &job, &plan)?;
+    if let Some(cursor) = &mut found {
+        act(alloc, cursor, "s1", None)?;
+    }
+    Ok(found)
+}
+
+#[test]
+fn a_copied_walk_is_equal_and_goes_on_by_itself(rt: HostRuntime) -> Result<(), Fail> {
+    let alloc = rt.alloc();
+    let mut cursor = half_walked(alloc)?.ok_or("the plan begins in the job")?;
+    let mut copy = cursor.try_clone()?;
+    let so_far = told(alloc, &mut cursor, &[])?;
+    assert_eq!(rt; told(alloc, &mut copy, &[])?.as_str(), so_far.as_str());
+    assert_eq!(rt; copy.ready(), cursor.ready());
+    let acts = [
+        ("s2", None),
+        ("s2", Some(WorkOutcome::Completed)),
+        ("s1", Some(WorkOutcome::Stopped)),
+    ];
+    let first = told(alloc, &mut cursor, &acts)?;
+    assert_eq!(rt;
+        first.as_str(),
+        "ready s2, busy s1; ready, busy s1 s2; ready, busy s1; STOPPED STOPPED"
+    );
+    assert_eq!(rt; told(alloc, &mut copy, &[])?.as_str(), so_far.as_str());
+    assert_eq!(rt; copy.ready().len(), 1);
+    assert_eq!(rt; told(alloc, &mut copy, &acts)?.as_str(), first.as_str());
+    Ok(())
+}
+
+fn transition(alloc: Global, on: &str, then: ThenParts) -> Result<TransitionParts, AllocError> {
+    Ok(TransitionParts {
+        on: String::from_str(alloc, on)?,
+        then,
+    })
+}
+
+/// A step `a` with transition elements, and a step `b` that follows it.
+fn parts_with_transitions(alloc: Global) -> Result<JobParts, AllocError> {
+    let b = String::from_str(alloc, "b")?;
+    let mut first = step(alloc, "a", Some(b.clone()?))?;
+    let stop = ThenParts::Stop {
+        exit_status: None,
+        restart: Some(b.clone()?),
+    };
+    first.transitions.push(transition(alloc, "S*", stop)?)?;
+    let end = ThenParts::End {
+        exit_status: Some(String::from_str(alloc, "DONE")?),
+    };
+    first.transitions.push(transition(alloc, "E?", end)?)?;
+    let fail = ThenParts::Fail { exit_status: None };
+    first.transitions.push(transition(alloc, "*!", fail)?)?;
+    first
+        .transitions
+        .push(transition(alloc, "N", ThenParts::Next { to: b })?)?;
+    let mut elements = Listed::new(alloc);
+    elements.push(first)?;
+    elements.push(step(alloc, "b", None)?)?;
+    Ok(JobParts {
+        id: String::from_str(alloc, "j")?,
+        restartable: true,
+        elements,
+    })
+}
+
+/// The value of the walk after the step `a` came to this outcome with this exit status.
+fn after_a(alloc: Global, outcome: WorkOutcome, exit: &str) -> Result<String, Fail> {
+    let job = Job::check(alloc, parts_with_transitions(alloc)?)?;
+    let plan = plan_of(alloc, "a", &[], &[])?;
+    let mut cursor = begun(alloc, &job, &plan)?.ok_or("the plan begins in the job")?;
+    act(alloc, &mut cursor, "a", None)?;
+    if cursor.is_busy("a") {
+        cursor.report("a", outcome, &T256::new(alloc, exit)?)?;
+    }
+    Ok(told(alloc, &mut cursor, &[])?)
+}
+
+#[test]
+fn transition_elements_decide_before_next(rt: HostRuntime) -> Result<(), Fail> {
+    let cases = [
+        (
+            WorkOutcome::Completed,
+            "S1",
+            "STOPPED STOPPED, restart at b",
+        ),
+        (WorkOutcome::Completed, "E1", "COMPLETED DONE"),
+        (WorkOutcome::Completed, "x!", "FAILED FAILED"),
+        (WorkOutcome::Completed, "N", "ready b, busy"),
+        (WorkOutcome::Completed, "other", "ready b, busy"),
+        (WorkOutcome::Failed, "N", "ready b, busy"),
+        (WorkOutcome::Failed, "other", "FAILED FAILED"),
+        (WorkOutcome::Stopped, "E1", "STOPPED STOPPED"),
+    ];
+    for (outcome, exit, expected) in cases {
+        let value = after_a(rt.alloc(), outcome, exit)?;
+        assert_eq!(rt; value.as_str(), expected, "{outcome} {exit}");
+    }
     Ok(())
 }

@@ -1,0 +1,269 @@
+use batch_ids::{
+    BatchStatus, Metric, MetricStep, Metrics, Parameters, Refusal, T256, Text, UnknownName,
+    WorkOutcome, try_clone_option,
+};
+use std::alloc::{AllocError, Global};
+use std::test::Fail;
+
+#[test]
+fn a_text_has_its_bound_in_bytes(rt: HostRuntime) -> Result<(), Fail> {
+    let alloc = rt.alloc();
+    assert_eq!(rt; Text::<4>::new(alloc, "éé")?.as_str(), "éé");
+    assert_eq!(rt; Text::<4>::new(alloc, "abcde"), Err(Refusal::TextTooLong));
+    assert_eq!(rt; T256::new(alloc, "")?.try_clone()?, T256::empty(alloc));
+    Ok(())
+}
+
+// Each refusal, and what it prints as.
+const PRINTED: [(Refusal, &str); 17] = [
+    (Refusal::JobStartException, "JobStartException"),
+    (Refusal::NoSuchJobException, "NoSuchJobException"),
+    (
+        Refusal::NoSuchJobInstanceException,
+        "NoSuchJobInstanceException",
+    ),
+    (
+        Refusal::NoSuchJobExecutionException,
+        "NoSuchJobExecutionException",
+    ),
+    (
+        Refusal::JobExecutionNotRunningException,
+        "JobExecutionNotRunningException",
+    ),
+    (
+        Refusal::JobExecutionIsRunningException,
+        "JobExecutionIsRunningException",
+    ),
+    (
+        Refusal::JobExecutionAlreadyCompleteException,
+        "JobExecutionAlreadyCompleteException",
+    ),
+    (
+        Refusal::JobExecutionNotMostRecentException,
+        "JobExecutionNotMostRecentException",
+    ),
+    (Refusal::JobRestartException, "JobRestartException"),
+    (Refusal::NoSuchWork, "NoSuchWork"),
+    (Refusal::WorkNotRunning, "WorkNotRunning"),
+    (Refusal::NotClaimer, "NotClaimer"),
+    (Refusal::NotStopping, "NotStopping"),
+    (Refusal::WrongOutcome, "WrongOutcome"),
+    (Refusal::TextTooLong, "TextTooLong"),
+    (Refusal::RepositoryFull, "RepositoryFull"),
+    (Refusal::OutOfMemory, "OutOfMemory"),
+];
+
+#[test]
+fn a_refusal_prints_as_its_name(rt: HostRuntime) -> Result<(), Fail> {
+    for (refusal, name) in PRINTED {
+        let text = format!(in rt.alloc(); "{refusal}")?;
+        assert_eq!(rt; text.as_str(), name);
+    }
+    assert_eq!(rt; Refusal::OutOfMemory.number(), 18);
+    Ok(())
+}
+
+#[test]
+fn the_last_value_of_a_key_counts(rt: HostRuntime) -> Result<(), Fail> {
+    let alloc = rt.alloc();
+    let mut given = Vec::new(alloc);
+    for (key, value) in [("to", "1"), ("from", "2"), ("to", "3")] {
+        given.push((
+            String::from_str(alloc, key)?,
+            String::from_str(alloc, value)?,
+        ))?;
+    }
+    let parameters = Parameters::new(alloc, given)?;
+    assert_eq!(rt; parameters.len(), 2);
+    assert_eq!(rt; parameters.get("to"), Some("3"));
+    assert_eq!(rt; parameters.get("via"), None);
+    assert_eq!(rt; parameters.pairs()[0].key().as_str(), "from");
+    assert_eq!(rt; parameters.try_clone()?, parameters);
+    Ok(())
+}
+
+// What is answered to so many parameters, the first of them with a key and a value of so many bytes.
+fn refused(
+    alloc: Global,
+    count: u32,
+    key: usize,
+    value: usize,
+) -> Result<Option<Refusal>, AllocError> {
+    let mut given = Vec::new(alloc);
+    given.push(("x".repeat(alloc, key)?, "x".repeat(alloc, value)?))?;
+    for number in 1..count {
+        given.push((format!(in alloc; "{number}")?, String::new(alloc)))?;
+    }
+    // A key given twice is one key.
+    given.push(("x".repeat(alloc, key)?, String::new(alloc)))?;
+    Ok(Parameters::new(alloc, given).err())
+}
+
+#[test]
+fn parameters_are_taken_up_to_their_bounds(rt: HostRuntime) -> Result<(), Fail> {
+    let too_long = Some(Refusal::TextTooLong);
+    let cases = [
+        (64, 256, 4096, None),
+        (65, 1, 1, too_long),
+        (1, 257, 1, too_long),
+        (1, 1, 4097, too_long),
+    ];
+    for (count, key, value, wanted) in cases {
+        assert_eq!(rt;
+            refused(rt.alloc(), count, key, value)?,
+            wanted,
+            "{count} {key} {value}"
+        );
+    }
+    Ok(())
+}
+
+#[test]
+fn a_step_is_added_to_the_metrics(rt: HostRuntime) -> Result<(), Fail> {
+    let step = MetricStep::zero().with(Metric::FilterCount, 3);
+    let mut metrics = Metrics::zero();
+    metrics.add(&step);
+    metrics.add(&step);
+    assert_eq!(rt; metrics.count(Metric::FilterCount), 6);
+    assert_eq!(rt; metrics.count(Metric::ReadCount), 0);
+    assert_eq!(rt; Metric::FilterCount.name(), "FILTER_COUNT");
+    Ok(())
+}
+
+// Each status, and what it prints as.
+const STATUSES: [(BatchStatus, &str); 7] = [
+    (BatchStatus::Starting, "STARTING"),
+    (BatchStatus::Started, "STARTED"),
+    (BatchStatus::Stopping, "STOPPING"),
+    (BatchStatus::Stopped, "STOPPED"),
+    (BatchStatus::Failed, "FAILED"),
+    (BatchStatus::Completed, "COMPLETED"),
+    (BatchStatus::Abandoned, "ABANDONED"),
+];
+
+#[test]
+fn a_status_prints_as_its_name_and_is_read_from_it(rt: HostRuntime) -> Result<(), Fail> {
+    for (status, printed) in STATUSES {
+        assert_eq!(rt; status.to_string(rt.alloc())?.as_str(), printed);
+        assert_eq!(rt; printed.parse::<BatchStatus>(), Ok(status));
+    }
+    for text in [
+        "",
+        "starting",
+        "STARTED ",
+        "START",
+        "COMPLETE",
+        "COMPLETED\0",
+    ] {
+        assert_eq!(rt; text.parse::<BatchStatus>(), Err(UnknownName), "{text}");
+    }
+    Ok(())
+}
+
+#[test]
+fn an_outcome_prints_as_its_name_and_is_read_from_it(rt: HostRuntime) -> Result<(), Fail> {
+    let outcomes = [
+        (WorkOutcome::Completed, "COMPLETED"),
+        (WorkOutcome::Failed, "FAILED"),
+        (WorkOutcome::Stopped, "STOPPED"),
+    ];
+    for (outcome, printed) in outcomes {
+        assert_eq!(rt; outcome.name(), printed);
+        assert_eq!(rt; outcome.to_string(rt.alloc())?.as_str(), printed);
+        assert_eq!(rt; printed.parse::<WorkOutcome>(), Ok(outcome));
+    }
+    for text in ["", "failed", "STARTED", "ABANDONED", "STOPPED."] {
+        assert_eq!(rt; text.parse::<WorkOutcome>(), Err(UnknownName), "{text}");
+    }
+    Ok(())
+}
+
+#[test]
+fn a_metric_prints_as_its_name_and_is_read_from_it(rt: HostRuntime) -> Result<(), Fail> {
+    let metrics = [
+        (Metric::ReadCount, "READ_COUNT"),
+        (Metric::WriteCount, "WRITE_COUNT"),
+        (Metric::CommitCount, "COMMIT_COUNT"),
+        (Metric::RollbackCount, "ROLLBACK_COUNT"),
+        (Metric::ReadSkipCount, "READ_SKIP_COUNT"),
+        (Metric::ProcessSkipCount, "PROCESS_SKIP_COUNT"),
+        (Metric::FilterCount, "FILTER_COUNT"),
+        (Metric::WriteSkipCount, "WRITE_SKIP_COUNT"),
+    ];
+    for (metric, printed) in metrics {
+        assert_eq!(rt; metric.to_string(rt.alloc())?.as_str(), printed);
+        assert_eq!(rt; printed.parse::<Metric>(), Ok(metric));
+    }
+    for text in ["", "read_count", "READ COUNT", "READ_COUNTS"] {
+        assert_eq!(rt; text.parse::<Metric>(), Err(UnknownName), "{text}");
+    }
+    Ok(())
+}
+
+#[test]
+fn what_is_no_name_says_so(rt: HostRuntime) -> Result<(), Fail> {
+    assert_eq!(rt;
+        UnknownName.to_string(rt.alloc())?.as_str(),
+        "not a printed name"
+    );
+    Ok(())
+}
+
+#[test]
+fn a_printed_name_keeps_to_its_width(rt: HostRuntime) -> Result<(), Fail> {
+    let padded = format!(in rt.alloc(); "{:>8}|{:<8}|", BatchStatus::Failed, WorkOutcome::Failed)?;
+    assert_eq!(rt; padded.as_str(), "  FAILED|FAILED  |");
+    Ok(())
+}
+
+#[test]
+fn counts_are_zero_by_default(rt: HostRuntime) {
+    assert_eq!(rt; Metrics::default(), Metrics::zero());
+    assert_eq!(rt; MetricStep::default(), MetricStep::zero());
+}
+
+#[test]
+fn parameters_are_walked_over_by_rising_keys(rt: HostRuntime) -> Result<(), Fail> {
+    let alloc = rt.alloc();
+    let mut given = Vec::new(alloc);
+    for (key, value) in [("b", "1"), ("a", "2"), ("c", "3")] {
+        given.push((
+            String::from_str(alloc, key)?,
+            String::from_str(alloc, value)?,
+        ))?;
+    }
+    let parameters = Parameters::new(alloc, given)?;
+    let mut walked = String::new(alloc);
+    for parameter in &parameters {
+        walked.push_str(parameter.key().as_str())?;
+        walked.push_str(parameter.value().as_str())?;
+    }
+    assert_eq!(rt; walked.as_str(), "a2b1c3");
+    assert_eq!(rt; parameters.iter().len(), 3);
+    Ok(())
+}
+
+#[test]
+fn a_text_that_is_left_out_is_copied(rt: HostRuntime) -> Result<(), Fail> {
+    let held = Some(T256::new(rt.alloc(), "a")?);
+    assert_eq!(rt; try_clone_option(&held)?, held);
+    assert_eq!(rt; try_clone_option::<256>(&None)?, None);
+    Ok(())
+}
+
+#[test]
+fn refusals_are_numbered_1_to_16_and_18(rt: HostRuntime) {
+    let mut number = 0;
+    for (refusal, name) in PRINTED {
+        number += if number == 16 { 2 } else { 1 };
+        assert_eq!(rt; refusal.number(), number, "{name}");
+    }
+}
+
+#[test]
+fn an_execution_is_unfinished_while_it_is_under_way(rt: HostRuntime) {
+    for (status, printed) in STATUSES {
+        let expected = matches!(printed, "STARTING" | "STARTED" | "STOPPING");
+        assert_eq!(rt; status.is_unfinished(), expected, "{printed}");
+    }
+}

@@ -1,0 +1,55 @@
+use batch_ids::{Listed, Refusal, T256};
+use jsl_model::{Then, Transition};
+use std::alloc::Global;
+use std::test::Fail;
+use transitions::{find_match, first_match, matches};
+
+#[test]
+fn patterns_match_by_pieces(rt: HostRuntime) {
+    let rows = [
+        ("a*?", "ab", true),
+        ("a*?", "a", false),
+        ("a*?", "", false),
+        ("*", "", true),
+        ("?", "é", true),
+        ("??", "é", false),
+        ("", "", true),
+        ("", "a", false),
+        ("*a*a", "aa", true),
+        ("*a*a", "a", false),
+        ("*a*a", "bananas", false),
+        ("*ab*abc", "abababc", true),
+        ("é*", "ecole", false),
+    ];
+    for (pattern, text, expected) in rows {
+        assert_eq!(rt; matches(pattern, text), expected, "{pattern} {text}");
+    }
+}
+
+/// Transition elements with these patterns, which fail the job.
+fn transitions_on(alloc: Global, patterns: &[&str]) -> Result<Listed<Transition>, Refusal> {
+    let mut transitions = Listed::new(alloc);
+    for pattern in patterns {
+        transitions.push(Transition {
+            on: T256::new(alloc, pattern)?,
+            then: Then::Fail { exit_status: None },
+        })?;
+    }
+    Ok(transitions)
+}
+
+#[test]
+fn the_first_written_match_counts(rt: HostRuntime) -> Result<(), Fail> {
+    let transitions = transitions_on(rt.alloc(), &["B", "A*", "AB?", "*"])?;
+    let transitions = transitions.as_slice();
+    assert_eq!(rt; transitions.len(), 4);
+    for (exit, expected) in [("ABC", 1), ("B", 0), ("", 3), ("CAB", 3)] {
+        assert_eq!(rt; first_match(transitions, exit), Some(expected), "{exit}");
+    }
+    assert_eq!(rt; first_match(&transitions[..3], "CAB"), None);
+    let exit = T256::new(rt.alloc(), "ABC")?;
+    let found = find_match(transitions, &exit).ok_or("the second matches")?;
+    assert_eq!(rt; found.on.as_str(), "A*");
+    assert!(rt; find_match(&transitions[..1], &exit).is_none());
+    Ok(())
+}
