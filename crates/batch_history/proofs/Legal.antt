@@ -19,7 +19,7 @@ use Rattle.batch_history.specs.declared.rows.WorkRow.{WorkRow}
 use Rattle.jsl_model.specs.Jobs.{JobTree}
 use Rattle.batch_history.specs.History.{job_named, is_work, is_finished}
 use Rattle.batch_history.specs.Replies.{is_nothing}
-use Rattle.batch_history.specs.Rows.{History, Rows, rows, reply, reply_by, row_status, is_running_in, entered, claimed, stopped, abandoned, going, marked_as, checkpointed, stopped_as, stopped_end, finished, finished_as, unheld_by, unless, stop_asked, has_something, is_execution, grown, after_call, StandsFor, IsLegal}
+use Rattle.batch_history.specs.Rows.{History, Rows, rows, reply, reply_by, row_status, is_running_in, entered, claimed, stopped, abandoned, going, marked_as, checkpointed, stopped_as, stopped_end, finished, finished_as, unheld_by, unless, stop_asked, has_something, is_execution, grown, after_call, StandsFor, IsNext, IsLegal}
 
 -- What is entered has room
 
@@ -156,20 +156,17 @@ legal_grown limit h e legal due entered =
       ];
     }
 
+-- an operation with the reply that is due is the next one
+pub next_of : (limit : ℕ) (r : Rows) (h : History) (e : Entry) → IsLegal limit h → StandsFor r h → reply limit h e.who e.call ≡ Ok e.reply → is_nothing e.reply ≡ false → IsNext limit r e
+next_of limit r h e legal stands due entered = record { history = h; stands = stands; legal = legal_grown limit h e legal due entered }
+
 -- what stands for a history and its entry, and that they are legal
-pub log_grown : (limit : ℕ) (h : History) (who : ℕ) (call : Call) (at : ℕ) (first second kept : Reply) (new : Rows) (items : List Entry)
-    → IsLegal limit h → reply limit h who call ≡ Ok first → reply limit h who call ≡ Ok second → is_nothing first ≡ false → kept ≡ first
-    → StandsFor new (after_call h who call at second)
-    → items ≡ h.log ++ record { who = who; call = call; at = at; reply = kept } ∷ []
+pub log_grown : (limit : ℕ) (h : History) (e : Entry) (new : Rows) (items : List Entry)
+    → IsLegal limit h → reply limit h e.who e.call ≡ Ok e.reply → is_nothing e.reply ≡ false → StandsFor new (grown h e) → items ≡ h.log ++ e ∷ []
     → StandsFor new record { catalogue = new.catalogue; log = items } × IsLegal limit record { catalogue = new.catalogue; log = items }
-log_grown limit h who call at first second kept new items legal due1 due2 some same stands is =
-    let e : Entry = record { who = who; call = call; at = at; reply = kept } in
-    let twice : second ≡ kept = cc in
-    let entered : is_nothing kept ≡ false = ap is_nothing same ∙ some in
-    let stood : StandsFor new (cond (is_nothing kept) h (grown h e)) = subst (λ r. StandsFor new (after_call h who call at r)) twice stands in
-    let now : StandsFor new (grown h e) = subst (λ b. StandsFor new (cond b h (grown h e))) entered stood in
+log_grown limit h e new items legal due entered now is =
     let over : new.catalogue ≡ h.catalogue = ap (λ (r : Rows). r.catalogue) now in
     let whole : grown h e ≡ record { catalogue = new.catalogue; log = items } =
     ap (λ (c : List JobTree). record { catalogue = c; log = h.log ++ e ∷ [] }) (sym over)
     ∙ ap (λ (l : List Entry). record { catalogue = new.catalogue; log = l }) (sym is) in
-    (subst (StandsFor new) whole now, subst (IsLegal limit) whole (legal_grown limit h e legal (due1 ∙ ap Ok (sym same)) entered))
+    (subst (StandsFor new) whole now, subst (IsLegal limit) whole (legal_grown limit h e legal due entered))

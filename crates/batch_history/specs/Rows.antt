@@ -264,3 +264,9 @@ pub record IsLegal (limit : ℕ) (h : History) : Type 0 where
 -- a repository stands for a history if its rows are those of the history
 abbrev pub StandsFor : Rows → History → Type 0
 StandsFor r h = r ≡ rows h
+
+-- an entry is the next operation after these rows: some legal history that they stand for is legal with it too
+pub record IsNext (limit : ℕ) (r : Rows) (e : Entry) : Type 0 where
+  pub history : History
+  pub stands : StandsFor r history
+  pub legal : IsLegal limit (grown history e)

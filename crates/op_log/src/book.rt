@@ -1,4 +1,4 @@
-ghost use Rattle.std.specs.Prelude.{◌≡◌, ◌≤◌, ◌<◌, ◌-◌, [], length, slice_get, IfOk, OnErr, None};
+ghost use Rattle.std.specs.Prelude.{◌≡◌, ◌≤◌, ◌<◌, ◌-◌, [], length, slice_get, IfOk, OnErr, None, Ok};
 ghost use Rattle.std.specs.Option.{option_copied};
 ghost use Rattle.batch_history.specs.Answers.{answer};
 ghost use Rattle.batch_history.specs.Due.{IsDue};
@@ -38,10 +38,14 @@ impl<const LIMIT: u64> Model for Book<LIMIT> {
 impl<const LIMIT: u64> Book<LIMIT> {
     /// A book with an empty log over this catalogue.
     ///
-    /// `LIMIT` is at most 1,000,000. Errors: `OutOfMemory` alone.
+    /// `LIMIT` is at most 1,000,000. All memory that the book takes later comes from `alloc`.
+    ///
+    /// # Errors
+    ///
+    /// None today: an empty book takes no memory.
     pub fn new(alloc: Global, catalogue: Catalogue) -> Result<Book<LIMIT>, OutOfMemory>
         requires { LIMIT ≤ 1000000 }
-        ensures { IfOk result (λ book. book ≡ record { catalogue = catalogue; log = [] }) }
+        ensures { result ≡ Ok record { catalogue = catalogue; log = [] } }
     {
         let repository = Repository::new(alloc, catalogue)?;
         Ok(Book {
@@ -67,32 +71,31 @@ impl<const LIMIT: u64> Book<LIMIT> {
     }
 
     /// Answers a call of the session `who` at this moment, and appends its entry where it is
-    /// accepted. The reply Nothing makes no entry.
+    /// accepted. The reply Nothing makes no entry. The reply is decided once, and all growths come
+    /// before the first change.
     ///
-    /// Errors: the first refusal of the call that stands, `RepositoryFull` after the call's own
-    /// refusals where the log has `LIMIT` entries, or `OutOfMemory` in place of any answer. A refused
-    /// call changes nothing. All growths come before the first change.
-    pub fn act(&mut self, alloc: Global, who: u64, call: Call, at: Moment) -> Result<Reply, Refusal>
+    /// # Errors
+    ///
+    /// The first refusal of the call that stands, `RepositoryFull` after the call's own refusals where
+    /// the log has `LIMIT` entries, or `OutOfMemory` in place of any answer. A refused call changes
+    /// nothing.
+    pub fn act(&mut self, who: u64, call: Call, at: Moment) -> Result<Reply, Refusal>
         ensures reply { IsDue result (reply LIMIT self.old who call) }
         ensures after { IfOk result (λ reply. self.new ≡ after_call self.old who call at reply) }
         ensures refused { OnErr result (self.new ≡ self.old) }
     {
-        let room = self.log.reserve(1);
-        if room.is_err() {
-            return Err(Refusal::OutOfMemory);
-        }
-        let reply = self.repository.preview(alloc, who, &call)?;
+        self.log.reserve(1)?;
+        let reply = self.repository.preview(who, &call)?;
         if reply.is_nothing() {
             return Ok(reply);
         }
-        let kept = reply.try_clone()?;
-        let reply = self.repository.apply(alloc, who, &call, at)?;
         let entry = Entry {
             who,
             call,
             at,
-            reply: kept,
+            reply: reply.try_clone()?,
         };
+        self.repository.enter(&entry)?;
         match self.log.push(entry) {
             Ok(()) => Ok(reply),
             Err(_) => unreachable!(),
@@ -101,10 +104,12 @@ impl<const LIMIT: u64> Book<LIMIT> {
 
     /// Answers a query about the log so far.
     ///
-    /// Errors: the query's refusal where it stands, or `OutOfMemory` in place of any answer.
-    pub fn ask(&self, alloc: Global, query: &Query) -> Result<Answer, Refusal>
+    /// # Errors
+    ///
+    /// The query's refusal where it stands, or `OutOfMemory` in place of any answer.
+    pub fn ask(&self, query: &Query) -> Result<Answer, Refusal>
         ensures { IsDue result (answer self.now query.now) }
     {
-        self.repository.ask(alloc, query)
+        self.repository.ask(query)
     }
 }

@@ -8,8 +8,3 @@ pub use seq_repository::{
     Answer, Call, CountsByStatus, Entry, JobExecution, JobInstance, Query, Reply, Repository,
     StepExecution, WorkItem, WorkKind, WorkTask,
 };
-
-#[cfg(test)]
-mod chunk_tests;
-#[cfg(test)]
-mod tests;

@@ -18,8 +18,7 @@ use Rattle.batch_history.specs.History.{Made, Place, made, is_made, job_named, m
 use Rattle.batch_history.specs.Rows.{History, Rows, rows_of, row_with, execution_row, reply, reply_by, entered, claimed, claim_reply, task_of, runs_in, first_ready, walk_in, has_something, IsLegal}
 use Rattle.batch_history.specs.Answers.{answer, answer_by}
 use Rattle.batch_history.proofs.Stepping.{AreNumbered, numbered}
-use Rattle.plain_repository.specs.declared.origin.Origin.{Origin}
-use Rattle.plain_repository.specs.Searches.{origin_of, walk_found, abandoned_found, start_found, end_found, updated_found, made_as, row_found, execution_found, numbers_from, executions_found, works_found, checkpoints_found}
+use Rattle.plain_repository.specs.Searches.{Origin, origin_of, walk_found, abandoned_found, start_found, end_found, updated_found, made_as, row_found, execution_found, numbers_from, executions_found, works_found, checkpoints_found}
 use Rattle.plain_repository.specs.Found.{rows_found, reply_over, reply_found, answer_found}
 use Rattle.plain_repository.proofs.Pasts.{AllFit, past-fits}
 use Rattle.plain_repository.proofs.Origins.{origin-law, executions-made, instances-law}

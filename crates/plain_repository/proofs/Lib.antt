@@ -6,6 +6,3 @@ pub mod Times
 pub mod Standing
 pub mod Agreeing
 pub mod Legality
-pub mod Numbers
-pub mod Claimed
-pub mod Lists

@@ -11,8 +11,7 @@ use Rattle.batch_history.specs.declared.call.Reply.TheVariants.{Execution as IsE
 use Rattle.batch_history.specs.declared.call.Entry.{Entry}
 use Rattle.batch_history.specs.declared.rows.WorkRow.{WorkRow}
 use Rattle.batch_history.specs.History.{Made, made, is_made, is_at, works_of, taken, taken_by, asked, given_up, touched, earliest, start_of, stop_of, abandoned_of, updated_of, end_of, known_of, walk_of, job_named, value_after, bare_of, status_from, is_finished, was_named}
-use Rattle.plain_repository.specs.declared.origin.Origin.{Origin}
-use Rattle.plain_repository.specs.Searches.{makes_execution, executions_in, is_making, made_as, origin_given, origin_of, instances_in, works_found, walk_found, tree_found, stop_found, abandoned_found, start_found, bare_found, end_found, updated_found}
+use Rattle.plain_repository.specs.Searches.{Origin, makes_execution, executions_in, is_making, made_as, origin_given, origin_of, instances_in, works_found, walk_found, tree_found, stop_found, abandoned_found, start_found, bare_found, end_found, updated_found}
 use Rattle.plain_repository.proofs.Counting.{counted}
 use Rattle.plain_repository.proofs.Pasts.{Fits, FitsClaim, AllFit}
 use Rattle.plain_repository.proofs.Origins.{making, executions-made, made-within}

@@ -1,3 +1,2 @@
-pub mod Claims
 pub mod Found
 pub mod Searches

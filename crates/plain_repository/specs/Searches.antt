@@ -26,7 +26,6 @@ use Rattle.batch_history.specs.declared.rows.WorkState.TheVariants.{Busy, Over}
 use Rattle.batch_history.specs.declared.rows.CheckpointRow.{CheckpointRow}
 use Rattle.batch_history.specs.History.{Made, Place, is_at, is_work, asked, given_up, taken_by, touched, handed_to, exit_given, earliest, known_of, walk_of, job_named, status_from, is_finished, place_by, marked}
 use Rattle.batch_history.specs.Rows.{row_with}
-use Rattle.plain_repository.specs.declared.origin.Origin.{Origin}
 
 -- ---- Job instances: instance i is the i-th Start
 
@@ -60,6 +59,14 @@ instances_found [] = []
 instances_found (e ∷ older) = instances_found older ++ begun_by (instances_in older + 1) e.call
 
 -- ---- Job executions: execution x is the x-th Start or Restart
+
+-- where a job execution comes from: its job instance, the job's id, the parameters that it was started or restarted
+-- with, and the moment at which it was made
+pub record Origin : Type 0 where
+  pub instance : ℕ
+  pub job : List ℕ
+  pub parameters : List Pair
+  pub create : ℕ
 
 -- whether a call makes a job execution
 abbrev pub makes_execution : Call → Bool

@@ -6,6 +6,3 @@ mod records;
 
 pub use readers::{ExecutionsOf, InstancesOf, Names, WorksOf};
 pub use records::Records;
-
-#[cfg(test)]
-mod tests;

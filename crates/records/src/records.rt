@@ -136,7 +136,9 @@ impl Records {
 
     /// Adds a job instance with its first job execution, both with the next number.
     ///
-    /// Errors: `OutOfMemory` alone, and then nothing has changed.
+    /// # Errors
+    ///
+    /// `OutOfMemory` alone, and then nothing has changed.
     #[tactic(auto, using(crate::proofs::Numbered::instance_pushed, crate::proofs::Numbered::execution_pushed))]
     pub fn add_instance(
         &mut self,
@@ -158,7 +160,9 @@ impl Records {
 
     /// Adds a job execution with the next number.
     ///
-    /// Errors: `OutOfMemory` alone, and then nothing has changed.
+    /// # Errors
+    ///
+    /// `OutOfMemory` alone, and then nothing has changed.
     #[tactic(auto, using(crate::proofs::Numbered::execution_pushed))]
     pub fn add_execution(&mut self, row: ExecutionRow) -> Result<(), OutOfMemory>
         requires { row.execution ≡ length self.old.executions + 1 }
@@ -171,7 +175,9 @@ impl Records {
 
     /// Adds a work item with the next number.
     ///
-    /// Errors: `OutOfMemory` alone, and then nothing has changed.
+    /// # Errors
+    ///
+    /// `OutOfMemory` alone, and then nothing has changed.
     #[tactic(auto, using(crate::proofs::Numbered::work_pushed))]
     pub fn add_work(&mut self, row: WorkRow) -> Result<(), OutOfMemory>
         requires { row.work ≡ length self.old.works + 1 }
@@ -204,7 +210,9 @@ impl Records {
 
     /// Sets the checkpoint of a step of a job instance, or clears it where there is no mark.
     ///
-    /// Errors: `OutOfMemory` alone, and then nothing has changed. Clearing takes no memory.
+    /// # Errors
+    ///
+    /// `OutOfMemory` alone, where a mark is set, and then nothing has changed. Clearing takes no memory.
     pub fn set_checkpoint(
         &mut self,
         i: InstanceId,

@@ -98,7 +98,7 @@ fn act(
     ensures kind { IfOk result (λ answered. answered.kind ≡ kind_for book.old (Act by at call)) }
     ensures after { OnOk result (book.new ≡ history_for book.old (Act by at call)) }
 {
-    match book.act(alloc, by, call, at) {
+    match book.act(by, call, at) {
         Ok(reply) => Ok(Answered {
             text: reply_text(alloc, &Ok(reply))?,
             kind: Kind::Accepted,
@@ -117,7 +117,7 @@ fn ask(alloc: Global, book: &Book<LIMIT>, query: &Query) -> Result<Answered, All
     ensures text { IfOk result (λ answered. answered.text.items ≡ text_for book.now (Ask query.now)) }
     ensures kind { IfOk result (λ answered. answered.kind ≡ kind_for book.now (Ask query.now)) }
 {
-    match book.ask(alloc, query) {
+    match book.ask(query) {
         Ok(answer) => Ok(Answered {
             text: answer_text(alloc, &Ok(answer))?,
             kind: Kind::Accepted,

@@ -19,9 +19,9 @@ use Rattle.batch_history.specs.Rows.{Rows, is_execution}
 use Rattle.batch_history.specs.Steps.{refreshed, refreshed_by, rows_after, instance_in, place_in}
 use Rattle.batch_history.proofs.Finding.{found-passes}
 use Rattle.records.specs.Maps.{Maps}
-use Rattle.seq_repository.specs.declared.rows.Touch.{Touch}
-use Rattle.seq_repository.specs.declared.rows.Touch.TheVariants.{Asked, GivenUp, Taken, Reported}
-use Rattle.seq_repository.specs.Touches.{effect_of, touched_as, put_row, place_at}
+use Rattle.seq_repository.specs.declared.rows.Change.{Change}
+use Rattle.seq_repository.specs.declared.rows.Change.TheVariants.{StopRequest, Abandonment, Claim as TakeUp, Report}
+use Rattle.seq_repository.specs.Changes.{effect_of, row_after, put_row, place_at}
 
 -- Changing the first that passes a test
 
@@ -68,67 +68,67 @@ put_found x f rows new is =
 at-own : (x y : ℕ) → (y == x) ≡ true → is_at y (Some x) ≡ true
 at-own x y e = eq-eqb x y (sym (eqb-true y x e))
 
-pub touched_stop : (catalogue : List JobTree) (works : List WorkRow) (at x : ℕ) (reply : Reply) (rows : List ExecutionRow)
-    → change_first (is_execution x) (touched_as Asked catalogue works at) rows ≡ change_first (is_execution x) (refreshed_by catalogue works at (Stop x) reply) rows
-touched_stop catalogue works at x reply rows =
+pub changed_stop : (catalogue : List JobTree) (works : List WorkRow) (at x : ℕ) (reply : Reply) (rows : List ExecutionRow)
+    → change_first (is_execution x) (row_after StopRequest catalogue works at) rows ≡ change_first (is_execution x) (refreshed_by catalogue works at (Stop x) reply) rows
+changed_stop catalogue works at x reply rows =
     change-same (is_execution x) _ _ rows (λ r e. rw (at-own x r.execution e) refl)
 
-pub touched_abandon : (catalogue : List JobTree) (works : List WorkRow) (at x : ℕ) (reply : Reply) (rows : List ExecutionRow)
-    → change_first (is_execution x) (touched_as GivenUp catalogue works at) rows ≡ change_first (is_execution x) (refreshed_by catalogue works at (Abandon x) reply) rows
-touched_abandon catalogue works at x reply rows =
+pub changed_abandon : (catalogue : List JobTree) (works : List WorkRow) (at x : ℕ) (reply : Reply) (rows : List ExecutionRow)
+    → change_first (is_execution x) (row_after Abandonment catalogue works at) rows ≡ change_first (is_execution x) (refreshed_by catalogue works at (Abandon x) reply) rows
+changed_abandon catalogue works at x reply rows =
     change-same (is_execution x) _ _ rows (λ r e. rw (at-own x r.execution e) refl)
 
-pub touched_closed : (catalogue : List JobTree) (works : List WorkRow) (at x : ℕ) (rows : List ExecutionRow)
-    → change_first (is_execution x) (touched_as Taken catalogue works at) rows ≡ change_first (is_execution x) (refreshed_by catalogue works at Claim (Closed x)) rows
-touched_closed catalogue works at x rows =
+pub changed_closed : (catalogue : List JobTree) (works : List WorkRow) (at x : ℕ) (rows : List ExecutionRow)
+    → change_first (is_execution x) (row_after TakeUp catalogue works at) rows ≡ change_first (is_execution x) (refreshed_by catalogue works at Claim (Closed x)) rows
+changed_closed catalogue works at x rows =
     change-same (is_execution x) _ _ rows (λ r e. rw (at-own x r.execution e) refl)
 
-touched-work : (catalogue : List JobTree) (works : List WorkRow) (at : ℕ) (item : WorkItem) (rows : List ExecutionRow)
-    → change_first (is_execution item.execution) (touched_as Taken catalogue works at) rows ≡ change_first (is_execution item.execution) (refreshed_by catalogue works at Claim (Work item)) rows
-touched-work catalogue works at item rows =
+changed-work : (catalogue : List JobTree) (works : List WorkRow) (at : ℕ) (item : WorkItem) (rows : List ExecutionRow)
+    → change_first (is_execution item.execution) (row_after TakeUp catalogue works at) rows ≡ change_first (is_execution item.execution) (refreshed_by catalogue works at Claim (Work item)) rows
+changed-work catalogue works at item rows =
     change-same (is_execution item.execution) _ _ rows (λ r e. rw (at-own item.execution r.execution e) refl)
 
 -- The rows after an operation
 
 -- a stop
 pub stop_rows : (r : Rows) (who at x : ℕ) (reply : Reply)
-    → record r { count = r.count + 1; executions = change_first (is_execution x) (touched_as Asked r.catalogue r.works at) r.executions }
+    → record r { count = r.count + 1; executions = change_first (is_execution x) (row_after StopRequest r.catalogue r.works at) r.executions }
     ≡ rows_after r record { who = who; call = Stop x; at = at; reply = reply }
 stop_rows r who at x reply =
-    ap (λ (xs : List ExecutionRow). record r { count = r.count + 1; executions = xs }) (touched_stop r.catalogue r.works at x reply r.executions)
+    ap (λ (xs : List ExecutionRow). record r { count = r.count + 1; executions = xs }) (changed_stop r.catalogue r.works at x reply r.executions)
 
 -- an abandonment
 pub abandon_rows : (r : Rows) (who at x : ℕ) (reply : Reply)
-    → record r { count = r.count + 1; executions = change_first (is_execution x) (touched_as GivenUp r.catalogue r.works at) r.executions }
+    → record r { count = r.count + 1; executions = change_first (is_execution x) (row_after Abandonment r.catalogue r.works at) r.executions }
     ≡ rows_after r record { who = who; call = Abandon x; at = at; reply = reply }
 abandon_rows r who at x reply =
-    ap (λ (xs : List ExecutionRow). record r { count = r.count + 1; executions = xs }) (touched_abandon r.catalogue r.works at x reply r.executions)
+    ap (λ (xs : List ExecutionRow). record r { count = r.count + 1; executions = xs }) (changed_abandon r.catalogue r.works at x reply r.executions)
 
 -- a claim that closes
 pub closed_rows : (r : Rows) (who at x : ℕ)
-    → record r { count = r.count + 1; executions = change_first (is_execution x) (touched_as Taken r.catalogue r.works at) r.executions }
+    → record r { count = r.count + 1; executions = change_first (is_execution x) (row_after TakeUp r.catalogue r.works at) r.executions }
     ≡ rows_after r record { who = who; call = Claim; at = at; reply = Closed x }
 closed_rows r who at x =
-    ap (λ (xs : List ExecutionRow). record r { count = r.count + 1; executions = xs }) (touched_closed r.catalogue r.works at x r.executions)
+    ap (λ (xs : List ExecutionRow). record r { count = r.count + 1; executions = xs }) (changed_closed r.catalogue r.works at x r.executions)
 
 -- a claim that hands out a work item
 pub work_rows : (r : Rows) (who at : ℕ) (item : WorkItem) (new : Option ExecutionRow)
-    → new ≡ option_map (touched_as Taken r.catalogue (r.works ++ handed_to who at item ∷ []) at) (find (is_execution item.execution) r.executions)
+    → new ≡ option_map (row_after TakeUp r.catalogue (r.works ++ handed_to who at item ∷ []) at) (find (is_execution item.execution) r.executions)
     → record r { count = r.count + 1; executions = put_row item.execution new r.executions; works = r.works ++ handed_to who at item ∷ [] }
     ≡ rows_after r record { who = who; call = Claim; at = at; reply = Work item }
 work_rows r who at item new is =
     let works : List WorkRow = r.works ++ handed_to who at item ∷ [] in
     ap (λ (xs : List ExecutionRow). record r { count = r.count + 1; executions = xs; works = works })
-    (put_found item.execution (touched_as Taken r.catalogue works at) r.executions new is ∙ touched-work r.catalogue works at item r.executions)
+    (put_found item.execution (row_after TakeUp r.catalogue works at) r.executions new is ∙ changed-work r.catalogue works at item r.executions)
 
 -- the step of a work item in its job instance, by the new row of its job execution
-place-at : (r : Rows) (w : ℕ) (row : WorkRow) (touch : Touch) (works : List WorkRow) (at : ℕ) (new : Option ExecutionRow)
+place-at : (r : Rows) (w : ℕ) (row : WorkRow) (change : Change) (works : List WorkRow) (at : ℕ) (new : Option ExecutionRow)
     → find (is_work w) r.works ≡ Some row
-    → new ≡ option_map (touched_as touch r.catalogue works at) (find (is_execution row.execution) r.executions)
+    → new ≡ option_map (row_after change r.catalogue works at) (find (is_execution row.execution) r.executions)
     → place_at new row.element ≡ place_in r w
-place-at r w row touch works at new found is =
+place-at r w row change works at new found is =
     ap (λ (o : Option ExecutionRow). place_at o row.element) is
-    ∙ ((elim (find (is_execution row.execution) r.executions) as (λ o. place_at (option_map (touched_as touch r.catalogue works at) o) row.element
+    ∙ ((elim (find (is_execution row.execution) r.executions) as (λ o. place_at (option_map (row_after change r.catalogue works at) o) row.element
     ≡ option_map (λ i. record { instance = i; step = row.element }) (option_map (λ (e : ExecutionRow). e.instance) o)) [
       | None ↦ refl
       | Some e ↦ refl
@@ -137,7 +137,7 @@ place-at r w row touch works at new found is =
 -- a checkpoint
 pub checkpoint_rows : (r : Rows) (who at w : ℕ) (mark : List ℕ) (step : MetricStep) (reply : Reply) (row : WorkRow) (new : Option ExecutionRow)
     → find (is_work w) r.works ≡ Some row
-    → new ≡ option_map (touched_as Reported r.catalogue (change_first (is_work w) (reported step) r.works) at) (find (is_execution row.execution) r.executions)
+    → new ≡ option_map (row_after Report r.catalogue (change_first (is_work w) (reported step) r.works) at) (find (is_execution row.execution) r.executions)
     → record r {
       count = r.count + 1;
       executions = put_row row.execution new r.executions;
@@ -148,17 +148,17 @@ checkpoint_rows r who at w mark step reply row new found is =
     let works : List WorkRow = change_first (is_work w) (reported step) r.works in
     let placed : List CheckpointRow = put_mark (place_at new row.element) mark r.checkpoints in
     ap (λ (xs : List ExecutionRow). record r { count = r.count + 1; executions = xs; works = change_first (is_work w) (λ old. reported step row) r.works; checkpoints = placed })
-    (put_found row.execution (touched_as Reported r.catalogue works at) r.executions new is)
-    ∙ (ap (λ (ws : List WorkRow). record r { count = r.count + 1; executions = change_first (is_execution row.execution) (touched_as Reported r.catalogue works at) r.executions; works = ws; checkpoints = placed })
+    (put_found row.execution (row_after Report r.catalogue works at) r.executions new is)
+    ∙ (ap (λ (ws : List WorkRow). record r { count = r.count + 1; executions = change_first (is_execution row.execution) (row_after Report r.catalogue works at) r.executions; works = ws; checkpoints = placed })
     (change-found (is_work w) (reported step) r.works row found)
-    ∙ (ap (λ (p : Option Place). record r { count = r.count + 1; executions = change_first (is_execution row.execution) (touched_as Reported r.catalogue works at) r.executions; works = works; checkpoints = put_mark p mark r.checkpoints })
-    (place-at r w row Reported works at new found is)
+    ∙ (ap (λ (p : Option Place). record r { count = r.count + 1; executions = change_first (is_execution row.execution) (row_after Report r.catalogue works at) r.executions; works = works; checkpoints = put_mark p mark r.checkpoints })
+    (place-at r w row Report works at new found is)
     ∙ rw found refl))
 
 -- the end of a work item
 pub finish_rows : (r : Rows) (who at w : ℕ) (outcome : WorkOutcome) (exit : Option (List ℕ)) (step : MetricStep) (reply : Reply) (row : WorkRow) (new : Option ExecutionRow)
     → find (is_work w) r.works ≡ Some row
-    → new ≡ option_map (touched_as Reported r.catalogue (change_first (is_work w) (over outcome exit step at) r.works) at) (find (is_execution row.execution) r.executions)
+    → new ≡ option_map (row_after Report r.catalogue (change_first (is_work w) (over outcome exit step at) r.works) at) (find (is_execution row.execution) r.executions)
     → record r {
       count = r.count + 1;
       executions = put_row row.execution new r.executions;
@@ -169,11 +169,11 @@ finish_rows r who at w outcome exit step reply row new found is =
     let works : List WorkRow = change_first (is_work w) (over outcome exit step at) r.works in
     let left : List CheckpointRow = marks_left outcome (place_at new row.element) r.checkpoints in
     ap (λ (xs : List ExecutionRow). record r { count = r.count + 1; executions = xs; works = change_first (is_work w) (λ old. over outcome exit step at row) r.works; checkpoints = left })
-    (put_found row.execution (touched_as Reported r.catalogue works at) r.executions new is)
-    ∙ (ap (λ (ws : List WorkRow). record r { count = r.count + 1; executions = change_first (is_execution row.execution) (touched_as Reported r.catalogue works at) r.executions; works = ws; checkpoints = left })
+    (put_found row.execution (row_after Report r.catalogue works at) r.executions new is)
+    ∙ (ap (λ (ws : List WorkRow). record r { count = r.count + 1; executions = change_first (is_execution row.execution) (row_after Report r.catalogue works at) r.executions; works = ws; checkpoints = left })
     (change-found (is_work w) (over outcome exit step at) r.works row found)
-    ∙ (ap (λ (p : Option Place). record r { count = r.count + 1; executions = change_first (is_execution row.execution) (touched_as Reported r.catalogue works at) r.executions; works = works; checkpoints = marks_left outcome p r.checkpoints })
-    (place-at r w row Reported works at new found is)
+    ∙ (ap (λ (p : Option Place). record r { count = r.count + 1; executions = change_first (is_execution row.execution) (row_after Report r.catalogue works at) r.executions; works = works; checkpoints = marks_left outcome p r.checkpoints })
+    (place-at r w row Report works at new found is)
     ∙ rw found refl))
 
 -- What is found
@@ -185,20 +185,20 @@ pub found-work : (w : ℕ) (rows : List WorkRow) (row : WorkRow) → find (is_wo
 found-work w rows row e = eqb-true row.work w (found-passes (is_work w) rows row e)
 
 -- the new row of a job execution that was found
-pub touched-row : (x : ℕ) (touch : Touch) (catalogue : List JobTree) (works : List WorkRow) (at : ℕ) (known : List Known) (rows : List ExecutionRow) (row new : ExecutionRow) (value : Value)
+pub changed-row : (x : ℕ) (change : Change) (catalogue : List JobTree) (works : List WorkRow) (at : ℕ) (known : List Known) (rows : List ExecutionRow) (row new : ExecutionRow) (value : Value)
     → find (is_execution x) rows ≡ Some row → known ≡ known_of x works → value ≡ walk_of known (job_named catalogue row.job)
-    → new ≡ refreshed (effect_of touch) value at row
-    → Some new ≡ option_map (touched_as touch catalogue works at) (find (is_execution x) rows)
-touched-row x touch catalogue works at known rows row new value found is walk made =
+    → new ≡ refreshed (effect_of change) value at row
+    → Some new ≡ option_map (row_after change catalogue works at) (find (is_execution x) rows)
+changed-row x change catalogue works at known rows row new value found is walk made =
     let walked : value ≡ walk_value catalogue works row.execution row.job =
     walk ∙ ap (λ k. walk_of k (job_named catalogue row.job)) (is ∙ ap (λ y. known_of y works) (sym (found-execution x rows row found))) in
-    ap Some (made ∙ ap (λ v. refreshed (effect_of touch) v at row) walked)
-    ∙ ap (option_map (touched_as touch catalogue works at)) (sym found)
+    ap Some (made ∙ ap (λ v. refreshed (effect_of change) v at row) walked)
+    ∙ ap (option_map (row_after change catalogue works at)) (sym found)
 
-pub touched-own : (x : ℕ) (touch : Touch) (at : ℕ) (rows : List ExecutionRow) (row new : ExecutionRow) (value : Value)
-    → find (is_execution x) rows ≡ Some row → new ≡ refreshed (effect_of touch) value at row
+pub changed-own : (x : ℕ) (change : Change) (at : ℕ) (rows : List ExecutionRow) (row new : ExecutionRow) (value : Value)
+    → find (is_execution x) rows ≡ Some row → new ≡ refreshed (effect_of change) value at row
     → (is_some (find (is_execution x) rows) ≡ true) × (new.execution ≡ x)
-touched-own x touch at rows row new value found made =
+changed-own x change at rows row new value found made =
     (ap (λ (o : Option ExecutionRow). is_some o) found, ap (λ (r : ExecutionRow). r.execution) made ∙ found-execution x rows row found)
 
 -- The maps, changed one after the other
@@ -224,7 +224,7 @@ maps-changed old m1 m2 m3 cs f h e1 e2 e3 =
 pub checkpoint-entered : (catalogue : List JobTree) (count : ℕ) (old m1 m2 m3 : Maps) (who at w : ℕ) (mark : List ℕ) (step : MetricStep) (reply : Reply)
     (row kept : WorkRow) (new : Option ExecutionRow) (element marked : List ℕ)
     → find (is_work w) old.works ≡ Some row → kept ≡ reported step row → element ≡ row.element → marked ≡ mark
-    → new ≡ option_map (touched_as Reported catalogue (change_first (is_work w) (reported step) old.works) at) (find (is_execution row.execution) old.executions)
+    → new ≡ option_map (row_after Report catalogue (change_first (is_work w) (reported step) old.works) at) (find (is_execution row.execution) old.executions)
     → m1 ≡ record old { checkpoints = put_mark (place_at new element) marked old.checkpoints }
     → m2 ≡ record m1 { works = change_first (is_work w) (λ gone. kept) m1.works }
     → m3 ≡ record m2 { executions = put_row row.execution new m2.executions }
@@ -237,7 +237,7 @@ checkpoint-entered catalogue count old m1 m2 m3 who at w mark step reply row kep
 pub finish-entered : (catalogue : List JobTree) (count : ℕ) (old m1 m2 m3 : Maps) (who at w : ℕ) (outcome : WorkOutcome) (exit : Option (List ℕ)) (step : MetricStep) (reply : Reply)
     (row kept : WorkRow) (new : Option ExecutionRow) (element : List ℕ)
     → find (is_work w) old.works ≡ Some row → kept ≡ over outcome exit step at row → element ≡ row.element
-    → new ≡ option_map (touched_as Reported catalogue (change_first (is_work w) (over outcome exit step at) old.works) at) (find (is_execution row.execution) old.executions)
+    → new ≡ option_map (row_after Report catalogue (change_first (is_work w) (over outcome exit step at) old.works) at) (find (is_execution row.execution) old.executions)
     → m1 ≡ record old { checkpoints = marks_left outcome (place_at new element) old.checkpoints }
     → m2 ≡ record m1 { works = change_first (is_work w) (λ gone. kept) m1.works }
     → m3 ≡ record m2 { executions = put_row row.execution new m2.executions }
@@ -247,19 +247,19 @@ finish-entered catalogue count old m1 m2 m3 who at w outcome exit step reply row
     (maps-changed old m1 m2 m3 _ (change_first (is_work w) (λ gone. kept)) (put_row row.execution new) e1 e2 e3)
     ∙ (rw is (rw id (finish_rows (rows_with catalogue count old) who at w outcome exit step reply row new found made)))
 
-pub touch-entered : (catalogue : List JobTree) (count : ℕ) (old m : Maps) (at x : ℕ) (touch : Touch) (new : Option ExecutionRow)
-    → new ≡ option_map (touched_as touch catalogue old.works at) (find (is_execution x) old.executions)
+pub change-entered : (catalogue : List JobTree) (count : ℕ) (old m : Maps) (at x : ℕ) (change : Change) (new : Option ExecutionRow)
+    → new ≡ option_map (row_after change catalogue old.works at) (find (is_execution x) old.executions)
     → m ≡ record old { executions = put_row x new old.executions }
     → rows_with catalogue (count + 1) m
-    ≡ record (rows_with catalogue count old) { count = count + 1; executions = change_first (is_execution x) (touched_as touch catalogue old.works at) old.executions }
-touch-entered catalogue count old m at x touch new made e =
+    ≡ record (rows_with catalogue count old) { count = count + 1; executions = change_first (is_execution x) (row_after change catalogue old.works at) old.executions }
+change-entered catalogue count old m at x change new made e =
     ap (rows_with catalogue (count + 1)) e
     ∙ ap (λ (xs : List ExecutionRow). rows_with catalogue (count + 1) (record old { executions = xs }))
-    (put_found x (touched_as touch catalogue old.works at) old.executions new made)
+    (put_found x (row_after change catalogue old.works at) old.executions new made)
 
 pub work-entered : (catalogue : List JobTree) (count : ℕ) (old m1 m2 : Maps) (who at : ℕ) (item : WorkItem) (kept : WorkRow) (new : Option ExecutionRow)
     → kept ≡ handed_to who at item
-    → new ≡ option_map (touched_as Taken catalogue (old.works ++ handed_to who at item ∷ []) at) (find (is_execution item.execution) old.executions)
+    → new ≡ option_map (row_after TakeUp catalogue (old.works ++ handed_to who at item ∷ []) at) (find (is_execution item.execution) old.executions)
     → m1 ≡ record old { works = old.works ++ kept ∷ [] }
     → m2 ≡ record m1 { executions = put_row item.execution new m1.executions }
     → rows_with catalogue (count + 1) m2 ≡ rows_after (rows_with catalogue count old) record { who = who; call = Claim; at = at; reply = Work item }

@@ -4,3 +4,4 @@ pub mod Lists
 pub mod Metering
 pub mod Pages
 pub mod Replying
+pub mod Tallies

@@ -1,13 +1,21 @@
 -- What an accepted reply says.
-use Rattle.std.proofs.Common.{◌≡◌, ℕ, ◌+◌, true, Option, None, Some, Ok, is_some, List, length, refl, sym}
+use Rattle.std.proofs.Common.{◌≡◌, ℕ, ◌+◌, ◌<◌, true, false, cond, Option, None, Some, Result, Ok, Err, is_some, List, [], find, length, refl, sym, ◌∙◌, ap}
+use Rattle.batch_ids.specs.Parameters.{Pair}
+use Rattle.batch_ids.specs.declared.refusal.Refusal.{Refusal}
+use Rattle.batch_ids.specs.declared.refusal.Refusal.TheVariants.{NoSuchJobExecutionException}
 use Rattle.batch_ids.specs.declared.status.WorkOutcome.{WorkOutcome}
 use Rattle.batch_history.specs.declared.call.Reply.{Reply}
-use Rattle.batch_history.specs.declared.call.Reply.TheVariants.{Work}
+use Rattle.batch_history.specs.declared.call.Call.TheVariants.{Restart}
+use Rattle.batch_history.specs.declared.call.Reply.TheVariants.{Work, Execution as IsExecution}
+use Rattle.batch_history.specs.declared.call.Entry.{Entry}
 use Rattle.batch_history.specs.declared.call.WorkItem.{WorkItem}
 use Rattle.batch_history.specs.declared.rows.ExecutionRow.{ExecutionRow}
 use Rattle.batch_history.specs.declared.rows.WorkRow.{WorkRow}
-use Rattle.batch_history.specs.Rows.{Rows, claimed, claim_reply, checkpointed, finished, first_ready, walk_in}
-use Rattle.batch_history.proofs.Legal.{entered-is}
+use Rattle.batch_history.specs.Rows.{History, IsNext, Rows, reply_by, entered, is_execution, claimed, claim_reply, checkpointed, finished, first_ready, walk_in, has_something}
+use Rattle.batch_history.specs.Due.{IsDue}
+use Rattle.job_walk.specs.declared.facts.Value.{Value}
+use Rattle.batch_history.specs.Replies.{is_nothing}
+use Rattle.batch_history.proofs.Legal.{entered-is, reply_room}
 
 item-next : (r : Rows) (row : ExecutionRow) (id : Option (List ℕ)) (item : WorkItem) → claim_reply r row id ≡ Work item → item.work ≡ length r.works + 1
 item-next r row None item e = cc
@@ -18,6 +26,17 @@ pub claimed_next : (limit : ℕ) (r : Rows) (found : Option ExecutionRow) (item 
 claimed_next limit r None item e = cc
 claimed_next limit r (Some row) item e = item-next r row (first_ready (walk_in r row)) item (sym (entered-is limit r.count _ (Work item) e))
 
+is-due : {R : Type 0} (result due : Result R Refusal) → result ≡ due → IsDue result due
+is-due (Ok reply) due same = sym same
+is-due (Err refusal) due same = λ _. sym same
+
+-- the reply to a claim that finds a job execution is due
+pub claim_due : (limit : ℕ) (r : Rows) (row : ExecutionRow) (value : Value) (given : Reply) (result : Result Reply Refusal)
+    → Some row ≡ find (has_something r) r.executions → value ≡ walk_in r row → given ≡ claim_reply r row (first_ready value)
+    → result ≡ entered limit r.count given → IsDue result (claimed limit r (find (has_something r) r.executions))
+claim_due limit r row value given result found walked made is =
+    is-due result _ (is ∙ (ap (entered limit r.count) (made ∙ ap (λ v. claim_reply r row (first_ready v)) walked) ∙ ap (claimed limit r) found))
+
 -- what is reported of, is there
 pub checkpointed_there : (limit : ℕ) (r : Rows) (who : ℕ) (found : Option WorkRow) (given : Reply) → checkpointed limit r who found ≡ Ok given → is_some found ≡ true
 checkpointed_there limit r who None given e = cc
@@ -26,3 +45,31 @@ checkpointed_there limit r who (Some row) given e = refl
 pub finished_there : (limit : ℕ) (r : Rows) (who : ℕ) (outcome : WorkOutcome) (found : Option WorkRow) (given : Reply) → finished limit r who outcome found ≡ Ok given → is_some found ≡ true
 finished_there limit r who outcome None given e = cc
 finished_there limit r who outcome (Some row) given e = refl
+
+-- The next entry
+
+-- its reply is due by the rows, and is not Nothing
+next-parts : (limit : ℕ) (r : Rows) (e : Entry) → IsNext limit r e → (reply_by limit r e.who e.call ≡ Ok e.reply) × (is_nothing e.reply ≡ false)
+next-parts limit r e next =
+    let h : History = next.history in
+    let parts = next.legal.due h.log e [] refl in
+    (ap (λ (rs : Rows). reply_by limit rs e.who e.call) next.stands ∙ parts.0, parts.1)
+
+pub next_due : (limit : ℕ) (r : Rows) (e : Entry) → IsNext limit r e → reply_by limit r e.who e.call ≡ Ok e.reply
+next_due limit r e next = (next-parts limit r e next).0
+
+pub next_entered : (limit : ℕ) (r : Rows) (e : Entry) → IsNext limit r e → is_nothing e.reply ≡ false
+next_entered limit r e next = (next-parts limit r e next).1
+
+-- there is room for it
+pub next_room : (limit : ℕ) (r : Rows) (e : Entry) → IsNext limit r e → r.count < limit
+next_room limit r e next = reply_room limit r e.who e.call e.reply (next_due limit r e next) (next_entered limit r e next)
+
+-- what is restarted, is there
+pub restarted_there : (limit : ℕ) (r : Rows) (who y : ℕ) (parameters : List Pair) (given : Reply) → reply_by limit r who (Restart y parameters) ≡ Ok given
+    → is_some (find (is_execution y) r.executions) ≡ true
+restarted_there limit r who y parameters given e =
+    (elim (is_some (find (is_execution y) r.executions)) as (λ b. cond b (entered limit r.count (IsExecution (length r.executions + 1))) (Err NoSuchJobExecutionException) ≡ Ok given → b ≡ true) [
+      | true ↦ λ s. refl
+      | false ↦ λ s. cc
+    ]) e

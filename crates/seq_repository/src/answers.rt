@@ -223,14 +223,13 @@ fn steps(
 }
 
 /// How many of these job executions have each status.
+#[tactic(auto, using(crate::proofs::Tallies::both_counted, crate::proofs::Tallies::none_before, crate::proofs::Tallies::none_after, crate::proofs::Tallies::total_counted))]
 fn counts(rows: &[ExecutionRow]) -> CountsByStatus
     ensures { result ≡ counts_of rows.now }
 {
     let mut counts = CountsByStatus::zero();
-    let mut place = rows.len();
-    while place > 0 {
-        place -= 1;
-        counts.add(rows[place].status());
+    for row in rows {
+        counts.add(row.status());
     }
     counts
 }

@@ -6,10 +6,10 @@ ghost use Rattle.batch_history.specs.History.{change_first, is_work, known_of, p
 ghost use Rattle.batch_history.specs.Rows.{is_execution, reply_by};
 ghost use Rattle.batch_history.specs.Replies.{is_nothing};
 ghost use Rattle.batch_history.specs.Steps.{rows_after};
-ghost use Rattle.seq_repository.specs.Touches.{put_row, place_at, touched_as};
+ghost use Rattle.seq_repository.specs.Changes.{put_row, place_at, row_after};
 
 use crate::repository::Repository;
-use crate::rows::Touch;
+use crate::rows::Change;
 use crate::{rows, search, status};
 use batch_history::{Call, ExecutionRow, JobInstance, Reply, WorkItem};
 use batch_ids::{
@@ -18,7 +18,6 @@ use batch_ids::{
 };
 use job_walk::Known;
 use records::Records;
-use std::alloc::Global;
 
 /// Puts a row in place of that of its job execution.
 fn put_row(records: &mut Records, x: ExecutionId, new: Option<ExecutionRow>)
@@ -48,7 +47,7 @@ fn put_mark(
 }
 
 /// Drops the checkpoint of a step that is completed.
-fn leave_mark(records: &mut Records, outcome: WorkOutcome, row: &Option<ExecutionRow>, step: T256)
+fn drop_mark(records: &mut Records, outcome: WorkOutcome, row: &Option<ExecutionRow>, step: T256)
     ensures { records.new ≡ record records.old { checkpoints = marks_left outcome (place_at row.now step) records.old.checkpoints } }
 {
     match outcome {
@@ -66,23 +65,22 @@ fn leave_mark(records: &mut Records, outcome: WorkOutcome, row: &Option<Executio
 
 impl<const LIMIT: u64> Repository<LIMIT> {
     /// The row of a job execution after an operation on it, by what is known of its elements then.
-    fn touched(
+    fn execution_after(
         &self,
-        alloc: Global,
         x: ExecutionId,
-        touch: Touch,
+        change: Change,
         known: &[Known],
         at: Moment,
     ) -> Result<Option<ExecutionRow>, OutOfMemory>
         ensures row { (works : List Work) → known.now ≡ known_of x works
-            → IfOk result (λ new. new ≡ option_map (touched_as touch self.now.catalogue works at) (find (is_execution x) self.now.executions)) }
+            → IfOk result (λ new. new ≡ option_map (row_after change self.now.catalogue works at) (find (is_execution x) self.now.executions)) }
         ensures own { IfOk result (λ new. IfSome new (λ row. (is_some (find (is_execution x) self.now.executions) ≡ true) × (row.execution ≡ x))) }
     {
         match self.records.execution(x) {
             None => Ok(None),
             Some(row) => {
-                let value = search::walk_of(alloc, &self.catalogue, known, &row.job)?;
-                Ok(Some(rows::refreshed(alloc, touch, value, at, row)?))
+                let value = search::walk_of(self.alloc, &self.catalogue, known, &row.job)?;
+                Ok(Some(rows::change_row(self.alloc, change, value, at, row)?))
             }
         }
     }
@@ -102,7 +100,7 @@ impl<const LIMIT: u64> Repository<LIMIT> {
         let parameters = parameters.try_clone()?;
         let instance = InstanceId::new(self.records.instances().len() as u64 + 1);
         let x = self.records.executions().len() as u64 + 1;
-        let row = rows::fresh_row(x, instance, at, second, parameters);
+        let row = rows::new_execution(x, instance, at, second, parameters);
         let made = JobInstance {
             instance,
             job: first,
@@ -114,58 +112,56 @@ impl<const LIMIT: u64> Repository<LIMIT> {
 
     fn enter_restart(
         &mut self,
-        alloc: Global,
         y: ExecutionId,
         parameters: &Parameters,
         at: Moment,
     ) -> Result<(), OutOfMemory>
-        requires { self.old.count < LIMIT }
+        requires room { self.old.count < LIMIT }
+        requires there { is_some (find (is_execution y) self.old.executions) ≡ true }
         ensures rows { OnOk result (self.new ≡ rows_after self.old record { who = 0; call = Call.Restart y parameters.now; at = at; reply = Reply.Done }) }
         ensures unchanged { OnErr result (self.new ≡ self.old) }
     {
+        let Some(earlier) = self.records.execution(y) else {
+            unreachable!();
+        };
+        let instance = earlier.instance;
+        let job = earlier.job.try_clone()?;
         let parameters = parameters.try_clone()?;
         let x = self.records.executions().len() as u64 + 1;
-        let row = rows::again_row(alloc, x, at, parameters, self.records.execution(y))?;
+        let row = rows::new_execution(x, instance, at, job, parameters);
         self.records.add_execution(row)?;
         self.count += 1;
         Ok(())
     }
 
     /// Enters an operation on a job execution that changes no work item.
-    fn enter_touch(
+    fn enter_change(
         &mut self,
-        alloc: Global,
         x: ExecutionId,
-        touch: Touch,
+        change: Change,
         at: Moment,
     ) -> Result<(), OutOfMemory>
         requires { self.old.count < LIMIT }
-        ensures rows { OnOk result (self.new ≡ record self.old { count = self.old.count + 1; executions = change_first (is_execution x) (touched_as touch self.old.catalogue self.old.works at) self.old.executions }) }
+        ensures rows { OnOk result (self.new ≡ record self.old { count = self.old.count + 1; executions = change_first (is_execution x) (row_after change self.old.catalogue self.old.works at) self.old.executions }) }
         ensures unchanged { OnErr result (self.new ≡ self.old) }
     {
-        let known = search::known_of(alloc, self.records.works(), x)?;
-        let row = self.touched(alloc, x, touch, known.as_slice(), at)?;
+        let known = search::known_of(self.alloc, self.records.works(), x)?;
+        let row = self.execution_after(x, change, known.as_slice(), at)?;
         put_row(&mut self.records, x, row);
         self.count += 1;
         Ok(())
     }
 
-    fn enter_work(
-        &mut self,
-        alloc: Global,
-        who: u64,
-        at: Moment,
-        item: &WorkItem,
-    ) -> Result<(), OutOfMemory>
+    fn enter_work(&mut self, who: u64, at: Moment, item: &WorkItem) -> Result<(), OutOfMemory>
         requires room { self.old.count < LIMIT }
         requires number { item.now.work ≡ length self.old.works + 1 }
         ensures rows { OnOk result (self.new ≡ rows_after self.old record { who = who; call = Call.Claim; at = at; reply = Reply.Work item.now }) }
         ensures unchanged { OnErr result (self.new ≡ self.old) }
     {
         let x = item.execution;
-        let known = search::known_handed(alloc, self.records.works(), item)?;
-        let row = self.touched(alloc, x, Touch::Taken, known.as_slice(), at)?;
-        let work = rows::handed_to(who, at, item)?;
+        let known = search::known_once_claimed(self.alloc, self.records.works(), item)?;
+        let row = self.execution_after(x, Change::Claim, known.as_slice(), at)?;
+        let work = rows::new_work(who, at, item)?;
         self.records.add_work(work)?;
         put_row(&mut self.records, x, row);
         self.count += 1;
@@ -174,7 +170,6 @@ impl<const LIMIT: u64> Repository<LIMIT> {
 
     fn enter_checkpoint(
         &mut self,
-        alloc: Global,
         at: Moment,
         w: WorkId,
         mark: &Text<65536>,
@@ -191,9 +186,9 @@ impl<const LIMIT: u64> Repository<LIMIT> {
         let x = work.execution;
         let element = work.element.try_clone()?;
         let mark = mark.try_clone()?;
-        let work = rows::reported(*step, work)?;
-        let known = search::known_of(alloc, self.records.works(), x)?;
-        let row = self.touched(alloc, x, Touch::Reported, known.as_slice(), at)?;
+        let work = rows::report_counts(*step, work)?;
+        let known = search::known_of(self.alloc, self.records.works(), x)?;
+        let row = self.execution_after(x, Change::Report, known.as_slice(), at)?;
         put_mark(&mut self.records, &row, element, mark)?;
         self.records.change_work(w, work);
         put_row(&mut self.records, x, row);
@@ -203,7 +198,6 @@ impl<const LIMIT: u64> Repository<LIMIT> {
 
     fn enter_finish(
         &mut self,
-        alloc: Global,
         at: Moment,
         w: WorkId,
         outcome: WorkOutcome,
@@ -220,11 +214,18 @@ impl<const LIMIT: u64> Repository<LIMIT> {
         };
         let x = work.execution;
         let element = work.element.try_clone()?;
-        let exit = status::exit_given(alloc, outcome, exit)?;
-        let known = search::known_over(alloc, self.records.works(), x, w, outcome, &exit)?;
-        let row = self.touched(alloc, x, Touch::Reported, known.as_slice(), at)?;
-        let work = rows::over_as(outcome, exit, *step, at, work)?;
-        leave_mark(&mut self.records, outcome, &row, element);
+        let exit = status::exit_or_name(self.alloc, outcome, exit)?;
+        let known = search::known_once_finished(
+            self.alloc,
+            self.records.works(),
+            x,
+            w,
+            outcome,
+            &exit,
+        )?;
+        let row = self.execution_after(x, Change::Report, known.as_slice(), at)?;
+        let work = rows::end_work(outcome, exit, *step, at, work)?;
+        drop_mark(&mut self.records, outcome, &row, element);
         self.records.change_work(w, work);
         put_row(&mut self.records, x, row);
         self.count += 1;
@@ -232,13 +233,7 @@ impl<const LIMIT: u64> Repository<LIMIT> {
     }
 
     #[tactic(auto, using(crate::proofs::Replying::claimed_next, crate::proofs::Entries::closed_rows))]
-    fn enter_claim(
-        &mut self,
-        alloc: Global,
-        who: u64,
-        at: Moment,
-        reply: &Reply,
-    ) -> Result<(), OutOfMemory>
+    fn enter_claim(&mut self, who: u64, at: Moment, reply: &Reply) -> Result<(), OutOfMemory>
         requires room { self.old.count < LIMIT }
         requires due { reply_by LIMIT self.old who Call.Claim ≡ Ok reply.now }
         requires entered { is_nothing reply.now ≡ false }
@@ -246,17 +241,16 @@ impl<const LIMIT: u64> Repository<LIMIT> {
         ensures unchanged { OnErr result (self.new ≡ self.old) }
     {
         match reply {
-            Reply::Work(item) => self.enter_work(alloc, who, at, item),
-            Reply::Closed(x) => self.enter_touch(alloc, *x, Touch::Taken, at),
+            Reply::Work(item) => self.enter_work(who, at, item),
+            Reply::Closed(x) => self.enter_change(*x, Change::Claim, at),
             _ => unreachable!(),
         }
     }
 
     /// Enters a call with the reply that it is due.
-    #[tactic(auto, using(crate::proofs::Replying::checkpointed_there, crate::proofs::Replying::finished_there, crate::proofs::Entries::stop_rows, crate::proofs::Entries::abandon_rows))]
-    fn enter(
+    #[tactic(auto, using(crate::proofs::Replying::restarted_there, crate::proofs::Replying::checkpointed_there, crate::proofs::Replying::finished_there, crate::proofs::Entries::stop_rows, crate::proofs::Entries::abandon_rows))]
+    pub(crate) fn enter_call(
         &mut self,
-        alloc: Global,
         who: u64,
         call: &Call,
         at: Moment,
@@ -273,27 +267,26 @@ impl<const LIMIT: u64> Repository<LIMIT> {
             Call::Restart {
                 execution,
                 parameters,
-            } => self.enter_restart(alloc, *execution, parameters, at),
-            Call::Stop { execution } => self.enter_touch(alloc, *execution, Touch::Asked, at),
-            Call::Abandon { execution } => self.enter_touch(alloc, *execution, Touch::GivenUp, at),
-            Call::Claim => self.enter_claim(alloc, who, at, reply),
+            } => self.enter_restart(*execution, parameters, at),
+            Call::Stop { execution } => self.enter_change(*execution, Change::StopRequest, at),
+            Call::Abandon { execution } => self.enter_change(*execution, Change::Abandonment, at),
+            Call::Claim => self.enter_claim(who, at, reply),
             Call::Checkpoint { work, mark, step } => {
-                self.enter_checkpoint(alloc, at, *work, mark, step)
+                self.enter_checkpoint(at, *work, mark, step)
             }
             Call::Finish {
                 work,
                 outcome,
                 exit,
                 step,
-            } => self.enter_finish(alloc, at, *work, *outcome, exit, step),
+            } => self.enter_finish(at, *work, *outcome, exit, step),
         }
     }
 
     /// Answers a call, and enters it where it is accepted.
     #[tactic(auto, using(batch_history::proofs::Legal::reply_room))]
-    pub(crate) fn change(
+    pub(crate) fn decide_and_enter(
         &mut self,
-        alloc: Global,
         who: u64,
         call: &Call,
         at: Moment,
@@ -302,11 +295,11 @@ impl<const LIMIT: u64> Repository<LIMIT> {
         ensures rows { IfOk result (λ reply. self.new ≡ (if is_nothing reply then self.old else rows_after self.old record { who = who; call = call.now; at = at; reply = reply })) }
         ensures refused { OnErr result (self.new ≡ self.old) }
     {
-        let reply = self.reply(alloc, who, call)?;
+        let reply = self.reply(who, call)?;
         if reply.is_nothing() {
             return Ok(reply);
         }
-        self.enter(alloc, who, call, at, &reply)?;
+        self.enter_call(who, call, at, &reply)?;
         Ok(reply)
     }
 }

@@ -5,15 +5,16 @@ ghost use Rattle.batch_history.specs.History.{is_work, job_named};
 ghost use Rattle.batch_history.specs.Rows.{is_execution, reply_by, entered, claim_reply, stopped, abandoned, checkpointed, finished, stop_asked, unheld_by, marked_as, stopped_as, stopped_end, finished_as, item_of, task_of, runs_in, walk_in, first_ready};
 
 use crate::repository::Repository;
+use crate::search::Claimable;
 use crate::{search, status};
 use batch_history::{Call, ExecutionRow, Reply, WorkItem, WorkKind, WorkState, WorkTask};
 use batch_ids::{ExecutionId, OutOfMemory, Refusal, T256, Text, WorkId, WorkOutcome};
-use job_walk::Runnable;
+use job_walk::{Runnable, Value};
 use jsl_model::Task;
 use std::alloc::Global;
 
-/// The reply, or the refusal where the history is full.
-fn entered<const LIMIT: u64>(count: u64, reply: Reply) -> Result<Reply, Refusal>
+/// The reply to a call that is accepted, or the refusal where the history is full.
+fn accept<const LIMIT: u64>(count: u64, reply: Reply) -> Result<Reply, Refusal>
     ensures { result ≡ entered LIMIT count reply }
 {
     if count < LIMIT {
@@ -61,7 +62,7 @@ fn task_of(
 }
 
 /// Why a session may not report of a work item.
-fn unheld_by(who: u64, claimer: u64, state: &WorkState) -> Option<Refusal>
+fn report_refusal(who: u64, claimer: u64, state: &WorkState) -> Option<Refusal>
     ensures { result ≡ unheld_by who claimer state.now }
 {
     match state {
@@ -75,42 +76,50 @@ fn unheld_by(who: u64, claimer: u64, state: &WorkState) -> Option<Refusal>
 }
 
 /// What the checkpoint of a work item of this kind is answered.
-fn marked_as<const LIMIT: u64>(count: u64, stop: bool, kind: WorkKind) -> Result<Reply, Refusal>
+fn checkpoint_reply<const LIMIT: u64>(
+    count: u64,
+    stop: bool,
+    kind: WorkKind,
+) -> Result<Reply, Refusal>
     ensures { result ≡ marked_as LIMIT count stop kind }
 {
     match kind {
         WorkKind::Chunk => if stop {
-            entered::<LIMIT>(count, Reply::StopAsked)
+            accept::<LIMIT>(count, Reply::StopAsked)
         } else {
-            entered::<LIMIT>(count, Reply::Go)
+            accept::<LIMIT>(count, Reply::Go)
         },
         WorkKind::Batchlet => Err(Refusal::WrongOutcome),
         WorkKind::Decision => Err(Refusal::WrongOutcome),
     }
 }
 
-fn stopped_as<const LIMIT: u64>(count: u64, stop: bool) -> Result<Reply, Refusal>
+fn stopped_step_reply<const LIMIT: u64>(count: u64, stop: bool) -> Result<Reply, Refusal>
     ensures { result ≡ stopped_as LIMIT count stop }
 {
     if stop {
-        entered::<LIMIT>(count, Reply::Done)
+        accept::<LIMIT>(count, Reply::Done)
     } else {
         Err(Refusal::NotStopping)
     }
 }
 
-fn stopped_end<const LIMIT: u64>(count: u64, stop: bool, kind: WorkKind) -> Result<Reply, Refusal>
+fn stopped_work_reply<const LIMIT: u64>(
+    count: u64,
+    stop: bool,
+    kind: WorkKind,
+) -> Result<Reply, Refusal>
     ensures { result ≡ stopped_end LIMIT count stop kind }
 {
     match kind {
         WorkKind::Decision => Err(Refusal::WrongOutcome),
-        WorkKind::Batchlet => stopped_as::<LIMIT>(count, stop),
-        WorkKind::Chunk => stopped_as::<LIMIT>(count, stop),
+        WorkKind::Batchlet => stopped_step_reply::<LIMIT>(count, stop),
+        WorkKind::Chunk => stopped_step_reply::<LIMIT>(count, stop),
     }
 }
 
 /// What the end of a work item of this kind is answered.
-fn finished_as<const LIMIT: u64>(
+fn finish_reply<const LIMIT: u64>(
     count: u64,
     stop: bool,
     kind: WorkKind,
@@ -119,9 +128,9 @@ fn finished_as<const LIMIT: u64>(
     ensures { result ≡ finished_as LIMIT count stop kind outcome }
 {
     match outcome {
-        WorkOutcome::Stopped => stopped_end::<LIMIT>(count, stop, kind),
-        WorkOutcome::Completed => entered::<LIMIT>(count, Reply::Done),
-        WorkOutcome::Failed => entered::<LIMIT>(count, Reply::Done),
+        WorkOutcome::Stopped => stopped_work_reply::<LIMIT>(count, stop, kind),
+        WorkOutcome::Completed => accept::<LIMIT>(count, Reply::Done),
+        WorkOutcome::Failed => accept::<LIMIT>(count, Reply::Done),
     }
 }
 
@@ -133,7 +142,7 @@ impl<const LIMIT: u64> Repository<LIMIT> {
             return Err(Refusal::JobStartException);
         }
         let x = ExecutionId::new(self.records.executions().len() as u64 + 1);
-        entered::<LIMIT>(self.count, Reply::Execution(x))
+        accept::<LIMIT>(self.count, Reply::Execution(x))
     }
 
     fn reply_to_restart(&self, x: ExecutionId) -> Result<Reply, Refusal>
@@ -143,7 +152,7 @@ impl<const LIMIT: u64> Repository<LIMIT> {
             return Err(Refusal::NoSuchJobExecutionException);
         }
         let x = ExecutionId::new(self.records.executions().len() as u64 + 1);
-        entered::<LIMIT>(self.count, Reply::Execution(x))
+        accept::<LIMIT>(self.count, Reply::Execution(x))
     }
 
     fn reply_to_stop(&self, x: ExecutionId) -> Result<Reply, Refusal>
@@ -154,7 +163,7 @@ impl<const LIMIT: u64> Repository<LIMIT> {
             Some(row) => if status::is_finished(row.status()) {
                 Err(Refusal::JobExecutionNotRunningException)
             } else {
-                entered::<LIMIT>(self.count, Reply::Done)
+                accept::<LIMIT>(self.count, Reply::Done)
             },
         }
     }
@@ -167,14 +176,13 @@ impl<const LIMIT: u64> Repository<LIMIT> {
             Some(row) => if search::is_running(self.records.executions(), row.instance) {
                 Err(Refusal::JobExecutionIsRunningException)
             } else {
-                entered::<LIMIT>(self.count, Reply::Done)
+                accept::<LIMIT>(self.count, Reply::Done)
             },
         }
     }
 
     fn task_in(
         &self,
-        alloc: Global,
         mark: Option<&Text<65536>>,
         job: &T256,
         element: &T256,
@@ -182,19 +190,19 @@ impl<const LIMIT: u64> Repository<LIMIT> {
         ensures { IfOk result (λ task. task ≡ task_of (option_copied mark.entry) (runs_in (job_named self.now.catalogue job.now) element.now)) }
     {
         match self.catalogue.job(job.as_str()) {
-            None => task_of(alloc, mark, None),
+            None => task_of(self.alloc, mark, None),
             Some(job) => {
                 let found = job_walk::find_runnable(job.elements(), element)?;
-                task_of(alloc, mark, found)
+                task_of(self.alloc, mark, found)
             }
         }
     }
 
-    fn item_of(&self, alloc: Global, row: &ExecutionRow, id: &T256) -> Result<WorkItem, OutOfMemory>
+    fn item_of(&self, row: &ExecutionRow, id: &T256) -> Result<WorkItem, OutOfMemory>
         ensures { IfOk result (λ item. item ≡ item_of self.now row.now id.now) }
     {
         let mark = self.records.checkpoint(row.instance, id);
-        let task = self.task_in(alloc, mark, &row.job, id)?;
+        let task = self.task_in(mark, &row.job, id)?;
         let element = id.try_clone()?;
         let work = WorkId::new(self.records.works().len() as u64 + 1);
         Ok(WorkItem {
@@ -205,30 +213,31 @@ impl<const LIMIT: u64> Repository<LIMIT> {
         })
     }
 
-    fn claim_of(&self, alloc: Global, row: &ExecutionRow) -> Result<Reply, OutOfMemory>
-        ensures { IfOk result (λ reply. reply ≡ claim_reply self.now row.now (first_ready (walk_in self.now row.now))) }
+    /// What a claim of a job execution is answered, whose walk has this value.
+    fn claim_reply(&self, row: &ExecutionRow, value: &Value) -> Result<Reply, OutOfMemory>
+        ensures { IfOk result (λ reply. reply ≡ claim_reply self.now row.now (first_ready value.now)) }
     {
-        let value = search::walk_value(alloc, &self.catalogue, self.records.works(), row)?;
-        match status::first_ready(&value) {
+        match status::first_ready(value) {
             None => Ok(Reply::Closed(row.execution)),
-            Some(id) => Ok(Reply::Work(self.item_of(alloc, row, id)?)),
+            Some(id) => Ok(Reply::Work(self.item_of(row, id)?)),
         }
     }
 
-    fn reply_to_claim(&self, alloc: Global) -> Result<Reply, Refusal>
+    fn reply_to_claim(&self) -> Result<Reply, Refusal>
         ensures { IsDue result (reply_by LIMIT self.now 0 Call.Claim) }
     {
         let works = self.records.works();
-        match search::find_ready(alloc, &self.catalogue, works, self.records.executions())? {
+        let rows = self.records.executions();
+        match search::find_claimable(self.alloc, &self.catalogue, works, rows)? {
             None => Ok(Reply::Nothing),
-            Some(row) => {
-                let reply = self.claim_of(alloc, row)?;
-                entered::<LIMIT>(self.count, reply)
+            Some(Claimable { row, value }) => {
+                let reply = self.claim_reply(row, &value)?;
+                accept::<LIMIT>(self.count, reply)
             }
         }
     }
 
-    fn stop_asked(&self, x: ExecutionId) -> bool
+    fn stop_requested(&self, x: ExecutionId) -> bool
         ensures { result ≡ stop_asked self.now x }
     {
         match self.records.execution(x) {
@@ -242,9 +251,13 @@ impl<const LIMIT: u64> Repository<LIMIT> {
     {
         match self.records.work(w) {
             None => Err(Refusal::NoSuchWork),
-            Some(row) => match unheld_by(who, row.claimer, &row.state) {
+            Some(row) => match report_refusal(who, row.claimer, &row.state) {
                 Some(refusal) => Err(refusal),
-                None => marked_as::<LIMIT>(self.count, self.stop_asked(row.execution), row.kind),
+                None => checkpoint_reply::<LIMIT>(
+                    self.count,
+                    self.stop_requested(row.execution),
+                    row.kind,
+                ),
             },
         }
     }
@@ -254,18 +267,18 @@ impl<const LIMIT: u64> Repository<LIMIT> {
     {
         match self.records.work(w) {
             None => Err(Refusal::NoSuchWork),
-            Some(row) => match unheld_by(who, row.claimer, &row.state) {
+            Some(row) => match report_refusal(who, row.claimer, &row.state) {
                 Some(refusal) => Err(refusal),
                 None => {
-                    let stop = self.stop_asked(row.execution);
-                    finished_as::<LIMIT>(self.count, stop, row.kind, outcome)
+                    let stop = self.stop_requested(row.execution);
+                    finish_reply::<LIMIT>(self.count, stop, row.kind, outcome)
                 }
             },
         }
     }
 
     /// What a call of the session `who` is answered.
-    pub(crate) fn reply(&self, alloc: Global, who: u64, call: &Call) -> Result<Reply, Refusal>
+    pub(crate) fn reply(&self, who: u64, call: &Call) -> Result<Reply, Refusal>
         ensures { IsDue result (reply_by LIMIT self.now who call.now) }
     {
         match call {
@@ -273,7 +286,7 @@ impl<const LIMIT: u64> Repository<LIMIT> {
             Call::Restart { execution, .. } => self.reply_to_restart(*execution),
             Call::Stop { execution } => self.reply_to_stop(*execution),
             Call::Abandon { execution } => self.reply_to_abandon(*execution),
-            Call::Claim => self.reply_to_claim(alloc),
+            Call::Claim => self.reply_to_claim(),
             Call::Checkpoint { work, .. } => self.reply_to_checkpoint(who, *work),
             Call::Finish { work, outcome, .. } => self.reply_to_finish(who, *work, *outcome),
         }

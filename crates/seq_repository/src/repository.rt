@@ -1,10 +1,10 @@
-ghost use Rattle.std.specs.Prelude.{◌≡◌, ◌≤◌, [], IfOk, OnErr};
+ghost use Rattle.std.specs.Prelude.{◌≡◌, ◌≤◌, [], IfOk, IsOk, OnErr, OnOk};
 ghost use Rattle.batch_history.specs.Answers.{answer};
 ghost use Rattle.batch_history.specs.Due.{IsDue};
-ghost use Rattle.batch_history.specs.Rows.{History, StandsFor, reply, after_call};
+ghost use Rattle.batch_history.specs.Rows.{History, IsNext, StandsFor, reply, after_call, grown};
 
 use crate::answers;
-use batch_history::{Answer, Call, Query, Reply};
+use batch_history::{Answer, Call, Entry, Query, Reply};
 use batch_ids::{Moment, OutOfMemory, Refusal};
 use jsl_model::Catalogue;
 use records::Records;
@@ -17,6 +17,8 @@ use std::marker::Model;
 /// Batch 2.1, "JobRepository" and "JobOperator".
 #[derive(Debug, Drop)]
 pub struct Repository<const LIMIT: u64> {
+    /// Where the rows, replies and answers take their memory.
+    pub(crate) alloc: Global,
     pub(crate) catalogue: Catalogue,
     pub(crate) count: u64,
     pub(crate) records: Records,
@@ -40,15 +42,21 @@ impl<const LIMIT: u64> Model for Repository<LIMIT> {
 }
 
 impl<const LIMIT: u64> Repository<LIMIT> {
-    /// A repository with no operation yet. It stands for the empty history over its catalogue. It takes
-    /// no memory.
+    /// A repository with no operation yet. It stands for the empty history over its catalogue.
     ///
-    /// `LIMIT` is at most 1,000,000.
+    /// `LIMIT` is at most 1,000,000. All memory that the repository takes later comes from `alloc`.
+    ///
+    /// # Errors
+    ///
+    /// None today: an empty repository takes no memory.
     pub fn new(alloc: Global, catalogue: Catalogue) -> Result<Repository<LIMIT>, OutOfMemory>
         requires { LIMIT ≤ 1000000 }
-        ensures { IfOk result (λ made. StandsFor made record { catalogue = catalogue; log = [] }) }
+        ensures stands { IfOk result (λ made. StandsFor made
+            record { catalogue = catalogue; log = [] }) }
+        ensures made { IsOk result }
     {
         Ok(Repository {
+            alloc,
             catalogue,
             count: 0,
             records: Records::new(alloc),
@@ -64,40 +72,57 @@ impl<const LIMIT: u64> Repository<LIMIT> {
 
     /// What `apply` would answer a call of the session `who`. Nothing changes.
     ///
-    /// Errors: the first refusal of the call that stands, or `OutOfMemory` in place of any answer.
-    pub fn preview(&self, alloc: Global, who: u64, call: &Call) -> Result<Reply, Refusal>
+    /// # Errors
+    ///
+    /// The first refusal of the call that stands, `RepositoryFull` after the call's own refusals where
+    /// `LIMIT` operations were accepted, or `OutOfMemory` in place of any answer.
+    pub fn preview(&self, who: u64, call: &Call) -> Result<Reply, Refusal>
         ensures { (h : History) → StandsFor self.now h → IsDue result (reply LIMIT h who call.now) }
     {
-        self.reply(alloc, who, call)
+        self.reply(who, call)
     }
 
     /// Answers a call of the session `who` at this moment, and enters it where it is accepted. The
     /// reply Nothing is not entered.
     ///
-    /// Errors: the first refusal of the call that stands, `RepositoryFull` after the call's own
-    /// refusals where `LIMIT` operations were accepted, or `OutOfMemory` in place of any answer. A
-    /// refused call changes nothing.
+    /// # Errors
+    ///
+    /// The first refusal of the call that stands, `RepositoryFull` after the call's own refusals where
+    /// `LIMIT` operations were accepted, or `OutOfMemory` in place of any answer. A refused call changes
+    /// nothing.
     #[tactic(auto, using(batch_history::proofs::Stepping::stands_call))]
-    pub fn apply(
-        &mut self,
-        alloc: Global,
-        who: u64,
-        call: &Call,
-        at: Moment,
-    ) -> Result<Reply, Refusal>
+    pub fn apply(&mut self, who: u64, call: &Call, at: Moment) -> Result<Reply, Refusal>
         ensures reply { (h : History) → StandsFor self.old h → IsDue result (reply LIMIT h who call.now) }
         ensures after { (h : History) → StandsFor self.old h → IfOk result (λ reply. StandsFor self.new (after_call h who call.now at reply)) }
         ensures refused { OnErr result (self.new ≡ self.old) }
     {
-        self.change(alloc, who, call, at)
+        self.decide_and_enter(who, call, at)
+    }
+
+    /// Enters an operation that was accepted after the operations before it: some legal history that
+    /// the repository stands for is legal with this entry too. It decides nothing anew.
+    ///
+    /// # Errors
+    ///
+    /// `OutOfMemory` alone, and then nothing has changed.
+    #[tactic(auto, using(batch_history::proofs::Stepping::stands_after, crate::proofs::Replying::next_room, crate::proofs::Replying::next_due, crate::proofs::Replying::next_entered))]
+    pub fn enter(&mut self, entry: &Entry) -> Result<(), OutOfMemory>
+        requires { IsNext LIMIT self.old entry.now }
+        ensures stands { (h : History) → StandsFor self.old h
+            → OnOk result (StandsFor self.new (grown h entry.now)) }
+        ensures unchanged { OnErr result (self.new ≡ self.old) }
+    {
+        self.enter_call(entry.who, &entry.call, entry.at, &entry.reply)
     }
 
     /// Answers a query.
     ///
-    /// Errors: the query's refusal where it stands, or `OutOfMemory` in place of any answer.
-    pub fn ask(&self, alloc: Global, query: &Query) -> Result<Answer, Refusal>
+    /// # Errors
+    ///
+    /// The query's refusal where it stands, or `OutOfMemory` in place of any answer.
+    pub fn ask(&self, query: &Query) -> Result<Answer, Refusal>
         ensures { (h : History) → StandsFor self.now h → IsDue result (answer h query.now) }
     {
-        answers::answer(alloc, &self.records, query)
+        answers::answer(self.alloc, &self.records, query)
     }
 }

@@ -1,13 +1,12 @@
 ghost use Rattle.std.specs.Prelude.{◌≡◌, IfOk};
-ghost use Rattle.std.specs.Option.{option_copied};
 ghost use Rattle.batch_ids.specs.Metrics.{added};
 ghost use Rattle.batch_ids.specs.Metrics.{IsWithin, most_after};
 ghost use Rattle.seq_repository.specs.Metered.{IsStep};
 ghost use Rattle.batch_history.specs.History.{handed_to, reported, over_as};
-ghost use Rattle.batch_history.specs.Steps.{fresh_row, again_row, renewed, refreshed};
-ghost use Rattle.seq_repository.specs.Touches.{effect_of};
+ghost use Rattle.batch_history.specs.Steps.{fresh_row, renewed, refreshed};
+ghost use Rattle.seq_repository.specs.Changes.{effect_of};
 
-use crate::status::{earliest, exit_from, is_finished, status_from};
+use crate::status::{batch_status, earliest, exit_status, is_finished};
 use batch_history::{ExecutionRow, WorkItem, WorkRow, WorkState};
 use batch_ids::{
     BatchStatus, ExecutionId, InstanceId, MetricStep, Metrics, Moment, OutOfMemory, Parameters,
@@ -18,19 +17,19 @@ use std::alloc::Global;
 
 /// What an operation does to the job execution that it is on.
 #[derive(Clone, Copy, PartialEq, Eq, Debug)]
-pub(crate) enum Touch {
-    /// It asks it to stop.
-    Asked,
-    /// It gives it up.
-    GivenUp,
+pub(crate) enum Change {
+    /// It requests a stop.
+    StopRequest,
+    /// It abandons it.
+    Abandonment,
     /// It takes it up.
-    Taken,
-    /// It reports of a work item of it.
-    Reported,
+    Claim,
+    /// It reports of a work item.
+    Report,
 }
 
 /// The row of a job execution that is made now.
-pub(crate) fn fresh_row(
+pub(crate) fn new_execution(
     x: u64,
     instance: InstanceId,
     at: Moment,
@@ -55,24 +54,8 @@ pub(crate) fn fresh_row(
     }
 }
 
-/// The row of a job execution that is made now of an earlier one.
-pub(crate) fn again_row(
-    alloc: Global,
-    x: u64,
-    at: Moment,
-    parameters: Parameters,
-    earlier: Option<&ExecutionRow>,
-) -> Result<ExecutionRow, OutOfMemory>
-    ensures { IfOk result (λ row. row ≡ again_row x at parameters (option_copied earlier.entry)) }
-{
-    match earlier {
-        None => Ok(fresh_row(x, InstanceId::new(0), at, T256::empty(alloc), parameters)),
-        Some(row) => Ok(fresh_row(x, row.instance, at, row.job.try_clone()?, parameters)),
-    }
-}
-
 /// The row with this start, these marks and this value of its walk.
-fn renewed(
+fn row_with(
     alloc: Global,
     stop: bool,
     abandoned: bool,
@@ -85,8 +68,8 @@ fn renewed(
 {
     let job = row.job.try_clone()?;
     let parameters = row.parameters.try_clone()?;
-    let bare = status_from(stop, start, &value);
-    let exit = exit_from(alloc, stop, start, value)?;
+    let bare = batch_status(stop, start, &value);
+    let exit = exit_status(alloc, stop, start, value)?;
     Ok(ExecutionRow {
         execution: row.execution,
         instance: row.instance,
@@ -103,29 +86,29 @@ fn renewed(
     })
 }
 
-/// The row of a job execution after an operation on it, `value` being that of its walk after it.
-pub(crate) fn refreshed(
+/// The row of a job execution after a change, `value` being that of its walk after it.
+pub(crate) fn change_row(
     alloc: Global,
-    touch: Touch,
+    change: Change,
     value: Value,
     at: Moment,
     row: &ExecutionRow,
 ) -> Result<ExecutionRow, OutOfMemory>
-    ensures { IfOk result (λ new. new ≡ refreshed (effect_of touch) value at row.now) }
+    ensures { IfOk result (λ new. new ≡ refreshed (effect_of change) value at row.now) }
 {
-    match touch {
-        Touch::Asked => renewed(alloc, true, row.abandoned, row.start, value, at, row),
-        Touch::GivenUp => renewed(alloc, row.stop, true, row.start, value, at, row),
-        Touch::Taken => {
+    match change {
+        Change::StopRequest => row_with(alloc, true, row.abandoned, row.start, value, at, row),
+        Change::Abandonment => row_with(alloc, row.stop, true, row.start, value, at, row),
+        Change::Claim => {
             let start = earliest(row.start, true, at);
-            renewed(alloc, row.stop, row.abandoned, start, value, at, row)
+            row_with(alloc, row.stop, row.abandoned, start, value, at, row)
         }
-        Touch::Reported => renewed(alloc, row.stop, row.abandoned, row.start, value, at, row),
+        Change::Report => row_with(alloc, row.stop, row.abandoned, row.start, value, at, row),
     }
 }
 
 /// The row of a work item that is handed out to this session.
-pub(crate) fn handed_to(who: u64, at: Moment, item: &WorkItem) -> Result<WorkRow, OutOfMemory>
+pub(crate) fn new_work(who: u64, at: Moment, item: &WorkItem) -> Result<WorkRow, OutOfMemory>
     ensures { IfOk result (λ row. row ≡ handed_to who at item.now) }
 {
     let element = item.element.try_clone()?;
@@ -142,7 +125,7 @@ pub(crate) fn handed_to(who: u64, at: Moment, item: &WorkItem) -> Result<WorkRow
     })
 }
 
-fn state_copy(state: &WorkState) -> Result<WorkState, OutOfMemory>
+fn copy_state(state: &WorkState) -> Result<WorkState, OutOfMemory>
     ensures { IfOk result (λ copy. copy ≡ state.now) }
 {
     match state {
@@ -152,7 +135,7 @@ fn state_copy(state: &WorkState) -> Result<WorkState, OutOfMemory>
 }
 
 /// The metrics with these counts added.
-fn added(metrics: Metrics, step: MetricStep) -> Metrics
+fn add_counts(metrics: Metrics, step: MetricStep) -> Metrics
     requires { IsWithin (most_after 1000000) metrics }
     ensures sum { result ≡ added metrics step }
     ensures small { IsStep step }
@@ -163,14 +146,14 @@ fn added(metrics: Metrics, step: MetricStep) -> Metrics
 }
 
 /// The row of a work item with these counts added to its metrics.
-pub(crate) fn reported(step: MetricStep, row: &WorkRow) -> Result<WorkRow, OutOfMemory>
+pub(crate) fn report_counts(step: MetricStep, row: &WorkRow) -> Result<WorkRow, OutOfMemory>
     requires { IsWithin (most_after 1000000) row.now.metrics }
     ensures new { IfOk result (λ new. new ≡ reported step row.now) }
     ensures small { IsStep step }
 {
-    let metrics = added(row.metrics, step);
+    let metrics = add_counts(row.metrics, step);
     let element = row.element.try_clone()?;
-    let state = state_copy(&row.state)?;
+    let state = copy_state(&row.state)?;
     Ok(WorkRow {
         work: row.work,
         execution: row.execution,
@@ -185,7 +168,7 @@ pub(crate) fn reported(step: MetricStep, row: &WorkRow) -> Result<WorkRow, OutOf
 }
 
 /// The row of a work item that is over.
-pub(crate) fn over_as(
+pub(crate) fn end_work(
     outcome: WorkOutcome,
     exit: T256,
     step: MetricStep,
@@ -196,7 +179,7 @@ pub(crate) fn over_as(
     ensures new { IfOk result (λ new. new ≡ over_as outcome exit step at row.now) }
     ensures small { IsStep step }
 {
-    let metrics = added(row.metrics, step);
+    let metrics = add_counts(row.metrics, step);
     let element = row.element.try_clone()?;
     Ok(WorkRow {
         work: row.work,

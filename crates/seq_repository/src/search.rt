@@ -1,6 +1,6 @@
-ghost use Rattle.std.specs.Prelude.{ℕ, ◌≡◌, ◌++◌, ◌∷◌, [], IfOk, find};
+ghost use Rattle.std.specs.Prelude.{ℕ, ◌≡◌, ◌++◌, ◌∷◌, [], IfOk, IfSome, find, is_some};
 ghost use Rattle.std.specs.List.{list_any};
-ghost use Rattle.std.specs.Option.{option_copied};
+ghost use Rattle.std.specs.Option.{option_map};
 ghost use Rattle.batch_ids.specs.declared.metric_step.MetricStep.{MetricStep as Step};
 ghost use Rattle.batch_history.specs.History.{change_first, is_work, over_as, fact_from, known_of, walk_of, walk_value, job_named, handed_to};
 ghost use Rattle.batch_history.specs.Rows.{is_running_in};
@@ -65,7 +65,7 @@ pub(crate) fn known_of(
 }
 
 /// What is known of the elements of the job execution of a work item, once it is handed out.
-pub(crate) fn known_handed(
+pub(crate) fn known_once_claimed(
     alloc: Global,
     works: &[WorkRow],
     item: &WorkItem,
@@ -81,7 +81,7 @@ pub(crate) fn known_handed(
 }
 
 /// What is known of the elements of a job execution once a work item is over.
-pub(crate) fn known_over(
+pub(crate) fn known_once_finished(
     alloc: Global,
     works: &[WorkRow],
     x: ExecutionId,
@@ -150,40 +150,54 @@ pub(crate) fn walk_value(
     walk_of(alloc, catalogue, known.as_slice(), &row.job)
 }
 
-fn has_something(
+/// The value of the walk of a job execution, if there is something to do for it.
+fn claimable_value(
     alloc: Global,
     catalogue: &Catalogue,
     works: &[WorkRow],
     row: &ExecutionRow,
-) -> Result<bool, OutOfMemory>
-    ensures { IfOk result (λ has. has ≡ has_ready catalogue.now works.now row.now) }
+) -> Result<Option<Value>, OutOfMemory>
+    ensures some { IfOk result (λ found. is_some found ≡ has_ready catalogue.now works.now row.now) }
+    ensures value { IfOk result (λ found. IfSome found (λ value. value ≡ walk_value catalogue.now works.now row.now.execution row.now.job)) }
 {
     match row.status() {
-        BatchStatus::Starting => Ok(true),
+        BatchStatus::Starting => Ok(Some(walk_value(alloc, catalogue, works, row)?)),
         BatchStatus::Started => {
             let value = walk_value(alloc, catalogue, works, row)?;
-            Ok(first_ready(&value).is_some())
+            if first_ready(&value).is_some() {
+                Ok(Some(value))
+            } else {
+                Ok(None)
+            }
         }
-        BatchStatus::Stopping => Ok(false),
-        BatchStatus::Stopped => Ok(false),
-        BatchStatus::Failed => Ok(false),
-        BatchStatus::Completed => Ok(false),
-        BatchStatus::Abandoned => Ok(false),
+        BatchStatus::Stopping => Ok(None),
+        BatchStatus::Stopped => Ok(None),
+        BatchStatus::Failed => Ok(None),
+        BatchStatus::Completed => Ok(None),
+        BatchStatus::Abandoned => Ok(None),
     }
 }
 
+/// A job execution that has something to do, and the value of its walk.
+#[derive(Debug, Drop)]
+pub(crate) struct Claimable<'a> {
+    pub(crate) row: &'a ExecutionRow,
+    pub(crate) value: Value,
+}
+
 /// The first job execution that has something to do.
-pub(crate) fn find_ready<'a>(
+pub(crate) fn find_claimable<'a>(
     alloc: Global,
     catalogue: &Catalogue,
     works: &[WorkRow],
     rows: &'a [ExecutionRow],
-) -> Result<Option<&'a ExecutionRow>, OutOfMemory>
-    ensures { IfOk result (λ found. option_copied found ≡ find (has_ready catalogue.now works.now) rows.now) }
+) -> Result<Option<Claimable<'a>>, OutOfMemory>
+    ensures first { IfOk result (λ found. option_map (λ c. c.row.now) found ≡ find (has_ready catalogue.now works.now) rows.now) }
+    ensures value { IfOk result (λ found. IfSome found (λ c. c.value ≡ walk_value catalogue.now works.now c.row.now.execution c.row.now.job)) }
 {
     for row in rows {
-        if has_something(alloc, catalogue, works, row)? {
-            return Ok(Some(row));
+        if let Some(value) = claimable_value(alloc, catalogue, works, row)? {
+            return Ok(Some(Claimable { row, value }));
         }
     }
     Ok(None)

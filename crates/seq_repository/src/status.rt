@@ -8,7 +8,7 @@ use job_walk::Value;
 use std::alloc::Global;
 
 /// The exit status of a work item.
-pub(crate) fn exit_given(
+pub(crate) fn exit_or_name(
     alloc: Global,
     outcome: WorkOutcome,
     exit: &Option<T256>,
@@ -50,7 +50,7 @@ pub(crate) fn earliest(earlier: Option<Moment>, counts: bool, at: Moment) -> Opt
 }
 
 /// The status of a job execution that was asked to stop, by what is being run.
-fn stopping(busy: &Listed<T256>) -> BatchStatus
+fn stop_status(busy: &Listed<T256>) -> BatchStatus
     ensures { result ≡ stopping busy.now }
 {
     match busy.as_slice().first() {
@@ -59,12 +59,12 @@ fn stopping(busy: &Listed<T256>) -> BatchStatus
     }
 }
 
-fn status_by(stop: bool, value: &Value) -> BatchStatus
+fn status_of_walk(stop: bool, value: &Value) -> BatchStatus
     ensures { result ≡ status_by stop value.now }
 {
     match value {
         Value::Open { busy, .. } => if stop {
-            stopping(busy)
+            stop_status(busy)
         } else {
             BatchStatus::Started
         },
@@ -75,7 +75,7 @@ fn status_by(stop: bool, value: &Value) -> BatchStatus
 
 /// The status of a job execution, abandonment aside: by whether it was asked to stop, its start and
 /// its walk.
-pub(crate) fn status_from(stop: bool, start: Option<Moment>, value: &Value) -> BatchStatus
+pub(crate) fn batch_status(stop: bool, start: Option<Moment>, value: &Value) -> BatchStatus
     ensures { result ≡ status_from stop start value.now }
 {
     match start {
@@ -84,32 +84,32 @@ pub(crate) fn status_from(stop: bool, start: Option<Moment>, value: &Value) -> B
         } else {
             BatchStatus::Starting
         },
-        Some(_) => status_by(stop, value),
+        Some(_) => status_of_walk(stop, value),
     }
 }
 
 /// The exit status of a job execution that a stop ended.
-fn stop_exit(alloc: Global) -> Result<Option<T256>, OutOfMemory>
+fn stopped_exit(alloc: Global) -> Result<Option<T256>, OutOfMemory>
     ensures { IfOk result (λ exit. exit ≡ stop_exit) }
 {
     Ok(Some(T256::within(alloc, BatchStatus::Stopped.name())?))
 }
 
-fn stopping_exit(alloc: Global, busy: &Listed<T256>) -> Result<Option<T256>, OutOfMemory>
+fn exit_of_stop(alloc: Global, busy: &Listed<T256>) -> Result<Option<T256>, OutOfMemory>
     ensures { IfOk result (λ exit. exit ≡ stopping_exit busy.now) }
 {
     match busy.as_slice().first() {
-        None => stop_exit(alloc),
+        None => stopped_exit(alloc),
         Some(_) => Ok(None),
     }
 }
 
-fn exit_by(alloc: Global, stop: bool, value: Value) -> Result<Option<T256>, OutOfMemory>
+fn exit_of_walk(alloc: Global, stop: bool, value: Value) -> Result<Option<T256>, OutOfMemory>
     ensures { IfOk result (λ exit. exit ≡ exit_by stop value) }
 {
     match value {
         Value::Open { busy, .. } => if stop {
-            stopping_exit(alloc, &busy)
+            exit_of_stop(alloc, &busy)
         } else {
             Ok(None)
         },
@@ -119,7 +119,7 @@ fn exit_by(alloc: Global, stop: bool, value: Value) -> Result<Option<T256>, OutO
 }
 
 /// The exit status of a job execution, by the same.
-pub(crate) fn exit_from(
+pub(crate) fn exit_status(
     alloc: Global,
     stop: bool,
     start: Option<Moment>,
@@ -128,7 +128,7 @@ pub(crate) fn exit_from(
     ensures { IfOk result (λ exit. exit ≡ exit_from stop start value) }
 {
     match start {
-        None => if stop { stop_exit(alloc) } else { Ok(None) },
-        Some(_) => exit_by(alloc, stop, value),
+        None => if stop { stopped_exit(alloc) } else { Ok(None) },
+        Some(_) => exit_of_walk(alloc, stop, value),
     }
 }

@@ -5,15 +5,15 @@ use Rattle.batch_history.specs.declared.call.Reply.TheVariants.{Done}
 use Rattle.batch_history.specs.History.{change_first, is_work, known_of, reported}
 use Rattle.batch_history.specs.Rows.{Rows, is_execution}
 use Rattle.std.specs.Option.{option_map}
-use Rattle.seq_repository.specs.declared.rows.Touch.TheVariants.{Reported}
-use Rattle.seq_repository.specs.Touches.{touched_as}
+use Rattle.seq_repository.specs.declared.rows.Change.TheVariants.{Report}
+use Rattle.seq_repository.specs.Changes.{row_after}
 use Rattle.seq_repository.proofs.Entries.{found-work, checkpoint-entered}
 use Rattle.seq_repository.proofs.Knowing.{known_reported}
 use Rattle.seq_repository.proofs.Metering.{within_found, within_put}
 use Rattle.seq_repository.proofs.repository.Repository.enter_checkpoint.Goals as goal
 
-pub reported-requires : goal.reported-requires
-reported-requires g c =
+pub report_counts-requires : goal.report_counts-requires
+report_counts-requires g c =
     let found : find (is_work c.args.w) c.self.inside.records.works ≡ Some c.in-Some.work.now = sym c.in-Some.ensures in
     within_found g.row.LIMIT c.self.inside.count (is_work c.args.w) c.self.inside.records.works c.in-Some.work.now
     c.self.invariant.0 c.self.invariant.1 found c.self.invariant.2
@@ -37,7 +37,7 @@ pub returns-clause-rows : goal.returns-clause-rows
 returns-clause-rows g c =
     let found : find (is_work c.args.w) c.self.inside.records.works ≡ Some c.in-Some.work.now = sym c.in-Some.ensures in
     let works : List WorkRow = change_first (is_work c.args.w) (reported c.args.step.now) c.self.inside.records.works in
-    let P : Rows → Type 0 = λ r. c.in_ok-row.row ≡ option_map (touched_as Reported r.catalogue works c.args.at) (find (is_execution c.in-Some.work.now.execution) r.executions) in
+    let P : Rows → Type 0 = λ r. c.in_ok-row.row ≡ option_map (row_after Report r.catalogue works c.args.at) (find (is_execution c.in-Some.work.now.execution) r.executions) in
     rw (← c.self.view_is)
     (checkpoint-entered c.self.inside.catalogue c.self.inside.count c.self.inside.records _ _ c.put_row.new.records 0 c.args.at c.args.w c.args.mark.now c.args.step.now Done
     c.in-Some.work.now c.in_ok-work.work c.in_ok-row.row c.in_ok-element.element c.in_ok-mark.mark

@@ -5,14 +5,14 @@ use Rattle.batch_history.specs.declared.call.Reply.TheVariants.{Done}
 use Rattle.batch_history.specs.History.{change_first, is_work, known_of, over, over_as}
 use Rattle.batch_history.specs.Rows.{Rows, is_execution}
 use Rattle.std.specs.Option.{option_map}
-use Rattle.seq_repository.specs.declared.rows.Touch.TheVariants.{Reported}
-use Rattle.seq_repository.specs.Touches.{touched_as}
+use Rattle.seq_repository.specs.declared.rows.Change.TheVariants.{Report}
+use Rattle.seq_repository.specs.Changes.{row_after}
 use Rattle.seq_repository.proofs.Entries.{found-work, finish-entered}
 use Rattle.seq_repository.proofs.Metering.{within_found, within_put}
 use Rattle.seq_repository.proofs.repository.Repository.enter_finish.Goals as goal
 
-pub over_as-requires : goal.over_as-requires
-over_as-requires g c =
+pub end_work-requires : goal.end_work-requires
+end_work-requires g c =
     let found : find (is_work c.args.w) c.self.inside.records.works ≡ Some c.in-Some.work.now = sym c.in-Some.ensures in
     within_found g.row.LIMIT c.self.inside.count (is_work c.args.w) c.self.inside.records.works c.in-Some.work.now
     c.self.invariant.0 c.self.invariant.1 found c.self.invariant.2
@@ -27,7 +27,7 @@ invariant_of-self g c =
     let metrics : c.in_ok-work.work.metrics ≡ added c.in-Some.work.now.metrics c.args.step.now = ap (λ (row : WorkRow). row.metrics) c.in_ok-work.ensures.new in (
       c.self.invariant.0,
       omega (arith, c.requires.room, ap (λ (r : Rows). r.count) c.self.view_is),
-      rw c.put_row.ensures (rw c.change_work.ensures (rw c.leave_mark.ensures
+      rw c.put_row.ensures (rw c.change_work.ensures (rw c.drop_mark.ensures
           (within_put c.self.inside.count (is_work c.args.w) c.self.inside.records.works c.in-Some.work.now c.in_ok-work.work c.args.step.now
           found metrics c.in_ok-work.ensures.small c.self.invariant.2))),
     )
@@ -37,7 +37,7 @@ returns-clause-rows g c =
     let found : find (is_work c.args.w) c.self.inside.records.works ≡ Some c.in-Some.work.now = sym c.in-Some.ensures in
     let x : ℕ = c.in-Some.work.now.execution in
     let works : List WorkRow = change_first (is_work c.args.w) (over c.args.outcome c.args.exit.now c.args.step.now c.args.at) c.self.inside.records.works in
-    let P : Rows → Type 0 = λ r. c.in_ok-row.row ≡ option_map (touched_as Reported r.catalogue works c.args.at) (find (is_execution c.in-Some.work.now.execution) r.executions) in
+    let P : Rows → Type 0 = λ r. c.in_ok-row.row ≡ option_map (row_after Report r.catalogue works c.args.at) (find (is_execution c.in-Some.work.now.execution) r.executions) in
     rw (← c.self.view_is)
     (finish-entered c.self.inside.catalogue c.self.inside.count c.self.inside.records _ _ c.put_row.new.records 0 c.args.at c.args.w c.args.outcome c.args.exit.now c.args.step.now Done
     c.in-Some.work.now c.in_ok-work.work c.in_ok-row.row c.in_ok-element.element
@@ -46,4 +46,4 @@ returns-clause-rows g c =
     (c.as_slice.ensures.value ∙ (c.in_ok-known.ensures c.args.step.now c.args.at
     ∙ (ap (λ e. known_of x (change_first (is_work c.args.w) (over_as c.args.outcome e c.args.step.now c.args.at) c.works.result.now)) c.in_ok-exit.ensures
     ∙ ap (λ works. known_of x (change_first (is_work c.args.w) (over c.args.outcome c.args.exit.now c.args.step.now c.args.at) works)) c.works.ensures)))))
-    c.leave_mark.ensures c.change_work.ensures c.put_row.ensures)
+    c.drop_mark.ensures c.change_work.ensures c.put_row.ensures)

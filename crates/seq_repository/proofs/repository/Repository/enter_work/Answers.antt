@@ -3,8 +3,8 @@ use Rattle.std.specs.Option.{option_map}
 use Rattle.batch_history.specs.History.{known_of, handed_to}
 use Rattle.batch_history.specs.declared.rows.WorkRow.{WorkRow}
 use Rattle.batch_history.specs.Rows.{Rows, is_execution}
-use Rattle.seq_repository.specs.declared.rows.Touch.TheVariants.{Taken}
-use Rattle.seq_repository.specs.Touches.{touched_as}
+use Rattle.seq_repository.specs.declared.rows.Change.TheVariants.{Claim as TakeUp}
+use Rattle.seq_repository.specs.Changes.{row_after}
 use Rattle.seq_repository.proofs.Entries.{work-entered}
 use Rattle.seq_repository.proofs.Metering.{within_pushed}
 use Rattle.seq_repository.proofs.repository.Repository.enter_work.Goals as goal
@@ -12,7 +12,7 @@ use Rattle.seq_repository.proofs.repository.Repository.enter_work.Goals as goal
 pub returns-clause-rows : goal.returns-clause-rows
 returns-clause-rows g c =
     let handed : WorkRow = handed_to c.args.who c.args.at c.args.item.now in
-    let P : Rows → Type 0 = λ r. c.in_ok-row.row ≡ option_map (touched_as Taken r.catalogue (c.self.inside.records.works ++ handed ∷ []) c.args.at) (find (is_execution c.args.item.now.execution) r.executions) in
+    let P : Rows → Type 0 = λ r. c.in_ok-row.row ≡ option_map (row_after TakeUp r.catalogue (c.self.inside.records.works ++ handed ∷ []) c.args.at) (find (is_execution c.args.item.now.execution) r.executions) in
     rw (← c.self.view_is)
     (work-entered c.self.inside.catalogue c.self.inside.count c.self.inside.records _ c.put_row.new.records c.args.who c.args.at c.args.item.now c.in_ok-work.work c.in_ok-row.row
     c.in_ok-work.ensures

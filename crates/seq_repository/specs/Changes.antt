@@ -1,0 +1,32 @@
+-- What an operation does to the job execution that it is on.
+use Rattle.std.specs.Prelude.{ℕ, true, false, Option, None, Some, List}
+use Rattle.std.specs.Option.{option_map}
+use Rattle.jsl_model.specs.Jobs.{JobTree}
+use Rattle.batch_history.specs.declared.rows.ExecutionRow.{ExecutionRow}
+use Rattle.batch_history.specs.declared.rows.WorkRow.{WorkRow}
+use Rattle.batch_history.specs.History.{Place, walk_value, change_first}
+use Rattle.batch_history.specs.Rows.{is_execution}
+use Rattle.batch_history.specs.Steps.{Effect, refreshed}
+use Rattle.seq_repository.specs.declared.rows.Change.{Change}
+use Rattle.seq_repository.specs.declared.rows.Change.TheVariants.{StopRequest, Abandonment, Claim as TakeUp, Report}
+
+-- the effect on a job execution that is asked to stop, abandoned, taken up or reported of
+abbrev pub effect_of : Change → Effect
+effect_of StopRequest = record { asks = true; gives_up = false; takes = false }
+effect_of Abandonment = record { asks = false; gives_up = true; takes = false }
+effect_of TakeUp = record { asks = false; gives_up = false; takes = true }
+effect_of Report = record { asks = false; gives_up = false; takes = false }
+
+-- the row after it, `works` being the work items after it
+abbrev pub row_after : Change → List JobTree → List WorkRow → ℕ → ExecutionRow → ExecutionRow
+row_after change catalogue works at row =
+    refreshed (effect_of change) (walk_value catalogue works row.execution row.job) at row
+
+-- the job executions with this row, if there is one, in place of the one of its number
+abbrev pub put_row : ℕ → Option ExecutionRow → List ExecutionRow → List ExecutionRow
+put_row x None rows = rows
+put_row x (Some row) rows = change_first (is_execution x) (λ old. row) rows
+
+-- the step of the job instance of this job execution, if there is one
+abbrev pub place_at : Option ExecutionRow → List ℕ → Option Place
+place_at row step = option_map (λ r. record { instance = r.instance; step = step }) row
