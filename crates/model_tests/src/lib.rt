@@ -8,7 +8,7 @@ mod identifiers;
 #[cfg(test)]
 mod jobs;
 #[cfg(test)]
-mod json_members;
+mod object_members;
 #[cfg(test)]
 mod patterns;
 #[cfg(test)]
