@@ -1,22 +1,30 @@
 """Plants the wrong bodies of `plants/CRATE.toml` in a copy of the repository, and says which of them are still proved.
 
-    python3 tools/try_plants.py CRATE..
+    python3 tools/try_plants.py CRATE..            tries all plants of these crates
+    python3 tools/try_plants.py --new CRATE..      only those that have no verdict yet, or were changed since
+    python3 tools/try_plants.py                    tries nothing
 
-A plant that is still proved is a gap in a contract, unless a test refuses it or nobody can see it. Each function is
+A plant that is still proved is a gap in a contract, unless its `reason` says what else refuses it. Each function is
 proved by itself, so one check tries a plant in each of many functions; a second plant of a function waits for the next
 check. A plant is
 
-- `refused` where its function gets no proof,
-- `unclear` where the check names only what the function calls, or nothing of the function at all,
+- `refused` where its function gets no proof for a goal of its own,
 - `PROVED` where its function is proved,
 - `no Rust` where the edited code does not compile.
 
+Where the check names only what the function calls, which may hold another plant, or nothing of the function at all,
+the plant is tried again by itself, and the whole crate decides.
+
 The copy takes over what earlier checks left in `out/` of the crate and of those below it, which saves the first
-check. Must-fail edits are the telling plants, and the gate tries them; these here are tried by hand.
+check. Verdicts are kept in `plants/verdicts.json`, and all of them are printed as a table in the end. Must-fail edits are the telling plants, and the gate tries them;
+these here are tried by hand.
 """
 
 from __future__ import annotations
 
+import argparse
+import hashlib
+import json
 import re
 import shutil
 import subprocess
@@ -26,19 +34,29 @@ import tomllib
 from dataclasses import dataclass
 from pathlib import Path
 
-ROOT = Path(__file__).resolve().parent.parent
+from repository import ROOT, with_libraries
+
+VERDICTS = ROOT / "plants" / "verdicts.json"
 CHECK = ["timeout", "1500", "rt", "check"]
 
 
 @dataclass(frozen=True)
 class Plant:
-    """A wrong body: a text that stands once in a file, and what stands there instead."""
+    """A wrong body: a text that stands once in a file, and what stands there instead.
+
+    A `reason` says what refuses the plant where no contract can.
+    """
 
     name: str
     file: str
     old: str
     new: str
     more: tuple[tuple[str, str], ...] = ()
+    reason: str = ""
+
+    def mark(self) -> str:
+        """What tells this plant from an edited one of the same name."""
+        return hashlib.sha256(repr((self.file, self.old, self.new, self.more)).encode()).hexdigest()[:12]
 
     def put(self, text: str) -> str | None:
         """The text with the plant in it, further pairs on what the earlier ones made; none where a text stands not once."""
@@ -62,26 +80,9 @@ class Plant:
         return found[-1].group(1) if found and "\n}\n" not in before[found[-1].end() :] else ""
 
 
-def with_libraries(crate: str) -> set[str]:
-    """The crate and the repository's crates that it stands on."""
-    uses = {}
-    for line in (ROOT / "crates.txt").read_text().splitlines():
-        name, _, libraries = line.partition(":")
-        if not line.startswith("#"):
-            uses[name.split()[0]] = libraries.split()
-    found: set[str] = set()
-    waiting = [crate]
-    while waiting:
-        name = waiting.pop()
-        if name in uses and name not in found:
-            found.add(name)
-            waiting += uses[name]
-    return found
-
-
 def copy_of(crate: str, folder: Path) -> Path:
     """A copy of the crate, in a repository that has what it stands on."""
-    kept = with_libraries(crate)
+    kept = with_libraries({crate})
     shutil.copy(ROOT / "HANDLES", folder / "HANDLES")
     lines = [line for line in (ROOT / "crates.txt").read_text().splitlines() if line.split(":")[0].split()[0] in kept]
     (folder / "crates.txt").write_text("\n".join(lines) + "\n")
@@ -132,21 +133,28 @@ def check(crate: Path, texts: dict[str, str], sources: dict[str, str]) -> str:
 
 
 def verdict(said: str, crate: str, function: tuple[str, str, str]) -> str:
-    """What the check says of a function, or of a constant outside of all functions."""
+    """What the check says of a function; `unclear` where it may say so because of another plant."""
     file, owner, name = function
     if not name:
-        return "refused" if "did not prove" in said else "PROVED" if "\nlogic=proved" in said else "unclear"
+        return verdict_of_crate(said)
     module = Path(file).stem
     path = rf"fn {crate}::(?:\w+::)*?(?:{module}::)?{owner}\w*::{name}" if owner else rf"fn {crate}::(?:\w+::)*{name}"
     lines = [line for line in said.splitlines() if re.match(path + r"(?::|\+|$)", line)]
     folder = rf"\./proofs/(?:\S+/)?{owner + '/' if owner else ''}\+?{name}/"
     # functions that call one another share a folder, where a goal's name begins with the function's
     goal = rf"(?:did not prove|error:) `(?:invariant-)?{name}-"
-    if any(": no proof" in line for line in lines) or re.search(rf"^{folder}\S*: error|{goal}", said, re.M):
+    without = [line for line in lines if ": no proof" in line]
+    own = [line for line in without if ": no proof: it calls" not in line]
+    if own or re.search(rf"^{folder}\S*: error|{goal}", said, re.M):
         return "refused"
-    if any(re.match(path + ": proved", line) for line in lines):
+    if not without and any(re.match(path + ": proved", line) for line in lines):
         return "PROVED"
     return "unclear"
+
+
+def verdict_of_crate(said: str) -> str:
+    """What the check says of a plant that is alone in its crate."""
+    return "PROVED" if "\nlogic=proved" in said else "refused"
 
 
 def compiles(said: str) -> bool:
@@ -156,29 +164,29 @@ def compiles(said: str) -> bool:
 def try_group(crate: Path, group: list[Plant], sources: dict[str, str]) -> dict[str, str]:
     """The verdict on each plant of a group; a group that does not compile is tried by halves, an unclear plant alone."""
     said = check(crate, planted(group, sources), sources)
-    if compiles(said):
-        verdicts = {plant.name: verdict(said, crate.name, plant.function(sources[plant.file])) for plant in group}
-        unclear = [plant for plant in group if len(group) > 1 and verdicts[plant.name] == "unclear"]
-        for plant in (plant for plant in group if plant not in unclear):
-            print(f"{crate.name}: {plant.name}: {verdicts[plant.name]}", flush=True)
-        for plant in unclear:
-            verdicts |= try_group(crate, [plant], sources)
-        return verdicts
     if len(group) == 1:
-        print(f"{crate.name}: {group[0].name}: no Rust", flush=True)
-        return {group[0].name: "no Rust"}
-    half = len(group) // 2
-    return try_group(crate, group[:half], sources) | try_group(crate, group[half:], sources)
+        said_of_it = verdict_of_crate(said) if compiles(said) else "no Rust"
+        print(f"{crate.name}: {group[0].name}: {said_of_it}", flush=True)
+        return {group[0].name: said_of_it}
+    if not compiles(said):
+        half = len(group) // 2
+        return try_group(crate, group[:half], sources) | try_group(crate, group[half:], sources)
+    verdicts = {plant.name: verdict(said, crate.name, plant.function(sources[plant.file])) for plant in group}
+    unclear = [plant for plant in group if verdicts[plant.name] == "unclear"]
+    for plant in (plant for plant in group if plant not in unclear):
+        print(f"{crate.name}: {plant.name}: {verdicts[plant.name]}", flush=True)
+    for plant in unclear:
+        verdicts |= try_group(crate, [plant], sources)
+    return verdicts
 
 
-def try_crate(name: str, folder: Path) -> dict[str, str]:
+def try_plants(name: str, plants: list[Plant], folder: Path) -> dict[str, str]:
     crate = copy_of(name, folder)
-    plants = plants_of(name)
     sources = {plant.file: (crate / plant.file).read_text() for plant in plants}
     stale = [plant.name for plant in plants if plant.put(sources[plant.file]) is None]
     for plant in stale:
         print(f"{name}: {plant}: its text does not stand there once", flush=True)
-    verdicts = dict.fromkeys(stale, "")
+    verdicts = dict.fromkeys(stale, "stale")
     left = [plant for plant in plants if plant.name not in stale]
     while left:
         group = group_of(left, sources)
@@ -187,15 +195,69 @@ def try_crate(name: str, folder: Path) -> dict[str, str]:
     return verdicts
 
 
+def kept_verdicts() -> dict[str, dict[str, list[str]]]:
+    """By crate and plant: the plant's mark, and what became of it."""
+    return json.loads(VERDICTS.read_text()) if VERDICTS.exists() else {}
+
+
+def verdict_kept(kept: dict[str, list[str]], plant: Plant) -> str:
+    mark, said = kept.get(plant.name, ["", ""])
+    return said if mark == plant.mark() else "not tried"
+
+
+def try_crate(name: str, only_new: bool) -> None:
+    kept = kept_verdicts().get(name, {})
+    plants = plants_of(name)
+    wanted = [plant for plant in plants if not only_new or verdict_kept(kept, plant) in ("not tried", "stale")]
+    with tempfile.TemporaryDirectory(prefix="plants-") as folder:
+        found = try_plants(name, wanted, Path(folder)) if wanted else {}
+    new = {plant.name: [plant.mark(), found.get(plant.name) or verdict_kept(kept, plant)] for plant in plants}
+    VERDICTS.write_text(json.dumps(kept_verdicts() | {name: new}, indent=1, sort_keys=True) + "\n")
+
+
+def row_of(name: str, kept: dict[str, list[str]]) -> tuple[list[int], list[str]]:
+    """How many plants a crate has, and of each kind; and what is proved with no reason given."""
+    plants = plants_of(name)
+    said = {plant: verdict_kept(kept, plant) for plant in plants}
+    proved = [plant for plant in plants if said[plant] == "PROVED"]
+    counts = [
+        len(plants),
+        sum(verdict == "refused" for verdict in said.values()),
+        sum(bool(plant.reason) for plant in proved),
+        sum(not plant.reason for plant in proved),
+        sum(verdict not in ("refused", "PROVED") for verdict in said.values()),
+    ]
+    return counts, [f"{name}: {plant.name}" for plant in proved if not plant.reason]
+
+
+def print_table() -> list[str]:
+    """Prints what became of all plants by crate, and gives those that are proved with no reason given."""
+    kept = kept_verdicts()
+    heads = ["planted", "refused by a contract", "proved, refused by a test", "proved", "not tried"]
+    print("| crate | " + " | ".join(heads) + " |")
+    print("|---|" + "---|" * len(heads))
+    totals = [0] * len(heads)
+    gaps: list[str] = []
+    for path in sorted((ROOT / "plants").glob("*.toml")):
+        counts, proved = row_of(path.stem, kept.get(path.stem, {}))
+        totals = [total + count for total, count in zip(totals, counts)]
+        gaps += proved
+        print(f"| {path.stem} | " + " | ".join(map(str, counts)) + " |")
+    print("| all | " + " | ".join(map(str, totals)) + " |")
+    return gaps
+
+
 def main() -> int:
-    proved = 0
-    for name in sys.argv[1:]:
-        with tempfile.TemporaryDirectory(prefix="plants-") as folder:
-            verdicts = try_crate(name, Path(folder))
-        refused = sum(said == "refused" for said in verdicts.values())
-        print(f"{name}: {len(verdicts)} plants, {refused} refused", flush=True)
-        proved += sum(said == "PROVED" for said in verdicts.values())
-    return 1 if proved else 0
+    parser = argparse.ArgumentParser(description=__doc__.splitlines()[0])
+    parser.add_argument("--new", action="store_true", help="only plants without a verdict")
+    parser.add_argument("crates", nargs="*")
+    words = parser.parse_args()
+    for name in words.crates:
+        try_crate(name, words.new)
+    gaps = print_table()
+    for gap in gaps:
+        print(f"still proved: {gap}")
+    return 1 if gaps else 0
 
 
 if __name__ == "__main__":

@@ -1,0 +1,41 @@
+"""What the tools know of the repository: its crates, what each uses, and where its tests stand."""
+
+from __future__ import annotations
+
+from pathlib import Path
+
+ROOT = Path(__file__).resolve().parent.parent
+
+
+def uses_by_crate() -> dict[str, list[str]]:
+    """The crates of crates.txt, each with the libraries that it uses."""
+    uses: dict[str, list[str]] = {}
+    for line in (ROOT / "crates.txt").read_text().splitlines():
+        name, colon, libraries = line.partition(":")
+        if colon and not line.startswith("#"):
+            uses[name.split()[0]] = libraries.split()
+    return uses
+
+
+def with_libraries(crates: set[str]) -> set[str]:
+    """These crates and those of the repository that they stand on."""
+    uses = uses_by_crate()
+    found: set[str] = set()
+    waiting = list(crates)
+    while waiting:
+        name = waiting.pop()
+        if name in uses and name not in found:
+            found.add(name)
+            waiting += uses[name]
+    return found
+
+
+def with_those_above(crates: set[str]) -> list[str]:
+    """These crates and those that stand on them, each behind what it uses."""
+    uses = uses_by_crate()
+    wanted = [name for name in uses if with_libraries({name}) & crates]
+    return sorted(wanted, key=lambda name: (len(with_libraries({name})), name))
+
+
+def has_tests(crate: str) -> bool:
+    return any("#[test]" in path.read_text() for path in (ROOT / "crates" / crate / "src").rglob("*.rt"))
