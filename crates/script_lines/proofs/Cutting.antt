@@ -62,12 +62,12 @@ caused start now next p q f c d (inl h) = inl (omega arith)
 caused start now next p q f c d (inr h) = inr (omega arith)
 
 -- the first line: no line is an empty one
-pub cut_first : (start next : Told) (q : Unread) (first : Option Line) → LineRead start next nothing_read q (Ok first)
-    → (line : List ℕ) × ShowsFirst first line × Cutting start next q (line ∷ [])
+pub cut_first : (start next : Told) (q : Unread) (first : Option Line) (t : LineRead start next nothing_read q (Ok first))
+    → (line : List ℕ) × ShowsFirst first line × ((C : Cutting start next q (line ∷ [])) × (C.input ≡ t.more))
 cut_first start next q None t = (
   [],
   refl,
-  record {
+  (record {
     input = t.more;
     read = t.told;
     lines = λ more h. ap (λ x. script_lines (x ++ more)) t.outcome.0 ∙ ap script_lines (h t.outcome.2) ∙ ap at_least_one lines_of-nil
@@ -78,13 +78,13 @@ cut_first start next q None t = (
     ends = λ e. ends_after start start next nothing_read (λ h. absurd (false≢true h)) (λ h. absurd (false≢true h)) (omega arith) (t.ended e);
     later = t.later;
     drained = t.drained;
-  },
+  }, refl),
 )
 cut_first start next q (Some l) t =
     let line = t.outcome.0 in (
       line,
       t.outcome.1,
-      record {
+      (record {
         input = t.more;
         read = t.told;
         lines = λ more h. ap at_least_one (cut_off t.more line q t.outcome.2 t.outcome.3 more h);
@@ -94,18 +94,18 @@ cut_first start next q (Some l) t =
         ends = λ e. ends_after start start next nothing_read (λ h. absurd (false≢true h)) (λ h. absurd (false≢true h)) (omega arith) (t.ended e);
         later = t.later;
         drained = t.drained;
-      },
+      }, refl),
     )
 
 -- the next line
-pub cut_next : (start now next : Told) (p q : Unread) (done : List (List ℕ)) (l : Line) → Cutting start now p done → LineRead now next p q (Ok (Some l))
-    → (line : List ℕ) × Shows l line × Cutting start next q (done ++ line ∷ [])
+pub cut_next : (start now next : Told) (p q : Unread) (done : List (List ℕ)) (l : Line) (C : Cutting start now p done) (t : LineRead now next p q (Ok (Some l)))
+    → (line : List ℕ) × Shows l line × ((D : Cutting start next q (done ++ line ∷ [])) × (D.input ≡ C.input ++ t.more))
 cut_next start now next p q done l C t =
     let line = t.outcome.0 in
     let running : p.ended ≡ true → ⊥ = λ e. something (p.bytes ++ t.more) line q t.outcome.3 (ap (λ x. x ++ t.more) (C.drained e) ∙ (t.quiet e).0) in (
       line,
       t.outcome.1,
-      record {
+      (record {
         input = C.input ++ t.more;
         read = tells_more start now next C.input t.more C.read t.told;
         lines = λ more h. ap script_lines (append_assoc C.input t.more more) ∙ C.lines (t.more ++ more) (λ e. absurd (running e))
@@ -119,7 +119,7 @@ cut_next start now next p q done l C t =
         ends = λ e. ends_after start now next p C.ends (λ h. (t.quiet h).1) C.later (t.ended e);
         later = omega (arith, C.later, t.later);
         drained = t.drained;
-      },
+      }, refl),
     )
 
 -- lines that are complete stay so, whatever is told from now on

@@ -17,6 +17,3 @@ pub use line::{Line, MAX_LINE};
 pub use line_fault::LineFault;
 pub use output_buffer::{OUTPUT_BUFFER_SIZE, OutputBuffer};
 pub use input_buffer::{MAX_READS, InputBuffer};
-
-#[cfg(test)]
-mod tests;

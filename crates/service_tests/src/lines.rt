@@ -1,4 +1,4 @@
-use super::*;
+use script_lines::{Counted, DeviceFault, InputBuffer, Line, LineFault, OutputBuffer};
 use std::alloc::{AllocError, Global};
 use std::cell::Cell;
 use std::io;
