@@ -90,7 +90,7 @@ first_failed_of start next begun new waited waits q line_faults.Write e t on gre
     let wrote : Takes begun new (take on.0.0 (waited ++ [])) = subst (λ w. Takes begun new (take on.0.0 w)) (sym (append-nil waited)) on.0.1 in
     let still : t.more ≡ [] = told_nothing start next nothing_read q (Err line_faults.Write) t prompt in
     let P = same_input begun begun waited [] [] t.more still (nothing_sent begun waited e) in
-    breaks start next begun begun new waits t.more [] [] (whole_lines t.more) t.told (inl refl) refl (broken begun begun new waited [] [] t.more on.0.0 P wrote) refl on.1
+    breaks start next begun begun new waits t.more [] (text_of_lines (whole_lines t.more)) (whole_lines t.more) t.told (inl refl) refl (broken begun begun new waited [] [] t.more on.0.0 P wrote) refl on.1
 first_failed_of start next begun new waited waits q line_faults.OutOfMemory e t on grew prompt =
     nothing_done start next begun new waits t.more t.told (first_passed start next begun new waited waits q (Err line_faults.OutOfMemory) e t on grew)
 

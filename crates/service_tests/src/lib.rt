@@ -6,14 +6,20 @@ mod bounds;
 #[cfg(test)]
 mod calls;
 #[cfg(test)]
+mod copies;
+#[cfg(test)]
 mod faults;
 #[cfg(test)]
 mod jobs;
 #[cfg(test)]
 mod lines;
 #[cfg(test)]
+mod rules;
+#[cfg(test)]
 mod runs;
 #[cfg(test)]
 mod script;
+#[cfg(test)]
+mod sizes;
 #[cfg(test)]
 mod texts;
