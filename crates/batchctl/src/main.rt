@@ -2,10 +2,10 @@
 #![tactic(auto)]
 
 mod arguments;
-mod asked;
+mod command_line;
 mod program;
 
-use program::{OUT_OF_MEMORY, program};
+use program::{program, refuse_words};
 use std::process::ExitCode;
 use std::rt::Env;
 use std::{env, io};
@@ -38,10 +38,7 @@ fn run(rt: &HostRuntime) -> io::Result<u8> {
 fn main(rt: HostRuntime) -> ExitCode {
     match run(&rt) {
         Ok(status) => ExitCode::from(status),
-        Err(_) => {
-            let _ = eprintln!(rt; "batchctl: out of memory");
-            ExitCode::from(OUT_OF_MEMORY)
-        }
+        Err(error) => ExitCode::from(refuse_words(&error, &mut rt.stderr())),
     }
 }
 

@@ -1,10 +1,12 @@
-ghost use Rattle.std.specs.Prelude.{◌≡◌};
+ghost use Rattle.std.specs.Prelude.{◌≡◌, ◌≢◌};
+ghost use Rattle.std.specs.IoError.{error_kind};
 
-use crate::arguments::arguments;
-use crate::asked::Arguments;
+use crate::command_line::arguments;
+use crate::arguments::Arguments;
 use script_engine::{Counted, EngineFault, run_script};
 use std::alloc::Global;
-use std::io::{Read, Write};
+use std::io;
+use std::io::{ErrorKind, Read, Write};
 
 /// The exit status of a run that is done, also of a request for help.
 pub const DONE: u8 = 0;
@@ -24,6 +26,21 @@ pub const OUT_OF_MEMORY: u8 = 5;
 // What is told on standard error is told as far as it goes: the exit status says it again.
 fn tell<F: Write>(faults: &mut F, text: &str) {
     let _ = writeln!(faults, "{text}");
+}
+
+/// Tells why the words of the command line could not be read, and gives the exit status: 5 for want
+/// of memory, else 2, since a word is not UTF-8.
+pub fn refuse_words<F: Write>(error: &io::Error, faults: &mut F) -> u8
+    ensures memory { error_kind error.now ≡ ErrorKind.OutOfMemory → result ≡ OUT_OF_MEMORY }
+    ensures other { error_kind error.now ≢ ErrorKind.OutOfMemory → result ≡ REFUSED }
+{
+    if matches!(error.kind(), ErrorKind::OutOfMemory) {
+        tell(faults, "batchctl: out of memory");
+        OUT_OF_MEMORY
+    } else {
+        tell(faults, "batchctl: a word of the command line is not UTF-8");
+        REFUSED
+    }
 }
 
 fn script<R: Read + Drop, W: Write + Drop, F: Write>(

@@ -1,4 +1,4 @@
-use crate::program::program;
+use crate::program::{program, refuse_words};
 use std::io;
 use std::io::{Error, ErrorKind, Read, Write};
 use std::test::Fail;
@@ -88,5 +88,21 @@ fn mistakes_go_to_standard_error(rt: HostRuntime) {
         let found = program(rt.alloc(), words, SCRIPT, &mut out, &mut faults);
         assert_eq!(rt; found, 2);
         assert!(rt; out.is_empty() && !faults.is_empty());
+    }
+}
+
+#[test]
+fn a_word_that_is_not_utf_8_refuses_the_command_line(rt: HostRuntime) {
+    for (kind, status, wanted) in [
+        (
+            ErrorKind::InvalidData,
+            2,
+            "batchctl: a word of the command line is not UTF-8\n",
+        ),
+        (ErrorKind::OutOfMemory, 5, "batchctl: out of memory\n"),
+    ] {
+        let mut faults = Vec::new(rt.alloc());
+        assert_eq!(rt; refuse_words(&Error::from(kind), &mut faults), status);
+        assert_eq!(rt; faults.as_slice(), wanted.as_bytes());
     }
 }

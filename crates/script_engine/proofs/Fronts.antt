@@ -1,17 +1,18 @@
 -- What was written for the lines so far is a front of a script's text.
-use Rattle.std.proofs.Common.{◌≡◌, ◌∙◌, ℕ, ◌==◌, List, [], ◌∷◌, ◌++◌, Bool, true, false, cond, Result, Ok, Err, refl, sym, ap, append_assoc}
+use Rattle.std.proofs.Common.{◌≡◌, ◌∙◌, inl, inr, ℕ, ◌==◌, List, [], ◌∷◌, ◌++◌, Bool, true, false, cond, Result, Ok, Err, refl, sym, ap, append_assoc}
 use Rattle.std.proofs.lemmas.List.{append-nil}
 use Rattle.jsl_model.specs.Jobs.{JobTree}
 use Rattle.batch_history.specs.Rows.{History}
-use Rattle.script_lines.specs.Cut.{grow, grow_whole, lines_of, whole_lines, at_least_one}
+use Rattle.script_lines.specs.Cut.{grow, grow_whole, lines_of, whole_lines, at_least_one, script_lines}
 use Rattle.script_lines.specs.Device.{Told, Held}
+use Rattle.script_lines.specs.Lines.{AreComplete}
 use Rattle.jsl_json.specs.declared.fault.ReadFault.{ReadFault}
 use Rattle.script_text.specs.Faults.{fault_text}
 use Rattle.script_engine.specs.declared.summary.Summary.{Summary}
 use Rattle.script_engine.specs.declared.fault.EngineFault.{EngineFault}
 use Rattle.script_engine.specs.declared.fault.EngineFault.TheVariants.{Catalogue, Read, Write, OutOfMemory}
-use Rattle.script_engine.specs.Script.{catalogue_at, line_text, line_after, replies, begin, opened, text_of_lines, script_text}
-use Rattle.script_engine.specs.Ran.{IsOutcome}
+use Rattle.script_engine.specs.Script.{catalogue_at, line_text, line_after, replies, begin, opened, text_of_lines}
+use Rattle.script_engine.specs.Ran.{IsFront, IsOutcome}
 
 replies_front : (h : History) (done rest : List (List ℕ)) → (tail : List ℕ) × (replies h done ++ tail ≡ replies h (done ++ rest))
 replies_front h [] rest = (replies h rest, refl)
@@ -44,17 +45,22 @@ with_first : (lines whole rest : List (List ℕ)) → lines ≡ whole ++ rest �
 with_first lines [] rest e = (at_least_one lines, refl)
 with_first lines (line ∷ whole) rest e = (rest, ap at_least_one e)
 
--- whatever the answer, the output is a front of the script's text
-pub output_front : (input output : List ℕ) (r r' : Told) (w w' : Held) (result : Result Summary EngineFault) → IsOutcome input output r r' w w' result
-    → (rest : List ℕ) × (output ++ rest ≡ script_text input)
-output_front input output r r' w w' (Ok summary) o = ([], append-nil output ∙ o.0)
-output_front input output r r' w w' (Err (Catalogue fault)) o = ([], append-nil output ∙ o.0 ∙ sym o.1)
-output_front input output r r' w w' (Err Read) o =
+-- lines that were told to their end are a front of all lines
+pub complete_front : (r r' : Told) (input : List ℕ) (lines : List (List ℕ)) → AreComplete r r' input lines → (rest : List (List ℕ)) × (script_lines input ≡ lines ++ rest)
+complete_front r r' input lines (inl e) =
     let front = whole_front input in
-    let lines = with_first (lines_of input) (whole_lines input) front.0 front.1 in
-    let text = text_front (whole_lines input) lines.0 in
-    (text.0, ap (λ b. b ++ text.0) o.0 ∙ text.1 ∙ ap text_of_lines (sym lines.1))
+    let more = with_first (lines_of input) (whole_lines input) front.0 front.1 in
+    (more.0, more.1 ∙ ap (λ ls. ls ++ more.0) (sym e))
+complete_front r r' input lines (inr e) = ([], sym e.1 ∙ sym (append-nil lines))
+
+-- whatever the answer, the output is a front of the text of complete lines
+pub output_front : (input output : List ℕ) (r r' : Told) (w w' : Held) (result : Result Summary EngineFault) → IsOutcome input output r r' w w' result → IsFront r r' input output
+output_front input output r r' w w' (Ok summary) o = (script_lines input, [], inr (o.1.0, refl), append-nil output ∙ o.0)
+output_front input output r r' w w' (Err (Catalogue fault)) o =
+    let first = o.2.2 in
+    (o.2.0, [], o.2.1, append-nil output ∙ o.0 ∙ sym (ap text_of_lines first.2 ∙ ap (λ c. opened c first.1) first.3))
+output_front input output r r' w w' (Err Read) o = (whole_lines input, [], inl refl, append-nil output ∙ o.0)
 output_front input output r r' w w' (Err Write) o = o.0
 output_front input output r r' w w' (Err OutOfMemory) o =
     let text = text_front o.0 o.1 in
-    (text.0, ap (λ b. b ++ text.0) o.3 ∙ text.1 ∙ ap text_of_lines (sym o.2))
+    (o.0 ++ o.1, text.0, o.2, ap (λ b. b ++ text.0) o.3 ∙ text.1)

@@ -1,4 +1,5 @@
 pub mod Fronts
+pub mod Turning
 pub mod Passing
 pub mod Tallying
 pub mod Running

@@ -7,20 +7,21 @@ use Rattle.batch_history.specs.Rows.{History}
 use Rattle.script_lines.specs.declared.line.Line.{Line}
 use Rattle.script_lines.specs.declared.line_fault.LineFault.{LineFault}
 use Rattle.script_lines.specs.declared.line_fault.LineFault.TheVariants as line_faults
-use Rattle.script_lines.specs.Device.{Told, Held}
+use Rattle.script_lines.specs.Device.{Told, Held, Tells, Takes}
 use Rattle.script_lines.specs.Cut.{script_lines}
-use Rattle.script_lines.specs.Lines.{Shows, Took, IsPassedOn, PassedOn}
+use Rattle.script_lines.specs.Lines.{Shows, LineRead, AreComplete, IsPassedOn, PassedOn, IsPrompt}
 use Rattle.script_lines.specs.Unread.{Unread}
 use Rattle.script_lines.proofs.Cutting.{Cutting, cut_next, cut_short, cut_so_far, cut_all, cut_fault}
 use Rattle.script_engine.specs.declared.summary.Kind.{Kind}
 use Rattle.script_engine.specs.declared.summary.Summary.{Summary}
 use Rattle.script_engine.specs.declared.fault.EngineFault.TheVariants as faults
 use Rattle.script_engine.specs.Faults.{engine_fault}
-use Rattle.script_engine.specs.Script.{catalogue_at, line_text, line_after, replies, history_past, begin, opened, entries_from, text_of_lines, entries_of_lines, script_text}
+use Rattle.script_engine.specs.Script.{catalogue_at, line_text, line_after, replies, history_past, begin, opened, entries_from, text_of_lines, entries_of_lines}
 use Rattle.script_engine.specs.Summaries.{line_kind, kinds, kinds_from, kinds_of_lines, tally, counted, summary_of}
 use Rattle.script_engine.specs.Ran.{RanSoFar}
 use Rattle.script_engine.proofs.Tallying.{one-line-more}
-use Rattle.script_engine.proofs.Passing.{Passing, Grew, all_written, passed_on, put_behind, Broken, broken}
+use Rattle.script_engine.proofs.Turning.{turn_on, told_nothing}
+use Rattle.script_engine.proofs.Passing.{Passing, Grew, all_written, passed_on, put_behind, Broken, broken, same_input}
 
 -- these lines are answered, whatever lines come
 pub record Running (start now : Told) (begun held : Held) (waits : List ℕ) (p : Unread) (h : History) (s : Summary) : Type 0 where
@@ -30,7 +31,7 @@ pub record Running (start now : Told) (begun held : Held) (waits : List ℕ) (p 
   pub opening : catalogue_at first ≡ Ok catalogue
   pub cutting : Cutting start now p (first ∷ later)
   pub output : List ℕ
-  pub passing : Passing begun held waits output
+  pub passing : Passing begun held waits output cutting.input
   pub text : (lines : List (List ℕ)) → text_of_lines (first ∷ (later ++ lines)) ≡ output ++ replies h lines
   pub entries : (lines : List (List ℕ)) → entries_of_lines (first ∷ (later ++ lines)) ≡ length (history_past h lines).log
   pub past : List Kind
@@ -38,7 +39,7 @@ pub record Running (start now : Told) (begun held : Held) (waits : List ℕ) (p 
   pub tallied : s ≡ tally past
 
 -- what the first line leaves
-pub begins : (start now : Told) (begun held : Held) (waits : List ℕ) (p : Unread) (line : List ℕ) (catalogue : List JobTree) (s : Summary) → Cutting start now p (line ∷ []) → catalogue_at line ≡ Ok catalogue → Passing begun held waits []
+pub begins : (start now : Told) (begun held : Held) (waits : List ℕ) (p : Unread) (line : List ℕ) (catalogue : List JobTree) (s : Summary) (C : Cutting start now p (line ∷ [])) → catalogue_at line ≡ Ok catalogue → Passing begun held waits [] C.input
     → s ≡ tally [] → Running start now begun held waits p (begin catalogue) s
 begins start now begun held waits p line catalogue s C e P none = record {
   first = line;
@@ -55,35 +56,44 @@ begins start now begun held waits p line catalogue s C e P none = record {
   tallied = none;
 }
 
+-- the text of the lines so far is the output
+text_so_far : {start now : Told} {begun held : Held} {waits : List ℕ} {p : Unread} {h : History} {s : Summary} (R : Running start now begun held waits p h s) → R.output ≡ text_of_lines (R.first ∷ R.later)
+text_so_far {h = h} R = sym (ap (λ ls. text_of_lines (R.first ∷ ls)) (sym (append-nil R.later)) ∙ R.text [] ∙ append-nil R.output)
+
+-- a call for the next line passes on what waits
+passed : {start now : Told} {begun held : Held} {waited : List ℕ} {p : Unread} {h : History} {s : Summary} (R : Running start now begun held waited p h s) (next : Told) (new : Held) (waits : List ℕ) (q : Unread) (r : Result (Option Line) LineFault)
+    → (t : LineRead now next p q r) → IsPassedOn held new waited waits → Grew held new → IsPrompt now next waits r → Passing begun new waits R.output (R.cutting.input ++ t.more)
+passed {start = start} {now = now} {begun = begun} {held = held} {waited = waited} {p = p} R next new waits q r t on grew prompt =
+    passed_on begun held new waited waits R.output R.cutting.input (R.cutting.input ++ t.more) R.passing on grew
+    (turn_on start now next p q (R.first ∷ R.later) r R.cutting t R.output R.passing.sent waits (text_so_far R) R.passing.turn prompt)
+
 -- one more line
-pub goes_on : (start now next : Told) (begun held mid new : Held) (waited between waits : List ℕ) (p q : Unread) (h h' : History) (s s' : Summary) (l : Line) (t : List ℕ) (k : Kind) → Running start now begun held waited p h s → Took now next p q (Ok (Some l))
-    → IsPassedOn held mid waited between → Grew held mid
-    → ((line : List ℕ) → Shows l line → t ≡ line_text h line) → ((line : List ℕ) → Shows l line → h' ≡ line_after h line)
+pub goes_on : (start now next : Told) (begun held mid new : Held) (waited between waits : List ℕ) (p q : Unread) (h h' : History) (s s' : Summary) (l : Line) (x : List ℕ) (k : Kind) → Running start now begun held waited p h s → LineRead now next p q (Ok (Some l))
+    → IsPassedOn held mid waited between → Grew held mid → IsPrompt now next between (Ok (Some l))
+    → ((line : List ℕ) → Shows l line → x ≡ line_text h line) → ((line : List ℕ) → Shows l line → h' ≡ line_after h line)
     → ((line : List ℕ) → Shows l line → k ≡ line_kind h line) → s' ≡ counted k s
-    → new.bytes ++ waits ≡ (mid.bytes ++ between) ++ t → Grew mid new → new.failures ≡ mid.failures → Running start next begun new waits q h' s'
-goes_on start now next begun held mid new waited between waits p q h h' s s' l t k R took on grew text after kind more put grew_more quiet =
-    let cut = cut_next start now next p q (R.first ∷ R.later) l R.cutting took in
+    → new.bytes ++ waits ≡ (mid.bytes ++ between) ++ x → Grew mid new → new.failures ≡ mid.failures → Running start next begun new waits q h' s'
+goes_on start now next begun held mid new waited between waits p q h h' s s' l x k R t on grew prompt text after kind more put grew_more quiet =
+    let cut = cut_next start now next p q (R.first ∷ R.later) l R.cutting t in
     let line = cut.0 in
     let tail = λ (lines : List (List ℕ)). append_assoc R.later (line ∷ []) lines in
+    let P = same_input begun mid between R.output (R.cutting.input ++ t.more) cut.2.0.input cut.2.1 (passed R next mid between q (Ok (Some l)) t on grew prompt) in
     record {
       first = R.first;
       later = R.later ++ line ∷ [];
       catalogue = R.catalogue;
       opening = R.opening;
-      cutting = cut.2;
-      output = R.output ++ t;
-      passing = put_behind begun mid new between waits R.output t (passed_on begun held mid waited between R.output R.passing on grew) put grew_more quiet;
+      cutting = cut.2.0;
+      output = R.output ++ x;
+      passing = put_behind begun mid new between waits R.output x cut.2.0.input P put grew_more quiet;
       text = λ lines. ap (λ ls. text_of_lines (R.first ∷ ls)) (tail lines) ∙ R.text (line ∷ lines)
-          ∙ sym (append_assoc R.output t (replies h' lines) ∙ ap (λ b. R.output ++ (b ++ replies h' lines)) (text line cut.1) ∙ ap (λ k. R.output ++ (line_text h line ++ replies k lines)) (after line cut.1));
+          ∙ sym (append_assoc R.output x (replies h' lines) ∙ ap (λ b. R.output ++ (b ++ replies h' lines)) (text line cut.1) ∙ ap (λ k. R.output ++ (line_text h line ++ replies k lines)) (after line cut.1));
       entries = λ lines. ap (λ ls. entries_of_lines (R.first ∷ ls)) (tail lines) ∙ R.entries (line ∷ lines) ∙ ap (λ k. length (history_past k lines).log) (sym (after line cut.1));
       past = R.past ++ k ∷ [];
       became = λ lines. ap (λ ls. kinds_of_lines (R.first ∷ ls)) (tail lines) ∙ R.became (line ∷ lines)
           ∙ sym (append_assoc R.past (k ∷ []) (kinds h' lines) ∙ ap (λ b. R.past ++ (b ∷ kinds h' lines)) (kind line cut.1) ∙ ap (λ g. R.past ++ (line_kind h line ∷ kinds g lines)) (after line cut.1));
       tallied = more ∙ ap (counted k) R.tallied ∙ one-line-more R.past k;
     }
-
-text_so_far : {start now : Told} {begun held : Held} {waits : List ℕ} {p : Unread} {h : History} {s : Summary} (R : Running start now begun held waits p h s) → R.output ≡ text_of_lines (R.first ∷ R.later)
-text_so_far {h = h} R = sym (ap (λ ls. text_of_lines (R.first ∷ ls)) (sym (append-nil R.later)) ∙ R.text [] ∙ append-nil R.output)
 
 abbrev with-entries : Summary → ℕ → Summary
 with-entries s number = record s { entries = number }
@@ -98,98 +108,114 @@ summed {h = h} {s = s} R lines are number e =
     ap (λ t. with-entries t number) (R.tallied ∙ ap tally became) ∙ ap (with-entries (tally (kinds_of_lines lines))) entries
 
 -- the end
-pub ends : (start now next : Told) (begun held new : Held) (waited waits : List ℕ) (p q : Unread) (h : History) (s : Summary) (number : ℕ) → Running start now begun held waited p h s → Took now next p q (Ok None)
-    → IsPassedOn held new waited waits → Grew held new → number ≡ length h.log → RanSoFar start next begun new waits (Ok (with-entries s number))
-ends start now next begun held new waited waits p q h s number R took on grew e =
-    let cut = cut_all start now next p q (R.first ∷ R.later) R.cutting took in
-    let P = passed_on begun held new waited waits R.output R.passing on grew in
+pub ends : (start now next : Told) (begun held new : Held) (waited waits : List ℕ) (p q : Unread) (h : History) (s : Summary) (number : ℕ) → Running start now begun held waited p h s → LineRead now next p q (Ok None)
+    → IsPassedOn held new waited waits → Grew held new → IsPrompt now next waits (Ok None) → number ≡ length h.log → RanSoFar start next begun new waits (Ok (with-entries s number))
+ends start now next begun held new waited waits p q h s number R t on grew prompt e =
+    let cut = cut_all start now next p q (R.first ∷ R.later) R.cutting t in
+    let input : List ℕ = R.cutting.input ++ t.more in
+    let P = passed R next new waits q (Ok None) t on grew prompt in
     record {
       ran = record {
-        input = cut.0;
+        input = input;
         output = R.output;
-        read = cut.1;
-        written = all_written begun new waits R.output P;
-        outcome = (text_so_far R ∙ ap text_of_lines (sym cut.2), cut.3, summed R (script_lines cut.0) cut.2 number e, (R.first, R.later, R.catalogue, cut.2, R.opening));
+        read = cut.0;
+        written = all_written begun new waits R.output input P;
+        outcome = (text_so_far R ∙ ap text_of_lines (sym cut.1), cut.2, summed R (script_lines input) cut.1 number e, (R.first, R.later, R.catalogue, cut.1, R.opening));
       };
       sent = P.sent;
       grown = P.written;
+      turn = P.turn;
       quiet = λ _. P.failures;
     }
 
 -- memory was refused, whatever the reader did last
-pub no_memory : (start now next : Told) (begun held new : Held) (waited waits : List ℕ) (p q : Unread) (h : History) (s : Summary) (r : Result (Option Line) LineFault) → Running start now begun held waited p h s → Took now next p q r
-    → IsPassedOn held new waited waits → Grew held new → RanSoFar start next begun new waits (Err faults.OutOfMemory)
-no_memory start now next begun held new waited waits p q h s r R took on grew =
-    let cut = cut_short start now next p q (R.first ∷ R.later) r R.cutting took in
-    let P = passed_on begun held new waited waits R.output R.passing on grew in
+pub no_memory : (start now next : Told) (begun held new : Held) (waited waits : List ℕ) (p q : Unread) (h : History) (s : Summary) (r : Result (Option Line) LineFault) → Running start now begun held waited p h s → LineRead now next p q r
+    → IsPassedOn held new waited waits → Grew held new → IsPrompt now next waits r → RanSoFar start next begun new waits (Err faults.OutOfMemory)
+no_memory start now next begun held new waited waits p q h s r R t on grew prompt =
+    let cut = cut_short start now next p q (R.first ∷ R.later) r R.cutting t in
+    let input : List ℕ = R.cutting.input ++ t.more in
+    let P = passed R next new waits q r t on grew prompt in
     record {
       ran = record {
-        input = cut.0;
+        input = input;
         output = R.output;
-        read = cut.1;
-        written = all_written begun new waits R.output P;
-        outcome = (R.first ∷ R.later, cut.2.0, cut.2.1, text_so_far R);
+        read = cut.0;
+        written = all_written begun new waits R.output input P;
+        outcome = (R.first ∷ R.later, cut.1.0, cut.1.1, text_so_far R);
       };
       sent = P.sent;
       grown = P.written;
+      turn = P.turn;
       quiet = λ _. P.failures;
     }
 
--- the writer failed, and what it was to take is a front of the script's text
-pub breaks : (start next : Told) (begun held new : Held) (waits input whole others : List ℕ) → next.bytes ≡ start.bytes ++ input → script_text input ≡ whole ++ others → Broken begun new whole
+-- the writer failed, and what it was to take is a front of the text of complete lines
+pub breaks : (start next : Told) (begun held new : Held) (waits input whole others : List ℕ) (lines : List (List ℕ)) → Tells start next input → AreComplete start next input lines → text_of_lines lines ≡ whole ++ others → Broken begun new whole input
     → held.failures ≡ begun.failures → held.failures < new.failures → RanSoFar start next begun new waits (Err faults.Write)
-breaks start next begun held new waits input whole others read text B quiet failed = record {
+breaks start next begun held new waits input whole others lines read complete text B quiet failed = record {
   ran = record {
     input = input;
     output = B.front;
     read = read;
     written = B.written;
-    outcome = ((B.rest ++ others, sym (append_assoc B.front B.rest others) ∙ ap (λ b. b ++ others) B.both ∙ sym text), subst (λ k. k < new.failures) quiet failed);
+    outcome = (
+      (lines, B.rest ++ others, complete, sym (append_assoc B.front B.rest others) ∙ ap (λ b. b ++ others) B.both ∙ sym text),
+      B.turn,
+      subst (λ k. k < new.failures) quiet failed,
+    );
   };
   sent = B.front;
   grown = B.written;
+  turn = B.turn;
   quiet = λ e. absurd (false≢true (sym e));
 }
 
 -- there is no next line
-pub line_failed : (start now next : Told) (begun held new : Held) (waited waits : List ℕ) (p q : Unread) (h : History) (s : Summary) (f : LineFault) → Running start now begun held waited p h s → Took now next p q (Err f)
-    → PassedOn held new waited waits (Err f) → Grew held new → RanSoFar start next begun new waits (Err (engine_fault f))
-line_failed start now next begun held new waited waits p q h s line_faults.Read R took on grew =
-    let cut = cut_fault start now next p q (R.first ∷ R.later) R.cutting took in
-    let P = passed_on begun held new waited waits R.output R.passing on grew in
+pub line_failed : (start now next : Told) (begun held new : Held) (waited waits : List ℕ) (p q : Unread) (h : History) (s : Summary) (f : LineFault) → Running start now begun held waited p h s → LineRead now next p q (Err f)
+    → PassedOn held new waited waits (Err f) → Grew held new → IsPrompt now next waits (Err f) → RanSoFar start next begun new waits (Err (engine_fault f))
+line_failed start now next begun held new waited waits p q h s line_faults.Read R t on grew prompt =
+    let cut = cut_fault start now next p q (R.first ∷ R.later) R.cutting t in
+    let input : List ℕ = R.cutting.input ++ t.more in
+    let P = passed R next new waits q (Err line_faults.Read) t on grew prompt in
     record {
       ran = record {
-        input = cut.0;
+        input = input;
         output = R.output;
-        read = cut.1;
-        written = all_written begun new waits R.output P;
-        outcome = (text_so_far R ∙ ap text_of_lines (sym cut.2), cut.3);
+        read = cut.0;
+        written = all_written begun new waits R.output input P;
+        outcome = (text_so_far R ∙ ap text_of_lines (sym cut.1), cut.2);
       };
       sent = P.sent;
       grown = P.written;
+      turn = P.turn;
       quiet = λ _. P.failures;
     }
-line_failed start now next begun held new waited waits p q h s line_faults.Write R took on grew =
-    let cut = cut_short start now next p q (R.first ∷ R.later) (Err line_faults.Write) R.cutting took in
-    let others = replies h cut.2.0 in
-    let text : script_text cut.0 ≡ (R.output ++ []) ++ others = ap text_of_lines cut.2.1 ∙ R.text cut.2.0 ∙ ap (λ b. b ++ others) (sym (append-nil R.output)) in
-    let wrote = on.0.1 ∙ ap (λ b. held.bytes ++ take on.0.0 b) (sym (append-nil waited)) in
-    breaks start next begun held new waits cut.0 (R.output ++ []) others cut.1 text (broken begun held new waited R.output [] on.0.0 R.passing wrote) R.passing.failures on.1
-line_failed start now next begun held new waited waits p q h s line_faults.OutOfMemory R took on grew =
-    no_memory start now next begun held new waited waits p q h s (Err line_faults.OutOfMemory) R took on grew
+line_failed start now next begun held new waited waits p q h s line_faults.Write R t on grew prompt =
+    let cut = cut_short start now next p q (R.first ∷ R.later) (Err line_faults.Write) R.cutting t in
+    let input : List ℕ = R.cutting.input ++ t.more in
+    let others = replies h cut.1.0 in
+    let text : text_of_lines (R.first ∷ (R.later ++ cut.1.0)) ≡ (R.output ++ []) ++ others = R.text cut.1.0 ∙ ap (λ b. b ++ others) (sym (append-nil R.output)) in
+    let wrote : Takes held new (take on.0.0 (waited ++ [])) = subst (λ w. Takes held new (take on.0.0 w)) (sym (append-nil waited)) on.0.1 in
+    let still : input ≡ R.cutting.input = ap (λ m. R.cutting.input ++ m) (told_nothing now next p q (Err line_faults.Write) t prompt) ∙ append-nil R.cutting.input in
+    let P = same_input begun held waited R.output R.cutting.input input still R.passing in
+    breaks start next begun held new waits input (R.output ++ []) others (R.first ∷ (R.later ++ cut.1.0)) cut.0 cut.1.1 text (broken begun held new waited R.output [] input on.0.0 P wrote) R.passing.failures on.1
+line_failed start now next begun held new waited waits p q h s line_faults.OutOfMemory R t on grew prompt =
+    no_memory start now next begun held new waited waits p q h s (Err line_faults.OutOfMemory) R t on grew prompt
 
 -- the writer failed while a reply was put behind what waited
-pub put_failed : (start now next : Told) (begun held mid new : Held) (waited between waits : List ℕ) (p q : Unread) (h : History) (s : Summary) (l : Line) (t : List ℕ) (n : ℕ) → Running start now begun held waited p h s → Took now next p q (Ok (Some l))
-    → IsPassedOn held mid waited between → Grew held mid
-    → ((line : List ℕ) → Shows l line → t ≡ line_text h line)
-    → new.bytes ≡ mid.bytes ++ take n (between ++ t) → mid.failures < new.failures → RanSoFar start next begun new waits (Err faults.Write)
-put_failed start now next begun held mid new waited between waits p q h s l t n R took on grew text wrote failed =
-    let cut = cut_next start now next p q (R.first ∷ R.later) l R.cutting took in
+pub put_failed : (start now next : Told) (begun held mid new : Held) (waited between waits : List ℕ) (p q : Unread) (h : History) (s : Summary) (l : Line) (x : List ℕ) (n : ℕ) → Running start now begun held waited p h s → LineRead now next p q (Ok (Some l))
+    → IsPassedOn held mid waited between → Grew held mid → IsPrompt now next between (Ok (Some l))
+    → ((line : List ℕ) → Shows l line → x ≡ line_text h line)
+    → Takes mid new (take n (between ++ x)) → mid.failures < new.failures → RanSoFar start next begun new waits (Err faults.Write)
+put_failed start now next begun held mid new waited between waits p q h s l x n R t on grew prompt text wrote failed =
+    let cut = cut_next start now next p q (R.first ∷ R.later) l R.cutting t in
     let line = cut.0 in
-    let so_far = cut_so_far start next q ((R.first ∷ R.later) ++ line ∷ []) cut.2 in
+    let D = cut.2.0 in
+    let so_far = cut_so_far start next q ((R.first ∷ R.later) ++ line ∷ []) D in
+    let lines : List (List ℕ) = ((R.first ∷ R.later) ++ line ∷ []) ++ so_far.0 in
     let others = replies (line_after h line) so_far.0 in
-    let P = passed_on begun held mid waited between R.output R.passing on grew in
-    let all : script_text cut.2.input ≡ (R.output ++ t) ++ others =
-    ap text_of_lines so_far.1 ∙ ap (λ ls. text_of_lines (R.first ∷ ls)) (append_assoc R.later (line ∷ []) so_far.0) ∙ R.text (line ∷ so_far.0)
-    ∙ ap (λ b. R.output ++ (b ++ others)) (sym (text line cut.1)) ∙ sym (append_assoc R.output t others) in
-    breaks start next begun mid new waits cut.2.input (R.output ++ t) others cut.2.read all (broken begun mid new between R.output t n P wrote) P.failures failed
+    let P = same_input begun mid between R.output (R.cutting.input ++ t.more) D.input cut.2.1 (passed R next mid between q (Ok (Some l)) t on grew prompt) in
+    let all : text_of_lines lines ≡ (R.output ++ x) ++ others =
+    ap (λ ls. text_of_lines (R.first ∷ ls)) (append_assoc R.later (line ∷ []) so_far.0) ∙ R.text (line ∷ so_far.0)
+    ∙ ap (λ b. R.output ++ (b ++ others)) (sym (text line cut.1)) ∙ sym (append_assoc R.output x others) in
+    breaks start next begun mid new waits D.input (R.output ++ x) others lines D.read so_far.1 all (broken begun mid new between R.output x D.input n P wrote) P.failures failed

@@ -1,8 +1,9 @@
 -- What a run of a script reads and writes.
-use Rattle.std.specs.Prelude.{◌≡◌, ℕ, ◌<◌, List, ◌∷◌, ◌++◌, Bool, false, take, Result, Ok, Err, if◌then◌else◌}
-use Rattle.script_lines.specs.Device.{Told, Held}
+use Rattle.std.specs.Prelude.{◌≡◌, ℕ, ◌<◌, ◌≤◌, List, ◌∷◌, ◌++◌, Bool, false, length, take, Result, Ok, Err, if◌then◌else◌}
+use Rattle.std.specs.Io.KnownBytes.{append_known}
+use Rattle.script_lines.specs.Device.{Told, Held, Tells, Takes, wide}
 use Rattle.script_lines.specs.Cut.{whole_lines, script_lines}
-use Rattle.script_lines.specs.Lines.{IsReadFault}
+use Rattle.script_lines.specs.Lines.{HasEnded, AreComplete, IsReadFault}
 use Rattle.jsl_model.specs.Jobs.{JobTree}
 use Rattle.jsl_json.specs.declared.fault.ReadFault.{ReadFault}
 use Rattle.jsl_json.specs.Catalogues.{is_out_of_memory}
@@ -22,25 +23,38 @@ IsOpened lines = (line : List ℕ) × (rest : List (List ℕ)) × (catalogue : L
 abbrev pub IsFirstFault : List (List ℕ) → ReadFault → Type 0
 IsFirstFault lines fault = (line : List ℕ) × (rest : List (List ℕ)) × (lines ≡ line ∷ rest) × (catalogue_at line ≡ Err fault)
 
--- the input that was told and the output that was written, by the answer
+-- the output is a front of the text of lines that were told to their end
+abbrev pub IsFront : Told → Told → List ℕ → List ℕ → Type 0
+IsFront r r' input output = (lines : List (List ℕ)) × (rest : List ℕ) × AreComplete r r' input lines × (output ++ rest ≡ text_of_lines lines)
+
+-- all lines that were whole before the last read were replied to before it
+pub record RepliesInTurn (input output : List ℕ) : Type 0 where
+  pub before : List ℕ
+  pub last : List ℕ
+  pub others : List ℕ
+  pub split : input ≡ before ++ last
+  pub one_read : length last ≤ wide
+  pub replied : output ≡ text_of_lines (whole_lines before) ++ others
+
+-- the input that was told and the output that was written, by the answer; a line counts once it was told to its end
 abbrev pub IsOutcome : List ℕ → List ℕ → Told → Told → Held → Held → Result Summary EngineFault → Type 0
 -- the first line is a catalogue, the reader told its end, and all is answered and counted
-IsOutcome input output r r' w w' (Ok summary) = (output ≡ script_text input) × (r.ends < r'.ends) × (summary ≡ summary_of (script_lines input)) × IsOpened (script_lines input)
--- the fault is told, which is all that there is to tell
-IsOutcome input output r r' w w' (Err (Catalogue fault)) = (output ≡ fault_text fault) × (script_text input ≡ fault_text fault) × IsFirstFault (script_lines input) fault
+IsOutcome input output r r' w w' (Ok summary) = (output ≡ script_text input) × HasEnded r r' × (summary ≡ summary_of (script_lines input)) × IsOpened (script_lines input)
+-- the fault of a first line that was told to its end, which is all that there is to tell
+IsOutcome input output r r' w w' (Err (Catalogue fault)) = (output ≡ fault_text fault) × (script_text input ≡ fault_text fault) × ((lines : List (List ℕ)) × AreComplete r r' input lines × IsFirstFault lines fault)
 -- the complete lines are answered
 IsOutcome input output r r' w w' (Err Read) = (output ≡ text_of_lines (whole_lines input)) × IsReadFault r r'
--- a front of the text was written
-IsOutcome input output r r' w w' (Err Write) = ((rest : List ℕ) × (output ++ rest ≡ script_text input)) × (w.failures < w'.failures)
+-- a front of the text was written, and nothing was read while replies to whole lines waited
+IsOutcome input output r r' w w' (Err Write) = IsFront r r' input output × RepliesInTurn input output × (w.failures < w'.failures)
 -- the lines before are answered
-IsOutcome input output r r' w w' (Err OutOfMemory) = (done : List (List ℕ)) × (rest : List (List ℕ)) × (script_lines input ≡ done ++ rest) × (output ≡ text_of_lines done)
+IsOutcome input output r r' w w' (Err OutOfMemory) = (done : List (List ℕ)) × (rest : List (List ℕ)) × AreComplete r r' input (done ++ rest) × (output ≡ text_of_lines done)
 
 -- THE RUN OF A SCRIPT: what the reader told and the writer took in the call are an input and an output that fit the answer
 pub record Ran (r r' : Told) (w w' : Held) (result : Result Summary EngineFault) : Type 0 where
   pub input : List ℕ
   pub output : List ℕ
-  pub read : r'.bytes ≡ r.bytes ++ input
-  pub written : w'.bytes ≡ w.bytes ++ output
+  pub read : Tells r r' input
+  pub written : Takes w w' output
   pub outcome : IsOutcome input output r r' w w' result
 
 -- Before the last replies are written
@@ -50,20 +64,25 @@ abbrev pub has_writer_failed : Result Summary EngineFault → Bool
 has_writer_failed (Ok summary) = false
 has_writer_failed (Err fault) = is_of_writer fault
 
--- what a writer holds once it took what waits; behind a failure it takes no more
+-- what a writer holds once it took what waits
+abbrev pub with_all : Held → List ℕ → Held
+with_all w waits = record { bytes = w.bytes ++ waits; failures = w.failures; contents = append_known w.contents waits }
+
+-- what a writer holds before the last replies are written; behind a failure it takes no more
 abbrev pub with_waiting : Held → List ℕ → Result Summary EngineFault → Held
-with_waiting w waits result = record { bytes = if has_writer_failed result then w.bytes else w.bytes ++ waits; failures = w.failures }
+with_waiting w waits result = if has_writer_failed result then w else with_all w waits
 
 -- the script is run as soon as the writer takes what waits
 pub record RanSoFar (r r' : Told) (w w' : Held) (waits : List ℕ) (result : Result Summary EngineFault) : Type 0 where
   pub ran : Ran r r' w (with_waiting w' waits result) result
   pub sent : List ℕ
-  pub grown : w'.bytes ≡ w.bytes ++ sent
+  pub grown : Takes w w' sent
+  pub turn : RepliesInTurn ran.input sent
   pub quiet : has_writer_failed result ≡ false → w'.failures ≡ w.failures
 
 -- a fault's line is put behind what waited, and the run ends with that fault; or with the writer's, or by want of memory
 abbrev pub TellsFault : ReadFault → Held → List ℕ → Held → List ℕ → EngineFault → Type 0
-TellsFault fault w waited w' waits (Catalogue told) = (told ≡ fault) × (is_out_of_memory fault ≡ false) × (w'.bytes ++ waits ≡ (w.bytes ++ waited) ++ fault_text fault) × ((sent : List ℕ) × (w'.bytes ≡ w.bytes ++ sent)) × (w'.failures ≡ w.failures)
+TellsFault fault w waited w' waits (Catalogue told) = (told ≡ fault) × (is_out_of_memory fault ≡ false) × (w'.bytes ++ waits ≡ (w.bytes ++ waited) ++ fault_text fault) × ((sent : List ℕ) × Takes w w' sent) × (w'.failures ≡ w.failures)
 TellsFault fault w waited w' waits Read = ⊥
-TellsFault fault w waited w' waits Write = (is_out_of_memory fault ≡ false) × ((n : ℕ) × (w'.bytes ≡ w.bytes ++ take n (waited ++ fault_text fault))) × (w.failures < w'.failures)
+TellsFault fault w waited w' waits Write = (is_out_of_memory fault ≡ false) × ((n : ℕ) × Takes w w' (take n (waited ++ fault_text fault))) × (w.failures < w'.failures)
 TellsFault fault w waited w' waits OutOfMemory = (w' ≡ w) × (waits ≡ waited)

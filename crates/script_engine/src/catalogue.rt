@@ -7,7 +7,7 @@ ghost use Rattle.script_engine.specs.Ran.{TellsFault};
 use crate::fault::EngineFault;
 use jsl_json::{ReadFault, read_catalogue};
 use jsl_model::Catalogue;
-use script_lines::{Line, Outbox, Sink};
+use script_lines::{Line, OutputBuffer, Sink};
 use script_text::fault_text;
 use std::alloc::Global;
 
@@ -26,17 +26,17 @@ pub(crate) fn catalogue_in(alloc: Global, first: &Option<Line>) -> Result<Catalo
 /// Replies with the line of a fault, and answers how the run ends by that.
 pub(crate) fn tell_fault<W: Sink>(
     alloc: Global,
-    outbox: &mut Outbox,
+    output: &mut OutputBuffer,
     writer: &mut W,
     fault: ReadFault,
 ) -> EngineFault
-    ensures { TellsFault fault (W.tape writer.old) outbox.old (W.tape writer.new) outbox.new result }
+    ensures { TellsFault fault (W.tape writer.old) output.old (W.tape writer.new) output.new result }
 {
     if fault.is_out_of_memory() {
         return EngineFault::OutOfMemory;
     }
     match fault_text(alloc, &fault) {
-        Ok(text) => match outbox.put(writer, &text) {
+        Ok(text) => match output.put(writer, &text) {
             Ok(()) => EngineFault::Catalogue(fault),
             Err(_) => EngineFault::Write,
         },

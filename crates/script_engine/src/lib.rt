@@ -12,18 +12,3 @@ pub use jsl_json::ReadFault;
 pub use run::run_script;
 pub use script_lines::{Counted, DeviceFault, MAX_LINE, MAX_READS, Sink, Source};
 pub use summary::Summary;
-
-#[cfg(test)]
-mod bound_tests;
-#[cfg(test)]
-mod call_tests;
-#[cfg(test)]
-mod fault_tests;
-#[cfg(test)]
-mod job_tests;
-#[cfg(test)]
-mod plain_tests;
-#[cfg(test)]
-mod tests;
-#[cfg(test)]
-mod text_tests;

@@ -6,30 +6,30 @@ use crate::catalogue::{catalogue_in, tell_fault};
 use crate::fault::EngineFault;
 use crate::summary::Summary;
 use op_log::Book;
-use script_lines::{Outbox, Pending, Sink, Source};
+use script_lines::{OutputBuffer, InputBuffer, Sink, Source};
 use std::alloc::Global;
 
-/// Runs a script, and leaves the last replies in the outbox.
+/// Runs a script, and leaves the last replies in the output.
 fn run<R: Source, W: Sink>(
     alloc: Global,
     reader: &mut R,
-    outbox: &mut Outbox,
+    output: &mut OutputBuffer,
     writer: &mut W,
 ) -> Result<Summary, EngineFault>
-    requires { outbox.old ≡ [] }
-    ensures { RanSoFar (R.tape reader.old) (R.tape reader.new) (W.tape writer.old) (W.tape writer.new) outbox.new result }
+    requires { output.old ≡ [] }
+    ensures { RanSoFar (R.tape reader.old) (R.tape reader.new) (W.tape writer.old) (W.tape writer.new) output.new result }
 {
-    let mut pending = Pending::new(alloc)?;
-    let first = pending.next_line(alloc, reader, outbox, writer)?;
+    let mut input = InputBuffer::new(alloc)?;
+    let first = input.next_line(alloc, reader, output, writer)?;
     let catalogue = match catalogue_in(alloc, &first) {
         Ok(catalogue) => catalogue,
-        Err(fault) => return Err(tell_fault(alloc, outbox, writer, fault)),
+        Err(fault) => return Err(tell_fault(alloc, output, writer, fault)),
     };
     let mut book = Book::<LIMIT>::new(alloc, catalogue)?;
     let mut summary = Summary::default();
-    while let Some(line) = pending.next_line(alloc, reader, outbox, writer)? {
+    while let Some(line) = input.next_line(alloc, reader, output, writer)? {
         let answered = answer(alloc, &mut book, &line)?;
-        outbox.put(writer, &answered.text)?;
+        output.put(writer, &answered.text)?;
         summary.count(answered.kind);
     }
     summary.entries = book.len() as u64;
@@ -69,11 +69,11 @@ pub fn run_script<R: Source, W: Sink>(
 ) -> Result<Summary, EngineFault>
     ensures { Ran (R.tape reader.old) (R.tape reader.new) (W.tape writer.old) (W.tape writer.new) result }
 {
-    let mut outbox = Outbox::new(alloc)?;
-    let outcome = run(alloc, reader, &mut outbox, writer);
+    let mut output = OutputBuffer::new(alloc)?;
+    let outcome = run(alloc, reader, &mut output, writer);
     if has_writer_failed(&outcome) {
         return outcome;
     }
-    outbox.flush(writer)?;
+    output.flush(writer)?;
     outcome
 }

@@ -1,26 +1,27 @@
 -- What was read so far, as lines and the bytes behind them: the laws that a loop over the lines of a script needs.
-use Rattle.std.proofs.Common.{◌≡◌, ◌∙◌, ◌⊎◌, inl, inr, ℕ, ◌+◌, ◌<◌, ◌≤◌, List, [], ◌∷◌, ◌++◌, true, false, length, Option, Some, None, Result, Ok, Err, refl, sym, ap, append_assoc, length-append, arith}
+use Rattle.std.proofs.Common.{◌≡◌, ◌∙◌, ◌⊎◌, inl, inr, ℕ, ◌+◌, ◌<◌, ◌≤◌, List, [], ◌∷◌, ◌++◌, Bool, true, false, length, Option, Some, None, Result, Ok, Err, refl, sym, ap, subst, append_assoc, length-append, arith}
 use Rattle.std.proofs.lemmas.Bool.{false≢true, false_from_ne_true}
 use Rattle.std.proofs.lemmas.List.{append-nil}
 use Rattle.script_lines.specs.declared.line.Line.{Line}
 use Rattle.script_lines.specs.declared.line_fault.LineFault.{LineFault}
 use Rattle.script_lines.specs.declared.line_fault.LineFault.TheVariants.{Read}
-use Rattle.script_lines.specs.declared.pending.TheConstants.{MAX_READS}
-use Rattle.script_lines.specs.Device.{Told}
+use Rattle.script_lines.specs.declared.input_buffer.TheConstants.{MAX_READS}
+use Rattle.script_lines.specs.Device.{Told, Tells}
 use Rattle.script_lines.specs.Cut.{lines_of, whole_lines, has_feed, at_least_one, script_lines}
 use Rattle.script_lines.specs.Unread.{Unread, nothing_read}
-use Rattle.script_lines.specs.Lines.{Shows, ShowsFirst, Cuts, Took, IsReadFault}
+use Rattle.script_lines.specs.Lines.{Shows, ShowsFirst, Cuts, HasEnded, AreComplete, LineRead, IsReadFault}
+use Rattle.script_lines.proofs.Telling.{tells_more}
 use Rattle.script_lines.proofs.CutLaws.{lines_of-cut, lines_of-last, lines_of-nil, whole_lines-cut, whole_lines-none}
 
 -- the reader told an input, of which these lines are done, whatever it tells from now on
 pub record Cutting (start now : Told) (p : Unread) (done : List (List ℕ)) : Type 0 where
   pub input : List ℕ
-  pub read : now.bytes ≡ start.bytes ++ input
+  pub read : Tells start now input
   pub lines : (more : List ℕ) → (p.ended ≡ true → more ≡ []) → script_lines (input ++ more) ≡ done ++ lines_of (p.bytes ++ more)
   pub whole : p.ended ≡ false → (more : List ℕ) → whole_lines (input ++ more) ≡ done ++ whole_lines (p.bytes ++ more)
   pub failures : now.failures ≡ start.failures
   pub calls : now.calls + p.reads_left ≡ start.calls + MAX_READS
-  pub ends : p.ended ≡ true → start.ends < now.ends
+  pub ends : p.ended ≡ true → HasEnded start now
   pub later : start.ends ≤ now.ends
   pub drained : p.ended ≡ true → p.bytes ≡ []
 
@@ -51,21 +52,22 @@ something bytes line q (inr e) none =
     let pos : 0 < length line = e.1 in
     omega arith
 
-ends_after : (start now next : Told) (p : Unread) → (p.ended ≡ true → start.ends < now.ends) → start.ends ≤ now.ends → now.ends ≤ next.ends → (p.ended ≡ true) ⊎ (now.ends < next.ends) → start.ends < next.ends
-ends_after start now next p before a b (inl e) = let h = before e in omega (arith, h)
-ends_after start now next p before a b (inr h) = omega arith
+-- the end was told before, and nothing since; or it was told now
+ends_after : (start now next : Told) (p : Unread) → (p.ended ≡ true → HasEnded start now) → (p.ended ≡ true → next ≡ now) → start.ends ≤ now.ends → (p.ended ≡ true) ⊎ HasEnded now next → HasEnded start next
+ends_after start now next p before still a (inl e) = subst (λ (t : Told). HasEnded start t) (sym (still e)) (before e)
+ends_after start now next p before still a (inr h) = (omega (arith, h.0), h.1)
 
 caused : (start now next : Told) (p q : Unread) → now.failures ≡ start.failures → now.calls + p.reads_left ≡ start.calls + MAX_READS → next.calls + q.reads_left ≡ now.calls + p.reads_left → (now.failures < next.failures) ⊎ (q.reads_left ≡ 0) → IsReadFault start next
 caused start now next p q f c d (inl h) = inl (omega arith)
 caused start now next p q f c d (inr h) = inr (omega arith)
 
 -- the first line: no line is an empty one
-pub cut_first : (start next : Told) (q : Unread) (first : Option Line) → Took start next nothing_read q (Ok first)
-    → (line : List ℕ) × ShowsFirst first line × Cutting start next q (line ∷ [])
+pub cut_first : (start next : Told) (q : Unread) (first : Option Line) (t : LineRead start next nothing_read q (Ok first))
+    → (line : List ℕ) × ShowsFirst first line × ((C : Cutting start next q (line ∷ [])) × (C.input ≡ t.more))
 cut_first start next q None t = (
   [],
   refl,
-  record {
+  (record {
     input = t.more;
     read = t.told;
     lines = λ more h. ap (λ x. script_lines (x ++ more)) t.outcome.0 ∙ ap script_lines (h t.outcome.2) ∙ ap at_least_one lines_of-nil
@@ -73,39 +75,39 @@ cut_first start next q None t = (
     whole = λ e. absurd (false≢true (sym e ∙ t.outcome.2));
     failures = t.cause;
     calls = t.calls;
-    ends = λ e. ends_after start start next nothing_read (λ h. absurd (false≢true h)) (omega arith) t.later (t.ended e);
+    ends = λ e. ends_after start start next nothing_read (λ h. absurd (false≢true h)) (λ h. absurd (false≢true h)) (omega arith) (t.ended e);
     later = t.later;
     drained = t.drained;
-  },
+  }, refl),
 )
 cut_first start next q (Some l) t =
     let line = t.outcome.0 in (
       line,
       t.outcome.1,
-      record {
+      (record {
         input = t.more;
         read = t.told;
         lines = λ more h. ap at_least_one (cut_off t.more line q t.outcome.2 t.outcome.3 more h);
         whole = λ e more. cut_off_whole t.more line q t.outcome.2 t.outcome.3 e more;
         failures = t.cause;
         calls = t.calls;
-        ends = λ e. ends_after start start next nothing_read (λ h. absurd (false≢true h)) (omega arith) t.later (t.ended e);
+        ends = λ e. ends_after start start next nothing_read (λ h. absurd (false≢true h)) (λ h. absurd (false≢true h)) (omega arith) (t.ended e);
         later = t.later;
         drained = t.drained;
-      },
+      }, refl),
     )
 
 -- the next line
-pub cut_next : (start now next : Told) (p q : Unread) (done : List (List ℕ)) (l : Line) → Cutting start now p done → Took now next p q (Ok (Some l))
-    → (line : List ℕ) × Shows l line × Cutting start next q (done ++ line ∷ [])
+pub cut_next : (start now next : Told) (p q : Unread) (done : List (List ℕ)) (l : Line) (C : Cutting start now p done) (t : LineRead now next p q (Ok (Some l)))
+    → (line : List ℕ) × Shows l line × ((D : Cutting start next q (done ++ line ∷ [])) × (D.input ≡ C.input ++ t.more))
 cut_next start now next p q done l C t =
     let line = t.outcome.0 in
-    let running : p.ended ≡ true → ⊥ = λ e. something (p.bytes ++ t.more) line q t.outcome.3 (ap (λ x. x ++ t.more) (C.drained e) ∙ t.quiet e) in (
+    let running : p.ended ≡ true → ⊥ = λ e. something (p.bytes ++ t.more) line q t.outcome.3 (ap (λ x. x ++ t.more) (C.drained e) ∙ (t.quiet e).0) in (
       line,
       t.outcome.1,
-      record {
+      (record {
         input = C.input ++ t.more;
-        read = t.told ∙ ap (λ b. b ++ t.more) C.read ∙ append_assoc start.bytes C.input t.more;
+        read = tells_more start now next C.input t.more C.read t.told;
         lines = λ more h. ap script_lines (append_assoc C.input t.more more) ∙ C.lines (t.more ++ more) (λ e. absurd (running e))
             ∙ ap (λ x. done ++ lines_of x) (sym (append_assoc p.bytes t.more more)) ∙ ap (λ x. done ++ x) (cut_off (p.bytes ++ t.more) line q t.outcome.2 t.outcome.3 more h)
             ∙ sym (append_assoc done (line ∷ []) (lines_of (q.bytes ++ more)));
@@ -114,43 +116,58 @@ cut_next start now next p q done l C t =
             ∙ sym (append_assoc done (line ∷ []) (whole_lines (q.bytes ++ more)));
         failures = t.cause ∙ C.failures;
         calls = t.calls ∙ C.calls;
-        ends = λ e. ends_after start now next p C.ends C.later t.later (t.ended e);
+        ends = λ e. ends_after start now next p C.ends (λ h. (t.quiet h).1) C.later (t.ended e);
         later = omega (arith, C.later, t.later);
         drained = t.drained;
-      },
+      }, refl),
     )
 
+-- lines that are complete stay so, whatever is told from now on
+complete : (start now next : Told) (p : Unread) (done : List (List ℕ)) (C : Cutting start now p done) (more : List ℕ) → (p.ended ≡ true → more ≡ []) → (p.ended ≡ true → next ≡ now) → (ended : Bool) → p.ended ≡ ended
+    → (rest : List (List ℕ)) × AreComplete start next (C.input ++ more) (done ++ rest)
+complete start now next p done C more none still true e =
+    let told = subst (λ (t : Told). start.ends < t.ends) (sym (still e)) (C.ends e).0 in
+    (lines_of (p.bytes ++ more), inr (told, sym (C.lines more none)))
+complete start now next p done C more none still false e = (whole_lines (p.bytes ++ more), inl (sym (C.whole e more)))
+
 -- whatever the answer, these lines are done, and others may stand behind them
-pub cut_short : (start now next : Told) (p q : Unread) (done : List (List ℕ)) (r : Result (Option Line) LineFault) → Cutting start now p done → Took now next p q r
-    → (input : List ℕ) × (next.bytes ≡ start.bytes ++ input) × ((rest : List (List ℕ)) × (script_lines input ≡ done ++ rest))
+pub cut_short : (start now next : Told) (p q : Unread) (done : List (List ℕ)) (r : Result (Option Line) LineFault) (C : Cutting start now p done) (t : LineRead now next p q r)
+    → Tells start next (C.input ++ t.more) × ((rest : List (List ℕ)) × AreComplete start next (C.input ++ t.more) (done ++ rest))
 cut_short start now next p q done r C t =
-    (C.input ++ t.more, t.told ∙ ap (λ b. b ++ t.more) C.read ∙ append_assoc start.bytes C.input t.more, (lines_of (p.bytes ++ t.more), C.lines t.more t.quiet))
+    (tells_more start now next C.input t.more C.read t.told, complete start now next p done C t.more (λ e. (t.quiet e).0) (λ e. (t.quiet e).1) p.ended refl)
 
 -- between two lines, these are done, and others may stand behind them
-pub cut_so_far : (start now : Told) (p : Unread) (done : List (List ℕ)) (C : Cutting start now p done) → (rest : List (List ℕ)) × (script_lines C.input ≡ done ++ rest)
-cut_so_far start now p done C = (lines_of (p.bytes ++ []), ap script_lines (sym (append-nil C.input)) ∙ C.lines [] (λ e. refl))
+pub cut_so_far : (start now : Told) (p : Unread) (done : List (List ℕ)) (C : Cutting start now p done) → (rest : List (List ℕ)) × AreComplete start now C.input (done ++ rest)
+cut_so_far start now p done C =
+    let all = complete start now now p done C [] (λ e. refl) (λ e. refl) p.ended refl in
+    (all.0, subst (λ input. AreComplete start now input (done ++ all.0)) (append-nil C.input) all.1)
 
 -- at the end, these lines are all
-pub cut_all : (start now next : Told) (p q : Unread) (done : List (List ℕ)) → Cutting start now p done → Took now next p q (Ok None)
-    → (input : List ℕ) × (next.bytes ≡ start.bytes ++ input) × (script_lines input ≡ done) × (start.ends < next.ends)
+pub cut_all : (start now next : Told) (p q : Unread) (done : List (List ℕ)) (C : Cutting start now p done) (t : LineRead now next p q (Ok None))
+    → Tells start next (C.input ++ t.more) × (script_lines (C.input ++ t.more) ≡ done) × HasEnded start next
 cut_all start now next p q done C t = (
-  C.input ++ t.more,
-  t.told ∙ ap (λ b. b ++ t.more) C.read ∙ append_assoc start.bytes C.input t.more,
-  C.lines t.more t.quiet ∙ ap (λ x. done ++ lines_of x) t.outcome.0 ∙ ap (λ x. done ++ x) lines_of-nil ∙ append-nil done,
-  ends_after start now next p C.ends C.later t.later (t.ended t.outcome.2),
+  tells_more start now next C.input t.more C.read t.told,
+  C.lines t.more (λ e. (t.quiet e).0) ∙ ap (λ x. done ++ lines_of x) t.outcome.0 ∙ ap (λ x. done ++ x) lines_of-nil ∙ append-nil done,
+  ends_after start now next p C.ends (λ e. (t.quiet e).1) C.later (t.ended t.outcome.2),
 )
 
 -- at a fault of the reader, these lines are all that have their line feed
-pub cut_fault : (start now next : Told) (p q : Unread) (done : List (List ℕ)) → Cutting start now p done → Took now next p q (Err Read)
-    → (input : List ℕ) × (next.bytes ≡ start.bytes ++ input) × (whole_lines input ≡ done) × IsReadFault start next
+pub cut_fault : (start now next : Told) (p q : Unread) (done : List (List ℕ)) (C : Cutting start now p done) (t : LineRead now next p q (Err Read))
+    → Tells start next (C.input ++ t.more) × (whole_lines (C.input ++ t.more) ≡ done) × IsReadFault start next
 cut_fault start now next p q done C t = (
-  C.input ++ t.more,
-  t.told ∙ ap (λ b. b ++ t.more) C.read ∙ append_assoc start.bytes C.input t.more,
+  tells_more start now next C.input t.more C.read t.told,
   C.whole t.cause.1 t.more ∙ ap (λ x. done ++ x) (whole_lines-none (p.bytes ++ t.more) t.outcome) ∙ append-nil done,
   caused start now next p q C.failures C.calls t.calls t.cause.0,
 )
 
 -- a fault of the reader ahead of the first line
-pub first_fault : (start next : Told) (q : Unread) → (t : Took start next nothing_read q (Err Read)) → (whole_lines t.more ≡ []) × IsReadFault start next
+pub first_fault : (start next : Told) (q : Unread) → (t : LineRead start next nothing_read q (Err Read)) → (whole_lines t.more ≡ []) × IsReadFault start next
 first_fault start next q t =
     (whole_lines-none t.more t.outcome, caused start start next nothing_read q refl refl t.calls t.cause.0)
+
+-- where a read told more behind these lines, they are all that were whole before it
+pub whole_before : (start now next : Told) (p q : Unread) (done : List (List ℕ)) (r : Result (Option Line) LineFault) (C : Cutting start now p done) (t : LineRead now next p q r) (first last : List ℕ)
+    → t.more ≡ first ++ last → has_feed (p.bytes ++ first) ≡ false → p.ended ≡ false
+    → whole_lines (C.input ++ first) ≡ done
+whole_before start now next p q done r C t first last split clean open_end =
+    C.whole open_end first ∙ ap (λ x. done ++ x) (whole_lines-none (p.bytes ++ first) clean) ∙ append-nil done

@@ -1,3 +1,4 @@
+pub mod Telling
 pub mod Writing
 pub mod Skipping
 pub mod Growing

@@ -5,9 +5,10 @@ use Rattle.script_lines.specs.declared.line.Line.{Line}
 use Rattle.script_lines.specs.declared.line.Line.TheVariants.{Whole, TooLong}
 use Rattle.script_lines.specs.declared.line_fault.LineFault.{LineFault}
 use Rattle.script_lines.specs.declared.line_fault.LineFault.TheVariants.{Read, Write, OutOfMemory}
-use Rattle.script_lines.specs.declared.pending.TheConstants.{MAX_READS}
-use Rattle.script_lines.specs.Device.{Told, Held}
-use Rattle.script_lines.specs.Cut.{has_feed}
+use Rattle.script_lines.specs.declared.input_buffer.TheConstants.{MAX_READS}
+use Rattle.std.specs.Io.KnownBytes.{IsAtEnd}
+use Rattle.script_lines.specs.Device.{Told, Held, Tells, Takes, wide}
+use Rattle.script_lines.specs.Cut.{has_feed, whole_lines, script_lines}
 use Rattle.script_lines.specs.Unread.{Unread}
 
 -- the bytes that a line stands for
@@ -43,21 +44,35 @@ HasCause old new before after (Err OutOfMemory) = new.failures ≡ old.failures
 abbrev pub IsReadFault : Told → Told → Type 0
 IsReadFault start now = (start.failures < now.failures) ⊎ (start.calls + MAX_READS ≤ now.calls)
 
--- the reader told more, and a line was taken off
-pub record Took (old new : Told) (before after : Unread) (result : Result (Option Line) LineFault) : Type 0 where
+-- the reader told its end since, and has nothing left
+abbrev pub HasEnded : Told → Told → Type 0
+HasEnded start now = (start.ends < now.ends) × IsAtEnd now.left
+
+-- lines that were told to their end: those that have their line feed, or all of them where the reader told its end
+abbrev pub AreComplete : Told → Told → List ℕ → List (List ℕ) → Type 0
+AreComplete start now input lines = (lines ≡ whole_lines input) ⊎ ((start.ends < now.ends) × (lines ≡ script_lines input))
+
+-- nothing more was told; or what the last read told, and before that read no line was whole
+abbrev pub InTurn : List ℕ → List ℕ → Type 0
+InTurn bytes more = (more ≡ [])
+    ⊎ ((first : List ℕ) × (last : List ℕ) × (more ≡ first ++ last) × (length last ≤ wide) × (has_feed (bytes ++ first) ≡ false))
+
+-- the reader told more, and a line was cut off
+pub record LineRead (old new : Told) (before after : Unread) (result : Result (Option Line) LineFault) : Type 0 where
   -- what was told in this call
   pub more : List ℕ
-  pub told : new.bytes ≡ old.bytes ++ more
+  pub told : Tells old new more
+  pub turn : InTurn before.bytes more
   -- what became of it and of what was left before
   pub outcome : Outcome (before.bytes ++ more) after result
   pub cause : HasCause old new before after result
   -- each call of the reader counts
   pub calls : new.calls + after.reads_left ≡ old.calls + before.reads_left
   -- behind the end nothing is read, and nothing is left
-  pub quiet : before.ended ≡ true → more ≡ []
+  pub quiet : before.ended ≡ true → (more ≡ []) × (new ≡ old)
   pub drained : after.ended ≡ true → after.bytes ≡ []
   -- an end that is known was told
-  pub ended : after.ended ≡ true → (before.ended ≡ true) ⊎ (old.ends < new.ends)
+  pub ended : after.ended ≡ true → (before.ended ≡ true) ⊎ HasEnded old new
   pub later : old.ends ≤ new.ends
 
 -- what was written and what waits are together what they were, and the writer didn't fail
@@ -69,4 +84,11 @@ abbrev pub PassedOn : Held → Held → List ℕ → List ℕ → Result (Option
 PassedOn old new waited waits (Ok line) = IsPassedOn old new waited waits
 PassedOn old new waited waits (Err Read) = IsPassedOn old new waited waits
 PassedOn old new waited waits (Err OutOfMemory) = IsPassedOn old new waited waits
-PassedOn old new waited waits (Err Write) = ((n : ℕ) × (new.bytes ≡ old.bytes ++ take n waited)) × (old.failures < new.failures)
+PassedOn old new waited waits (Err Write) = ((n : ℕ) × Takes old new (take n waited)) × (old.failures < new.failures)
+
+-- the reader is called once nothing waits, and never after the writer failed
+abbrev pub IsPrompt : Told → Told → List ℕ → Result (Option Line) LineFault → Type 0
+IsPrompt old new waits (Ok line) = (new ≡ old) ⊎ (waits ≡ [])
+IsPrompt old new waits (Err Read) = (new ≡ old) ⊎ (waits ≡ [])
+IsPrompt old new waits (Err OutOfMemory) = (new ≡ old) ⊎ (waits ≡ [])
+IsPrompt old new waits (Err Write) = new ≡ old

@@ -1,19 +1,19 @@
 -- What a device has done, one answer after another.
-use Rattle.std.specs.Prelude.{◌+◌, ◌++◌}
+use Rattle.std.specs.Prelude.{ℕ, ◌+◌, ◌++◌}
 use Rattle.script_lines.specs.declared.tape.Answer.{Answer}
 use Rattle.script_lines.specs.declared.tape.Answer.TheVariants.{Bytes, End, Failure}
 use Rattle.script_lines.specs.declared.tape.History.{History}
 use Rattle.script_lines.specs.declared.tape.History.TheVariants.{Nothing, Then}
-use Rattle.script_lines.specs.Device.{Told}
-use Rattle.script_lines.specs.Tape.{nothing_told}
+use Rattle.script_lines.specs.Device.{narrow_after}
+use Rattle.script_lines.specs.Tape.{Past, nothing_past}
 
--- with one more answer
-abbrev pub noted : Told → Answer → Told
-noted t (Bytes bytes) = record { bytes = t.bytes ++ bytes.now; ends = t.ends; failures = t.failures; calls = t.calls + 1 }
-noted t End = record { bytes = t.bytes; ends = t.ends + 1; failures = t.failures; calls = t.calls + 1 }
-noted t Failure = record { bytes = t.bytes; ends = t.ends; failures = t.failures + 1; calls = t.calls + 1 }
+-- with one more answer, to a call with this much room
+abbrev pub noted : Past → Answer → ℕ → Past
+noted p (Bytes bytes) room = record { bytes = p.bytes ++ bytes.now; ends = p.ends; failures = p.failures; calls = p.calls + 1; narrow = narrow_after p.narrow room }
+noted p End room = record { bytes = p.bytes; ends = p.ends + 1; failures = p.failures; calls = p.calls + 1; narrow = narrow_after p.narrow room }
+noted p Failure room = record { bytes = p.bytes; ends = p.ends; failures = p.failures + 1; calls = p.calls + 1; narrow = narrow_after p.narrow room }
 
 -- all that a history tells
-abbrev pub told_in : History → Told
-told_in Nothing = nothing_told
-told_in (Then before answer) = noted before.now.told answer
+abbrev pub past_in : History → Past
+past_in Nothing = nothing_past
+past_in (Then before answer room) = noted before.now.past answer room

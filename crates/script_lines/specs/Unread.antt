@@ -1,6 +1,6 @@
 -- What was read of a reader and is not used yet.
 use Rattle.std.specs.Prelude.{ℕ, ◌+◌, ◌*◌, List, [], Bool, false, length, drop}
-use Rattle.script_lines.specs.declared.pending.TheConstants.{CHUNK, MAX_READS}
+use Rattle.script_lines.specs.declared.input_buffer.TheConstants.{CHUNK, MAX_READS}
 
 -- the bytes, whether the reader told its end, and how often it may be called again
 pub record Unread : Type 0 where

@@ -1,10 +1,9 @@
 ghost use Rattle.std.specs.Prelude.{◌≡◌};
-ghost use Rattle.script_lines.specs.Tape.{nothing_told};
+ghost use Rattle.script_lines.specs.Tape.{nothing_past, told_by, held_by};
 
 use crate::device::{DeviceFault, Sink, Source};
 use crate::tape::{Answer, Tape};
 use std::io::{Read, Write};
-use std::marker::Model;
 
 /// Makes a [`Source`] of a reader of std, and a [`Sink`] of a writer of std. What it told or took so far is kept for
 /// proofs alone, and takes no memory.
@@ -14,41 +13,42 @@ pub struct Counted<D: Drop> {
     tape: Tape,
 }
 
-impl<D: Drop> Model for Counted<D> {
-    ghost use Rattle.script_lines.specs.Device.{Told};
-
-    ghost Value = { Told };
-
-    ghost view = { λ c. c.tape.told };
-}
-
 impl<D: Drop> Counted<D> {
     /// A device whose past begins here.
     pub fn new(inner: D) -> Counted<D>
-        ensures { result ≡ nothing_told }
+        ensures device { result.inner ≡ inner }
+        ensures past { result.tape.past ≡ nothing_past }
     {
         Counted {
             inner,
             tape: Tape::new(),
         }
     }
+
+    /// The reader or writer, as the calls left it.
+    pub fn into_inner(self) -> D
+        ensures { result ≡ self.inner }
+    {
+        self.inner
+    }
 }
 
 impl<D: Read + Drop> Source for Counted<D> {
-    ghost tape = { λ c. c };
+    ghost tape = { λ c. told_by c.tape.past (D.remaining c.inner) };
 
     fn read(&mut self, buffer: &mut [u8]) -> Result<usize, DeviceFault> {
+        let room = buffer.len();
         match self.inner.read(buffer) {
             Ok(n) => {
-                self.tape = if n == 0 && !buffer.is_empty() {
-                    self.tape.then(Answer::End)
+                self.tape = if n == 0 && room > 0 {
+                    self.tape.then(Answer::End, room)
                 } else {
-                    self.tape.then(Answer::Bytes(&buffer[..n]))
+                    self.tape.then(Answer::Bytes(&buffer[..n]), room)
                 };
                 Ok(n)
             }
             Err(_) => {
-                self.tape = self.tape.then(Answer::Failure);
+                self.tape = self.tape.then(Answer::Failure, room);
                 Err(DeviceFault)
             }
         }
@@ -56,20 +56,21 @@ impl<D: Read + Drop> Source for Counted<D> {
 }
 
 impl<D: Write + Drop> Sink for Counted<D> {
-    ghost tape = { λ c. record { bytes = c.bytes; failures = c.failures } };
+    ghost tape = { λ c. held_by c.tape.past (D.contents c.inner) };
 
     fn write(&mut self, piece: &[u8]) -> Result<usize, DeviceFault> {
+        let room = piece.len();
         match self.inner.write(piece) {
             Ok(n) => {
-                self.tape = if n == 0 && !piece.is_empty() {
-                    self.tape.then(Answer::Failure)
+                self.tape = if n == 0 && room > 0 {
+                    self.tape.then(Answer::Failure, room)
                 } else {
-                    self.tape.then(Answer::Bytes(&piece[..n]))
+                    self.tape.then(Answer::Bytes(&piece[..n]), room)
                 };
                 Ok(n)
             }
             Err(_) => {
-                self.tape = self.tape.then(Answer::Failure);
+                self.tape = self.tape.then(Answer::Failure, room);
                 Err(DeviceFault)
             }
         }

@@ -1,5 +1,5 @@
 //! Lines of a script over any reader and writer: devices whose past contracts can name, the lines that are cut from
-//! what a reader tells, and the outbox of text that waits to be written.
+//! what a reader tells, and the output of text that waits to be written.
 #![tactic(auto)]
 
 mod buffer;
@@ -7,16 +7,13 @@ mod counted;
 mod device;
 mod line;
 mod line_fault;
-mod outbox;
-mod pending;
+mod output_buffer;
+mod input_buffer;
 mod tape;
 
 pub use counted::Counted;
 pub use device::{DeviceFault, Sink, Source};
 pub use line::{Line, MAX_LINE};
 pub use line_fault::LineFault;
-pub use outbox::{OUTBOX_SIZE, Outbox};
-pub use pending::{MAX_READS, Pending};
-
-#[cfg(test)]
-mod tests;
+pub use output_buffer::{OUTPUT_BUFFER_SIZE, OutputBuffer};
+pub use input_buffer::{MAX_READS, InputBuffer};

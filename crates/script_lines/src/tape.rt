@@ -1,14 +1,13 @@
 // What a device has done so far. It exists only in proofs: it takes no memory, and no step of a program.
 ghost use Rattle.std.specs.Prelude.{◌≡◌};
 ghost use Rattle.std.specs.Borrow.{ftrue};
-ghost use Rattle.script_lines.specs.Device.{Told};
-ghost use Rattle.script_lines.specs.Tape.{told_code, nothing_told};
+ghost use Rattle.script_lines.specs.Tape.{Past, past_code, nothing_past};
 
 use std::marker::Model;
 
 #[derive(Drop)]
 pub(crate) struct Tape {
-    ghost told: { Told } by { told_code },
+    ghost past: { Past } by { past_code },
 }
 
 impl Model for Tape {
@@ -30,27 +29,27 @@ pub(crate) enum Answer<'a> {
 #[derive(Clone, Copy, Drop)]
 enum History<'a> {
     Nothing,
-    Then(&'a Tape, Answer<'a>),
+    Then(&'a Tape, Answer<'a>, usize),
 }
 
 impl Tape {
-    ghost use Rattle.script_lines.specs.Noted.{noted, told_in};
+    ghost use Rattle.script_lines.specs.Noted.{noted, past_in};
 
     pub(crate) fn new() -> Tape
-        ensures { result.told ≡ nothing_told }
+        ensures { result.past ≡ nothing_past }
     {
         Tape::of(&History::Nothing)
     }
 
-    // The tape with one more answer on it.
-    pub(crate) fn then(&self, answer: Answer<'_>) -> Tape
-        ensures { result.told ≡ noted self.now.told answer.entry }
+    // The tape with one more answer on it, to a call with this much room.
+    pub(crate) fn then(&self, answer: Answer<'_>, room: usize) -> Tape
+        ensures { result.past ≡ noted self.now.past answer.entry room }
     {
-        Tape::of(&History::Then(self, answer))
+        Tape::of(&History::Then(self, answer, room))
     }
 
     fn of(_history: &History<'_>) -> Tape
-        ensures { result.told ≡ told_in _history.now }
+        ensures { result.past ≡ past_in _history.now }
     {
         Tape {}
     }

@@ -1,15 +1,14 @@
 use Rattle.std.proofs.Common.{◌∙◌, Option, Ok, subst}
 use Rattle.std.proofs.lemmas.Result.{err_from_is_err_and}
 use Rattle.script_lines.specs.declared.line.Line.{Line}
-use Rattle.script_lines.specs.Lines.{Took}
-use Rattle.script_engine.proofs.Passing.{nothing_sent, passed_on}
+use Rattle.script_lines.specs.Lines.{LineRead}
 use Rattle.script_engine.proofs.Running.{begins, goes_on, ends, no_memory, line_failed, put_failed}
 use Rattle.script_engine.proofs.Tallying.{nothing-counted}
 use Rattle.script_engine.proofs.Opening.{nothing_asked, first_line, first_failed, refused}
 use Rattle.script_engine.proofs.run.run.Goals as goal
 
-pub returns-in_err-pending : goal.returns-in_err-pending
-returns-in_err-pending g c =
+pub returns-in_err-input : goal.returns-in_err-input
+returns-in_err-input g c =
     let r = err_from_is_err_and c.from_residual.result c.from_residual.ensures.1 in
     rw (r.1, r.2) (nothing_asked _ _ _ c.requires)
 
@@ -17,61 +16,59 @@ pub returns-in_err-first : goal.returns-in_err-first
 returns-in_err-first g c =
     let r = err_from_is_err_and c.from_residual-in_err-first.result c.from_residual-in_err-first.ensures.1 in
     let line = c.in_err-first.ensures in
-    rw (r.1, r.2) (first_failed _ _ _ _ _ _ _ _ _ c.requires c.in_ok-pending.ensures line.took line.passed_on line.grown)
+    rw (r.1, r.2) (first_failed _ _ _ _ _ _ _ _ _ c.requires c.in_ok-input.ensures line.line line.passed_on line.grown line.prompt)
 
 pub returns-in-Err : goal.returns-in-Err
 returns-in-Err g c =
     let line = c.in_ok-first.ensures in
-    let first = first_line _ _ _ _ _ c.in_ok-pending.ensures line.took in
-    let passing = passed_on _ _ _ _ _ _ (nothing_sent _ _ c.requires) line.passed_on line.grown in
-    refused _ _ _ _ _ _ _ _ first.0 c.in-Err.fault _ first.2 (λ known. c.in-Err.ensures.fault known first.0 first.1) passing c.tell_fault.ensures
+    let first = first_line _ _ _ _ _ _ _ _ _ c.in_ok-input.ensures c.requires line.line line.passed_on line.grown in
+    refused _ _ _ _ _ _ _ _ first.0 c.in-Err.fault _ first.2.0 (λ known. c.in-Err.ensures.fault known first.0 first.1) first.2.1 c.tell_fault.ensures
 
 pub loop-book-init : goal.loop-book-init
 loop-book-init g c =
     let line = c.in_ok-first.ensures in
-    let first = first_line _ _ _ _ _ c.in_ok-pending.ensures line.took in
-    let passing = passed_on _ _ _ _ _ _ (nothing_sent _ _ c.requires) line.passed_on line.grown in
-    rw c.in_ok-book.ensures (begins _ _ _ _ _ _ first.0 c.in-Ok.catalogue _ first.2 (c.in-Ok.ensures.read first.0 first.1) passing (nothing-counted _ c.default-summary.ensures))
+    let first = first_line _ _ _ _ _ _ _ _ _ c.in_ok-input.ensures c.requires line.line line.passed_on line.grown in
+    rw c.in_ok-book.ensures (begins _ _ _ _ _ _ first.0 c.in-Ok.catalogue _ first.2.0 (c.in-Ok.ensures.read first.0 first.1) first.2.1 (nothing-counted _ c.default-summary.ensures))
 
 pub returns-in_err-line : goal.returns-in_err-line
 returns-in_err-line g c =
     let r = err_from_is_err_and c.from_residual-in_err-line.result c.from_residual-in_err-line.ensures.1 in
     let line = c.in_err-line.ensures in
-    rw (r.1, r.2) (line_failed _ _ _ _ _ _ _ _ _ _ _ _ _ c.loop-book.invariant line.took line.passed_on line.grown)
+    rw (r.1, r.2) (line_failed _ _ _ _ _ _ _ _ _ _ _ _ _ c.loop-book.invariant line.line line.passed_on line.grown line.prompt)
 
 pub returns-in_err-answered : goal.returns-in_err-answered
 returns-in_err-answered g c =
     let r = err_from_is_err_and c.from_residual-in_err-answered.result c.from_residual-in_err-answered.ensures.1 in
     let line = c.in_ok-line.ensures in
-    rw (r.1, r.2) (no_memory _ _ _ _ _ _ _ _ _ _ _ _ _ c.loop-book.invariant line.took line.passed_on line.grown)
+    rw (r.1, r.2) (no_memory _ _ _ _ _ _ _ _ _ _ _ _ _ c.loop-book.invariant line.line line.passed_on line.grown line.prompt)
 
 pub returns-in_err-put : goal.returns-in_err-put
 returns-in_err-put g c =
     let line = c.in_ok-line.ensures in
-    let took = subst (λ (o : Option Line). Took (g.R.Source.tape c.loop-book.reader) (g.R.Source.tape c.next_line-in-loop-book.new.source) c.loop-book.pending c.next_line-in-loop-book.new.self (Ok o)) c.in-Some.is line.took in
+    let read = subst (λ (o : Option Line). LineRead (g.R.Source.tape c.loop-book.reader) (g.R.Source.tape c.next_line-in-loop-book.new.source) c.loop-book.input c.next_line-in-loop-book.new.self (Ok o)) c.in-Some.is line.line in
     let r = err_from_is_err_and c.from_residual-in_err-put.result c.from_residual-in_err-put.ensures.1 in
     let put = c.in_err-put.ensures in
-    rw (r.1, r.2) (put_failed _ _ _ _ _ _ _ _ _ _ _ _ _ _ c.in-Some.line _ put.err.0 c.loop-book.invariant took line.passed_on line.grown
+    rw (r.1, r.2) (put_failed _ _ _ _ _ _ _ _ _ _ _ _ _ _ c.in-Some.line _ put.err.0 c.loop-book.invariant read line.passed_on line.grown line.prompt
     (λ bytes shown. c.deref.ensures.value ∙ c.in_ok-answered.ensures.text bytes shown) put.err.1 put.err_failures)
 
 pub loop-book-preserved-in_ok-put : goal.loop-book-preserved-in_ok-put
 loop-book-preserved-in_ok-put g c =
     let line = c.in_ok-line.ensures in
-    let took = subst (λ (o : Option Line). Took (g.R.Source.tape c.loop-book.reader) (g.R.Source.tape c.next_line-in-loop-book.new.source) c.loop-book.pending c.next_line-in-loop-book.new.self (Ok o)) c.in-Some.is line.took in
+    let read = subst (λ (o : Option Line). LineRead (g.R.Source.tape c.loop-book.reader) (g.R.Source.tape c.next_line-in-loop-book.new.source) c.loop-book.input c.next_line-in-loop-book.new.self (Ok o)) c.in-Some.is line.line in
     let put = c.in_ok-put.ensures in
-    goes_on _ _ _ _ _ _ _ _ _ _ _ _ _ _ _ _ c.in-Some.line _ _ c.loop-book.invariant took line.passed_on line.grown
+    goes_on _ _ _ _ _ _ _ _ _ _ _ _ _ _ _ _ c.in-Some.line _ _ c.loop-book.invariant read line.passed_on line.grown line.prompt
     (λ bytes shown. c.deref.ensures.value ∙ c.in_ok-answered.ensures.text bytes shown) c.in_ok-answered.ensures.after (λ bytes shown. c.in_ok-answered.ensures.kind bytes shown) c.count.ensures put.ok put.ok_grown put.ok_failures
 
 pub loop-book-preserved : goal.loop-book-preserved
 loop-book-preserved g c =
     let line = c.in_ok-line.ensures in
-    let took = subst (λ (o : Option Line). Took (g.R.Source.tape c.loop-book.reader) (g.R.Source.tape c.next_line-in-loop-book.new.source) c.loop-book.pending c.next_line-in-loop-book.new.self (Ok o)) c.in-Some.is line.took in
+    let read = subst (λ (o : Option Line). LineRead (g.R.Source.tape c.loop-book.reader) (g.R.Source.tape c.next_line-in-loop-book.new.source) c.loop-book.input c.next_line-in-loop-book.new.self (Ok o)) c.in-Some.is line.line in
     let put = c.in_ok-put.ensures in
-    goes_on _ _ _ _ _ _ _ _ _ _ _ _ _ _ _ _ c.in-Some.line _ _ c.loop-book.invariant took line.passed_on line.grown
+    goes_on _ _ _ _ _ _ _ _ _ _ _ _ _ _ _ _ c.in-Some.line _ _ c.loop-book.invariant read line.passed_on line.grown line.prompt
     (λ bytes shown. c.deref.ensures.value ∙ c.in_ok-answered.ensures.text bytes shown) c.in_ok-answered.ensures.after (λ bytes shown. c.in_ok-answered.ensures.kind bytes shown) c.count.ensures put.ok put.ok_grown put.ok_failures
 
 pub returns : goal.returns
 returns g c =
     let line = c.in_ok-line.ensures in
-    let took = subst (λ (o : Option Line). Took (g.R.Source.tape c.loop-book.reader) (g.R.Source.tape c.next_line-in-loop-book.new.source) c.loop-book.pending c.next_line-in-loop-book.new.self (Ok o)) c.in_default.is line.took in
-    ends _ _ _ _ _ _ _ _ _ _ _ _ _ c.loop-book.invariant took line.passed_on line.grown c.len.ensures.length
+    let read = subst (λ (o : Option Line). LineRead (g.R.Source.tape c.loop-book.reader) (g.R.Source.tape c.next_line-in-loop-book.new.source) c.loop-book.input c.next_line-in-loop-book.new.self (Ok o)) c.in_default.is line.line in
+    ends _ _ _ _ _ _ _ _ _ _ _ _ _ c.loop-book.invariant read line.passed_on line.grown line.prompt c.len.ensures.length

@@ -4,8 +4,8 @@ use Rattle.script_engine.proofs.Opening.{not_begun}
 use Rattle.script_engine.proofs.Flushing.{flushed, flush_failed}
 use Rattle.script_engine.proofs.run.run_script.Goals as goal
 
-pub returns-in_err-outbox : goal.returns-in_err-outbox
-returns-in_err-outbox g c =
+pub returns-in_err-output : goal.returns-in_err-output
+returns-in_err-output g c =
     let r = err_from_is_err_and c.from_residual.result c.from_residual.ensures.1 in
     rw (r.1, r.2) (not_begun _ _)
 

@@ -17,7 +17,7 @@ use denote.Signature.{Slot, plain, named_lft, name_of, meet_at}
 use denote.Steps.{nothing, owned}
 use denote.Struct.Laws.{makes}
 use denote.Triple.Walked.{Stays, walk_of, says, stay_dropped, Goes-dropped, ends_at}
-use Rattle.script_lines.specs.Noted.{told_in}
+use Rattle.script_lines.specs.Noted.{past_in}
 use Rattle.script_lines.specs.contracts.tape.History.{the_row as history_row}
 use Rattle.script_lines.specs.contracts.tape.Tape.of as f
 use Rattle.script_lines.specs.declared.tape.Tape.{Tape}
@@ -46,7 +46,7 @@ of_spec 𝓤 𝓛 𝓜 𝓡 wired =
     (λ κs. (shr_vals, tt)) (λ κs. (shr_Tells (name_of (0 ∷ [])) (meet_at 2 (0 ∷ []) tt κs) (history κs), tt)) (λ κs qs bounds a _ are.
     let vs = shr_vals a.0 in
     let y : W.Ghost = ((κs, qs, bounds, a, (vs, tt)), tt) in
-    let r : Tape = record { told = told_in a.0.now } in
+    let r : Tape = record { past = past_in a.0.now } in
     qed 𝓛 (((‵ (flft κs.0 qs.0) ⊛ (‵ (flft κs.1.0 qs.1.0) ⊛ ‵ ftrue)) ⊛ ‵ ((param.row κs).own_val a.0 vs) ⊛ ‵ ftrue) ∷ ‵ ftrue ∷ []) ∵
     -- [the tokens; nothing]
     split ! $ move ! (1 ∷ []) $ drop ! $

@@ -1,6 +1,6 @@
 use Rattle.std.proofs.lemmas.Result.{err_from_is_err_and}
 use Rattle.script_lines.proofs.Writing.{cut_short}
-use Rattle.script_lines.proofs.outbox.Outbox.put.Goals as goal
+use Rattle.script_lines.proofs.output_buffer.OutputBuffer.put.Goals as goal
 
 pub returns-in_err-flush-clause-err : goal.returns-in_err-flush-clause-err
 returns-in_err-flush-clause-err g c =

@@ -1,43 +1,45 @@
 ghost use Rattle.std.specs.Prelude.{◌≡◌, ◌<◌, ◌≤◌, ◌+◌, ◌↔◌, ◌++◌, ℕ, List, [], Ok, length, take, IsTrue, IfOk, OnOk, OnErr};
 
+ghost use Rattle.script_lines.specs.Device.{Takes};
+
 use crate::buffer::new_buffer;
 use crate::device::{DeviceFault, Sink, write_all};
 use std::alloc::{AllocError, Global};
 use std::marker::Model;
 
-/// How many bytes may wait in an [`Outbox`].
-pub const OUTBOX_SIZE: usize = 65536;
+/// How many bytes may wait in an [`OutputBuffer`].
+pub const OUTPUT_BUFFER_SIZE: usize = 65536;
 
-/// Text that waits to be written, in a buffer of [`OUTBOX_SIZE`] bytes that never grows. Contracts see the bytes that
+/// Text that waits to be written, in a buffer of [`OUTPUT_BUFFER_SIZE`] bytes that never grows. Contracts see the bytes that
 /// wait.
 #[derive(Drop)]
-pub struct Outbox {
+pub struct OutputBuffer {
     buffer: Vec<u8>,
     used: usize,
 }
 
-impl Model for Outbox {
+impl Model for OutputBuffer {
     ghost use Rattle.std.specs.Prelude.{◌≡◌, ◌≤◌, ℕ, List, length, take};
-    ghost use Rattle.script_lines.specs.declared.outbox.TheConstants.{OUTBOX_SIZE};
+    ghost use Rattle.script_lines.specs.declared.output_buffer.TheConstants.{OUTPUT_BUFFER_SIZE};
 
     ghost Value = { List ℕ };
 
     ghost view = { λ o. take o.used o.buffer.items };
 
-    ghost invariant = { λ o. (length o.buffer.items ≡ OUTBOX_SIZE) × (o.used ≤ OUTBOX_SIZE) };
+    ghost invariant = { λ o. (length o.buffer.items ≡ OUTPUT_BUFFER_SIZE) × (o.used ≤ OUTPUT_BUFFER_SIZE) };
 }
 
-impl Outbox {
-    /// An outbox in which nothing waits.
+impl OutputBuffer {
+    /// An output in which nothing waits.
     ///
     /// # Errors
     ///
     /// `AllocError` where memory for the buffer is lacking. No later call takes memory.
-    pub fn new(alloc: Global) -> Result<Outbox, AllocError>
-        ensures { IfOk result (λ outbox. outbox ≡ []) }
+    pub fn new(alloc: Global) -> Result<OutputBuffer, AllocError>
+        ensures { IfOk result (λ output. output ≡ []) }
     {
-        Ok(Outbox {
-            buffer: new_buffer(alloc, OUTBOX_SIZE)?,
+        Ok(OutputBuffer {
+            buffer: new_buffer(alloc, OUTPUT_BUFFER_SIZE)?,
             used: 0,
         })
     }
@@ -51,14 +53,14 @@ impl Outbox {
 
     // How many bytes more may wait.
     fn room(&self) -> usize
-        ensures { result + length self.now ≡ OUTBOX_SIZE }
+        ensures { result + length self.now ≡ OUTPUT_BUFFER_SIZE }
     {
-        OUTBOX_SIZE - self.used
+        OUTPUT_BUFFER_SIZE - self.used
     }
 
     // Adds a part that there is room for.
     fn append(&mut self, part: &[u8])
-        requires { length self.old + length part.now ≤ OUTBOX_SIZE }
+        requires { length self.old + length part.now ≤ OUTPUT_BUFFER_SIZE }
         ensures { self.new ≡ self.old ++ part.now }
     {
         let end = self.used + part.len();
@@ -71,13 +73,13 @@ impl Outbox {
     /// # Errors
     ///
     /// `DeviceFault` where the writer failed. It holds a front of what waited and `text` then, and what waits from then
-    /// on is left open: the outbox is of no more use.
+    /// on is left open: the output is of no more use.
     pub fn put<W: Sink>(&mut self, writer: &mut W, text: &[u8]) -> Result<(), DeviceFault>
-        ensures size { OUTBOX_SIZE ≡ 65536 }
+        ensures size { OUTPUT_BUFFER_SIZE ≡ 65536 }
         ensures ok { OnOk result ((W.tape writer.new).bytes ++ self.new ≡ ((W.tape writer.old).bytes ++ self.old) ++ text.now) }
-        ensures ok_grown { OnOk result ((sent : List ℕ) × ((W.tape writer.new).bytes ≡ (W.tape writer.old).bytes ++ sent)) }
+        ensures ok_grown { OnOk result ((sent : List ℕ) × Takes (W.tape writer.old) (W.tape writer.new) sent) }
         ensures ok_failures { OnOk result ((W.tape writer.new).failures ≡ (W.tape writer.old).failures) }
-        ensures err { OnErr result ((n : ℕ) × ((W.tape writer.new).bytes ≡ (W.tape writer.old).bytes ++ take n (self.old ++ text.now))) }
+        ensures err { OnErr result ((n : ℕ) × Takes (W.tape writer.old) (W.tape writer.new) (take n (self.old ++ text.now))) }
         ensures err_failures { OnErr result ((W.tape writer.old).failures < (W.tape writer.new).failures) }
     {
         let mut rest = text;
@@ -95,12 +97,12 @@ impl Outbox {
     ///
     /// # Errors
     ///
-    /// `DeviceFault` where the writer failed. It holds a front of what waited then, and the outbox is as it was.
+    /// `DeviceFault` where the writer failed. It holds a front of what waited then, and the output is as it was.
     pub fn flush<W: Sink>(&mut self, writer: &mut W) -> Result<(), DeviceFault>
-        ensures ok { OnOk result ((W.tape writer.new).bytes ≡ (W.tape writer.old).bytes ++ self.old) }
+        ensures ok { OnOk result (Takes (W.tape writer.old) (W.tape writer.new) self.old) }
         ensures emptied { OnOk result (self.new ≡ []) }
         ensures ok_failures { OnOk result ((W.tape writer.new).failures ≡ (W.tape writer.old).failures) }
-        ensures err { OnErr result ((n : ℕ) × ((W.tape writer.new).bytes ≡ (W.tape writer.old).bytes ++ take n self.old)) }
+        ensures err { OnErr result ((n : ℕ) × Takes (W.tape writer.old) (W.tape writer.new) (take n self.old)) }
         ensures err_failures { OnErr result ((W.tape writer.old).failures < (W.tape writer.new).failures) }
         ensures kept { OnErr result (self.new ≡ self.old) }
         ensures idle { self.old ≡ [] → (result ≡ Ok tt) × (W.tape writer.new ≡ W.tape writer.old) }

@@ -1,7 +1,7 @@
 use Rattle.std.proofs.Common.{◌≤◌, ◌-◌, List, ℕ, length, ap, sym, subst}
 use Rattle.script_lines.specs.Unread.{Unread}
 use Rattle.script_lines.proofs.Skipping.{within_take, used_up_to}
-use Rattle.script_lines.proofs.pending.Pending.skip.Goals as goal
+use Rattle.script_lines.proofs.input_buffer.InputBuffer.skip.Goals as goal
 
 pub returns : goal.returns
 returns c =

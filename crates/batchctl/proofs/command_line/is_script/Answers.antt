@@ -1,7 +1,7 @@
 use Rattle.std.proofs.Common.{◌≡◌, ◌↔◌, ◌∷◌, [], IsTrue, map, ℕ, ◌<◌, ◌≤◌, length, get_or, Bool, true, List, Bor, codes, ap, sym, ◌∙◌, arith}
 use Rattle.std.specs.Str.{bytes_eq}
 use Rattle.std.proofs.lemmas.Slice.Eq.{bytes_eq-Decides}
-use Rattle.batchctl.proofs.arguments.is_script.Goals as goal
+use Rattle.batchctl.proofs.command_line.is_script.Goals as goal
 
 -- one word is this text exactly where the list of words has just this text
 only_word : (words : List (Bor (List ℕ))) (d : Bor (List ℕ)) (text : List ℕ) (b : Bool) → 1 ≤ length words → length words < 2

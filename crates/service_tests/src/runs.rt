@@ -1,19 +1,8 @@
-use super::*;
-use std::alloc::Global;
+use crate::script::replies;
+use script_engine::{Counted, EngineFault, ReadFault, Summary, run_script};
 use std::io;
 use std::io::{Error, ErrorKind, Read, Write};
 use std::test::Fail;
-
-// What is written for a script, and how its run ends.
-pub(crate) fn replies(alloc: Global, script: &[u8]) -> (Vec<u8>, Result<Summary, EngineFault>) {
-    let mut out = Vec::new(alloc);
-    let outcome = {
-        let mut reader = Counted::new(script);
-        let mut writer = Counted::new(&mut out);
-        run_script(alloc, &mut reader, &mut writer)
-    };
-    (out, outcome)
-}
 
 #[test]
 fn a_job_completes(rt: HostRuntime) {

@@ -1,10 +1,10 @@
 use Rattle.script_lines.proofs.Growing.{Growing, Passing}
-use Rattle.script_lines.proofs.pending.Pending.next_line.Given as goal
+use Rattle.script_lines.proofs.input_buffer.InputBuffer.next_line.Given as goal
 
 abbrev pub invariant-loop-self : goal.invariant-loop-self
 invariant-loop-self g l = record {
   growing : Growing (g.S.Source.tape l.fn.source) (g.S.Source.tape l.source) l.fn.self l.self l.line;
-  passing : Passing (g.S.Source.tape l.fn.source) (g.S.Source.tape l.source) (g.W.Sink.tape l.fn.writer) (g.W.Sink.tape l.writer) l.fn.outbox l.outbox;
+  passing : Passing (g.S.Source.tape l.fn.source) (g.S.Source.tape l.source) (g.W.Sink.tape l.fn.writer) (g.W.Sink.tape l.writer) l.fn.output l.output;
 }
 
 abbrev pub decreases-loop-self : goal.decreases-loop-self

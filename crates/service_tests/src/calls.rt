@@ -1,35 +1,38 @@
-use super::*;
-use crate::tests::replies;
+use crate::script::{answered, joined, replies};
 use std::alloc::{AllocError, Global};
 use std::test::Fail;
 
-// Scripts of all calls and queries, and what they are answered.
-pub(crate) const SCRIPTS: [(&str, &str); 11] = [
-    // A job that the catalogue lacks, and no names.
-    (
-        r#"{"jobs":[{"id":"a","elements":[{"kind":"step","id":"s","batchlet":{"ref":"ok"}}]}]}
+#[test]
+fn a_job_that_the_catalogue_lacks_and_no_names(rt: HostRuntime) -> Result<(), Fail> {
+    let script = r#"{"jobs":[{"id":"a","elements":[{"kind":"step","id":"s","batchlet":{"ref":"ok"}}]}]}
 {"do":"start","by":1,"at":0,"job":"zz"}
 {"ask":"job_names"}
-"#,
-        r#"{"refused":"JobStartException"}
+"#;
+    let wanted = r#"{"refused":"JobStartException"}
 {"names":[]}
-"#,
-    ),
-    // Instances are counted from the first start on.
-    (
-        r#"{"jobs":[{"id":"a","elements":[{"kind":"step","id":"s","batchlet":{"ref":"ok"}}]}]}
+"#;
+    assert_eq!(rt; answered(rt.alloc(), script)?, joined(rt.alloc(), wanted)?);
+    Ok(())
+}
+
+#[test]
+fn instances_are_counted_from_the_first_start_on(rt: HostRuntime) -> Result<(), Fail> {
+    let script = r#"{"jobs":[{"id":"a","elements":[{"kind":"step","id":"s","batchlet":{"ref":"ok"}}]}]}
 {"ask":"job_instance_count","job":"a"}
 {"do":"start","by":1,"at":0,"job":"a"}
 {"ask":"job_instance_count","job":"a"}
-"#,
-        r#"{"refused":"NoSuchJobException"}
+"#;
+    let wanted = r#"{"refused":"NoSuchJobException"}
 {"execution":1}
 {"count":1}
-"#,
-    ),
-    // Pages of job instances.
-    (
-        r#"{"jobs":[{"id":"a","elements":[{"kind":"step","id":"s","batchlet":{"ref":"ok"}}]}]}
+"#;
+    assert_eq!(rt; answered(rt.alloc(), script)?, joined(rt.alloc(), wanted)?);
+    Ok(())
+}
+
+#[test]
+fn pages_of_job_instances(rt: HostRuntime) -> Result<(), Fail> {
+    let script = r#"{"jobs":[{"id":"a","elements":[{"kind":"step","id":"s","batchlet":{"ref":"ok"}}]}]}
 {"do":"start","by":1,"at":0,"job":"a"}
 {"do":"start","by":1,"at":0,"job":"a"}
 {"do":"start","by":1,"at":0,"job":"a"}
@@ -37,35 +40,44 @@ pub(crate) const SCRIPTS: [(&str, &str); 11] = [
 {"ask":"job_instances","count":0,"job":"a","start":0}
 {"ask":"job_instances","count":1,"job":"a","start":1}
 {"ask":"running_executions","job":"a"}
-"#,
-        r#"{"execution":1}
+"#;
+    let wanted = r#"{"execution":1}
 {"execution":2}
 {"execution":3}
 {"instances":[]}
 {"instances":[]}
 {"instances":[{"instance":2,"job":"a"}]}
 {"running":[1,2,3]}
-"#,
-    ),
-    // A step keeps its own status and exit status.
-    (
-        r#"{"jobs":[{"id":"a","elements":[{"kind":"step","id":"s","batchlet":{"ref":"ok"},"transitions":[{"kind":"fail","on":"*"},{"kind":"end","on":"OK"}]}]}]}
+"#;
+    assert_eq!(rt; answered(rt.alloc(), script)?, joined(rt.alloc(), wanted)?);
+    Ok(())
+}
+
+#[test]
+fn a_step_keeps_its_own_status_and_exit_status(rt: HostRuntime) -> Result<(), Fail> {
+    let script = r#"{"jobs":[{"id":"a","elements":[{"kind":"step","id":"s","batchlet":{"ref":"ok"},"transitions":[
+  {"kind":"fail","on":"*"},{"kind":"end","on":"OK"}]}]}]}
 {"do":"start","by":1,"at":0,"job":"a"}
 {"do":"claim","by":1,"at":0}
 {"do":"finish","by":1,"at":0,"work":1,"exit":"OK","outcome":"COMPLETED"}
 {"ask":"job_execution","execution":1}
 {"ask":"step_executions","execution":1}
-"#,
-        r#"{"execution":1}
+"#;
+    let wanted = r#"{"execution":1}
 {"work":{"element":"s","execution":1,"kind":"batchlet","ref":"ok","work":1}}
 {"done":true}
-{"job_execution":{"create":0,"end":0,"execution":1,"exit":"FAILED","instance":1,"job":"a","start":0,"status":"FAILED","updated":0}}
-{"step_executions":[{"end":0,"execution":1,"exit":"OK","metrics":{},"start":0,"status":"COMPLETED","step":"s","work":1}]}
-"#,
-    ),
-    // A stop before a claim, and a restart.
-    (
-        r#"{"jobs":[{"id":"a","elements":[{"kind":"step","id":"s","batchlet":{"ref":"ok"}}]}]}
+{"job_execution":{"create":0,"end":0,"execution":1,"exit":"FAILED","instance":1,"job":"a",
+  "start":0,"status":"FAILED","updated":0}}
+{"step_executions":[{"end":0,"execution":1,"exit":"OK","metrics":{},"start":0,
+  "status":"COMPLETED","step":"s","work":1}]}
+"#;
+    assert_eq!(rt; answered(rt.alloc(), script)?, joined(rt.alloc(), wanted)?);
+    Ok(())
+}
+
+#[test]
+fn a_stop_before_a_claim_and_a_restart(rt: HostRuntime) -> Result<(), Fail> {
+    let script = r#"{"jobs":[{"id":"a","elements":[{"kind":"step","id":"s","batchlet":{"ref":"ok"}}]}]}
 {"do":"start","by":1,"at":5,"job":"a"}
 {"do":"stop","by":1,"at":7,"execution":1}
 {"ask":"job_execution","execution":1}
@@ -73,49 +85,66 @@ pub(crate) const SCRIPTS: [(&str, &str); 11] = [
 {"do":"restart","by":1,"at":0,"execution":1}
 {"ask":"job_execution","execution":2}
 {"do":"claim","by":1,"at":0}
-"#,
-        r#"{"execution":1}
+"#;
+    let wanted = r#"{"execution":1}
 {"done":true}
-{"job_execution":{"create":5,"end":7,"execution":1,"exit":"STOPPED","instance":1,"job":"a","start":null,"status":"STOPPED","updated":7}}
+{"job_execution":{"create":5,"end":7,"execution":1,"exit":"STOPPED","instance":1,"job":"a",
+  "start":null,"status":"STOPPED","updated":7}}
 {"refused":"JobExecutionNotRunningException"}
 {"execution":2}
-{"job_execution":{"create":0,"end":null,"execution":2,"exit":null,"instance":1,"job":"a","start":null,"status":"STARTING","updated":0}}
+{"job_execution":{"create":0,"end":null,"execution":2,"exit":null,"instance":1,"job":"a",
+  "start":null,"status":"STARTING","updated":0}}
 {"work":{"element":"s","execution":2,"kind":"batchlet","ref":"ok","work":1}}
-"#,
-    ),
-    // A checkpoint is handed on by a restart, and metrics are summed.
-    (
-        r#"{"jobs":[{"id":"a","elements":[{"kind":"step","id":"s","chunk":{"item-count":2,"processor":{"ref":"odd"},"reader":{"ref":"count:5"},"writer":{"ref":"sink"}}}]}]}
+"#;
+    assert_eq!(rt; answered(rt.alloc(), script)?, joined(rt.alloc(), wanted)?);
+    Ok(())
+}
+
+#[test]
+fn a_checkpoint_is_handed_on_by_a_restart_and_metrics_are_summed(rt: HostRuntime) -> Result<(), Fail> {
+    let script = r#"{"jobs":[{"id":"a","elements":[
+  {"kind":"step","id":"s","chunk":{"item-count":2,"processor":{"ref":"odd"},
+  "reader":{"ref":"count:5"},"writer":{"ref":"sink"}}}]}]}
 {"do":"start","by":1,"at":0,"job":"a"}
 {"do":"claim","by":1,"at":0}
-{"do":"checkpoint","by":1,"at":0,"work":1,"data":"4","metrics":{"COMMIT_COUNT":1,"READ_COUNT":2,"WRITE_COUNT":2}}
+{"do":"checkpoint","by":1,"at":0,"work":1,"data":"4","metrics":{"COMMIT_COUNT":1,
+  "READ_COUNT":2,"WRITE_COUNT":2}}
 {"do":"stop","by":1,"at":0,"execution":1}
 {"ask":"job_execution","execution":1}
 {"do":"claim","by":1,"at":0}
-{"do":"checkpoint","by":1,"at":0,"work":1,"data":"6","metrics":{"COMMIT_COUNT":1,"READ_COUNT":2,"WRITE_COUNT":2}}
+{"do":"checkpoint","by":1,"at":0,"work":1,"data":"6","metrics":{"COMMIT_COUNT":1,
+  "READ_COUNT":2,"WRITE_COUNT":2}}
 {"do":"finish","by":1,"at":0,"work":1,"outcome":"STOPPED"}
 {"ask":"job_execution","execution":1}
 {"ask":"step_executions","execution":1}
 {"do":"restart","by":1,"at":0,"execution":1}
 {"do":"claim","by":1,"at":0}
-"#,
-        r#"{"execution":1}
-{"work":{"checkpoint":null,"element":"s","execution":1,"item-count":2,"kind":"chunk","processor":"odd","reader":"count:5","work":1,"writer":"sink"}}
+"#;
+    let wanted = r#"{"execution":1}
+{"work":{"checkpoint":null,"element":"s","execution":1,"item-count":2,"kind":"chunk",
+  "processor":"odd","reader":"count:5","work":1,"writer":"sink"}}
 {"go":true}
 {"done":true}
-{"job_execution":{"create":0,"end":null,"execution":1,"exit":null,"instance":1,"job":"a","start":0,"status":"STOPPING","updated":0}}
+{"job_execution":{"create":0,"end":null,"execution":1,"exit":null,"instance":1,"job":"a",
+  "start":0,"status":"STOPPING","updated":0}}
 {"nothing":true}
 {"stop":true}
 {"done":true}
-{"job_execution":{"create":0,"end":0,"execution":1,"exit":"STOPPED","instance":1,"job":"a","start":0,"status":"STOPPED","updated":0}}
-{"step_executions":[{"end":0,"execution":1,"exit":"STOPPED","metrics":{"COMMIT_COUNT":2,"READ_COUNT":4,"WRITE_COUNT":4},"start":0,"status":"STOPPED","step":"s","work":1}]}
+{"job_execution":{"create":0,"end":0,"execution":1,"exit":"STOPPED","instance":1,"job":"a",
+  "start":0,"status":"STOPPED","updated":0}}
+{"step_executions":[{"end":0,"execution":1,"exit":"STOPPED","metrics":{"COMMIT_COUNT":2,
+  "READ_COUNT":4,"WRITE_COUNT":4},"start":0,"status":"STOPPED","step":"s","work":1}]}
 {"execution":2}
-{"work":{"checkpoint":"6","element":"s","execution":2,"item-count":2,"kind":"chunk","processor":"odd","reader":"count:5","work":2,"writer":"sink"}}
-"#,
-    ),
-    // Nothing is abandoned while its job instance runs.
-    (
-        r#"{"jobs":[{"id":"a","elements":[{"kind":"step","id":"s","batchlet":{"ref":"ok"}}]}]}
+{"work":{"checkpoint":"6","element":"s","execution":2,"item-count":2,"kind":"chunk",
+  "processor":"odd","reader":"count:5","work":2,"writer":"sink"}}
+"#;
+    assert_eq!(rt; answered(rt.alloc(), script)?, joined(rt.alloc(), wanted)?);
+    Ok(())
+}
+
+#[test]
+fn nothing_is_abandoned_while_its_job_instance_runs(rt: HostRuntime) -> Result<(), Fail> {
+    let script = r#"{"jobs":[{"id":"a","elements":[{"kind":"step","id":"s","batchlet":{"ref":"ok"}}]}]}
 {"do":"start","by":1,"at":0,"job":"a"}
 {"do":"claim","by":1,"at":0}
 {"do":"finish","by":1,"at":0,"work":1,"outcome":"FAILED"}
@@ -128,8 +157,8 @@ pub(crate) const SCRIPTS: [(&str, &str); 11] = [
 {"do":"finish","by":1,"at":0,"work":3,"outcome":"FAILED"}
 {"do":"abandon","by":1,"at":0,"execution":3}
 {"ask":"job_execution","execution":3}
-"#,
-        r#"{"execution":1}
+"#;
+    let wanted = r#"{"execution":1}
 {"work":{"element":"s","execution":1,"kind":"batchlet","ref":"ok","work":1}}
 {"done":true}
 {"execution":2}
@@ -140,22 +169,29 @@ pub(crate) const SCRIPTS: [(&str, &str); 11] = [
 {"work":{"element":"s","execution":3,"kind":"batchlet","ref":"ok","work":3}}
 {"done":true}
 {"done":true}
-{"job_execution":{"create":0,"end":0,"execution":3,"exit":"FAILED","instance":1,"job":"a","start":0,"status":"ABANDONED","updated":0}}
-"#,
-    ),
-    // A cut line is answered.
-    (
-        r#"{"jobs":[{"id":"a","elements":[{"kind":"step","id":"s","batchlet":{"ref":"ok"}}]}]}
+{"job_execution":{"create":0,"end":0,"execution":3,"exit":"FAILED","instance":1,"job":"a",
+  "start":0,"status":"ABANDONED","updated":0}}
+"#;
+    assert_eq!(rt; answered(rt.alloc(), script)?, joined(rt.alloc(), wanted)?);
+    Ok(())
+}
+
+#[test]
+fn a_cut_line_is_answered(rt: HostRuntime) -> Result<(), Fail> {
+    let script = r#"{"jobs":[{"id":"a","elements":[{"kind":"step","id":"s","batchlet":{"ref":"ok"}}]}]}
 {"do":"cla
 {"do":"start","by":1,"at":0,"job":"a"}
-"#,
-        r#"{"refused":"BadLine"}
+"#;
+    let wanted = r#"{"refused":"BadLine"}
 {"execution":1}
-"#,
-    ),
-    // Who may finish what.
-    (
-        r#"{"jobs":[{"id":"a","elements":[{"kind":"step","id":"s","batchlet":{"ref":"ok"}}]}]}
+"#;
+    assert_eq!(rt; answered(rt.alloc(), script)?, joined(rt.alloc(), wanted)?);
+    Ok(())
+}
+
+#[test]
+fn who_may_finish_what(rt: HostRuntime) -> Result<(), Fail> {
+    let script = r#"{"jobs":[{"id":"a","elements":[{"kind":"step","id":"s","batchlet":{"ref":"ok"}}]}]}
 {"do":"start","by":1,"at":0,"job":"a"}
 {"do":"claim","by":1,"at":0}
 {"do":"finish","by":2,"at":0,"work":1,"outcome":"COMPLETED"}
@@ -164,8 +200,8 @@ pub(crate) const SCRIPTS: [(&str, &str); 11] = [
 {"do":"finish","by":1,"at":0,"work":1,"outcome":"COMPLETED"}
 {"do":"finish","by":1,"at":0,"work":1,"outcome":"COMPLETED"}
 {"do":"finish","by":1,"at":0,"work":9,"outcome":"COMPLETED"}
-"#,
-        r#"{"execution":1}
+"#;
+    let wanted = r#"{"execution":1}
 {"work":{"element":"s","execution":1,"kind":"batchlet","ref":"ok","work":1}}
 {"refused":"NotClaimer"}
 {"refused":"NotStopping"}
@@ -173,23 +209,29 @@ pub(crate) const SCRIPTS: [(&str, &str); 11] = [
 {"done":true}
 {"refused":"WorkNotRunning"}
 {"refused":"NoSuchWork"}
-"#,
-    ),
-    // A decision is never stopped.
-    (
-        r#"{"jobs":[{"id":"a","elements":[{"kind":"decision","id":"d","ref":"d","transitions":[]}]}]}
+"#;
+    assert_eq!(rt; answered(rt.alloc(), script)?, joined(rt.alloc(), wanted)?);
+    Ok(())
+}
+
+#[test]
+fn a_decision_is_never_stopped(rt: HostRuntime) -> Result<(), Fail> {
+    let script = r#"{"jobs":[{"id":"a","elements":[{"kind":"decision","id":"d","ref":"d","transitions":[]}]}]}
 {"do":"start","by":1,"at":0,"job":"a"}
 {"do":"claim","by":1,"at":0}
 {"do":"finish","by":1,"at":0,"work":1,"outcome":"STOPPED"}
-"#,
-        r#"{"execution":1}
+"#;
+    let wanted = r#"{"execution":1}
 {"work":{"element":"d","execution":1,"kind":"decision","ref":"d","work":1}}
 {"refused":"WrongOutcome"}
-"#,
-    ),
-    // Every query after a job execution, and parameters by rising keys.
-    (
-        r#"{"jobs":[{"id":"a","elements":[{"kind":"step","id":"s","batchlet":{"ref":"ok"}}]}]}
+"#;
+    assert_eq!(rt; answered(rt.alloc(), script)?, joined(rt.alloc(), wanted)?);
+    Ok(())
+}
+
+#[test]
+fn every_query_after_a_job_execution_and_parameters_by_rising_keys(rt: HostRuntime) -> Result<(), Fail> {
+    let script = r#"{"jobs":[{"id":"a","elements":[{"kind":"step","id":"s","batchlet":{"ref":"ok"}}]}]}
 {"do":"start","by":1,"at":10,"job":"a"}
 {"do":"claim","by":2,"at":20}
 {"do":"finish","by":2,"at":30,"work":1,"outcome":"COMPLETED"}
@@ -202,11 +244,12 @@ pub(crate) const SCRIPTS: [(&str, &str); 11] = [
 {"do":"start","by":1,"at":0,"job":"a","parameters":{"b":"1","a":"2"}}
 {"ask":"parameters","execution":2}
 {"ask":"job_names","x":1}
-"#,
-        r#"{"execution":1}
+"#;
+    let wanted = r#"{"execution":1}
 {"work":{"element":"s","execution":1,"kind":"batchlet","ref":"ok","work":1}}
 {"done":true}
-{"step_executions":[{"end":30,"execution":1,"exit":"COMPLETED","metrics":{},"start":20,"status":"COMPLETED","step":"s","work":1}]}
+{"step_executions":[{"end":30,"execution":1,"exit":"COMPLETED","metrics":{},"start":20,
+  "status":"COMPLETED","step":"s","work":1}]}
 {"counts":{"COMPLETED":1}}
 {"running":[]}
 {"instance":1,"job":"a"}
@@ -215,17 +258,9 @@ pub(crate) const SCRIPTS: [(&str, &str); 11] = [
 {"execution":2}
 {"parameters":{"a":"2","b":"1"}}
 {"refused":"BadLine"}
-"#,
-    ),
-];
-
-#[test]
-fn each_call_and_query_is_answered(rt: HostRuntime) {
-    for (script, wanted) in SCRIPTS {
-        let (out, outcome) = replies(rt.alloc(), script.as_bytes());
-        assert!(rt; outcome.is_ok());
-        assert_eq!(rt; out.as_slice(), wanted.as_bytes());
-    }
+"#;
+    assert_eq!(rt; answered(rt.alloc(), script)?, joined(rt.alloc(), wanted)?);
+    Ok(())
 }
 
 const CATALOGUE: &str =

@@ -1,4 +1,4 @@
-use super::*;
+use script_lines::{Counted, DeviceFault, InputBuffer, Line, LineFault, OutputBuffer};
 use std::alloc::{AllocError, Global};
 use std::cell::Cell;
 use std::io;
@@ -59,13 +59,13 @@ fn replies_come_before_the_next_read(rt: HostRuntime) -> Result<(), Fail> {
         seen: &seen,
     });
     let mut writer = Counted::new(Counter { held: &held });
-    let mut outbox = Outbox::new(rt.alloc())?;
-    let mut pending = Pending::new(rt.alloc())?;
+    let mut output = OutputBuffer::new(rt.alloc())?;
+    let mut input = InputBuffer::new(rt.alloc())?;
     for replies in 0..3usize {
-        let line = pending.next_line(rt.alloc(), &mut reader, &mut outbox, &mut writer)?;
+        let line = input.next_line(rt.alloc(), &mut reader, &mut output, &mut writer)?;
         assert!(rt; matches!(line, Some(Line::Whole(_))));
         assert_eq!(rt; seen.get(), 4 * replies);
-        outbox.put(&mut writer, b"yes\n")?;
+        output.put(&mut writer, b"yes\n")?;
     }
     Ok(())
 }
@@ -83,10 +83,10 @@ fn lines_before_fault(
         seen: &seen,
     });
     let mut writer = Counted::new(Counter { held: &held });
-    let mut outbox = Outbox::new(alloc)?;
-    let mut pending = Pending::new(alloc)?;
+    let mut output = OutputBuffer::new(alloc)?;
+    let mut input = InputBuffer::new(alloc)?;
     for lines in 0..4u64 {
-        if let Err(fault) = pending.next_line(alloc, &mut reader, &mut outbox, &mut writer) {
+        if let Err(fault) = input.next_line(alloc, &mut reader, &mut output, &mut writer) {
             return Ok(Some((lines, fault)));
         }
     }

@@ -1,11 +1,12 @@
 use Rattle.std.proofs.Common.{◌≡◌, ◌∙◌, ◌<◌, List, ℕ, ◌∷◌, ◌++◌, ◌+◌, false, length, take, drop, ap, sym, subst, rules}
+use Rattle.std.proofs.lemmas.Result.{err_from_is_err_and}
 use Rattle.script_lines.specs.Cut.{has_feed}
 use Rattle.script_lines.specs.Lines.{Shows}
-use Rattle.script_lines.proofs.Growing.{grew, found}
-use Rattle.script_lines.proofs.pending.Pending.next_line.Goals as goal
+use Rattle.script_lines.proofs.Growing.{grew, failed, found}
+use Rattle.script_lines.proofs.input_buffer.InputBuffer.next_line.Goals as goal
 
-pub returns-in-Some-clause-took : goal.returns-in-Some-clause-took
-returns-in-Some-clause-took g c =
+pub returns-in-Some-clause-line : goal.returns-in-Some-clause-line
+returns-in-Some-clause-line g c =
     let running : c.loop-self.self.ended ≡ false = search rules in
     let e = c.unread-bytes.ensures in
     let at = c.in-Some.at in
@@ -25,3 +26,12 @@ loop-self-preserved g c =
       growing = grew (g.S.Source.tape c.args.source.now) (g.S.Source.tape c.loop-self.source) _ c.args.self.now p c.fill.new.self c.loop-self.line c.in_ok-line-2.line c.loop-self.invariant.growing clean running adds f.ok f.ended f.later f.calls f.quiet f.fewer f.small;
       passing = search rules;
     }
+
+pub returns-in_err-fill-clause-line : goal.returns-in_err-fill-clause-line
+returns-in_err-fill-clause-line g c =
+    let p = c.loop-self.self in
+    let running : p.ended ≡ false = search rules in
+    let clean : has_feed p.bytes ≡ false = ap has_feed (sym c.unread-bytes.ensures) ∙ search rules in
+    let r = err_from_is_err_and c.from_residual-in_err-fill.result c.from_residual-in_err-fill.ensures.1 in
+    let f = c.in_err-fill.ensures in
+    rw (r.1, r.2, f.cause.0) (failed (g.S.Source.tape c.args.source.now) (g.S.Source.tape c.loop-self.source) _ c.args.self.now p c.fill.new.self c.loop-self.line c.loop-self.invariant.growing clean running f.err f.err_ended f.later f.calls f.cause.1)

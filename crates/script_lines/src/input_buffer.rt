@@ -4,20 +4,20 @@ use crate::buffer::new_buffer;
 use crate::device::{Sink, Source};
 use crate::line::{Line, feed_at};
 use crate::line_fault::LineFault;
-use crate::outbox::Outbox;
+use crate::output_buffer::OutputBuffer;
 use std::alloc::{AllocError, Global};
 use std::marker::Model;
 
 // How many bytes are read at a time.
 const CHUNK: usize = 65536;
 
-/// The most calls of a reader by one [`Pending`].
+/// The most calls of a reader by one [`InputBuffer`].
 pub const MAX_READS: u64 = 1 << 40;
 
 /// What was read of a reader and is not used yet. It goes with one reader, the same at each call, and holds a piece
 /// of 65,536 bytes that is made once.
 #[derive(Drop)]
-pub struct Pending {
+pub struct InputBuffer {
     chunk: Vec<u8>,
     start: usize,
     end: usize,
@@ -25,22 +25,23 @@ pub struct Pending {
     reads_left: u64,
 }
 
-impl Model for Pending {
+impl Model for InputBuffer {
     ghost use Rattle.script_lines.specs.Unread.{Unread};
 
     ghost Value = { Unread };
 
     ghost use Rattle.std.specs.Prelude.{◌≡◌, ◌-◌, ◌≤◌, true, length, take, drop};
-    ghost use Rattle.script_lines.specs.declared.pending.TheConstants.{CHUNK};
+    ghost use Rattle.script_lines.specs.declared.input_buffer.TheConstants.{CHUNK};
 
     ghost view = { λ p. record { bytes = take (p.end - p.start) (drop p.start p.chunk.items); ended = p.ended; reads_left = p.reads_left } };
 
     ghost invariant = { λ p. (length p.chunk.items ≡ CHUNK) × (p.end ≤ CHUNK) × (p.start ≤ p.end) × (p.ended ≡ true → p.start ≡ p.end) };
 }
 
-impl Pending {
+impl InputBuffer {
     ghost use Rattle.script_lines.specs.Unread.{nothing_read, skipped, weight};
-    ghost use Rattle.script_lines.specs.Lines.{Took, PassedOn};
+    ghost use Rattle.script_lines.specs.Device.{Tells, Takes};
+    ghost use Rattle.script_lines.specs.Lines.{HasEnded, LineRead, PassedOn, IsPrompt};
     ghost use Rattle.script_lines.specs.declared.line.TheConstants.{MAX_LINE};
 
     /// Nothing read yet, of a reader that may be called [`MAX_READS`] times.
@@ -48,10 +49,10 @@ impl Pending {
     /// # Errors
     ///
     /// `AllocError` where memory for a chunk is lacking.
-    pub fn new(alloc: Global) -> Result<Pending, AllocError>
-        ensures { IfOk result (λ pending. pending ≡ nothing_read) }
+    pub fn new(alloc: Global) -> Result<InputBuffer, AllocError>
+        ensures { IfOk result (λ input. input ≡ nothing_read) }
     {
-        Ok(Pending {
+        Ok(InputBuffer {
             chunk: new_buffer(alloc, CHUNK)?,
             start: 0,
             end: 0,
@@ -82,13 +83,13 @@ impl Pending {
         self.start += count;
     }
 
-    // Reads the next chunk, where all of the last one was used. Nothing may wait in the outbox, so that whoever
+    // Reads the next chunk, where all of the last one was used. Nothing may wait in the output, so that whoever
     // answers has seen all that there is to answer to.
-    fn fill<S: Source>(&mut self, source: &mut S, outbox: &Outbox) -> Result<(), LineFault>
-        requires nothing_waits { outbox.now ≡ [] }
-        ensures ok { OnOk result ((S.tape source.new).bytes ≡ (S.tape source.old).bytes ++ self.new.bytes) }
-        ensures ended { OnOk result (self.new.ended ≡ true → (self.new.bytes ≡ []) × ((S.tape source.old).ends < (S.tape source.new).ends)) }
-        ensures err { OnErr result ((S.tape source.new).bytes ≡ (S.tape source.old).bytes) }
+    fn fill<S: Source>(&mut self, source: &mut S, output: &OutputBuffer) -> Result<(), LineFault>
+        requires nothing_waits { output.now ≡ [] }
+        ensures ok { OnOk result (Tells (S.tape source.old) (S.tape source.new) self.new.bytes) }
+        ensures ended { OnOk result (self.new.ended ≡ true → (self.new.bytes ≡ []) × HasEnded (S.tape source.old) (S.tape source.new)) }
+        ensures err { OnErr result (Tells (S.tape source.old) (S.tape source.new) []) }
         ensures err_ended { OnErr result (self.new.ended ≡ self.old.ended) }
         ensures later { (S.tape source.old).ends ≤ (S.tape source.new).ends }
         ensures calls { (S.tape source.new).calls + self.new.reads_left ≡ (S.tape source.old).calls + self.old.reads_left }
@@ -97,7 +98,7 @@ impl Pending {
         ensures fewer { OnOk result (self.new.reads_left < self.old.reads_left) }
         ensures small { OnOk result (length self.new.bytes ≤ CHUNK) }
     {
-        prove!(outbox.is_empty());
+        prove!(output.is_empty());
         if self.reads_left == 0 {
             return Err(LineFault::Read);
         }
@@ -118,7 +119,7 @@ impl Pending {
     /// reader told its end and nothing is left. A line is kept up to 16,777,216 bytes, and the reader is called 2^40
     /// times at most.
     ///
-    /// Before each call of the reader all that waits in `outbox` is written, so that whoever is at the other end of a
+    /// Before each call of the reader all that waits in `output` is written, so that whoever is at the other end of a
     /// pipe has every reply before the script goes on.
     ///
     /// # Errors
@@ -130,14 +131,14 @@ impl Pending {
         &mut self,
         alloc: Global,
         source: &mut S,
-        outbox: &mut Outbox,
+        output: &mut OutputBuffer,
         writer: &mut W,
     ) -> Result<Option<Line>, LineFault>
         ensures bounds { (MAX_LINE ≡ 16777216) × (MAX_READS ≡ 1099511627776) }
-        ensures took { Took (S.tape source.old) (S.tape source.new) self.old self.new result }
-        ensures passed_on { PassedOn (W.tape writer.old) (W.tape writer.new) outbox.old outbox.new result }
-        ensures grown { (sent : List ℕ) × ((W.tape writer.new).bytes ≡ (W.tape writer.old).bytes ++ sent) }
-        ensures prompt { ((S.tape source.new).calls ≡ (S.tape source.old).calls) ⊎ (outbox.new ≡ []) }
+        ensures line { LineRead (S.tape source.old) (S.tape source.new) self.old self.new result }
+        ensures passed_on { PassedOn (W.tape writer.old) (W.tape writer.new) output.old output.new result }
+        ensures grown { (sent : List ℕ) × Takes (W.tape writer.old) (W.tape writer.new) sent }
+        ensures prompt { IsPrompt (S.tape source.old) (S.tape source.new) output.new result }
         ensures smaller { IfOk result (λ line. IsSome line → weight self.new < weight self.old) }
     {
         let mut line = Line::Whole(Vec::new(alloc));
@@ -149,8 +150,8 @@ impl Pending {
                 return Ok(Some(line));
             }
             line = line.add(bytes)?;
-            outbox.flush(writer).map_err(|_| LineFault::Write)?;
-            self.fill(source, outbox)?;
+            output.flush(writer).map_err(|_| LineFault::Write)?;
+            self.fill(source, output)?;
         }
         Ok(line.unless_empty())
     }

@@ -1,5 +1,5 @@
-use super::*;
-use crate::tests::replies;
+use crate::script::replies;
+use script_engine::{EngineFault, ReadFault, Summary};
 use std::alloc::Global;
 use std::test::Fail;
 

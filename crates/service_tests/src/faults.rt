@@ -1,5 +1,6 @@
-use super::*;
-use crate::tests::{Bytewise, replies};
+use crate::runs::Bytewise;
+use crate::script::replies;
+use script_engine::{Counted, EngineFault, run_script};
 use std::alloc::Global;
 use std::io;
 use std::io::{Error, ErrorKind, Write};
