@@ -1,5 +1,5 @@
 -- What an object's members say of the elements inside it, and how deep those lie.
-use Rattle.std.proofs.Common.{◌≡◌, ◌∙◌, ℕ, zero, suc, max, get_or, ◌+◌, ◌<◌, ◌≤◌, List, [], ◌∷◌, false, cond, codes, length, Option, Some, None, option_and_then, Ok, Err, refl, sym, ap, subst, arith}
+use Rattle.std.proofs.Common.{◌≡◌, ◌∙◌, ℕ, zero, suc, max, get_or, ◌<◌, ◌≤◌, List, [], ◌∷◌, false, cond, codes, length, Option, Some, None, option_and_then, Ok, Err, refl, sym, ap, subst, arith}
 use Rattle.std.specs.declared.cmp.Ordering.{Ordering}
 use Rattle.std.specs.declared.cmp.Ordering.TheVariants.{Less, Equal, Greater}
 use Rattle.std.specs.Ordering.{nat_cmp, match_ordering, is_eq}

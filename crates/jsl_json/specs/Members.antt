@@ -1,5 +1,5 @@
 -- The own members of elements, of the flows of splits, and of jobs: all that they have beside the elements inside. An object has the members that are listed, and no others.
-use Rattle.std.specs.Prelude.{ℕ, ◌≡◌, ◌&&◌, List, [], ◌∷◌, Bool, true, false, codes, Option, Some, None, option_map, if◌then◌else◌}
+use Rattle.std.specs.Prelude.{ℕ, ◌≡◌, ◌&&◌, List, [], ◌∷◌, Bool, true, false, codes, Option, Some, None, if◌then◌else◌}
 use Rattle.serde_json.specs.Data.{Data, Items}
 use Rattle.json_members.specs.Members.{has_only, is_text, text_at, optional_text, list_at}
 use Rattle.jsl_model.specs.declared.element.Step.{Step as StepRecord}

@@ -17,10 +17,7 @@ use std::alloc::Global;
 pub fn truth_or(value: &Value, name: &str, left_out: bool) -> Option<bool>
     ensures { result ≡ truth_or name.now left_out (view value.now) }
 {
-    match optional_truth(value, name)? {
-        Some(found) => Some(found),
-        None => Some(left_out),
-    }
+    Some(optional_truth(value, name)?.unwrap_or(left_out))
 }
 
 /// The number below 2^32 that a member is, and the one given where it is left out.

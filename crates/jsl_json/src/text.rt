@@ -4,8 +4,8 @@ ghost use Rattle.json_members.specs.Members.{text_at, optional_text};
 ghost use Rattle.jsl_model.specs.Parts.{bytes_of_option};
 
 use crate::member_fault::MemberFault;
-use json_members::{optional_text, text_at};
 use batch_ids::OutOfMemory;
+use json_members::{optional_text, text_at};
 use serde_json::Value;
 use std::alloc::Global;
 
