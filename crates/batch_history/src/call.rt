@@ -144,7 +144,11 @@ pub struct Entry {
 }
 
 impl Call {
-    /// An equal call, or `OutOfMemory`.
+    /// An equal call.
+    ///
+    /// # Errors
+    ///
+    /// `OutOfMemory` where memory is refused.
     pub fn try_clone(&self) -> Result<Call, OutOfMemory>
         ensures { IfOk result (λ copy. copy ≡ self.now) }
     {
@@ -223,7 +227,15 @@ impl WorkTask {
         }
     }
 
-    /// An equal task, or `OutOfMemory`.
+    /// An equal task.
+
+    ///
+
+    /// # Errors
+
+    ///
+
+    /// `OutOfMemory` where memory is refused.
     pub fn try_clone(&self) -> Result<WorkTask, OutOfMemory>
         ensures { IfOk result (λ copy. copy ≡ self.now) }
     {
@@ -258,7 +270,11 @@ impl WorkTask {
 }
 
 impl WorkItem {
-    /// An equal work item, or `OutOfMemory`.
+    /// An equal work item.
+    ///
+    /// # Errors
+    ///
+    /// `OutOfMemory` where memory is refused.
     pub fn try_clone(&self) -> Result<WorkItem, OutOfMemory>
         ensures { IfOk result (λ copy. copy ≡ self.now) }
     {
@@ -274,7 +290,11 @@ impl WorkItem {
 }
 
 impl Reply {
-    /// An equal reply, or `OutOfMemory`.
+    /// An equal reply.
+    ///
+    /// # Errors
+    ///
+    /// `OutOfMemory` where memory is refused.
     pub fn try_clone(&self) -> Result<Reply, OutOfMemory>
         ensures { IfOk result (λ copy. copy ≡ self.now) }
     {

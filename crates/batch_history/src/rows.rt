@@ -91,7 +91,11 @@ pub struct CheckpointRow {
 }
 
 impl JobInstance {
-    /// An equal job instance, or `OutOfMemory`.
+    /// An equal job instance.
+    ///
+    /// # Errors
+    ///
+    /// `OutOfMemory` where memory is refused.
     pub fn try_clone(&self) -> Result<JobInstance, OutOfMemory>
         ensures { IfOk result (λ copy. copy ≡ self.now) }
     {
@@ -114,7 +118,15 @@ impl ExecutionRow {
         }
     }
 
-    /// The record of it that is shown, or `OutOfMemory`.
+    /// The record of it that is shown.
+
+    ///
+
+    /// # Errors
+
+    ///
+
+    /// `OutOfMemory` where memory is refused.
     pub fn record(&self) -> Result<JobExecution, OutOfMemory>
         ensures { IfOk result (λ shown. shown ≡ record_of self.now) }
     {
@@ -135,7 +147,11 @@ impl ExecutionRow {
 }
 
 impl WorkRow {
-    /// The step execution that it is, if it is a step's, or `OutOfMemory`.
+    /// The step execution that it is, if it is a step's.
+    ///
+    /// # Errors
+    ///
+    /// `OutOfMemory` where memory is refused.
     pub fn step_execution(&self) -> Result<Option<StepExecution>, OutOfMemory>
         ensures { IfOk result (λ shown. shown ≡ step_execution self.now) }
     {

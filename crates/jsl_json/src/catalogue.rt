@@ -44,6 +44,7 @@ use std::alloc::Global;
 /// It costs time and memory as the text has bytes, and as the catalogue has jobs for each job.
 ///
 /// # Errors
+///
 /// The first in this order:
 /// - `NotJson`: the bytes are not UTF-8 or not one JSON value;
 /// - `NotACatalogue`: the value is no object of just `jobs`, a list;

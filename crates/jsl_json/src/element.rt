@@ -17,6 +17,7 @@ use std::alloc::Global;
 /// them has this number in its job.
 ///
 /// # Errors
+///
 /// The first as they are written: `BadElement` for an element with wrong members of its own, ahead of
 /// those inside it. `OutOfMemory` may stand in place of any answer.
 #[cycle(elements)]

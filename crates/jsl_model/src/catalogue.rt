@@ -56,6 +56,7 @@ impl Catalogue {
     /// costs time as the catalogue has jobs.
     ///
     /// # Errors
+    ///
     /// The first in this order:
     /// - `TooMany`: 256 jobs are held;
     /// - `DuplicateId`: a job of this id is held;
@@ -114,7 +115,8 @@ impl Catalogue {
     /// and memory as its jobs have elements.
     ///
     /// # Errors
-    /// `OutOfMemory` alone: memory was refused.
+    ///
+    /// `OutOfMemory` where memory is refused.
     pub fn artifacts(&self) -> Result<Vec<&str>, OutOfMemory>
         ensures { IfOk result (λ names. map (λ name. name.now) names.items
             ≡ distinct (flat_map (λ job. artifacts job.elements) self.now)) }
@@ -129,7 +131,8 @@ impl Catalogue {
     /// An equal catalogue. It costs time and memory as its jobs have elements.
     ///
     /// # Errors
-    /// `OutOfMemory` alone: memory was refused.
+    ///
+    /// `OutOfMemory` where memory is refused.
     pub fn try_clone(&self) -> Result<Catalogue, OutOfMemory>
         ensures { IfOk result (λ copy. copy ≡ self.now) }
     {

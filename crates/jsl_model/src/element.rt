@@ -120,7 +120,8 @@ impl Then {
     /// An equal target.
     ///
     /// # Errors
-    /// `OutOfMemory` alone: memory was refused.
+    ///
+    /// `OutOfMemory` where memory is refused.
     pub fn try_clone(&self) -> Result<Then, OutOfMemory>
         ensures { IfOk result (λ copy. copy ≡ self.now) }
     {
@@ -155,7 +156,8 @@ impl Transition {
     /// An equal transition element.
     ///
     /// # Errors
-    /// `OutOfMemory` alone: memory was refused.
+    ///
+    /// `OutOfMemory` where memory is refused.
     pub fn try_clone(&self) -> Result<Transition, OutOfMemory>
         ensures { IfOk result (λ copy. copy ≡ self.now) }
     {
@@ -169,7 +171,8 @@ impl Task {
     /// An equal task.
     ///
     /// # Errors
-    /// `OutOfMemory` alone: memory was refused.
+    ///
+    /// `OutOfMemory` where memory is refused.
     pub fn try_clone(&self) -> Result<Task, OutOfMemory>
         ensures { IfOk result (λ copy. copy ≡ self.now) }
     {
@@ -200,7 +203,8 @@ impl Step {
     /// An equal step.
     ///
     /// # Errors
-    /// `OutOfMemory` alone: memory was refused.
+    ///
+    /// `OutOfMemory` where memory is refused.
     pub fn try_clone(&self) -> Result<Step, OutOfMemory>
         ensures { IfOk result (λ copy. copy ≡ self.now) }
     {

@@ -121,6 +121,7 @@ impl Job {
     /// Language"). The parts are dropped. The time is near linear in the size of the parts.
     ///
     /// # Errors
+    ///
     /// The first that stands, each tested over the whole job:
     /// - `TextTooLong`: a text (an id, a `next`, an artifact's name, an `on`, a `to`, an exit status,
     ///   a `restart`) has more than 256 bytes;
@@ -191,7 +192,8 @@ impl Job {
     /// An equal job. It costs time and memory as the job has elements.
     ///
     /// # Errors
-    /// `OutOfMemory` alone: memory was refused.
+    ///
+    /// `OutOfMemory` where memory is refused.
     pub fn try_clone(&self) -> Result<Job, OutOfMemory>
         ensures { IfOk result (λ copy. copy ≡ self.now) }
     {

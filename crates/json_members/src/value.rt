@@ -12,6 +12,7 @@ use std::alloc::{AllocError, Global};
 /// number that no `f64` comes near is not read.
 ///
 /// # Errors
+///
 /// `OutOfMemory` alone: memory was refused.
 pub fn read_value(alloc: Global, bytes: &[u8]) -> Result<Option<Value>, OutOfMemory>
     ensures { IfOk result (λ found. option_map view found ≡ data_of bytes.now) }

@@ -30,7 +30,9 @@ use std::alloc::{AllocError, Global};
 ///
 /// or `{"refused":NAME}`. In `metrics` and `counts` a count of 0 is left out.
 ///
-/// Errors: only want of memory.
+/// # Errors
+///
+/// `OutOfMemory` where memory is refused.
 #[tactic(auto, using(crate::proofs::Floats::answer_has_no_float))]
 pub fn answer_text(alloc: Global, answer: &Result<Answer, Refusal>) -> Result<Vec<u8>, AllocError>
     ensures { IfOk result (λ text. text.items ≡ answer_text answer.now) }

@@ -62,7 +62,9 @@ pub enum Command {
 /// `TextTooLong` only then. The time is that of reading the JSON; a text is copied only where the
 /// line is a command.
 ///
-/// Errors: only want of memory.
+/// # Errors
+///
+/// `OutOfMemory` where memory is refused.
 #[tactic(auto, unfolding(crate::specs::Commands::command_of))]
 pub fn read_command(alloc: Global, line: &[u8]) -> Result<Command, AllocError>
     ensures { IfOk result (λ command. command ≡ command_of line.now) }

@@ -12,7 +12,9 @@ use std::alloc::{AllocError, Global};
 /// that is no catalogue, `{"element":N,"fault":"BadElement","job":N}` (null for no element), and
 /// `{"fault":NAME,"job":N}` with the job's fault.
 ///
-/// Errors: only want of memory.
+/// # Errors
+///
+/// `OutOfMemory` where memory is refused.
 #[tactic(auto, using(crate::proofs::Floats::fault_has_no_float))]
 pub fn fault_text(alloc: Global, fault: &ReadFault) -> Result<Vec<u8>, AllocError>
     requires { is_out_of_memory fault.now ≡ false }

@@ -68,7 +68,9 @@ fn metric_at(metric: Metric, object: &Value) -> Option<u32>
 /// The metrics of a step execution as they are written: an object of counts by the names of the
 /// metrics; a count of 0 is left out (Jakarta Batch 2.1, "Metric").
 ///
-/// Errors: only want of memory.
+/// # Errors
+///
+/// `OutOfMemory` where memory is refused.
 pub fn metrics_value(alloc: Global, metrics: &Metrics) -> Result<Value, AllocError>
     ensures { IfOk result (λ value. view value ≡ metrics_data metrics.now) }
 {

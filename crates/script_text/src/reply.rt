@@ -16,7 +16,9 @@ use std::alloc::{AllocError, Global};
 /// `execution`, `kind`, `work` and, for a batchlet or a decision, `ref`; for a chunk `checkpoint` and
 /// `processor` (null for none), `item-count`, `reader` and `writer`.
 ///
-/// Errors: only want of memory.
+/// # Errors
+///
+/// `OutOfMemory` where memory is refused.
 #[tactic(auto, using(crate::proofs::Floats::reply_has_no_float))]
 pub fn reply_text(alloc: Global, reply: &Result<Reply, Refusal>) -> Result<Vec<u8>, AllocError>
     ensures { IfOk result (λ text. text.items ≡ reply_text reply.now) }
@@ -27,7 +29,9 @@ pub fn reply_text(alloc: Global, reply: &Result<Reply, Refusal>) -> Result<Vec<u
 
 /// The line that replies to what is no command.
 ///
-/// Errors: only want of memory.
+/// # Errors
+///
+/// `OutOfMemory` where memory is refused.
 pub fn bad_line_text(alloc: Global) -> Result<Vec<u8>, AllocError>
     ensures { IfOk result (λ text. text.items ≡ bad_line_text) }
 {
