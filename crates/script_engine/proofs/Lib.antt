@@ -5,3 +5,4 @@ pub mod Tallying
 pub mod Running
 pub mod Opening
 pub mod Flushing
+pub mod InMemory

@@ -57,6 +57,14 @@ pub record Ran (r r' : Told) (w w' : Held) (result : Result Summary EngineFault)
   pub written : Takes w w' output
   pub outcome : IsOutcome input output r r' w w' result
 
+-- the buffer holds the text of a script that was run to its end, or the line of its catalogue's fault
+abbrev pub HoldsReplies : List ℕ → List ℕ → Result Summary EngineFault → Type 0
+HoldsReplies script text (Ok summary) = text ≡ script_text script
+HoldsReplies script text (Err (Catalogue fault)) = text ≡ fault_text fault
+HoldsReplies script text (Err Read) = Unit {0}
+HoldsReplies script text (Err Write) = Unit {0}
+HoldsReplies script text (Err OutOfMemory) = Unit {0}
+
 -- Before the last replies are written
 
 -- whether a run ended by a failure of the writer

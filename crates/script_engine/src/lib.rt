@@ -9,6 +9,6 @@ mod summary;
 
 pub use fault::EngineFault;
 pub use jsl_json::ReadFault;
-pub use run::run_script;
+pub use run::{answer_script, run_script};
 pub use script_lines::{Counted, DeviceFault, MAX_LINE, MAX_READS, Sink, Source};
 pub use summary::Summary;

@@ -1,12 +1,12 @@
 ghost use Rattle.std.specs.Prelude.{◌≡◌, []};
-ghost use Rattle.script_engine.specs.Ran.{Ran, RanSoFar, has_writer_failed};
+ghost use Rattle.script_engine.specs.Ran.{Ran, RanSoFar, HoldsReplies, has_writer_failed};
 
 use crate::answer::{LIMIT, answer};
 use crate::catalogue::{catalogue_in, tell_fault};
 use crate::fault::EngineFault;
 use crate::summary::Summary;
 use op_log::Book;
-use script_lines::{OutputBuffer, InputBuffer, Sink, Source};
+use script_lines::{Counted, InputBuffer, OutputBuffer, Sink, Source};
 use std::alloc::Global;
 
 /// Runs a script, and leaves the last replies in the output.
@@ -76,4 +76,15 @@ pub fn run_script<R: Source, W: Sink>(
     }
     output.flush(writer)?;
     outcome
+}
+
+/// Runs a script that stands in memory, by [`run_script`]. Gives the text that was written beside how
+/// the run ended: the replies to all its lines, or the line of its catalogue's fault.
+pub fn answer_script(alloc: Global, script: &[u8]) -> (Vec<u8>, Result<Summary, EngineFault>)
+    ensures { HoldsReplies script.now result.0.items result.1 }
+{
+    let mut reader = Counted::new(script);
+    let mut writer = Counted::new(Vec::new(alloc));
+    let outcome = run_script(alloc, &mut reader, &mut writer);
+    (writer.into_inner(), outcome)
 }

@@ -4,7 +4,7 @@ use Rattle.script_lines.specs.declared.line.Line.{Line}
 use Rattle.script_lines.specs.Lines.{LineRead}
 use Rattle.script_engine.proofs.Running.{begins, goes_on, ends, no_memory, line_failed, put_failed}
 use Rattle.script_engine.proofs.Tallying.{nothing-counted}
-use Rattle.script_engine.proofs.Opening.{nothing_asked, first_line, first_failed, refused}
+use Rattle.script_engine.proofs.Opening.{nothing_done, nothing_asked, first_line, first_failed, refused}
 use Rattle.script_engine.proofs.run.run.Goals as goal
 
 pub returns-in_err-input : goal.returns-in_err-input
@@ -23,6 +23,13 @@ returns-in-Err g c =
     let line = c.in_ok-first.ensures in
     let first = first_line _ _ _ _ _ _ _ _ _ c.in_ok-input.ensures c.requires line.line line.passed_on line.grown in
     refused _ _ _ _ _ _ _ _ first.0 c.in-Err.fault _ first.2.0 (λ known. c.in-Err.ensures.fault known first.0 first.1) first.2.1 c.tell_fault.ensures
+
+pub returns-in_err-book : goal.returns-in_err-book
+returns-in_err-book g c =
+    let r = err_from_is_err_and c.from_residual-in_err-book.result c.from_residual-in_err-book.ensures.1 in
+    let line = c.in_ok-first.ensures in
+    let first = first_line _ _ _ _ _ _ _ _ _ c.in_ok-input.ensures c.requires line.line line.passed_on line.grown in
+    rw (r.1, r.2) (nothing_done _ _ _ _ _ _ first.2.0.read first.2.1)
 
 pub loop-book-init : goal.loop-book-init
 loop-book-init g c =

@@ -1,0 +1,19 @@
+-- A script that stands in memory, and its replies in a buffer.
+use Rattle.std.proofs.Common.{◌≡◌, ◌∙◌, ℕ, List, [], ◌++◌, Some, Result, Ok, Err, sym, ap}
+use Rattle.std.proofs.lemmas.List.{append-nil}
+use Rattle.script_lines.specs.Tape.{Past, told_by, held_by}
+use Rattle.script_engine.specs.declared.summary.Summary.{Summary}
+use Rattle.script_engine.specs.declared.fault.EngineFault.{EngineFault}
+use Rattle.script_engine.specs.declared.fault.EngineFault.TheVariants.{Catalogue, Read, Write, OutOfMemory}
+use Rattle.script_engine.specs.Script.{script_text}
+use Rattle.script_engine.specs.Ran.{Ran, HoldsReplies}
+
+-- all of the script was read, and the buffer holds its text
+pub holds_replies : (p p' q q' : Past) (script rest text : List ℕ) (result : Result Summary EngineFault)
+    → Ran (told_by p (Some script)) (told_by p' (Some rest)) (held_by q (Some [])) (held_by q' (Some text)) result → HoldsReplies script text result
+holds_replies p p' q q' script rest text (Ok summary) R =
+    R.written.gained ∙ R.outcome.0 ∙ ap script_text (sym (R.read.lost ∙ ap (λ b. R.input ++ b) R.outcome.1.1 ∙ append-nil R.input))
+holds_replies p p' q q' script rest text (Err (Catalogue fault)) R = R.written.gained ∙ R.outcome.0
+holds_replies p p' q q' script rest text (Err Read) R = tt
+holds_replies p p' q q' script rest text (Err Write) R = tt
+holds_replies p p' q q' script rest text (Err OutOfMemory) R = tt
