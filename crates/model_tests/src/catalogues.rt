@@ -419,7 +419,10 @@ fn an_element_is_found_at_any_depth(rt: HostRuntime) -> Result<(), Fail> {
     assert!(rt; job.element("j").is_none());
     let limits = [("s", 3u32, true), ("t", 7, false)];
     for (id, start_limit, allowed) in limits {
-        let step = job.element(id).and_then(|found| step_in(&found.body)).ok_or("no step")?;
+        let step = job
+            .element(id)
+            .and_then(|found| step_in(&found.body))
+            .ok_or("no step")?;
         assert_eq!(rt; step.start_limit, start_limit);
         assert_eq!(rt; step.allow_start_if_complete, allowed);
     }

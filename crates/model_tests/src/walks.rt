@@ -15,9 +15,18 @@ fn element(alloc: Global, id: &str, body: BodyParts) -> Result<ElementParts, All
 }
 
 fn step(alloc: Global, id: &str, next: Option<String>) -> Result<ElementParts, AllocError> {
+    step_with(alloc, id, next, Listed::new(alloc))
+}
+
+fn step_with(
+    alloc: Global,
+    id: &str,
+    next: Option<String>,
+    transitions: Listed<TransitionParts>,
+) -> Result<ElementParts, AllocError> {
     let step = StepParts {
         next,
-        transitions: Listed::new(alloc),
+        transitions,
         start_limit: 0,
         allow_start_if_complete: false,
         task: TaskParts::Batchlet {
@@ -247,23 +256,22 @@ fn transition(alloc: Global, on: &str, then: ThenParts) -> Result<TransitionPart
 /// A step `a` with transition elements, and a step `b` that follows it.
 fn parts_with_transitions(alloc: Global) -> Result<JobParts, AllocError> {
     let b = String::from_str(alloc, "b")?;
-    let mut first = step(alloc, "a", Some(b.clone()?))?;
+    let next = Some(b.clone()?);
+    let mut transitions = Listed::new(alloc);
     let stop = ThenParts::Stop {
         exit_status: None,
         restart: Some(b.clone()?),
     };
-    first.transitions.push(transition(alloc, "S*", stop)?)?;
+    transitions.push(transition(alloc, "S*", stop)?)?;
     let end = ThenParts::End {
         exit_status: Some(String::from_str(alloc, "DONE")?),
     };
-    first.transitions.push(transition(alloc, "E?", end)?)?;
+    transitions.push(transition(alloc, "E?", end)?)?;
     let fail = ThenParts::Fail { exit_status: None };
-    first.transitions.push(transition(alloc, "*!", fail)?)?;
-    first
-        .transitions
-        .push(transition(alloc, "N", ThenParts::Next { to: b })?)?;
+    transitions.push(transition(alloc, "*!", fail)?)?;
+    transitions.push(transition(alloc, "N", ThenParts::Next { to: b })?)?;
     let mut elements = Listed::new(alloc);
-    elements.push(first)?;
+    elements.push(step_with(alloc, "a", next, transitions)?)?;
     elements.push(step(alloc, "b", None)?)?;
     Ok(JobParts {
         id: String::from_str(alloc, "j")?,

@@ -4,7 +4,8 @@ use std::test::Fail;
 
 #[test]
 fn a_job_that_the_catalogue_lacks_and_no_names(rt: HostRuntime) -> Result<(), Fail> {
-    let script = r#"{"jobs":[{"id":"a","elements":[{"kind":"step","id":"s","batchlet":{"ref":"ok"}}]}]}
+    let script =
+        r#"{"jobs":[{"id":"a","elements":[{"kind":"step","id":"s","batchlet":{"ref":"ok"}}]}]}
 {"do":"start","by":1,"at":0,"job":"zz"}
 {"ask":"job_names"}
 "#;
@@ -17,7 +18,8 @@ fn a_job_that_the_catalogue_lacks_and_no_names(rt: HostRuntime) -> Result<(), Fa
 
 #[test]
 fn instances_are_counted_from_the_first_start_on(rt: HostRuntime) -> Result<(), Fail> {
-    let script = r#"{"jobs":[{"id":"a","elements":[{"kind":"step","id":"s","batchlet":{"ref":"ok"}}]}]}
+    let script =
+        r#"{"jobs":[{"id":"a","elements":[{"kind":"step","id":"s","batchlet":{"ref":"ok"}}]}]}
 {"ask":"job_instance_count","job":"a"}
 {"do":"start","by":1,"at":0,"job":"a"}
 {"ask":"job_instance_count","job":"a"}
@@ -32,7 +34,8 @@ fn instances_are_counted_from_the_first_start_on(rt: HostRuntime) -> Result<(), 
 
 #[test]
 fn pages_of_job_instances(rt: HostRuntime) -> Result<(), Fail> {
-    let script = r#"{"jobs":[{"id":"a","elements":[{"kind":"step","id":"s","batchlet":{"ref":"ok"}}]}]}
+    let script =
+        r#"{"jobs":[{"id":"a","elements":[{"kind":"step","id":"s","batchlet":{"ref":"ok"}}]}]}
 {"do":"start","by":1,"at":0,"job":"a"}
 {"do":"start","by":1,"at":0,"job":"a"}
 {"do":"start","by":1,"at":0,"job":"a"}
@@ -55,7 +58,8 @@ fn pages_of_job_instances(rt: HostRuntime) -> Result<(), Fail> {
 
 #[test]
 fn a_step_keeps_its_own_status_and_exit_status(rt: HostRuntime) -> Result<(), Fail> {
-    let script = r#"{"jobs":[{"id":"a","elements":[{"kind":"step","id":"s","batchlet":{"ref":"ok"},"transitions":[
+    let script =
+        r#"{"jobs":[{"id":"a","elements":[{"kind":"step","id":"s","batchlet":{"ref":"ok"},"transitions":[
   {"kind":"fail","on":"*"},{"kind":"end","on":"OK"}]}]}]}
 {"do":"start","by":1,"at":0,"job":"a"}
 {"do":"claim","by":1,"at":0}
@@ -77,7 +81,8 @@ fn a_step_keeps_its_own_status_and_exit_status(rt: HostRuntime) -> Result<(), Fa
 
 #[test]
 fn a_stop_before_a_claim_and_a_restart(rt: HostRuntime) -> Result<(), Fail> {
-    let script = r#"{"jobs":[{"id":"a","elements":[{"kind":"step","id":"s","batchlet":{"ref":"ok"}}]}]}
+    let script =
+        r#"{"jobs":[{"id":"a","elements":[{"kind":"step","id":"s","batchlet":{"ref":"ok"}}]}]}
 {"do":"start","by":1,"at":5,"job":"a"}
 {"do":"stop","by":1,"at":7,"execution":1}
 {"ask":"job_execution","execution":1}
@@ -101,7 +106,9 @@ fn a_stop_before_a_claim_and_a_restart(rt: HostRuntime) -> Result<(), Fail> {
 }
 
 #[test]
-fn a_checkpoint_is_handed_on_by_a_restart_and_metrics_are_summed(rt: HostRuntime) -> Result<(), Fail> {
+fn a_checkpoint_is_handed_on_by_a_restart_and_metrics_are_summed(
+    rt: HostRuntime,
+) -> Result<(), Fail> {
     let script = r#"{"jobs":[{"id":"a","elements":[
   {"kind":"step","id":"s","chunk":{"item-count":2,"processor":{"ref":"odd"},
   "reader":{"ref":"count:5"},"writer":{"ref":"sink"}}}]}]}
@@ -144,7 +151,8 @@ fn a_checkpoint_is_handed_on_by_a_restart_and_metrics_are_summed(rt: HostRuntime
 
 #[test]
 fn nothing_is_abandoned_while_its_job_instance_runs(rt: HostRuntime) -> Result<(), Fail> {
-    let script = r#"{"jobs":[{"id":"a","elements":[{"kind":"step","id":"s","batchlet":{"ref":"ok"}}]}]}
+    let script =
+        r#"{"jobs":[{"id":"a","elements":[{"kind":"step","id":"s","batchlet":{"ref":"ok"}}]}]}
 {"do":"start","by":1,"at":0,"job":"a"}
 {"do":"claim","by":1,"at":0}
 {"do":"finish","by":1,"at":0,"work":1,"outcome":"FAILED"}
@@ -178,7 +186,8 @@ fn nothing_is_abandoned_while_its_job_instance_runs(rt: HostRuntime) -> Result<(
 
 #[test]
 fn a_cut_line_is_answered(rt: HostRuntime) -> Result<(), Fail> {
-    let script = r#"{"jobs":[{"id":"a","elements":[{"kind":"step","id":"s","batchlet":{"ref":"ok"}}]}]}
+    let script =
+        r#"{"jobs":[{"id":"a","elements":[{"kind":"step","id":"s","batchlet":{"ref":"ok"}}]}]}
 {"do":"cla
 {"do":"start","by":1,"at":0,"job":"a"}
 "#;
@@ -191,7 +200,8 @@ fn a_cut_line_is_answered(rt: HostRuntime) -> Result<(), Fail> {
 
 #[test]
 fn who_may_finish_what(rt: HostRuntime) -> Result<(), Fail> {
-    let script = r#"{"jobs":[{"id":"a","elements":[{"kind":"step","id":"s","batchlet":{"ref":"ok"}}]}]}
+    let script =
+        r#"{"jobs":[{"id":"a","elements":[{"kind":"step","id":"s","batchlet":{"ref":"ok"}}]}]}
 {"do":"start","by":1,"at":0,"job":"a"}
 {"do":"claim","by":1,"at":0}
 {"do":"finish","by":2,"at":0,"work":1,"outcome":"COMPLETED"}
@@ -216,7 +226,8 @@ fn who_may_finish_what(rt: HostRuntime) -> Result<(), Fail> {
 
 #[test]
 fn a_decision_is_never_stopped(rt: HostRuntime) -> Result<(), Fail> {
-    let script = r#"{"jobs":[{"id":"a","elements":[{"kind":"decision","id":"d","ref":"d","transitions":[]}]}]}
+    let script =
+        r#"{"jobs":[{"id":"a","elements":[{"kind":"decision","id":"d","ref":"d","transitions":[]}]}]}
 {"do":"start","by":1,"at":0,"job":"a"}
 {"do":"claim","by":1,"at":0}
 {"do":"finish","by":1,"at":0,"work":1,"outcome":"STOPPED"}
@@ -230,8 +241,11 @@ fn a_decision_is_never_stopped(rt: HostRuntime) -> Result<(), Fail> {
 }
 
 #[test]
-fn every_query_after_a_job_execution_and_parameters_by_rising_keys(rt: HostRuntime) -> Result<(), Fail> {
-    let script = r#"{"jobs":[{"id":"a","elements":[{"kind":"step","id":"s","batchlet":{"ref":"ok"}}]}]}
+fn every_query_after_a_job_execution_and_parameters_by_rising_keys(
+    rt: HostRuntime,
+) -> Result<(), Fail> {
+    let script =
+        r#"{"jobs":[{"id":"a","elements":[{"kind":"step","id":"s","batchlet":{"ref":"ok"}}]}]}
 {"do":"start","by":1,"at":10,"job":"a"}
 {"do":"claim","by":2,"at":20}
 {"do":"finish","by":2,"at":30,"work":1,"outcome":"COMPLETED"}

@@ -111,7 +111,7 @@ fn a_job_is_copied(rt: HostRuntime) -> Result<(), Fail> {
     let job = catalogue.job("a");
     assert!(rt; job.is_some());
     if let Some(job) = job {
-        let copy = job.try_clone(rt.alloc())?;
+        let copy = job.try_clone()?;
         let wanted = format!(in rt.alloc(); "{job:?}")?;
         assert_eq!(rt; format!(in rt.alloc(); "{copy:?}")?, wanted);
     }
@@ -122,12 +122,12 @@ fn a_job_is_copied(rt: HostRuntime) -> Result<(), Fail> {
 #[test]
 fn a_catalogue_is_copied(rt: HostRuntime) -> Result<(), Fail> {
     let alloc = rt.alloc();
-    let copy = catalogue(alloc)?.try_clone(alloc)?;
+    let copy = catalogue(alloc)?.try_clone()?;
     assert_eq!(rt; copy.len(), 1);
     let mut book = Book::<3>::new(alloc, copy)?;
     let wanted = replies(alloc)?;
     for (call, reply) in calls(alloc)?.into_iter().zip(wanted) {
-        let found: Result<Reply, Refusal> = book.act(alloc, 1, call, 0);
+        let found: Result<Reply, Refusal> = book.act(1, call, 0);
         assert_eq!(rt; found, Ok(reply));
     }
     Ok(())

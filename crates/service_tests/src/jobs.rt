@@ -76,7 +76,8 @@ fn a_split_runs_on_when_one_flow_has_failed(rt: HostRuntime) -> Result<(), Fail>
 
 #[test]
 fn a_decision_is_never_stopped(rt: HostRuntime) -> Result<(), Fail> {
-    let script = r#"{"jobs":[{"id":"a","elements":[{"kind":"decision","id":"d","ref":"ask","transitions":[
+    let script =
+        r#"{"jobs":[{"id":"a","elements":[{"kind":"decision","id":"d","ref":"ask","transitions":[
   {"kind":"end","on":"A"}]}]}]}
 {"do":"start","by":1,"at":0,"job":"a"}
 {"do":"claim","by":1,"at":0}
@@ -96,8 +97,11 @@ fn a_decision_is_never_stopped(rt: HostRuntime) -> Result<(), Fail> {
 }
 
 #[test]
-fn a_decisions_exit_status_chooses_and_the_element_that_it_chooses_names_the_jobs(rt: HostRuntime) -> Result<(), Fail> {
-    let script = r#"{"jobs":[{"id":"a","elements":[{"kind":"step","id":"s","next":"d","batchlet":{"ref":"ok"}},
+fn a_decisions_exit_status_chooses_and_the_element_that_it_chooses_names_the_jobs(
+    rt: HostRuntime,
+) -> Result<(), Fail> {
+    let script =
+        r#"{"jobs":[{"id":"a","elements":[{"kind":"step","id":"s","next":"d","batchlet":{"ref":"ok"}},
   {"kind":"decision","id":"d","ref":"ask","transitions":[{"kind":"end","on":"A"},
   {"kind":"fail","on":"B","exit-status":"bad"}]}]}]}
 {"do":"start","by":1,"at":0,"job":"a"}
@@ -173,7 +177,9 @@ fn a_flow_without_a_match_ends_the_list(rt: HostRuntime) -> Result<(), Fail> {
 }
 
 #[test]
-fn the_first_written_of_two_failed_flows_names_the_exit_status(rt: HostRuntime) -> Result<(), Fail> {
+fn the_first_written_of_two_failed_flows_names_the_exit_status(
+    rt: HostRuntime,
+) -> Result<(), Fail> {
     let script = r#"{"jobs":[{"id":"a","elements":[{"kind":"split","id":"k","flows":[
   {"kind":"flow","id":"f","elements":[{"kind":"step","id":"s1","transitions":[
   {"kind":"fail","on":"*","exit-status":"one"}],"batchlet":{"ref":"ok"}}]},
@@ -227,7 +233,8 @@ fn a_stopped_flow_is_stronger_than_a_completed_one(rt: HostRuntime) -> Result<()
 
 #[test]
 fn a_failed_decision_without_a_match_fails_the_job(rt: HostRuntime) -> Result<(), Fail> {
-    let script = r#"{"jobs":[{"id":"a","elements":[{"kind":"decision","id":"d","ref":"ask","transitions":[
+    let script =
+        r#"{"jobs":[{"id":"a","elements":[{"kind":"decision","id":"d","ref":"ask","transitions":[
   {"kind":"end","on":"A"}]}]}]}
 {"do":"start","by":1,"at":0,"job":"a"}
 {"do":"claim","by":1,"at":0}
@@ -246,7 +253,8 @@ fn a_failed_decision_without_a_match_fails_the_job(rt: HostRuntime) -> Result<()
 
 #[test]
 fn a_failed_decision_with_a_match_does_what_it_says(rt: HostRuntime) -> Result<(), Fail> {
-    let script = r#"{"jobs":[{"id":"a","elements":[{"kind":"decision","id":"d","ref":"ask","transitions":[
+    let script =
+        r#"{"jobs":[{"id":"a","elements":[{"kind":"decision","id":"d","ref":"ask","transitions":[
   {"kind":"end","on":"A"}]}]}]}
 {"do":"start","by":1,"at":0,"job":"a"}
 {"do":"claim","by":1,"at":0}
@@ -271,7 +279,8 @@ fn fault_of(alloc: Global, catalogue: &str) -> Result<String, Fail> {
 
 #[test]
 fn targets_that_go_round_are_a_loop(rt: HostRuntime) -> Result<(), Fail> {
-    let catalogue = r#"{"jobs":[{"id":"a","elements":[{"kind":"step","id":"s","next":"t","batchlet":{"ref":"ok"}},
+    let catalogue =
+        r#"{"jobs":[{"id":"a","elements":[{"kind":"step","id":"s","next":"t","batchlet":{"ref":"ok"}},
   {"kind":"step","id":"t","next":"s","batchlet":{"ref":"ok"}}]}]}"#;
     let wanted = r#"{"fault":"Loop","job":0}
 "#;
@@ -312,7 +321,8 @@ fn a_split_without_flows_is_empty(rt: HostRuntime) -> Result<(), Fail> {
 
 #[test]
 fn two_elements_of_one_id(rt: HostRuntime) -> Result<(), Fail> {
-    let catalogue = r#"{"jobs":[{"id":"a","elements":[{"kind":"step","id":"s","batchlet":{"ref":"ok"}},
+    let catalogue =
+        r#"{"jobs":[{"id":"a","elements":[{"kind":"step","id":"s","batchlet":{"ref":"ok"}},
   {"kind":"split","id":"k","flows":[{"kind":"flow","id":"f","elements":[
   {"kind":"step","id":"s","batchlet":{"ref":"ok"}}]}]}]}]}"#;
     let wanted = r#"{"fault":"DuplicateId","job":0}

@@ -26,17 +26,21 @@ fn more_than_255_executions_and_work_items(rt: HostRuntime) -> Result<(), Fail> 
     }
     for number in 1..301u32 {
         writeln!(script, "{CLAIM}")?;
-        writeln!(wanted,
+        writeln!(
+            wanted,
             r#"{{"work":{{"element":"s","execution":{number},"kind":"batchlet","ref":"ok","work":{number}}}}}"#
         )?;
     }
     for number in 1..301u32 {
-        writeln!(script,
+        writeln!(
+            script,
             r#"{{"do":"finish","by":1,"at":7,"work":{number},"outcome":"COMPLETED"}}"#
         )?;
         writeln!(wanted, "{{\"done\":true}}")?;
     }
-    script.push_str("{\"ask\":\"job_execution\",\"execution\":257}\n{\"ask\":\"status_counts\"}\n")?;
+    script.push_str(
+        "{\"ask\":\"job_execution\",\"execution\":257}\n{\"ask\":\"status_counts\"}\n",
+    )?;
     wanted.push_str(
         r#"{"job_execution":{"create":0,"end":7,"execution":257,"exit":"COMPLETED","instance":257,"job":"a","#,
     )?;
@@ -61,7 +65,10 @@ fn a_job_has_a_name_of_256_bytes(rt: HostRuntime) -> Result<(), Fail> {
         "{{\"jobs\":[{{\"id\":\"{name}n\",\"elements\":[{STEP}]}}]}}\n"
     )?;
     let (out, _) = replies(alloc, longer.as_bytes());
-    assert_eq!(rt; out.as_slice(), b"{\"fault\":\"TextTooLong\",\"job\":0}\n".as_slice());
+    assert_eq!(rt;
+        out.as_slice(),
+        b"{\"fault\":\"TextTooLong\",\"job\":0}\n".as_slice()
+    );
     Ok(())
 }
 
@@ -71,10 +78,12 @@ fn an_exit_status_of_256_bytes_is_kept(rt: HostRuntime) -> Result<(), Fail> {
     let exit = "x".repeat(alloc, 256)?;
     let mut script = catalogue(alloc)?;
     writeln!(script, "{START}\n{CLAIM}")?;
-    writeln!(script,
+    writeln!(
+        script,
         r#"{{"do":"finish","by":1,"at":0,"work":1,"outcome":"COMPLETED","exit":"{exit}x"}}"#
     )?;
-    writeln!(script,
+    writeln!(
+        script,
         r#"{{"do":"finish","by":1,"at":0,"work":1,"outcome":"COMPLETED","exit":"{exit}"}}"#
     )?;
     script.push_str("{\"ask\":\"step_executions\",\"execution\":1}\n")?;
@@ -83,7 +92,8 @@ fn an_exit_status_of_256_bytes_is_kept(rt: HostRuntime) -> Result<(), Fail> {
         "{\"work\":{\"element\":\"s\",\"execution\":1,\"kind\":\"batchlet\",\"ref\":\"ok\",\"work\":1}}\n",
     )?;
     wanted.push_str("{\"refused\":\"TextTooLong\"}\n{\"done\":true}\n")?;
-    writeln!(wanted,
+    writeln!(
+        wanted,
         r#"{{"step_executions":[{{"end":0,"execution":1,"exit":"{exit}","metrics":{{}},"start":0,"status":"COMPLETED","step":"s","work":1}}]}}"#
     )?;
     assert_eq!(rt; answered(alloc, script.as_str())?, wanted);
@@ -99,7 +109,8 @@ fn parameters(alloc: Global, before: u32) -> Result<(String, String), AllocError
     }
     pairs.push_str("\"k\":\"\"")?;
     let mut script = catalogue(alloc)?;
-    writeln!(script,
+    writeln!(
+        script,
         r#"{{"do":"start","by":1,"at":0,"job":"a","parameters":{{{pairs}}}}}"#
     )?;
     script.push_str("{\"ask\":\"parameters\",\"execution\":1}\n")?;
@@ -141,11 +152,20 @@ fn lines_of_many_lengths_are_answered_alike(rt: HostRuntime) -> Result<(), Fail>
 fn nested(alloc: Global, flows: u32, splits: u32) -> Result<String, AllocError> {
     let mut text = String::from_str(alloc, "{\"jobs\":[{\"id\":\"a\",\"elements\":[")?;
     for number in 0..flows {
-        write!(text, "{{\"kind\":\"flow\",\"id\":\"f{number}\",\"elements\":[")?;
+        write!(
+            text,
+            "{{\"kind\":\"flow\",\"id\":\"f{number}\",\"elements\":["
+        )?;
     }
     for number in 0..splits {
-        write!(text, "{{\"kind\":\"split\",\"id\":\"k{number}\",\"flows\":[")?;
-        write!(text, "{{\"kind\":\"flow\",\"id\":\"g{number}\",\"elements\":[")?;
+        write!(
+            text,
+            "{{\"kind\":\"split\",\"id\":\"k{number}\",\"flows\":["
+        )?;
+        write!(
+            text,
+            "{{\"kind\":\"flow\",\"id\":\"g{number}\",\"elements\":["
+        )?;
     }
     text.push_str(r#"{"kind":"step","id":"p","batchlet":{"ref":"ok"}}]},"#)?;
     text.push_str(r#"{"kind":"flow","id":"h","elements":["#)?;
@@ -166,14 +186,16 @@ fn splits_stand_inside_each_other_down_to_depth_16(rt: HostRuntime) -> Result<()
     let mut script = nested(alloc, 1, 7)?;
     writeln!(script, "{START}\n{CLAIM}\n{CLAIM}")?;
     for (work, outcome) in [(1u32, "FAILED"), (2u32, "COMPLETED")] {
-        writeln!(script,
+        writeln!(
+            script,
             r#"{{"do":"finish","by":1,"at":0,"work":{work},"outcome":"{outcome}"}}"#
         )?;
         script.push_str("{\"ask\":\"status_counts\"}\n")?;
     }
     let mut wanted = String::from_str(alloc, "{\"execution\":1}\n")?;
     for (element, work) in [("p", 1u32), ("q", 2u32)] {
-        writeln!(wanted,
+        writeln!(
+            wanted,
             r#"{{"work":{{"element":"{element}","execution":1,"kind":"batchlet","ref":"ok","work":{work}}}}}"#
         )?;
     }
@@ -181,6 +203,9 @@ fn splits_stand_inside_each_other_down_to_depth_16(rt: HostRuntime) -> Result<()
     wanted.push_str("{\"done\":true}\n{\"counts\":{\"FAILED\":1}}\n")?;
     assert_eq!(rt; answered(alloc, script.as_str())?, wanted);
     let (out, _) = replies(alloc, nested(alloc, 2, 7)?.as_bytes());
-    assert_eq!(rt; out.as_slice(), b"{\"fault\":\"TooDeep\",\"job\":0}\n".as_slice());
+    assert_eq!(rt;
+        out.as_slice(),
+        b"{\"fault\":\"TooDeep\",\"job\":0}\n".as_slice()
+    );
     Ok(())
 }
