@@ -1,8 +1,8 @@
 ghost use Rattle.std.specs.Prelude.{◌≡◌, ◌≢◌};
 ghost use Rattle.std.specs.IoError.{error_kind};
 
-use crate::command_line::arguments;
 use crate::arguments::Arguments;
+use crate::command_line::arguments;
 use script_engine::{Counted, EngineFault, run_script};
 use std::alloc::Global;
 use std::io;

@@ -35,8 +35,7 @@ fn first_difference(written: &[u8], wanted: &[u8]) -> Option<usize>
 /// Says how a script ended.
 fn print_ending(rt: &impl Print, outcome: &Result<Summary, EngineFault>) -> io::Result<()> {
     match outcome {
-        Ok(summary) => println!(
-            rt;
+        Ok(summary) => println!(rt;
             "{} lines, {} operations, {} refused, {} bad",
             summary.lines, summary.entries, summary.refusals, summary.bad
         ),
@@ -45,7 +44,11 @@ fn print_ending(rt: &impl Print, outcome: &Result<Summary, EngineFault>) -> io::
 }
 
 /// Runs a script, and says how it ended and whether its replies are the wanted ones.
-fn run_case(rt: &(impl Files + Print + AllocGlobal), script: &str, replies: &str) -> io::Result<()> {
+fn run_case(
+    rt: &(impl Files + Print + AllocGlobal),
+    script: &str,
+    replies: &str,
+) -> io::Result<()> {
     let lines = fs::read(rt, script)?;
     let wanted = fs::read(rt, replies)?;
     let mut written = Vec::new(rt.alloc());

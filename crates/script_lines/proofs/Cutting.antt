@@ -67,34 +67,40 @@ pub cut_first : (start next : Told) (q : Unread) (first : Option Line) (t : Line
 cut_first start next q None t = (
   [],
   refl,
-  (record {
-    input = t.more;
-    read = t.told;
-    lines = λ more h. ap (λ x. script_lines (x ++ more)) t.outcome.0 ∙ ap script_lines (h t.outcome.2) ∙ ap at_least_one lines_of-nil
-        ∙ sym (ap (λ x. [] ∷ lines_of (x ++ more)) t.outcome.1 ∙ ap (λ x. [] ∷ lines_of x) (h t.outcome.2) ∙ ap (λ x. [] ∷ x) lines_of-nil);
-    whole = λ e. absurd (false≢true (sym e ∙ t.outcome.2));
-    failures = t.cause;
-    calls = t.calls;
-    ends = λ e. ends_after start start next nothing_read (λ h. absurd (false≢true h)) (λ h. absurd (false≢true h)) (omega arith) (t.ended e);
-    later = t.later;
-    drained = t.drained;
-  }, refl),
+  (
+    record {
+      input = t.more;
+      read = t.told;
+      lines = λ more h. ap (λ x. script_lines (x ++ more)) t.outcome.0 ∙ ap script_lines (h t.outcome.2) ∙ ap at_least_one lines_of-nil
+          ∙ sym (ap (λ x. [] ∷ lines_of (x ++ more)) t.outcome.1 ∙ ap (λ x. [] ∷ lines_of x) (h t.outcome.2) ∙ ap (λ x. [] ∷ x) lines_of-nil);
+      whole = λ e. absurd (false≢true (sym e ∙ t.outcome.2));
+      failures = t.cause;
+      calls = t.calls;
+      ends = λ e. ends_after start start next nothing_read (λ h. absurd (false≢true h)) (λ h. absurd (false≢true h)) (omega arith) (t.ended e);
+      later = t.later;
+      drained = t.drained;
+    },
+    refl,
+  ),
 )
 cut_first start next q (Some l) t =
     let line = t.outcome.0 in (
       line,
       t.outcome.1,
-      (record {
-        input = t.more;
-        read = t.told;
-        lines = λ more h. ap at_least_one (cut_off t.more line q t.outcome.2 t.outcome.3 more h);
-        whole = λ e more. cut_off_whole t.more line q t.outcome.2 t.outcome.3 e more;
-        failures = t.cause;
-        calls = t.calls;
-        ends = λ e. ends_after start start next nothing_read (λ h. absurd (false≢true h)) (λ h. absurd (false≢true h)) (omega arith) (t.ended e);
-        later = t.later;
-        drained = t.drained;
-      }, refl),
+      (
+        record {
+          input = t.more;
+          read = t.told;
+          lines = λ more h. ap at_least_one (cut_off t.more line q t.outcome.2 t.outcome.3 more h);
+          whole = λ e more. cut_off_whole t.more line q t.outcome.2 t.outcome.3 e more;
+          failures = t.cause;
+          calls = t.calls;
+          ends = λ e. ends_after start start next nothing_read (λ h. absurd (false≢true h)) (λ h. absurd (false≢true h)) (omega arith) (t.ended e);
+          later = t.later;
+          drained = t.drained;
+        },
+        refl,
+      ),
     )
 
 -- the next line
@@ -105,21 +111,24 @@ cut_next start now next p q done l C t =
     let running : p.ended ≡ true → ⊥ = λ e. something (p.bytes ++ t.more) line q t.outcome.3 (ap (λ x. x ++ t.more) (C.drained e) ∙ (t.quiet e).0) in (
       line,
       t.outcome.1,
-      (record {
-        input = C.input ++ t.more;
-        read = tells_more start now next C.input t.more C.read t.told;
-        lines = λ more h. ap script_lines (append_assoc C.input t.more more) ∙ C.lines (t.more ++ more) (λ e. absurd (running e))
-            ∙ ap (λ x. done ++ lines_of x) (sym (append_assoc p.bytes t.more more)) ∙ ap (λ x. done ++ x) (cut_off (p.bytes ++ t.more) line q t.outcome.2 t.outcome.3 more h)
-            ∙ sym (append_assoc done (line ∷ []) (lines_of (q.bytes ++ more)));
-        whole = λ e more. ap whole_lines (append_assoc C.input t.more more) ∙ C.whole (false_from_ne_true p.ended running) (t.more ++ more)
-            ∙ ap (λ x. done ++ whole_lines x) (sym (append_assoc p.bytes t.more more)) ∙ ap (λ x. done ++ x) (cut_off_whole (p.bytes ++ t.more) line q t.outcome.2 t.outcome.3 e more)
-            ∙ sym (append_assoc done (line ∷ []) (whole_lines (q.bytes ++ more)));
-        failures = t.cause ∙ C.failures;
-        calls = t.calls ∙ C.calls;
-        ends = λ e. ends_after start now next p C.ends (λ h. (t.quiet h).1) C.later (t.ended e);
-        later = omega (arith, C.later, t.later);
-        drained = t.drained;
-      }, refl),
+      (
+        record {
+          input = C.input ++ t.more;
+          read = tells_more start now next C.input t.more C.read t.told;
+          lines = λ more h. ap script_lines (append_assoc C.input t.more more) ∙ C.lines (t.more ++ more) (λ e. absurd (running e))
+              ∙ ap (λ x. done ++ lines_of x) (sym (append_assoc p.bytes t.more more)) ∙ ap (λ x. done ++ x) (cut_off (p.bytes ++ t.more) line q t.outcome.2 t.outcome.3 more h)
+              ∙ sym (append_assoc done (line ∷ []) (lines_of (q.bytes ++ more)));
+          whole = λ e more. ap whole_lines (append_assoc C.input t.more more) ∙ C.whole (false_from_ne_true p.ended running) (t.more ++ more)
+              ∙ ap (λ x. done ++ whole_lines x) (sym (append_assoc p.bytes t.more more)) ∙ ap (λ x. done ++ x) (cut_off_whole (p.bytes ++ t.more) line q t.outcome.2 t.outcome.3 e more)
+              ∙ sym (append_assoc done (line ∷ []) (whole_lines (q.bytes ++ more)));
+          failures = t.cause ∙ C.failures;
+          calls = t.calls ∙ C.calls;
+          ends = λ e. ends_after start now next p C.ends (λ h. (t.quiet h).1) C.later (t.ended e);
+          later = omega (arith, C.later, t.later);
+          drained = t.drained;
+        },
+        refl,
+      ),
     )
 
 -- lines that are complete stay so, whatever is told from now on

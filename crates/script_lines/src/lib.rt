@@ -5,15 +5,15 @@
 mod buffer;
 mod counted;
 mod device;
+mod input_buffer;
 mod line;
 mod line_fault;
 mod output_buffer;
-mod input_buffer;
 mod tape;
 
 pub use counted::Counted;
 pub use device::{DeviceFault, Sink, Source};
+pub use input_buffer::{InputBuffer, MAX_READS};
 pub use line::{Line, MAX_LINE};
 pub use line_fault::LineFault;
 pub use output_buffer::{OUTPUT_BUFFER_SIZE, OutputBuffer};
-pub use input_buffer::{MAX_READS, InputBuffer};

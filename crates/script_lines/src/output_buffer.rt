@@ -1,5 +1,4 @@
 ghost use Rattle.std.specs.Prelude.{◌≡◌, ◌<◌, ◌≤◌, ◌+◌, ◌↔◌, ◌++◌, ℕ, List, [], Ok, length, take, IsTrue, IfOk, OnOk, OnErr};
-
 ghost use Rattle.script_lines.specs.Device.{Takes};
 
 use crate::buffer::new_buffer;
