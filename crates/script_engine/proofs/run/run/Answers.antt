@@ -1,4 +1,4 @@
-use Rattle.std.proofs.Common.{◌∙◌, Option, Ok, subst}
+use Rattle.std.proofs.Common.{◌≡◌, ◌∙◌, Option, Result, Ok, subst}
 use Rattle.std.proofs.lemmas.Result.{err_from_is_err_and}
 use Rattle.script_lines.specs.declared.line.Line.{Line}
 use Rattle.script_lines.specs.Lines.{LineRead}
@@ -31,11 +31,15 @@ returns-in_err-book g c =
     let first = first_line _ _ _ _ _ _ _ _ _ c.in_ok-input.ensures c.requires line.line line.passed_on line.grown in
     rw (r.1, r.2) (nothing_done _ _ _ _ _ _ first.2.0.read first.2.1)
 
+-- what an `Ok` holds
+ok_value : {T E : Type 0} → (a b : T) → ◌≡◌ {A = Result T E} (Ok a) (Ok b) → a ≡ b
+ok_value a b e = cc
+
 pub loop-book-init : goal.loop-book-init
 loop-book-init g c =
     let line = c.in_ok-first.ensures in
     let first = first_line _ _ _ _ _ _ _ _ _ c.in_ok-input.ensures c.requires line.line line.passed_on line.grown in
-    rw c.in_ok-book.ensures (begins _ _ _ _ _ _ first.0 c.in-Ok.catalogue _ first.2.0 (c.in-Ok.ensures.read first.0 first.1) first.2.1 (nothing-counted _ c.default-summary.ensures))
+    rw (ok_value _ _ c.in_ok-book.ensures) (begins _ _ _ _ _ _ first.0 c.in-Ok.catalogue _ first.2.0 (c.in-Ok.ensures.read first.0 first.1) first.2.1 (nothing-counted _ c.default-summary.ensures))
 
 pub returns-in_err-line : goal.returns-in_err-line
 returns-in_err-line g c =
