@@ -17,9 +17,12 @@ use Rattle.batch_history.specs.declared.call.Entry.{Entry}
 use Rattle.batch_history.specs.declared.rows.ExecutionRow.{ExecutionRow}
 use Rattle.batch_history.specs.declared.rows.WorkRow.{WorkRow}
 use Rattle.jsl_model.specs.Jobs.{JobTree}
-use Rattle.batch_history.specs.History.{job_named, is_work, is_finished}
-use Rattle.batch_history.specs.Replies.{is_nothing}
-use Rattle.batch_history.specs.Rows.{History, Rows, rows, reply, reply_by, row_status, is_running_in, entered, claimed, stopped, abandoned, going, marked_as, checkpointed, stopped_as, stopped_end, finished, finished_as, unheld_by, unless, stop_asked, has_something, is_execution, grown, after_call, StandsFor, IsNext, IsLegal}
+use Rattle.batch_history.specs.Legal.{grown, after_call, IsLegal}
+use Rattle.batch_history.specs.Replies.{is_nothing, reply, reply_by, row_status, is_running_in, entered, claimed, stopped, abandoned, going, marked_as, checkpointed, stopped_as, stopped_end, finished, finished_as, unheld_by, unless, stop_asked, has_something, is_execution}
+use Rattle.batch_history.specs.Rows.{History, Rows, rows}
+use Rattle.batch_history.specs.Statuses.{is_finished}
+use Rattle.batch_history.specs.Walks.{job_named}
+use Rattle.batch_history.specs.Works.{is_work}
 
 -- What is entered has room
 
@@ -155,18 +158,3 @@ legal_grown limit h e legal due entered =
         | inr w ↦ legal.due before f w.ws w.front
       ];
     }
-
--- an operation with the reply that is due is the next one
-pub next_of : (limit : ℕ) (r : Rows) (h : History) (e : Entry) → IsLegal limit h → StandsFor r h → reply limit h e.who e.call ≡ Ok e.reply → is_nothing e.reply ≡ false → IsNext limit r e
-next_of limit r h e legal stands due entered = record { history = h; stands = stands; legal = legal_grown limit h e legal due entered }
-
--- what stands for a history and its entry, and that they are legal
-pub log_grown : (limit : ℕ) (h : History) (e : Entry) (new : Rows) (items : List Entry)
-    → IsLegal limit h → reply limit h e.who e.call ≡ Ok e.reply → is_nothing e.reply ≡ false → StandsFor new (grown h e) → items ≡ h.log ++ e ∷ []
-    → StandsFor new record { catalogue = new.catalogue; log = items } × IsLegal limit record { catalogue = new.catalogue; log = items }
-log_grown limit h e new items legal due entered now is =
-    let over : new.catalogue ≡ h.catalogue = ap (λ (r : Rows). r.catalogue) now in
-    let whole : grown h e ≡ record { catalogue = new.catalogue; log = items } =
-    ap (λ (c : List JobTree). record { catalogue = c; log = h.log ++ e ∷ [] }) (sym over)
-    ∙ ap (λ (l : List Entry). record { catalogue = new.catalogue; log = l }) (sym is) in
-    (subst (StandsFor new) whole now, subst (IsLegal limit) whole (legal_grown limit h e legal due entered))

@@ -1,8 +1,9 @@
 -- The rows of a past with one operation more: what each record is after it, by what it was before.
 use mathlib.Core.Bool.{or-false}
-use Rattle.std.proofs.Common.{◌≡◌, ◌≢◌, ℕ, zero, suc, ◌+◌, ◌==◌, ◌<◌, ◌≤◌, ◌||◌, Bool, true, false, cond, Option, None, Some, List, [], ◌∷◌, ◌++◌, length, map, find, reverse, refl, sym, ◌∙◌, ap, arith, add-one}
+use Rattle.std.proofs.Common.{◌≡◌, ◌≢◌, ℕ, zero, suc, ◌+◌, ◌==◌, ◌<◌, ◌≤◌, ◌||◌, Bool, true, false, cond, Option, None, Some, List, [], ◌∷◌, ◌++◌, length, map, find, refl, sym, ◌∙◌, ap, arith, add-one}
 use Rattle.std.specs.Option.{option_map}
-use Rattle.std.proofs.lemmas.List.{map-append, length-map, length-append, reverse-append}
+use mathlib.Core.Path.{fun_ext}
+use Rattle.std.proofs.lemmas.List.{map-append, length-map, length-append}
 use Rattle.std.proofs.lemmas.Bool.{eqb-true, eqb-false, eq-eqb, ne_eqb}
 use Rattle.job_walk.proofs.Following.{find-map}
 use Rattle.job_walk.specs.declared.facts.Known.{Known}
@@ -18,11 +19,18 @@ use Rattle.batch_history.specs.declared.call.Reply.TheVariants.{Execution as IsE
 use Rattle.batch_history.specs.declared.call.Entry.{Entry}
 use Rattle.batch_history.specs.declared.rows.ExecutionRow.{ExecutionRow}
 use Rattle.batch_history.specs.declared.rows.WorkRow.{WorkRow}
-use Rattle.batch_history.specs.declared.rows.CheckpointRow.{CheckpointRow}
-use Rattle.batch_history.specs.History.{Made, Place, made, remade, is_made, makes, change_first, is_at, instances_of, works_of, works_after, handed_out, reported, over, fact_from, known_of, walk_of, job_named, taken, taken_by, asked, given_up, touched, earliest, start_of, was_named, stop_of, abandoned_of, updated_of, end_of, value_after, bare_of, status_from, is_finished, place_by, place_of, instance_made, checkpoints_of, checkpoints_after, put_mark, marks_left, is_work}
-use Rattle.batch_history.specs.Replies.{is_nothing}
-use Rattle.batch_history.specs.Rows.{after_call, History, Rows, row_with, execution_row, rows_of, rows, grown, is_execution, StandsFor}
-use Rattle.batch_history.specs.Steps.{Effect, effect_on, refreshed, refreshed_by, refreshed_at, fresh_row, again_row, instance_in, place_in, rows_after, executions_after}
+use Rattle.batch_history.proofs.Folds.{made, remade, is_made, makes, instances_of, works_of, works_after, with_handed_out as handed_out, reported, over, start_of, was_named, stop_of, abandoned_of, updated_of, end_of, value_after, bare_of, place_of, instance_made, checkpoint_of, execution_row, rows_of}
+use Rattle.batch_history.proofs.Steps.{Effect, effect_on, refreshed, refreshed_by, refreshed_at, fresh_row, again_row, instance_in, place_in, rows_after, executions_after}
+use Rattle.batch_history.specs.Checkpoints.{Place, place_by, is_here, mark_after}
+use Rattle.batch_history.specs.Executions.{Made}
+use Rattle.batch_history.specs.Lists.{change_first, is_at}
+use Rattle.batch_history.specs.Moments.{earliest}
+use Rattle.batch_history.specs.Operations.{taken, taken_by, asked, given_up}
+use Rattle.batch_history.specs.Replies.{is_execution}
+use Rattle.batch_history.specs.Rows.{Rows, row_with}
+use Rattle.batch_history.specs.Statuses.{status_from, is_finished}
+use Rattle.batch_history.specs.Walks.{fact_from, known_of, walk_of, job_named}
+use Rattle.batch_history.specs.Works.{touched, is_work}
 
 -- What an operation that is not on an execution leaves of it
 
@@ -366,42 +374,16 @@ place-in catalogue past w =
     place-by-same (instance_made (made past)) (instance_in (map (execution_row catalogue past) (made past))) (find (is_work w) (works_of past))
     (λ x. sym (instance-in catalogue past x))
 
-checkpoints-step : (catalogue : List JobTree) (past : List Entry) (call : Call)
-    → checkpoints_after (place_of past) call (checkpoints_of past) ≡ checkpoints_after (place_in (rows_of catalogue past)) call (checkpoints_of past)
-checkpoints-step catalogue past (Start job parameters) = refl
-checkpoints-step catalogue past (Restart y parameters) = refl
-checkpoints-step catalogue past (Stop y) = refl
-checkpoints-step catalogue past (Abandon y) = refl
-checkpoints-step catalogue past Claim = refl
-checkpoints-step catalogue past (Checkpoint w mark step) = ap (λ p. put_mark p mark (checkpoints_of past)) (place-in catalogue past w)
-checkpoints-step catalogue past (Finish w o t step) = ap (λ p. marks_left o p (checkpoints_of past)) (place-in catalogue past w)
+-- the checkpoints after an operation, by the steps of the work items before it
+abbrev marks_after : (ℕ → Option Place) → Call → (Place → Option (List ℕ)) → Place → Option (List ℕ)
+marks_after place call earlier p = mark_after (λ w. is_here p (place w)) call (earlier p)
 
 -- the rows of a past with one operation more
 pub rows-step : (catalogue : List JobTree) (past : List Entry) (e : Entry) → rows_of catalogue (e ∷ past) ≡ rows_after (rows_of catalogue past) e
 rows-step catalogue past e =
     let old : Rows = rows_of catalogue past in
     let new : Rows = rows_after old e in
+    let places : place_of past ≡ place_in old = fun_ext (place-in catalogue past) in
     ap (λ (n : ℕ). record (rows_of catalogue (e ∷ past)) { count = n }) (sym (add-one (length past)))
-    ∙ (ap (λ (xs : List CheckpointRow). record new { executions = (rows_of catalogue (e ∷ past)).executions; checkpoints = xs }) (checkpoints-step catalogue past e.call)
+    ∙ (ap (λ (place : ℕ → Option Place). record new { executions = (rows_of catalogue (e ∷ past)).executions; checkpoint = marks_after place e.call (checkpoint_of past) }) places
     ∙ ap (λ (xs : List ExecutionRow). record new { executions = xs }) (executions-step catalogue past e.who e.at e.call e.reply))
-
--- what stands for a history, changed by an operation, stands for the history with it
-pub stands_after : (r : Rows) (h : History) (e : Entry) → StandsFor r h → StandsFor (rows_after r e) (grown h e)
-stands_after r h e stands =
-    ap (λ (x : Rows). rows_after x e) stands
-    ∙ (sym (rows-step h.catalogue (reverse h.log) e) ∙ ap (rows_of h.catalogue) (sym (reverse-append h.log (e ∷ []))))
-
--- the rows of a history with one operation more
-pub rows_grown : (h : History) (e : Entry) → rows (grown h e) ≡ rows_after (rows h) e
-rows_grown h e = sym (stands_after (rows h) h e refl)
-
--- what stands for a history stands, after a call, for the history after the call
-pub stands_call : (r new : Rows) (h : History) (who : ℕ) (call : Call) (at : ℕ) (reply : Reply) → StandsFor r h
-    → new ≡ cond (is_nothing reply) r (rows_after r record { who = who; call = call; at = at; reply = reply })
-    → StandsFor new (after_call h who call at reply)
-stands_call r new h who call at reply stands is =
-    let e : Entry = record { who = who; call = call; at = at; reply = reply } in
-    (elim (is_nothing reply) as (λ b. new ≡ cond b r (rows_after r e) → StandsFor new (cond b h (grown h e))) [
-      | true ↦ λ s. s ∙ stands
-      | false ↦ λ s. s ∙ stands_after r h e stands
-    ]) is

@@ -23,7 +23,8 @@ use Rattle.batch_history.specs.declared.rows.ExecutionRow.{ExecutionRow}
 use Rattle.batch_history.specs.declared.rows.WorkRow.{WorkRow}
 use Rattle.batch_history.specs.declared.rows.WorkState.{WorkState}
 use Rattle.batch_history.specs.declared.rows.WorkState.TheVariants.{Busy, Over}
-use Rattle.batch_history.specs.Rows.{History, Rows, rows, is_execution, row_status}
+use Rattle.batch_history.specs.Replies.{is_execution, row_status}
+use Rattle.batch_history.specs.Rows.{History, Rows, rows}
 
 -- ---- Records as they are shown
 

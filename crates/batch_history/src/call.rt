@@ -1,6 +1,6 @@
 ghost use Rattle.std.specs.Prelude.{◌≡◌, IfOk};
-ghost use Rattle.batch_history.specs.History.{kind_of};
 ghost use Rattle.batch_history.specs.Replies.{is_nothing};
+ghost use Rattle.batch_history.specs.Works.{kind_of};
 
 use batch_ids::{
     ExecutionId, MetricStep, Moment, OutOfMemory, Parameters, T256, Text, WorkId, WorkOutcome,

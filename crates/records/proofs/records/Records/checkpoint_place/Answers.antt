@@ -1,6 +1,7 @@
 use Rattle.std.proofs.Common.{◌≡◌, ◌++◌, ◌<◌, List, ℕ, length, take, drop, get_or, set, sym, ◌∙◌, ap, subst, arith}
 use Rattle.batch_history.specs.declared.rows.CheckpointRow.{CheckpointRow}
-use Rattle.batch_history.specs.History.{Place, is_place, marked, with_mark}
+use Rattle.batch_history.specs.Checkpoints.{Place}
+use Rattle.records.specs.Maps.{is_place, marked, with_mark}
 use Rattle.records.proofs.Marks.{held_at}
 use Rattle.records.proofs.records.Records.checkpoint_place.Goals as goal
 

@@ -1,7 +1,8 @@
 use Rattle.std.proofs.Common.{rules, ◌≡◌, List, ◌∙◌, ap}
 use Rattle.std.proofs.lemmas.Fn.{filter_same}
 use Rattle.batch_history.specs.declared.rows.CheckpointRow.{CheckpointRow}
-use Rattle.batch_history.specs.History.{Place, is_elsewhere, without_mark}
+use Rattle.batch_history.specs.Checkpoints.{Place}
+use Rattle.records.specs.Maps.{is_elsewhere, without_mark}
 use Rattle.records.specs.Maps.{Maps}
 use Rattle.records.proofs.records.Records.clear_checkpoint.Goals as goal
 

@@ -10,12 +10,18 @@ use Rattle.batch_history.specs.declared.call.Reply.{Reply}
 use Rattle.batch_history.specs.declared.call.Reply.TheVariants.{Execution as IsExecution, Work, Closed, Nothing, Done, Go, StopAsked}
 use Rattle.batch_history.specs.declared.call.Entry.{Entry}
 use Rattle.batch_history.specs.declared.rows.WorkRow.{WorkRow}
-use Rattle.batch_history.specs.History.{Made, made, is_made, is_at, works_of, taken, taken_by, asked, given_up, touched, earliest, start_of, stop_of, abandoned_of, updated_of, end_of, known_of, walk_of, job_named, value_after, bare_of, status_from, is_finished, was_named}
-use Rattle.plain_repository.specs.Searches.{Origin, makes_execution, executions_in, is_making, made_as, origin_given, origin_of, instances_in, works_found, walk_found, tree_found, stop_found, abandoned_found, start_found, bare_found, end_found, updated_found}
-use Rattle.plain_repository.proofs.Counting.{counted}
-use Rattle.plain_repository.proofs.Pasts.{Fits, FitsClaim, AllFit}
-use Rattle.plain_repository.proofs.Origins.{making, executions-made, made-within}
-use Rattle.plain_repository.proofs.Items.{works-law}
+use Rattle.batch_history.proofs.Folds.{made, is_made, works_of, start_of, stop_of, abandoned_of, updated_of, end_of, value_after, bare_of, was_named}
+use Rattle.batch_history.specs.Executions.{Made, Origin, executions_in, is_making, made_as, origin_given, origin_of, instances_in}
+use Rattle.batch_history.specs.Lists.{is_at}
+use Rattle.batch_history.specs.Moments.{earliest, start_found, bare_found, end_found, updated_found}
+use Rattle.batch_history.specs.Operations.{taken, taken_by, asked, given_up, makes_execution}
+use Rattle.batch_history.specs.Statuses.{status_from, is_finished, stop_found, abandoned_found}
+use Rattle.batch_history.specs.Walks.{known_of, walk_of, job_named, walk_found, tree_found}
+use Rattle.batch_history.specs.Works.{touched, works_found}
+use Rattle.batch_history.proofs.Adding.{counted}
+use Rattle.batch_history.proofs.Pasts.{Fits, FitsClaim, AllFit}
+use Rattle.batch_history.proofs.Origins.{making, executions-made, made-within}
+use Rattle.batch_history.proofs.Items.{works-law}
 
 -- Before it was made nothing is said of a job execution
 

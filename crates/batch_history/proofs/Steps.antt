@@ -1,19 +1,26 @@
--- How one operation changes the rows.
-use Rattle.std.specs.Prelude.{ℕ, ◌+◌, ◌||◌, Bool, false, Option, Some, None, List, [], ◌∷◌, ◌++◌, length, find}
+-- A device of proofs: how one operation changes the rows.
 use Rattle.std.specs.Option.{option_map}
-use Rattle.batch_ids.specs.Parameters.{Pair}
-use Rattle.batch_ids.specs.declared.status.BatchStatus.{BatchStatus}
-use Rattle.batch_ids.specs.declared.status.BatchStatus.TheVariants.{Starting}
-use Rattle.jsl_model.specs.Jobs.{JobTree}
-use Rattle.job_walk.specs.declared.facts.Value.{Value}
+use Rattle.std.specs.Prelude.{ℕ, ◌+◌, ◌||◌, Bool, false, Option, Some, None, List, [], ◌∷◌, ◌++◌, length, find}
+use Rattle.batch_history.proofs.Folds.{instances_after, works_after}
+use Rattle.batch_history.specs.Checkpoints.{Place, place_by, is_here, mark_after}
+use Rattle.batch_history.specs.Lists.{change_first, is_at}
+use Rattle.batch_history.specs.Moments.{earliest}
+use Rattle.batch_history.specs.Operations.{taken, asked, given_up}
+use Rattle.batch_history.specs.Replies.{is_execution}
+use Rattle.batch_history.specs.Rows.{Rows}
+use Rattle.batch_history.specs.Statuses.{status_from, exit_from, is_finished}
+use Rattle.batch_history.specs.Walks.{walk_value}
+use Rattle.batch_history.specs.Works.{is_work, touched}
 use Rattle.batch_history.specs.declared.call.Call.{Call}
 use Rattle.batch_history.specs.declared.call.Call.TheVariants.{Start, Restart, Stop, Abandon, Claim, Checkpoint, Finish}
-use Rattle.batch_history.specs.declared.call.Reply.{Reply}
 use Rattle.batch_history.specs.declared.call.Entry.{Entry}
+use Rattle.batch_history.specs.declared.call.Reply.{Reply}
 use Rattle.batch_history.specs.declared.rows.ExecutionRow.{ExecutionRow}
 use Rattle.batch_history.specs.declared.rows.WorkRow.{WorkRow}
-use Rattle.batch_history.specs.History.{Place, change_first, is_at, instances_after, works_after, checkpoints_after, place_by, is_work, taken, asked, given_up, touched, earliest, walk_value, status_from, exit_from, is_finished}
-use Rattle.batch_history.specs.Rows.{Rows, is_execution}
+use Rattle.batch_ids.specs.Parameters.{Pair}
+use Rattle.batch_ids.specs.declared.status.BatchStatus.TheVariants.{Starting}
+use Rattle.job_walk.specs.declared.facts.Value.{Value}
+use Rattle.jsl_model.specs.Jobs.{JobTree}
 
 -- the row of a job execution that was just made
 abbrev pub fresh_row : ℕ → ℕ → ℕ → List ℕ → List Pair → ExecutionRow
@@ -111,5 +118,5 @@ rows_after r e =
       instances = instances_after e.call r.instances;
       executions = executions_after r works e.at e.call e.reply;
       works = works;
-      checkpoints = checkpoints_after (place_in r) e.call r.checkpoints;
+      checkpoint = λ p. mark_after (λ w. is_here p (place_in r w)) e.call (r.checkpoint p);
     }

@@ -11,11 +11,12 @@ use Rattle.batch_history.specs.declared.call.Call.TheVariants.{Start, Restart, S
 use Rattle.batch_history.specs.declared.call.Reply.{Reply}
 use Rattle.batch_history.specs.declared.call.Entry.{Entry}
 use Rattle.batch_history.specs.declared.rows.JobInstance.{JobInstance}
-use Rattle.batch_history.specs.History.{Made, made, made_after, remade, is_made, makes, instances_of, instances_after, instance_made}
+use Rattle.batch_history.proofs.Folds.{made, made_after, remade, is_made, makes, instances_of, instances_after, instance_made}
+use Rattle.batch_history.specs.Executions.{Made, Origin, begun_by, instances_found, executions_in, instances_in, is_making, made_again, made_as, origin_given, origin_of, instance_found}
+use Rattle.batch_history.specs.Operations.{makes_execution, makes_instance}
 use Rattle.batch_history.proofs.Stepping.{remade-number, AreNumbered, numbered}
-use Rattle.plain_repository.specs.Searches.{Origin, makes_execution, makes_instance, begun_by, instances_found, executions_in, instances_in, is_making, made_again, made_as, origin_given, origin_of, instance_found}
-use Rattle.plain_repository.proofs.Counting.{counted, one-more}
-use Rattle.plain_repository.proofs.Pasts.{Fits, AllFit}
+use Rattle.batch_history.proofs.Adding.{counted, one-more}
+use Rattle.batch_history.proofs.Pasts.{Fits, AllFit}
 
 -- How many there are
 

@@ -1,4 +1,4 @@
--- Legal pasts: each entry has the reply that its call was due after the entries before it, and what that tells of it.
+-- What the reply of an entry that is due tells of it.
 use Rattle.std.proofs.Common.{subst, ◌≡◌, ℕ, ◌+◌, ◌<◌, ◌≤◌, Bool, true, false, cond, nat_lt, Option, None, Some, is_some, Result, Ok, Err, List, [], ◌∷◌, ◌++◌, length, map, find, reverse, refl, sym, ◌∙◌, ap, arith, append_assoc}
 use Rattle.std.specs.List.{list_any}
 use Rattle.std.proofs.lemmas.List.{reverse-reverse, append-nil}
@@ -17,11 +17,18 @@ use Rattle.batch_history.specs.declared.call.WorkKind.TheVariants.{Batchlet, Chu
 use Rattle.batch_history.specs.declared.call.Entry.{Entry}
 use Rattle.batch_history.specs.declared.rows.ExecutionRow.{ExecutionRow}
 use Rattle.batch_history.specs.declared.rows.WorkRow.{WorkRow}
-use Rattle.batch_history.specs.History.{Made, made, is_made, works_of, is_work, job_named, taken_by, is_finished}
-use Rattle.batch_history.specs.Rows.{History, Rows, rows_of, reply_by, row_status, is_running_in, entered, claimed, claim_reply, stopped, abandoned, going, marked_as, checkpointed, stopped_as, stopped_end, finished, finished_as, unheld_by, unless, stop_asked, first_ready, walk_in, has_something, is_execution, execution_row, IsLegal}
+use Rattle.batch_history.proofs.Folds.{made, is_made, works_of, rows_of, execution_row}
+use Rattle.batch_history.specs.Executions.{Made}
+use Rattle.batch_history.specs.Legal.{IsLegal}
+use Rattle.batch_history.specs.Operations.{taken_by}
+use Rattle.batch_history.specs.Replies.{reply_by, row_status, is_running_in, entered, claimed, claim_reply, stopped, abandoned, going, marked_as, checkpointed, stopped_as, stopped_end, finished, finished_as, unheld_by, unless, stop_asked, first_ready, walk_in, has_something, is_execution}
+use Rattle.batch_history.specs.Rows.{History, Rows}
+use Rattle.batch_history.specs.Statuses.{is_finished}
+use Rattle.batch_history.specs.Walks.{job_named}
+use Rattle.batch_history.specs.Works.{is_work}
 use Rattle.batch_history.proofs.Legal.{entered-is, cut-before}
 use Rattle.batch_history.proofs.Stepping.{AreNumbered, numbered}
-use Rattle.plain_repository.proofs.Counting.{some-map}
+use Rattle.batch_history.proofs.Adding.{some-map}
 
 -- what the due reply of a claim tells, after so many work items and job executions
 abbrev pub FitsClaim : ℕ → ℕ → Reply → Type 0
@@ -183,20 +190,6 @@ due-fits limit catalogue older who (Checkpoint w mark step) given e =
 due-fits limit catalogue older who (Finish w o exit step) given e =
     finished-fits limit (rows_of catalogue older) who o (find (is_work w) (works_of older)) given e
 
--- the entries of a legal history fit, each what is older
-pub legal-fits : (limit : ℕ) (h : History) (past rest : List Entry) → IsLegal limit h → h.log ≡ reverse past ++ rest → AllFit past
-legal-fits limit h [] rest legal is = tt
-legal-fits limit h (e ∷ older) rest legal is =
-    let cut : h.log ≡ reverse older ++ e ∷ rest = cut-before h.log older rest e is in
-    let due : reply_by limit (rows_of h.catalogue older) e.who e.call ≡ Ok e.reply =
-    subst (λ (p : List Entry). reply_by limit (rows_of h.catalogue p) e.who e.call ≡ Ok e.reply) (reverse-reverse older)
-    (legal.due (reverse older) e rest cut).0 in
-    (due-fits limit h.catalogue older e.who e.call e.reply due, legal-fits limit h older (e ∷ rest) legal cut)
-
 -- a past is the whole history, the newest first
 pub whole-past : (log : List Entry) → log ≡ reverse (reverse log) ++ []
 whole-past log = sym (append-nil (reverse (reverse log)) ∙ reverse-reverse log)
-
--- the past of a legal history
-pub past-fits : (limit : ℕ) (h : History) → IsLegal limit h → AllFit (reverse h.log)
-past-fits limit h legal = legal-fits limit h (reverse h.log) [] legal (whole-past h.log)

@@ -13,10 +13,12 @@ use Rattle.batch_history.specs.declared.call.Reply.{Reply}
 use Rattle.batch_history.specs.declared.call.Reply.TheVariants.{Execution as IsExecution, Work, Closed, Nothing, Done, Go, StopAsked}
 use Rattle.batch_history.specs.declared.call.Entry.{Entry}
 use Rattle.batch_history.specs.declared.rows.WorkRow.{WorkRow}
-use Rattle.batch_history.specs.History.{made, works_of, works_after, is_work, change_first, handed_to, reported, over, taken_by}
-use Rattle.plain_repository.specs.Searches.{works_in, hands_out, handed_by, handed_out, finish_entry, with_counts, metrics_found, Progress, progress_by, progress_of, in_progress, works_found}
-use Rattle.plain_repository.proofs.Counting.{counted, one-more, some-map}
-use Rattle.plain_repository.proofs.Pasts.{Fits, FitsClaim, AllFit}
+use Rattle.batch_history.proofs.Folds.{made, works_of, works_after, reported, over}
+use Rattle.batch_history.specs.Lists.{change_first}
+use Rattle.batch_history.specs.Operations.{taken_by, hands_out}
+use Rattle.batch_history.specs.Works.{is_work, handed_to, works_in, handed_by, handed_out, finish_entry, with_counts, metrics_found, Progress, progress_by, progress_of, in_progress, works_found}
+use Rattle.batch_history.proofs.Adding.{counted, one-more, some-map}
+use Rattle.batch_history.proofs.Pasts.{Fits, FitsClaim, AllFit}
 
 -- Work items as they were handed out are numbered from one on
 

@@ -1,0 +1,84 @@
+-- Job instances and job executions (Jakarta Batch 2.1, "JobInstance" and "JobExecution"): job instance i is the i-th
+-- Start, and job execution x the x-th Start or Restart. A past is the list of entries before a moment, the newest first.
+use Rattle.std.specs.Option.{option_map}
+use Rattle.std.specs.Prelude.{ℕ, ◌+◌, ◌==◌, ◌&&◌, Bool, Option, Some, None, List, [], ◌∷◌, ◌++◌, count_by, if◌then◌else◌}
+use Rattle.batch_history.specs.Operations.{makes_instance, makes_execution}
+use Rattle.batch_history.specs.declared.call.Call.{Call}
+use Rattle.batch_history.specs.declared.call.Call.TheVariants.{Start, Restart, Stop, Abandon, Claim, Checkpoint, Finish}
+use Rattle.batch_history.specs.declared.call.Entry.{Entry}
+use Rattle.batch_history.specs.declared.rows.JobInstance.{JobInstance}
+use Rattle.batch_ids.specs.Parameters.{Pair}
+
+-- how many job instances there are
+abbrev pub instances_in : List Entry → ℕ
+instances_in past = count_by (λ e. makes_instance e.call) past
+
+-- the job instance that a call makes under this number
+abbrev pub begun_by : ℕ → Call → List JobInstance
+begun_by i (Start job parameters) = record { instance = i; job = job } ∷ []
+begun_by i (Restart y parameters) = []
+begun_by i (Stop y) = []
+begun_by i (Abandon y) = []
+begun_by i Claim = []
+begun_by i (Checkpoint w mark step) = []
+begun_by i (Finish w outcome exit step) = []
+
+-- the job instances, in order
+abbrev pub instances_found : List Entry → List JobInstance
+instances_found [] = []
+instances_found (e ∷ older) = instances_found older ++ begun_by (instances_in older + 1) e.call
+
+-- how many job executions there are
+abbrev pub executions_in : List Entry → ℕ
+executions_in past = count_by (λ e. makes_execution e.call) past
+
+-- whether a call after these entries is the x-th Start or Restart
+abbrev pub is_making : List Entry → ℕ → Call → Bool
+is_making older x call = makes_execution call && (executions_in older + 1 == x)
+
+-- where a job execution comes from: its job instance, the job's id, the parameters that it was started or restarted
+-- with, and the moment at which it was made
+pub record Origin : Type 0 where
+  pub instance : ℕ
+  pub job : List ℕ
+  pub parameters : List Pair
+  pub create : ℕ
+
+-- a Restart at this moment keeps the job instance and the job of the job execution that it names
+abbrev pub made_again : List Pair → ℕ → Option Origin → Option Origin
+made_again parameters at None = None
+made_again parameters at (Some o) = Some record { instance = o.instance; job = o.job; parameters = parameters; create = at }
+
+-- what a call gives the job execution that it makes: a Start begins the next job instance, and a Restart goes on with
+-- that of the job execution that it names
+abbrev pub origin_given : ℕ → ℕ → (ℕ → Option Origin) → Call → Option Origin
+origin_given instances at earlier (Start job parameters) =
+    Some record { instance = instances + 1; job = job; parameters = parameters; create = at }
+origin_given instances at earlier (Restart y parameters) = made_again parameters at (earlier y)
+origin_given instances at earlier (Stop y) = None
+origin_given instances at earlier (Abandon y) = None
+origin_given instances at earlier Claim = None
+origin_given instances at earlier (Checkpoint w mark step) = None
+origin_given instances at earlier (Finish w outcome exit step) = None
+
+-- the job instance, the job, the parameters and the moment of job execution x, if there is one
+abbrev pub origin_of : List Entry → ℕ → Option Origin
+origin_of [] x = None
+origin_of (e ∷ older) x =
+    if is_making older x e.call then origin_given (instances_in older) e.at (origin_of older) e.call else origin_of older x
+
+-- the job instance of job execution x, if there is one
+abbrev pub instance_found : List Entry → ℕ → Option ℕ
+instance_found past x = option_map (λ o. o.instance) (origin_of past x)
+
+-- a job execution as it was made
+pub record Made : Type 0 where
+  pub execution : ℕ
+  pub instance : ℕ
+  pub job : List ℕ
+  pub parameters : List Pair
+  pub create : ℕ
+
+-- a job execution as it was made, by where it comes from
+abbrev pub made_as : ℕ → Origin → Made
+made_as x o = record { execution = x; instance = o.instance; job = o.job; parameters = o.parameters; create = o.create }
