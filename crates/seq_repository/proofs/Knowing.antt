@@ -3,7 +3,10 @@ use Rattle.std.proofs.Common.{◌≡◌, ℕ, ◌==◌, Bool, true, false, cond,
 use Rattle.std.proofs.lemmas.Bool.{eq-eqb}
 use Rattle.batch_ids.specs.declared.metric_step.MetricStep.{MetricStep}
 use Rattle.batch_history.specs.declared.rows.WorkRow.{WorkRow}
-use Rattle.batch_history.specs.History.{change_first, known_of, fact_from, reported, handed_to}
+use Rattle.batch_history.proofs.Folds.{reported}
+use Rattle.batch_history.specs.Lists.{change_first}
+use Rattle.batch_history.specs.Walks.{known_of, fact_from}
+use Rattle.batch_history.specs.Works.{handed_to}
 use Rattle.batch_history.specs.declared.call.WorkItem.{WorkItem}
 use Rattle.job_walk.specs.declared.facts.Fact.TheVariants.{Busy}
 use Rattle.job_walk.specs.declared.facts.Known.{Known}

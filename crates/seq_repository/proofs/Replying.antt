@@ -11,10 +11,12 @@ use Rattle.batch_history.specs.declared.call.Entry.{Entry}
 use Rattle.batch_history.specs.declared.call.WorkItem.{WorkItem}
 use Rattle.batch_history.specs.declared.rows.ExecutionRow.{ExecutionRow}
 use Rattle.batch_history.specs.declared.rows.WorkRow.{WorkRow}
-use Rattle.batch_history.specs.Rows.{History, IsNext, Rows, reply_by, entered, is_execution, claimed, claim_reply, checkpointed, finished, first_ready, walk_in, has_something}
 use Rattle.batch_history.specs.Due.{IsDue}
+use Rattle.batch_history.specs.Replies.{reply_by, entered, is_execution, claimed, claim_reply, checkpointed, finished, first_ready, walk_in, has_something, is_nothing}
+use Rattle.batch_history.specs.Rows.{History, Rows}
+use Rattle.seq_repository.specs.Kept.{Kept, rows_in, IsNext}
+use Rattle.batch_history.specs.declared.call.Call.{Call}
 use Rattle.job_walk.specs.declared.facts.Value.{Value}
-use Rattle.batch_history.specs.Replies.{is_nothing}
 use Rattle.batch_history.proofs.Legal.{entered-is, reply_room}
 
 item-next : (r : Rows) (row : ExecutionRow) (id : Option (List ℕ)) (item : WorkItem) → claim_reply r row id ≡ Work item → item.work ≡ length r.works + 1
@@ -46,24 +48,28 @@ pub finished_there : (limit : ℕ) (r : Rows) (who : ℕ) (outcome : WorkOutcome
 finished_there limit r who outcome None given e = cc
 finished_there limit r who outcome (Some row) given e = refl
 
+-- there is room for what is accepted
+pub accepted_room : (limit : ℕ) (kept : Kept) (who : ℕ) (call : Call) (given : Reply) → reply_by limit (rows_in kept) who call ≡ Ok given → is_nothing given ≡ false
+    → kept.count < limit
+accepted_room limit kept who call given due entered = reply_room limit (rows_in kept) who call given due entered
+
 -- The next entry
 
 -- its reply is due by the rows, and is not Nothing
-next-parts : (limit : ℕ) (r : Rows) (e : Entry) → IsNext limit r e → (reply_by limit r e.who e.call ≡ Ok e.reply) × (is_nothing e.reply ≡ false)
-next-parts limit r e next =
+next-parts : (limit : ℕ) (kept : Kept) (e : Entry) → IsNext limit kept e → (reply_by limit (rows_in kept) e.who e.call ≡ Ok e.reply) × (is_nothing e.reply ≡ false)
+next-parts limit kept e next =
     let h : History = next.history in
     let parts = next.legal.due h.log e [] refl in
     (ap (λ (rs : Rows). reply_by limit rs e.who e.call) next.stands ∙ parts.0, parts.1)
 
-pub next_due : (limit : ℕ) (r : Rows) (e : Entry) → IsNext limit r e → reply_by limit r e.who e.call ≡ Ok e.reply
-next_due limit r e next = (next-parts limit r e next).0
+pub next_due : (limit : ℕ) (kept : Kept) (e : Entry) → IsNext limit kept e → reply_by limit (rows_in kept) e.who e.call ≡ Ok e.reply
+next_due limit kept e next = (next-parts limit kept e next).0
 
-pub next_entered : (limit : ℕ) (r : Rows) (e : Entry) → IsNext limit r e → is_nothing e.reply ≡ false
-next_entered limit r e next = (next-parts limit r e next).1
+pub next_entered : (limit : ℕ) (kept : Kept) (e : Entry) → IsNext limit kept e → is_nothing e.reply ≡ false
+next_entered limit kept e next = (next-parts limit kept e next).1
 
--- there is room for it
-pub next_room : (limit : ℕ) (r : Rows) (e : Entry) → IsNext limit r e → r.count < limit
-next_room limit r e next = reply_room limit r e.who e.call e.reply (next_due limit r e next) (next_entered limit r e next)
+pub next_room : (limit : ℕ) (kept : Kept) (e : Entry) → IsNext limit kept e → kept.count < limit
+next_room limit kept e next = accepted_room limit kept e.who e.call e.reply (next_due limit kept e next) (next_entered limit kept e next)
 
 -- what is restarted, is there
 pub restarted_there : (limit : ℕ) (r : Rows) (who y : ℕ) (parameters : List Pair) (given : Reply) → reply_by limit r who (Restart y parameters) ≡ Ok given

@@ -4,9 +4,11 @@ use Rattle.std.specs.Option.{option_map}
 use Rattle.jsl_model.specs.Jobs.{JobTree}
 use Rattle.batch_history.specs.declared.rows.ExecutionRow.{ExecutionRow}
 use Rattle.batch_history.specs.declared.rows.WorkRow.{WorkRow}
-use Rattle.batch_history.specs.History.{Place, walk_value, change_first}
-use Rattle.batch_history.specs.Rows.{is_execution}
-use Rattle.batch_history.specs.Steps.{Effect, refreshed}
+use Rattle.batch_history.proofs.Steps.{Effect, refreshed}
+use Rattle.batch_history.specs.Checkpoints.{Place}
+use Rattle.batch_history.specs.Lists.{change_first}
+use Rattle.batch_history.specs.Replies.{is_execution}
+use Rattle.batch_history.specs.Walks.{walk_value}
 use Rattle.seq_repository.specs.declared.rows.Change.{Change}
 use Rattle.seq_repository.specs.declared.rows.Change.TheVariants.{StopRequest, Abandonment, Claim as TakeUp, Report}
 

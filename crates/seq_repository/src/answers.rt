@@ -2,9 +2,10 @@ ghost use Rattle.std.specs.Prelude.{◌≡◌, ◌==◌, Ok, Err, Some, None, If
 ghost use Rattle.std.specs.List.{list_any};
 ghost use Rattle.jsl_model.specs.Names.{distinct};
 ghost use Rattle.batch_history.specs.declared.query.Answer.{Answer};
-ghost use Rattle.batch_history.specs.Rows.{Rows, is_execution};
 ghost use Rattle.batch_history.specs.Answers.{named, page, running_of, is_running_of, records_of, steps_of, counts_of, answered_of, answered_with, answer_by};
 ghost use Rattle.batch_history.specs.Due.{IsDue};
+ghost use Rattle.batch_history.specs.Replies.{is_execution};
+ghost use Rattle.batch_history.specs.Rows.{Rows};
 ghost use Rattle.records.specs.Left.{job_names};
 
 use batch_history::{

@@ -1,8 +1,10 @@
 ghost use Rattle.std.specs.Prelude.{◌≡◌, [], find, IfOk};
 ghost use Rattle.std.specs.Option.{option_copied};
 ghost use Rattle.batch_history.specs.Due.{IsDue};
-ghost use Rattle.batch_history.specs.History.{is_work, job_named};
-ghost use Rattle.batch_history.specs.Rows.{is_execution, reply_by, entered, claim_reply, stopped, abandoned, checkpointed, finished, stop_asked, unheld_by, marked_as, stopped_as, stopped_end, finished_as, item_of, task_of, runs_in, walk_in, first_ready};
+ghost use Rattle.batch_history.specs.Replies.{is_execution, reply_by, entered, claim_reply, stopped, abandoned, checkpointed, finished, stop_asked, unheld_by, marked_as, stopped_as, stopped_end, finished_as, item_of, task_of, runs_in, walk_in, first_ready};
+ghost use Rattle.batch_history.specs.Walks.{job_named};
+ghost use Rattle.batch_history.specs.Works.{is_work};
+ghost use Rattle.seq_repository.specs.Kept.{rows_in};
 
 use crate::repository::Repository;
 use crate::search::Claimable;
@@ -136,7 +138,7 @@ fn finish_reply<const LIMIT: u64>(
 
 impl<const LIMIT: u64> Repository<LIMIT> {
     fn reply_to_start(&self, job: &T256) -> Result<Reply, Refusal>
-        ensures { result ≡ reply_by LIMIT self.now 0 (Call.Start job.now []) }
+        ensures { result ≡ reply_by LIMIT (rows_in self.now) 0 (Call.Start job.now []) }
     {
         if self.catalogue.job(job.as_str()).is_none() {
             return Err(Refusal::JobStartException);
@@ -146,7 +148,7 @@ impl<const LIMIT: u64> Repository<LIMIT> {
     }
 
     fn reply_to_restart(&self, x: ExecutionId) -> Result<Reply, Refusal>
-        ensures { result ≡ reply_by LIMIT self.now 0 (Call.Restart x []) }
+        ensures { result ≡ reply_by LIMIT (rows_in self.now) 0 (Call.Restart x []) }
     {
         if self.records.execution(x).is_none() {
             return Err(Refusal::NoSuchJobExecutionException);
@@ -169,7 +171,7 @@ impl<const LIMIT: u64> Repository<LIMIT> {
     }
 
     fn reply_to_abandon(&self, x: ExecutionId) -> Result<Reply, Refusal>
-        ensures { result ≡ abandoned LIMIT self.now (find (is_execution x) self.now.executions) }
+        ensures { result ≡ abandoned LIMIT (rows_in self.now) (find (is_execution x) self.now.executions) }
     {
         match self.records.execution(x) {
             None => Err(Refusal::NoSuchJobExecutionException),
@@ -199,7 +201,7 @@ impl<const LIMIT: u64> Repository<LIMIT> {
     }
 
     fn item_of(&self, row: &ExecutionRow, id: &T256) -> Result<WorkItem, OutOfMemory>
-        ensures { IfOk result (λ item. item ≡ item_of self.now row.now id.now) }
+        ensures { IfOk result (λ item. item ≡ item_of (rows_in self.now) row.now id.now) }
     {
         let mark = self.records.checkpoint(row.instance, id);
         let task = self.task_in(mark, &row.job, id)?;
@@ -215,7 +217,7 @@ impl<const LIMIT: u64> Repository<LIMIT> {
 
     /// What a claim of a job execution is answered, whose walk has this value.
     fn claim_reply(&self, row: &ExecutionRow, value: &Value) -> Result<Reply, OutOfMemory>
-        ensures { IfOk result (λ reply. reply ≡ claim_reply self.now row.now (first_ready value.now)) }
+        ensures { IfOk result (λ reply. reply ≡ claim_reply (rows_in self.now) row.now (first_ready value.now)) }
     {
         match status::first_ready(value) {
             None => Ok(Reply::Closed(row.execution)),
@@ -224,7 +226,7 @@ impl<const LIMIT: u64> Repository<LIMIT> {
     }
 
     fn reply_to_claim(&self) -> Result<Reply, Refusal>
-        ensures { IsDue result (reply_by LIMIT self.now 0 Call.Claim) }
+        ensures { IsDue result (reply_by LIMIT (rows_in self.now) 0 Call.Claim) }
     {
         let works = self.records.works();
         let rows = self.records.executions();
@@ -238,7 +240,7 @@ impl<const LIMIT: u64> Repository<LIMIT> {
     }
 
     fn stop_requested(&self, x: ExecutionId) -> bool
-        ensures { result ≡ stop_asked self.now x }
+        ensures { result ≡ stop_asked (rows_in self.now) x }
     {
         match self.records.execution(x) {
             None => false,
@@ -247,7 +249,7 @@ impl<const LIMIT: u64> Repository<LIMIT> {
     }
 
     fn reply_to_checkpoint(&self, who: u64, w: WorkId) -> Result<Reply, Refusal>
-        ensures { result ≡ checkpointed LIMIT self.now who (find (is_work w) self.now.works) }
+        ensures { result ≡ checkpointed LIMIT (rows_in self.now) who (find (is_work w) self.now.works) }
     {
         match self.records.work(w) {
             None => Err(Refusal::NoSuchWork),
@@ -263,7 +265,7 @@ impl<const LIMIT: u64> Repository<LIMIT> {
     }
 
     fn reply_to_finish(&self, who: u64, w: WorkId, outcome: WorkOutcome) -> Result<Reply, Refusal>
-        ensures { result ≡ finished LIMIT self.now who outcome (find (is_work w) self.now.works) }
+        ensures { result ≡ finished LIMIT (rows_in self.now) who outcome (find (is_work w) self.now.works) }
     {
         match self.records.work(w) {
             None => Err(Refusal::NoSuchWork),
@@ -279,7 +281,7 @@ impl<const LIMIT: u64> Repository<LIMIT> {
 
     /// What a call of the session `who` is answered.
     pub(crate) fn reply(&self, who: u64, call: &Call) -> Result<Reply, Refusal>
-        ensures { IsDue result (reply_by LIMIT self.now who call.now) }
+        ensures { IsDue result (reply_by LIMIT (rows_in self.now) who call.now) }
     {
         match call {
             Call::Start { job, .. } => self.reply_to_start(job),

@@ -2,8 +2,9 @@ ghost use Rattle.std.specs.Prelude.{◌≡◌, IfOk};
 ghost use Rattle.batch_ids.specs.Metrics.{added};
 ghost use Rattle.batch_ids.specs.Metrics.{IsWithin, most_after};
 ghost use Rattle.seq_repository.specs.Metered.{IsStep};
-ghost use Rattle.batch_history.specs.History.{handed_to, reported, over_as};
-ghost use Rattle.batch_history.specs.Steps.{fresh_row, renewed, refreshed};
+ghost use Rattle.batch_history.proofs.Folds.{reported, over_as};
+ghost use Rattle.batch_history.proofs.Steps.{fresh_row, renewed, refreshed};
+ghost use Rattle.batch_history.specs.Works.{handed_to};
 ghost use Rattle.seq_repository.specs.Changes.{effect_of};
 
 use crate::status::{batch_status, earliest, exit_status, is_finished};

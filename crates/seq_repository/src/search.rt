@@ -2,8 +2,11 @@ ghost use Rattle.std.specs.Prelude.{ℕ, ◌≡◌, ◌++◌, ◌∷◌, [], IfO
 ghost use Rattle.std.specs.List.{list_any};
 ghost use Rattle.std.specs.Option.{option_map};
 ghost use Rattle.batch_ids.specs.declared.metric_step.MetricStep.{MetricStep as Step};
-ghost use Rattle.batch_history.specs.History.{change_first, is_work, over_as, fact_from, known_of, walk_of, walk_value, job_named, handed_to};
-ghost use Rattle.batch_history.specs.Rows.{is_running_in};
+ghost use Rattle.batch_history.proofs.Folds.{over_as};
+ghost use Rattle.batch_history.specs.Lists.{change_first};
+ghost use Rattle.batch_history.specs.Replies.{is_running_in};
+ghost use Rattle.batch_history.specs.Walks.{fact_from, known_of, walk_of, walk_value, job_named};
+ghost use Rattle.batch_history.specs.Works.{is_work, handed_to};
 ghost use Rattle.seq_repository.specs.Searches.{has_ready};
 
 use crate::status::first_ready;

@@ -1,7 +1,9 @@
 ghost use Rattle.std.specs.Prelude.{◌≡◌, IfOk};
 ghost use Rattle.std.specs.Option.{option_copied};
-ghost use Rattle.batch_history.specs.History.{is_finished, earliest, exit_given, status_from, exit_from, status_by, exit_by, stopping, stop_exit, stopping_exit};
-ghost use Rattle.batch_history.specs.Rows.{first_ready};
+ghost use Rattle.batch_history.specs.Moments.{earliest};
+ghost use Rattle.batch_history.specs.Replies.{first_ready};
+ghost use Rattle.batch_history.specs.Statuses.{is_finished, status_from, exit_from, status_by, exit_by, stopping, stop_exit, stopping_exit};
+ghost use Rattle.batch_history.specs.Works.{exit_given};
 
 use batch_ids::{BatchStatus, Listed, Moment, OutOfMemory, T256, WorkOutcome};
 use job_walk::Value;
