@@ -14,7 +14,7 @@ use Rattle.batch_history.specs.Rows.{History, Rows, rows, rows_found}
 use Rattle.batch_history.specs.declared.call.Entry.{Entry}
 
 -- the entries of a legal history fit, each what is older
-legal-fits : (limit : ℕ) (h : History) (past rest : List Entry) → IsLegal limit h → h.log ≡ reverse past ++ rest → AllFit past
+pub legal-fits : (limit : ℕ) (h : History) (past rest : List Entry) → IsLegal limit h → h.log ≡ reverse past ++ rest → AllFit past
 legal-fits limit h [] rest legal is = tt
 legal-fits limit h (e ∷ older) rest legal is =
     let cut : h.log ≡ reverse older ++ e ∷ rest = cut-before h.log older rest e is in

@@ -14,8 +14,16 @@ use Rattle.batch_history.specs.declared.call.Reply.{Reply}
 use Rattle.batch_history.specs.declared.call.Entry.{Entry}
 use Rattle.batch_history.specs.declared.rows.ExecutionRow.{ExecutionRow}
 use Rattle.batch_history.specs.declared.rows.WorkRow.{WorkRow}
-use Rattle.batch_history.specs.History.{Made, made, makes, is_made, is_at, is_work, works_of, taken, taken_by, asked, touched, earliest, start_of, stop_of, abandoned_of, updated_of, end_of, known_of, job_named, walk_of, value_after, bare_of, status_from, is_finished, owner_of}
-use Rattle.batch_history.specs.Rows.{Rows, rows_of, row_status, first_ready, walk_in, has_by, has_something, claim_reply, is_execution, execution_row}
+use Rattle.batch_history.proofs.Folds.{made, makes, is_made, works_of, start_of, stop_of, abandoned_of, updated_of, end_of, value_after, bare_of, rows_of, execution_row}
+use Rattle.batch_history.specs.Executions.{Made}
+use Rattle.batch_history.specs.Lists.{is_at}
+use Rattle.batch_history.specs.Moments.{earliest}
+use Rattle.batch_history.specs.Operations.{taken, taken_by, asked}
+use Rattle.batch_history.specs.Replies.{row_status, first_ready, walk_in, has_by, has_something, claim_reply, is_execution}
+use Rattle.batch_history.specs.Rows.{Rows}
+use Rattle.batch_history.specs.Statuses.{status_from, is_finished}
+use Rattle.batch_history.specs.Walks.{known_of, job_named, walk_of}
+use Rattle.batch_history.specs.Works.{is_work, touched, owner_of}
 use Rattle.batch_history.proofs.Stepping.{known-same, begun-by, named-by, ended-by, same_row, same_status, settled, earliest-false, taken-touched, asked-touched}
 use Rattle.history_laws.specs.Laws.{IsAsBefore}
 use Rattle.history_laws.proofs.Walks.{busy_sight, seen}

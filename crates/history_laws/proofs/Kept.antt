@@ -20,8 +20,15 @@ use Rattle.batch_history.specs.declared.call.Reply.TheVariants.{Work, Closed}
 use Rattle.batch_history.specs.declared.call.Entry.{Entry}
 use Rattle.batch_history.specs.declared.rows.WorkRow.{WorkRow}
 use Rattle.batch_history.specs.declared.rows.WorkState.TheVariants.{Busy}
-use Rattle.batch_history.specs.History.{Made, made, is_made, is_at, is_work, change_first, reported, over, handed_to, works_of, taken, earliest, start_of, known_of, job_named, walk_of, walk_value, value_after}
-use Rattle.batch_history.specs.Rows.{Rows, rows_of, first_ready, walk_in, has_something, claim_reply, item_of, execution_row}
+use Rattle.batch_history.proofs.Folds.{made, is_made, reported, over, works_of, start_of, value_after, rows_of, execution_row}
+use Rattle.batch_history.specs.Executions.{Made}
+use Rattle.batch_history.specs.Lists.{is_at, change_first}
+use Rattle.batch_history.specs.Moments.{earliest}
+use Rattle.batch_history.specs.Operations.{taken}
+use Rattle.batch_history.specs.Replies.{first_ready, walk_in, has_something, claim_reply, item_of}
+use Rattle.batch_history.specs.Rows.{Rows}
+use Rattle.batch_history.specs.Walks.{known_of, job_named, walk_of, walk_value}
+use Rattle.batch_history.specs.Works.{is_work, handed_to}
 use Rattle.batch_history.proofs.Stepping.{known-append, known-change, known-reported, begun-by}
 use Rattle.history_laws.proofs.Walks.{Sight, ready_sight, busy_sight, no_sight, seen, GoesOn, Learns, walk-goes, claim-here, claim-away, report-away, worked-unready}
 use Rattle.history_laws.proofs.Works.{Each, each-map, each-append, each-found, each-change, each-report, Apart, AllApart, apart-append, apart-change, known-worked, unknown-away, new-differs, new-fact, busy-fact, over-differs}

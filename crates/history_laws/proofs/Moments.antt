@@ -11,8 +11,14 @@ use Rattle.batch_history.specs.declared.call.Call.TheVariants.{Start, Restart, S
 use Rattle.batch_history.specs.declared.call.Reply.{Reply}
 use Rattle.batch_history.specs.declared.call.Entry.{Entry}
 use Rattle.batch_history.specs.declared.rows.ExecutionRow.{ExecutionRow}
-use Rattle.batch_history.specs.History.{Made, made, makes, is_made, is_at, given_up, earliest, abandoned_of, end_of, bare_of, is_finished}
-use Rattle.batch_history.specs.Rows.{Rows, rows_of, row_status, is_running_in, is_execution, execution_row}
+use Rattle.batch_history.proofs.Folds.{made, makes, is_made, abandoned_of, end_of, bare_of, rows_of, execution_row}
+use Rattle.batch_history.specs.Executions.{Made}
+use Rattle.batch_history.specs.Lists.{is_at}
+use Rattle.batch_history.specs.Moments.{earliest}
+use Rattle.batch_history.specs.Operations.{given_up}
+use Rattle.batch_history.specs.Replies.{row_status, is_running_in, is_execution}
+use Rattle.batch_history.specs.Rows.{Rows}
+use Rattle.batch_history.specs.Statuses.{is_finished}
 use Rattle.batch_history.proofs.Stepping.{remade-number, settled, ended-by, named-by}
 use Rattle.batch_history.proofs.Finding.{found-passes}
 use Rattle.history_laws.proofs.Told.{Due, AllDue, IsRowOf, row-of, ToldAbandonment, abandonment-told}

@@ -11,8 +11,10 @@ use Rattle.batch_history.specs.declared.call.Reply.TheVariants.{Execution as IsE
 use Rattle.batch_history.specs.declared.call.Entry.{Entry}
 use Rattle.batch_history.specs.declared.rows.ExecutionRow.{ExecutionRow}
 use Rattle.batch_history.specs.declared.rows.JobInstance.{JobInstance}
-use Rattle.batch_history.specs.History.{Made, made, is_made, remade, instances_of, instances_after}
-use Rattle.batch_history.specs.Rows.{Rows, rows_of, entered, is_execution}
+use Rattle.batch_history.proofs.Folds.{made, is_made, remade, instances_of, instances_after, rows_of}
+use Rattle.batch_history.specs.Executions.{Made}
+use Rattle.batch_history.specs.Replies.{entered, is_execution}
+use Rattle.batch_history.specs.Rows.{Rows}
 use Rattle.batch_history.proofs.Finding.{found-passes}
 use Rattle.history_laws.proofs.Works.{Each, each-map, each-append, each-found, found-before}
 use Rattle.history_laws.proofs.Told.{Due, AllDue, IsRowOf, row-of}

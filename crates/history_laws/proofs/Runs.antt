@@ -29,8 +29,8 @@ use Rattle.job_walk.specs.declared.facts.Own.TheVariants.{Halts, Came}
 use Rattle.job_walk.specs.declared.runnable.Runnable.{Runnable}
 use Rattle.job_walk.specs.Walk.{Row, Part, IsStep, IsDecision, IsWhole, step_own, decision_own, taken, goes, arrives, at_row, follow, list_value, whole_value, flow_own, all_ready, all_busy, any_open, ended_as, split_own, body_part, part_own, element_row, flow_value, row_of, part_of, value_of_flow, value_of, fact_of}
 use Rattle.job_walk.specs.Runnables.{Leaf, Inside, IsRun, Holds, body_leaves, leaves_at, element_leaves, flow_leaves, leaves, leaves_of_flow, all_leaves, runnable_in}
-use Rattle.batch_history.specs.History.{walk_of}
-use Rattle.batch_history.specs.Rows.{runs_in}
+use Rattle.batch_history.specs.Replies.{runs_in}
+use Rattle.batch_history.specs.Walks.{walk_of}
 use Rattle.history_laws.proofs.Walks.{part_at, Sight, seen, own_seen, all_seen, seen-either, nothing-seen, split_ended, strongest-unseen, find-closed}
 
 -- whether one of these leaves has this id

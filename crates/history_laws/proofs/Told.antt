@@ -20,10 +20,17 @@ use Rattle.batch_history.specs.declared.rows.ExecutionRow.{ExecutionRow}
 use Rattle.batch_history.specs.declared.rows.WorkRow.{WorkRow}
 use Rattle.batch_history.specs.declared.rows.WorkState.{WorkState}
 use Rattle.batch_history.specs.declared.rows.WorkState.TheVariants.{Busy, Over}
-use Rattle.batch_history.specs.History.{Made, made, makes, is_made, is_work, job_named, is_finished}
-use Rattle.batch_history.specs.Replies.{is_nothing}
-use Rattle.batch_history.specs.Rows.{History, Rows, rows_of, reply_by, row_status, is_running_in, entered, claimed, claim_reply, stopped, abandoned, going, marked_as, stopped_as, checkpointed, finished, finished_as, unheld_by, unless, stop_asked, first_ready, walk_in, has_something, is_execution, execution_row, IsLegal}
+use Rattle.batch_history.proofs.Folds.{made, makes, is_made, rows_of, execution_row}
+use Rattle.batch_history.specs.Executions.{Made}
+use Rattle.batch_history.specs.Legal.{IsLegal}
+use Rattle.batch_history.specs.Replies.{is_nothing, reply_by, row_status, is_running_in, entered, claimed, claim_reply, stopped, abandoned, going, marked_as, stopped_as, checkpointed, finished, finished_as, unheld_by, unless, stop_asked, first_ready, walk_in, has_something, is_execution}
+use Rattle.batch_history.specs.Rows.{History, Rows, rows_found}
+use Rattle.batch_history.specs.Statuses.{is_finished}
+use Rattle.batch_history.specs.Walks.{job_named}
+use Rattle.batch_history.specs.Works.{is_work}
+use Rattle.batch_history.proofs.Agreeing.{reply-law}
 use Rattle.batch_history.proofs.Legal.{entered-is, cut-before}
+use Rattle.batch_history.proofs.Legality.{legal-fits}
 use Rattle.batch_history.proofs.Stepping.{AreNumbered, numbered}
 use Rattle.batch_history.proofs.Finding.{found-passes}
 use Rattle.history_laws.proofs.Works.{found-before}
@@ -44,8 +51,10 @@ pub legal-due : (limit : ℕ) (h : History) (past rest : List Entry) → IsLegal
 legal-due limit h [] rest legal is = tt
 legal-due limit h (e ∷ older) rest legal is =
     let cut : h.log ≡ reverse older ++ e ∷ rest = cut-before h.log older rest e is in
-    let due = legal.due (reverse older) e rest cut in (
-      (subst (λ (p : List Entry). reply_by limit (rows_of h.catalogue p) e.who e.call ≡ Ok e.reply) (reverse-reverse older) due.0, due.1),
+    let due = legal.due (reverse older) e rest cut in
+    let found : reply_by limit (rows_found h.catalogue older) e.who e.call ≡ Ok e.reply =
+    subst (λ (p : List Entry). reply_by limit (rows_found h.catalogue p) e.who e.call ≡ Ok e.reply) (reverse-reverse older) due.0 in (
+      (sym (reply-law limit h.catalogue older e.who e.call (legal-fits limit h older (e ∷ rest) legal cut)) ∙ found, due.1),
       legal-due limit h older (e ∷ rest) legal cut,
     )
 

@@ -12,7 +12,9 @@ use Rattle.job_walk.specs.Walk.{fact_of}
 use Rattle.batch_history.specs.declared.rows.WorkRow.{WorkRow}
 use Rattle.batch_history.specs.declared.rows.WorkState.{WorkState}
 use Rattle.batch_history.specs.declared.rows.WorkState.TheVariants.{Busy, Over}
-use Rattle.batch_history.specs.History.{change_first, over, known_of, fact_from}
+use Rattle.batch_history.proofs.Folds.{over}
+use Rattle.batch_history.specs.Lists.{change_first}
+use Rattle.batch_history.specs.Walks.{known_of, fact_from}
 use Rattle.history_laws.proofs.Walks.{is_worked, DifferAt}
 
 -- ---- Each of a list

@@ -10,8 +10,10 @@ use Rattle.batch_history.specs.declared.rows.ExecutionRow.{ExecutionRow}
 use Rattle.batch_history.specs.declared.rows.WorkRow.{WorkRow}
 use Rattle.batch_history.specs.declared.rows.WorkState.TheVariants.{Busy}
 use Rattle.batch_history.specs.declared.rows.JobInstance.{JobInstance}
-use Rattle.batch_history.specs.History.{is_finished, job_named}
-use Rattle.batch_history.specs.Rows.{History, rows, row_status, is_execution, has_something, first_ready, walk_in, runs_in}
+use Rattle.batch_history.specs.Replies.{row_status, is_execution, has_something, first_ready, walk_in, runs_in}
+use Rattle.batch_history.specs.Rows.{History, rows}
+use Rattle.batch_history.specs.Statuses.{is_finished}
+use Rattle.batch_history.specs.Walks.{job_named}
 
 -- the history as it was after its first operations
 abbrev pub beginning : History → List Entry → History
