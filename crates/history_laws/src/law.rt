@@ -29,7 +29,6 @@ pub fn finished_job_executions_stay_finished()
 /// after which it was over for the first time.
 ///
 /// It only cites the law that it rests on: its contract is the law.
-#[tactic(auto, using(crate::proofs::Laws::has_end_where_over))]
 pub fn ends_are_moments_of_operations()
     ensures there { (limit : ℕ) (h : History) → IsLegal limit h → (x : ℕ) (row : ExecutionRow) → row_in h x ≡ Some row → is_some row.end ≡ is_finished row.bare }
     ensures moment { (limit : ℕ) (h : History) → IsLegal limit h → (x t : ℕ) (row : ExecutionRow) → row_in h x ≡ Some row → row.end ≡ Some t → EndedAt h x t }
