@@ -5,7 +5,7 @@ use Rattle.std.specs.Prelude.{ℕ, ◌==◌, ◌&&◌, Bool, false, Option, Some
 use Rattle.batch_history.specs.Executions.{instance_found}
 use Rattle.batch_history.specs.Works.{is_work, works_found}
 use Rattle.batch_history.specs.declared.call.Call.{Call}
-use Rattle.batch_history.specs.declared.call.Call.TheVariants.{Start, Restart, Stop, Abandon, Claim, Checkpoint, Finish}
+use Rattle.batch_history.specs.Operations.{Ending, Report, effects}
 use Rattle.batch_history.specs.declared.call.Entry.{Entry}
 use Rattle.batch_history.specs.declared.rows.WorkRow.{WorkRow}
 use Rattle.batch_ids.specs.Texts.{is_text}
@@ -37,15 +37,20 @@ mark_left Completed earlier = None
 mark_left Failed earlier = earlier
 mark_left Stopped earlier = earlier
 
--- the checkpoint of a step after a call, `here` saying which work items are of the step
+-- the checkpoint of a step after a report of a work item of it
+abbrev pub mark_reported : Option (List ℕ) → Option Ending → Option (List ℕ) → Option (List ℕ)
+mark_reported (Some mark) end earlier = Some mark
+mark_reported None (Some end) earlier = mark_left end.outcome earlier
+mark_reported None None earlier = earlier
+
+-- the checkpoint of a step after a report, `here` saying which work items are of the step
+abbrev pub mark_with : (ℕ → Bool) → Option Report → Option (List ℕ) → Option (List ℕ)
+mark_with here None earlier = earlier
+mark_with here (Some r) earlier = if here r.work then mark_reported r.mark r.end earlier else earlier
+
+-- the same after a call
 abbrev pub mark_after : (ℕ → Bool) → Call → Option (List ℕ) → Option (List ℕ)
-mark_after here (Checkpoint w mark step) earlier = if here w then Some mark else earlier
-mark_after here (Finish w outcome exit step) earlier = if here w then mark_left outcome earlier else earlier
-mark_after here (Start job parameters) earlier = earlier
-mark_after here (Restart y parameters) earlier = earlier
-mark_after here (Stop y) earlier = earlier
-mark_after here (Abandon y) earlier = earlier
-mark_after here Claim earlier = earlier
+mark_after here call earlier = mark_with here (effects call).reports earlier
 
 -- the checkpoint of a step of a job instance: the newest entry that is a Checkpoint of its work, or completes it, tells
 abbrev pub mark_found : List Entry → Place → Option (List ℕ)

@@ -2,9 +2,8 @@
 -- Start, and job execution x the x-th Start or Restart. A past is the list of entries before a moment, the newest first.
 use Rattle.std.specs.Option.{option_map}
 use Rattle.std.specs.Prelude.{ℕ, ◌+◌, ◌==◌, ◌&&◌, Bool, Option, Some, None, List, [], ◌∷◌, ◌++◌, count_by, if◌then◌else◌}
-use Rattle.batch_history.specs.Operations.{makes_instance, makes_execution}
+use Rattle.batch_history.specs.Operations.{Making, begins, restarts, effects, makes_instance, makes_execution}
 use Rattle.batch_history.specs.declared.call.Call.{Call}
-use Rattle.batch_history.specs.declared.call.Call.TheVariants.{Start, Restart, Stop, Abandon, Claim, Checkpoint, Finish}
 use Rattle.batch_history.specs.declared.call.Entry.{Entry}
 use Rattle.batch_history.specs.declared.rows.JobInstance.{JobInstance}
 use Rattle.batch_ids.specs.Parameters.{Pair}
@@ -13,15 +12,15 @@ use Rattle.batch_ids.specs.Parameters.{Pair}
 abbrev pub instances_in : List Entry → ℕ
 instances_in past = count_by (λ e. makes_instance e.call) past
 
+-- the job instance that is begun under this number
+abbrev pub instance_begun : ℕ → Option Making → List JobInstance
+instance_begun i None = []
+instance_begun i (Some (begins job parameters)) = record { instance = i; job = job } ∷ []
+instance_begun i (Some (restarts y parameters)) = []
+
 -- the job instance that a call makes under this number
 abbrev pub begun_by : ℕ → Call → List JobInstance
-begun_by i (Start job parameters) = record { instance = i; job = job } ∷ []
-begun_by i (Restart y parameters) = []
-begun_by i (Stop y) = []
-begun_by i (Abandon y) = []
-begun_by i Claim = []
-begun_by i (Checkpoint w mark step) = []
-begun_by i (Finish w outcome exit step) = []
+begun_by i call = instance_begun i (effects call).makes
 
 -- the job instances, in order
 abbrev pub instances_found : List Entry → List JobInstance
@@ -49,17 +48,17 @@ abbrev pub made_again : List Pair → ℕ → Option Origin → Option Origin
 made_again parameters at None = None
 made_again parameters at (Some o) = Some record { instance = o.instance; job = o.job; parameters = parameters; create = at }
 
--- what a call gives the job execution that it makes: a Start begins the next job instance, and a Restart goes on with
--- that of the job execution that it names
-abbrev pub origin_given : ℕ → ℕ → (ℕ → Option Origin) → Call → Option Origin
-origin_given instances at earlier (Start job parameters) =
+-- where a job execution comes from that is made at this moment: a Start begins the next job instance, and a Restart goes on
+-- with that of the job execution that it names
+abbrev pub origin_made : ℕ → ℕ → (ℕ → Option Origin) → Option Making → Option Origin
+origin_made instances at earlier None = None
+origin_made instances at earlier (Some (begins job parameters)) =
     Some record { instance = instances + 1; job = job; parameters = parameters; create = at }
-origin_given instances at earlier (Restart y parameters) = made_again parameters at (earlier y)
-origin_given instances at earlier (Stop y) = None
-origin_given instances at earlier (Abandon y) = None
-origin_given instances at earlier Claim = None
-origin_given instances at earlier (Checkpoint w mark step) = None
-origin_given instances at earlier (Finish w outcome exit step) = None
+origin_made instances at earlier (Some (restarts y parameters)) = made_again parameters at (earlier y)
+
+-- the same of the job execution that a call makes
+abbrev pub origin_given : ℕ → ℕ → (ℕ → Option Origin) → Call → Option Origin
+origin_given instances at earlier call = origin_made instances at earlier (effects call).makes
 
 -- the job instance, the job, the parameters and the moment of job execution x, if there is one
 abbrev pub origin_of : List Entry → ℕ → Option Origin

@@ -1,10 +1,54 @@
--- What an operation does to a job execution or a work item that was there before it.
-use Rattle.std.specs.Prelude.{ℕ, ◌==◌, Bool, true, false, Option, Some, None, if◌then◌else◌}
+-- What an operation does, a row for each call, and for a claim a row for each reply. All that the other definitions ask of a
+-- call or a reply they read here.
+use Rattle.std.specs.Prelude.{ℕ, ◌==◌, Bool, true, false, List, Option, Some, None, is_some, if◌then◌else◌}
+use Rattle.batch_ids.specs.Parameters.{Pair}
+use Rattle.batch_ids.specs.declared.metric_step.MetricStep.{MetricStep}
+use Rattle.batch_ids.specs.declared.status.WorkOutcome.{WorkOutcome}
 use Rattle.batch_history.specs.declared.call.Call.{Call}
 use Rattle.batch_history.specs.declared.call.Call.TheVariants.{Start, Restart, Stop, Abandon, Claim, Checkpoint, Finish}
 use Rattle.batch_history.specs.declared.call.Reply.{Reply}
 use Rattle.batch_history.specs.declared.call.Reply.TheVariants.{Execution, Work, Closed, Nothing, Done, Go, StopAsked}
-use Rattle.batch_ids.specs.declared.metric_step.MetricStep.{MetricStep}
+
+-- a job execution that is made: the first one of a new job instance of this job, or one more of the job instance of an
+-- earlier job execution; with these parameters
+pub data Making : Type 0 where
+  begins : List ℕ → List Pair → Making
+  restarts : ℕ → List Pair → Making
+
+-- how a work item is ended
+pub record Ending : Type 0 where
+  pub outcome : WorkOutcome
+  pub exit : Option (List ℕ)
+
+-- what is reported of a work item: counts for its metrics, its checkpoint, its end
+pub record Report : Type 0 where
+  pub work : ℕ
+  pub counts : MetricStep
+  pub mark : Option (List ℕ)
+  pub end : Option Ending
+
+-- what a call does when it is accepted: the job execution that it makes, the one whose stop it requests, the one that it
+-- abandons, what it reports of a work item, and whether it claims, so that its reply says what it hands out
+pub record Effects : Type 0 where
+  pub makes : Option Making
+  pub stops : Option ℕ
+  pub abandons : Option ℕ
+  pub reports : Option Report
+  pub claims : Bool
+
+abbrev no_effects : Effects
+no_effects = record { makes = None; stops = None; abandons = None; reports = None; claims = false }
+
+abbrev pub effects : Call → Effects
+effects (Start job parameters) = record no_effects { makes = Some (begins job parameters) }
+effects (Restart y parameters) = record no_effects { makes = Some (restarts y parameters) }
+effects (Stop y) = record no_effects { stops = Some y }
+effects (Abandon y) = record no_effects { abandons = Some y }
+effects Claim = record no_effects { claims = true }
+effects (Checkpoint w mark step) =
+    record no_effects { reports = Some record { work = w; counts = step; mark = Some mark; end = None } }
+effects (Finish w outcome exit step) =
+    record no_effects { reports = Some record { work = w; counts = step; mark = None; end = Some record { outcome = outcome; exit = exit } } }
 
 -- the job execution that a claim takes up: that of the work item, or the closed one
 abbrev pub taken_by : Reply → Option ℕ
@@ -16,55 +60,6 @@ taken_by Done = None
 taken_by Go = None
 taken_by StopAsked = None
 
-abbrev pub taken : Call → Reply → Option ℕ
-taken Claim reply = taken_by reply
-taken (Start job parameters) reply = None
-taken (Restart y parameters) reply = None
-taken (Stop y) reply = None
-taken (Abandon y) reply = None
-taken (Checkpoint w mark step) reply = None
-taken (Finish w outcome exit step) reply = None
-
--- the job execution that an operation asks to stop
-abbrev pub asked : Call → Option ℕ
-asked (Stop y) = Some y
-asked (Start job parameters) = None
-asked (Restart y parameters) = None
-asked (Abandon y) = None
-asked Claim = None
-asked (Checkpoint w mark step) = None
-asked (Finish w outcome exit step) = None
-
--- the job execution that an operation abandons
-abbrev pub given_up : Call → Option ℕ
-given_up (Abandon y) = Some y
-given_up (Start job parameters) = None
-given_up (Restart y parameters) = None
-given_up (Stop y) = None
-given_up Claim = None
-given_up (Checkpoint w mark step) = None
-given_up (Finish w outcome exit step) = None
-
--- whether a call finishes this work item
-abbrev pub finishes : ℕ → Call → Bool
-finishes w (Finish v outcome exit step) = v == w
-finishes w (Start job parameters) = false
-finishes w (Restart y parameters) = false
-finishes w (Stop y) = false
-finishes w (Abandon y) = false
-finishes w Claim = false
-finishes w (Checkpoint v mark step) = false
-
--- the counts that a call reports of this work item
-abbrev pub counts_given : ℕ → Call → Option MetricStep
-counts_given w (Checkpoint v mark step) = if v == w then Some step else None
-counts_given w (Finish v outcome exit step) = if v == w then Some step else None
-counts_given w (Start job parameters) = None
-counts_given w (Restart y parameters) = None
-counts_given w (Stop y) = None
-counts_given w (Abandon y) = None
-counts_given w Claim = None
-
 -- whether a reply hands out a work item
 abbrev pub hands_out : Reply → Bool
 hands_out (Work item) = true
@@ -75,22 +70,46 @@ hands_out Done = false
 hands_out Go = false
 hands_out StopAsked = false
 
--- whether a call makes a job instance
-abbrev pub makes_instance : Call → Bool
-makes_instance (Start job parameters) = true
-makes_instance (Restart y parameters) = false
-makes_instance (Stop y) = false
-makes_instance (Abandon y) = false
-makes_instance Claim = false
-makes_instance (Checkpoint w mark step) = false
-makes_instance (Finish w outcome exit step) = false
+-- the job execution that an operation takes up
+abbrev pub taken : Call → Reply → Option ℕ
+taken call reply = if (effects call).claims then taken_by reply else None
 
 -- whether a call makes a job execution
 abbrev pub makes_execution : Call → Bool
-makes_execution (Start job parameters) = true
-makes_execution (Restart y parameters) = true
-makes_execution (Stop y) = false
-makes_execution (Abandon y) = false
-makes_execution Claim = false
-makes_execution (Checkpoint w mark step) = false
-makes_execution (Finish w outcome exit step) = false
+makes_execution call = is_some (effects call).makes
+
+-- whether a job execution begins a job instance
+abbrev pub is_beginning : Option Making → Bool
+is_beginning None = false
+is_beginning (Some (begins job parameters)) = true
+is_beginning (Some (restarts y parameters)) = false
+
+-- whether a call makes a job instance
+abbrev pub makes_instance : Call → Bool
+makes_instance call = is_beginning (effects call).makes
+
+-- the job execution whose stop a call requests
+abbrev pub asked : Call → Option ℕ
+asked call = (effects call).stops
+
+-- the job execution that a call abandons
+abbrev pub given_up : Call → Option ℕ
+given_up call = (effects call).abandons
+
+-- whether a report ends this work item
+abbrev pub is_end_of : ℕ → Option Report → Bool
+is_end_of w None = false
+is_end_of w (Some r) = if is_some r.end then r.work == w else false
+
+-- whether a call ends this work item
+abbrev pub finishes : ℕ → Call → Bool
+finishes w call = is_end_of w (effects call).reports
+
+-- the counts that a report has for this work item
+abbrev pub counts_for : ℕ → Option Report → Option MetricStep
+counts_for w None = None
+counts_for w (Some r) = if r.work == w then Some r.counts else None
+
+-- the counts that a call reports of this work item
+abbrev pub counts_given : ℕ → Call → Option MetricStep
+counts_given w call = counts_for w (effects call).reports

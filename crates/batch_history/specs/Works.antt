@@ -2,9 +2,8 @@
 -- work hands out, and it is busy until a Finish names it.
 use Rattle.std.specs.Option.{option_map}
 use Rattle.std.specs.Prelude.{ℕ, ◌+◌, ◌==◌, Bool, Option, Some, None, unwrap_or, List, [], ◌∷◌, ◌++◌, find, map, count_by}
-use Rattle.batch_history.specs.Operations.{taken_by, finishes, counts_given, hands_out}
+use Rattle.batch_history.specs.Operations.{Ending, Report, effects, taken, finishes, counts_given, hands_out}
 use Rattle.batch_history.specs.declared.call.Call.{Call}
-use Rattle.batch_history.specs.declared.call.Call.TheVariants.{Start, Restart, Stop, Abandon, Claim, Checkpoint, Finish}
 use Rattle.batch_history.specs.declared.call.Entry.{Entry}
 use Rattle.batch_history.specs.declared.call.Reply.{Reply}
 use Rattle.batch_history.specs.declared.call.Reply.TheVariants.{Execution, Work, Closed, Nothing, Done, Go, StopAsked}
@@ -73,15 +72,19 @@ exit_given outcome exit = unwrap_or exit (outcome_name outcome)
 abbrev pub finish_entry : List Entry → ℕ → Option Entry
 finish_entry past w = find (λ e. finishes w e.call) past
 
+-- how far a work item is by its end
+abbrev pub state_ended : Option Ending → WorkState
+state_ended None = Busy
+state_ended (Some end) = Over end.outcome (exit_given end.outcome end.exit)
+
+-- how far a work item is by a report of it
+abbrev pub state_reported : Option Report → WorkState
+state_reported None = Busy
+state_reported (Some r) = state_ended r.end
+
 -- how far a work item is by the call that finishes it
 abbrev pub state_given : Call → WorkState
-state_given (Finish w outcome exit step) = Over outcome (exit_given outcome exit)
-state_given (Start job parameters) = Busy
-state_given (Restart y parameters) = Busy
-state_given (Stop y) = Busy
-state_given (Abandon y) = Busy
-state_given Claim = Busy
-state_given (Checkpoint w mark step) = Busy
+state_given call = state_reported (effects call).reports
 
 -- how far a work item is by the entry that finishes it: without one it is busy
 abbrev pub state_by : Option Entry → WorkState
@@ -125,12 +128,17 @@ works_found past = map (in_progress (progress_of past)) (handed_out past)
 abbrev pub owner_of : List WorkRow → ℕ → Option ℕ
 owner_of works w = option_map (λ row. row.execution) (find (is_work w) works)
 
+-- this job execution, or else the other
+abbrev pub or_else : Option ℕ → Option ℕ → Option ℕ
+or_else None other = other
+or_else (Some x) other = Some x
+
+-- the job execution of the work item that is reported of, or else the other
+abbrev pub reported_or : List WorkRow → Option Report → Option ℕ → Option ℕ
+reported_or works None other = other
+reported_or works (Some r) other = owner_of works r.work
+
 -- the job execution that an operation is on, beside the one that it makes
 abbrev pub touched : List WorkRow → Call → Reply → Option ℕ
-touched works Claim reply = taken_by reply
-touched works (Checkpoint w mark step) reply = owner_of works w
-touched works (Finish w outcome exit step) reply = owner_of works w
-touched works (Stop y) reply = Some y
-touched works (Abandon y) reply = Some y
-touched works (Start job parameters) reply = None
-touched works (Restart y parameters) reply = None
+touched works call reply =
+    or_else (effects call).stops (or_else (effects call).abandons (reported_or works (effects call).reports (taken call reply)))
