@@ -6,6 +6,7 @@ use Rattle.batch_ids.specs.declared.metric_step.MetricStep.{MetricStep}
 use Rattle.batch_ids.specs.declared.status.WorkOutcome.{WorkOutcome}
 use Rattle.batch_history.specs.declared.call.Call.{Call}
 use Rattle.batch_history.specs.declared.call.Call.TheVariants.{Start, Restart, Stop, Abandon, Claim, Checkpoint, Finish}
+use Rattle.batch_history.specs.declared.call.WorkItem.{WorkItem}
 use Rattle.batch_history.specs.declared.call.Reply.{Reply}
 use Rattle.batch_history.specs.declared.call.Reply.TheVariants.{Execution, Work, Closed, Nothing, Done, Go, StopAsked}
 
@@ -50,25 +51,31 @@ effects (Checkpoint w mark step) =
 effects (Finish w outcome exit step) =
     record no_effects { reports = Some record { work = w; counts = step; mark = None; end = Some record { outcome = outcome; exit = exit } } }
 
--- the job execution that a claim takes up: that of the work item, or the closed one
+-- what a claim does by its reply: the job execution that it takes up (that of the work item, or the closed one), and the
+-- work item that it hands out
+pub record ClaimEffects : Type 0 where
+  pub takes_up : Option ℕ
+  pub hands_out : Option WorkItem
+
+abbrev no_claim : ClaimEffects
+no_claim = record { takes_up = None; hands_out = None }
+
+abbrev pub claim_effects : Reply → ClaimEffects
+claim_effects (Work item) = record { takes_up = Some item.execution; hands_out = Some item }
+claim_effects (Closed x) = record no_claim { takes_up = Some x }
+claim_effects (Execution x) = no_claim
+claim_effects Nothing = no_claim
+claim_effects Done = no_claim
+claim_effects Go = no_claim
+claim_effects StopAsked = no_claim
+
+-- the job execution that a reply takes up
 abbrev pub taken_by : Reply → Option ℕ
-taken_by (Work item) = Some item.execution
-taken_by (Closed x) = Some x
-taken_by (Execution x) = None
-taken_by Nothing = None
-taken_by Done = None
-taken_by Go = None
-taken_by StopAsked = None
+taken_by reply = (claim_effects reply).takes_up
 
 -- whether a reply hands out a work item
 abbrev pub hands_out : Reply → Bool
-hands_out (Work item) = true
-hands_out (Execution x) = false
-hands_out (Closed x) = false
-hands_out Nothing = false
-hands_out Done = false
-hands_out Go = false
-hands_out StopAsked = false
+hands_out reply = is_some (claim_effects reply).hands_out
 
 -- the job execution that an operation takes up
 abbrev pub taken : Call → Reply → Option ℕ

@@ -2,11 +2,10 @@
 -- work hands out, and it is busy until a Finish names it.
 use Rattle.std.specs.Option.{option_map}
 use Rattle.std.specs.Prelude.{ℕ, ◌+◌, ◌==◌, Bool, Option, Some, None, unwrap_or, List, [], ◌∷◌, ◌++◌, find, map, count_by}
-use Rattle.batch_history.specs.Operations.{Ending, Report, effects, taken, finishes, counts_given, hands_out}
+use Rattle.batch_history.specs.Operations.{claim_effects, Ending, Report, effects, taken, finishes, counts_given, hands_out}
 use Rattle.batch_history.specs.declared.call.Call.{Call}
 use Rattle.batch_history.specs.declared.call.Entry.{Entry}
 use Rattle.batch_history.specs.declared.call.Reply.{Reply}
-use Rattle.batch_history.specs.declared.call.Reply.TheVariants.{Execution, Work, Closed, Nothing, Done, Go, StopAsked}
 use Rattle.batch_history.specs.declared.call.WorkItem.{WorkItem}
 use Rattle.batch_history.specs.declared.call.WorkKind.{WorkKind}
 use Rattle.batch_history.specs.declared.call.WorkKind.TheVariants.{Batchlet, Chunk, Decision}
@@ -49,15 +48,14 @@ handed_to who at item =
 abbrev pub works_in : List Entry → ℕ
 works_in past = count_by (λ e. hands_out e.reply) past
 
--- the work item that a reply hands out under this number, to this session, at this moment
+-- a work item that is handed out under this number, to this session, at this moment
+abbrev pub item_numbered : ℕ → ℕ → ℕ → Option WorkItem → List WorkRow
+item_numbered w who at None = []
+item_numbered w who at (Some item) = record (handed_to who at item) { work = w } ∷ []
+
+-- the work item that a reply hands out
 abbrev pub handed_by : ℕ → ℕ → ℕ → Reply → List WorkRow
-handed_by w who at (Work item) = record (handed_to who at item) { work = w } ∷ []
-handed_by w who at (Execution x) = []
-handed_by w who at (Closed x) = []
-handed_by w who at Nothing = []
-handed_by w who at Done = []
-handed_by w who at Go = []
-handed_by w who at StopAsked = []
+handed_by w who at reply = item_numbered w who at (claim_effects reply).hands_out
 
 -- the work items as they were handed out, in order
 abbrev pub handed_out : List Entry → List WorkRow
