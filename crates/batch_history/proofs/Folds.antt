@@ -1,15 +1,15 @@
 -- A device of proofs: the rows of a past, folded along it. In every legal history they are what the searches find.
 use Rattle.std.specs.Option.{option_map}
 use Rattle.std.specs.Prelude.{ℕ, ◌+◌, ◌==◌, ◌||◌, Bool, false, Option, Some, None, List, [], ◌∷◌, ◌++◌, length, find, if◌then◌else◌, map}
-use Rattle.batch_history.specs.Checkpoints.{Place, place_by, is_here, mark_after}
+use Rattle.batch_history.specs.Checkpoints.{InstanceStep, instance_step_by, is_same_step, checkpoint_after}
 use Rattle.batch_history.specs.Executions.{Made}
 use Rattle.batch_history.specs.Lists.{change_first, is_at}
-use Rattle.batch_history.specs.Moments.{earliest}
-use Rattle.batch_history.specs.Operations.{taken, asked, given_up}
-use Rattle.batch_history.specs.Rows.{Rows, row_with}
-use Rattle.batch_history.specs.Statuses.{status_from, is_finished}
+use Rattle.batch_history.specs.Moments.{first_moment}
+use Rattle.batch_history.specs.Operations.{taken_up, stop_request, abandonment}
+use Rattle.batch_history.specs.Rows.{Rows, execution_row_with}
+use Rattle.batch_history.specs.Statuses.{batch_status, is_finished}
 use Rattle.batch_history.specs.Walks.{walk_value}
-use Rattle.batch_history.specs.Works.{is_work, handed_to, exit_given, touched}
+use Rattle.batch_history.specs.Works.{is_work, busy_work, exit_or_name, execution_of_operation}
 use Rattle.batch_history.specs.declared.call.Call.{Call}
 use Rattle.batch_history.specs.declared.call.Call.TheVariants.{Start, Restart, Stop, Abandon, Claim, Checkpoint, Finish}
 use Rattle.batch_history.specs.declared.call.Entry.{Entry}
@@ -83,10 +83,10 @@ abbrev pub over_as : WorkOutcome → List ℕ → MetricStep → ℕ → WorkRow
 over_as outcome exit step at row = record (reported step row) { state = Over outcome exit; end = Some at }
 
 abbrev pub over : WorkOutcome → Option (List ℕ) → MetricStep → ℕ → WorkRow → WorkRow
-over outcome exit step at = over_as outcome (exit_given outcome exit) step at
+over outcome exit step at = over_as outcome (exit_or_name outcome exit) step at
 
 abbrev pub with_handed_out : ℕ → ℕ → Reply → List WorkRow → List WorkRow
-with_handed_out who at (Work item) rows = rows ++ handed_to who at item ∷ []
+with_handed_out who at (Work item) rows = rows ++ busy_work who at item ∷ []
 with_handed_out who at (Execution x) rows = rows
 with_handed_out who at (Closed x) rows = rows
 with_handed_out who at Nothing rows = rows
@@ -113,26 +113,26 @@ abbrev pub instance_made : List Made → ℕ → Option ℕ
 instance_made all x = option_map (λ m. m.instance) (find (is_made x) all)
 
 -- the step of a work item in its job instance
-abbrev pub place_of : List Entry → ℕ → Option Place
-place_of past w = place_by (instance_made (made past)) (find (is_work w) (works_of past))
+abbrev pub place_of : List Entry → ℕ → Option InstanceStep
+place_of past w = instance_step_by (instance_made (made past)) (find (is_work w) (works_of past))
 
 -- the checkpoint of a step of a job instance
-abbrev pub checkpoint_of : List Entry → Place → Option (List ℕ)
-checkpoint_of [] p = None
-checkpoint_of (e ∷ older) p = mark_after (λ w. is_here p (place_of older w)) e.call (checkpoint_of older p)
+abbrev pub folded_checkpoint : List Entry → InstanceStep → Option (List ℕ)
+folded_checkpoint [] p = None
+folded_checkpoint (e ∷ older) p = checkpoint_after (λ w. is_same_step p (place_of older w)) e.call (folded_checkpoint older p)
 
 -- start: the moment of the claim that took the job execution up
 abbrev pub start_of : List Entry → ℕ → Option ℕ
 start_of [] x = None
 start_of (e ∷ older) x =
-    if makes (length (made older)) x e.call then None else earliest (start_of older x) (is_at x (taken e.call e.reply)) e.at
+    if makes (length (made older)) x e.call then None else first_moment (start_of older x) (is_at x (taken_up e.call e.reply)) e.at
 
 -- updated: the moment of the last operation on the job execution
 abbrev pub updated_of : List Entry → ℕ → ℕ
 updated_of [] x = 0
 updated_of (e ∷ older) x =
     if makes (length (made older)) x e.call then e.at
-    else (if is_at x (touched (works_of older) e.call e.reply) then e.at else updated_of older x)
+    else (if is_at x (execution_of_operation (works_of older) e.call e.reply) then e.at else updated_of older x)
 
 -- whether an operation named the job execution so, since it was made
 abbrev pub was_named : (Call → Option ℕ) → List Entry → ℕ → Bool
@@ -141,11 +141,11 @@ was_named names (e ∷ older) x = if makes (length (made older)) x e.call then f
 
 -- whether the job execution was asked to stop
 abbrev pub stop_of : List Entry → ℕ → Bool
-stop_of past x = was_named asked past x
+stop_of past x = was_named stop_request past x
 
 -- whether the job execution was abandoned
 abbrev pub abandoned_of : List Entry → ℕ → Bool
-abandoned_of past x = was_named given_up past x
+abandoned_of past x = was_named abandonment past x
 
 -- what the walk of a job execution comes to after a past
 abbrev pub value_after : List JobTree → List Entry → Made → Value
@@ -153,29 +153,29 @@ value_after catalogue past m = walk_value catalogue (works_of past) m.execution 
 
 -- the status of a job execution after a past, abandonment aside
 abbrev pub bare_of : List JobTree → List Entry → Made → BatchStatus
-bare_of catalogue past m = status_from (stop_of past m.execution) (start_of past m.execution) (value_after catalogue past m)
+bare_of catalogue past m = batch_status (stop_of past m.execution) (start_of past m.execution) (value_after catalogue past m)
 
 -- end: the moment of the first entry after which the job execution was finished
 abbrev pub end_of : List JobTree → List Entry → Made → Option ℕ
 end_of catalogue [] m = None
 end_of catalogue (e ∷ older) m =
     if makes (length (made older)) m.execution e.call then None
-    else earliest (end_of catalogue older m) (is_finished (bare_of catalogue (e ∷ older) m)) e.at
+    else first_moment (end_of catalogue older m) (is_finished (bare_of catalogue (e ∷ older) m)) e.at
 
 -- the row of a job execution after a past
 abbrev pub execution_row : List JobTree → List Entry → Made → ExecutionRow
 execution_row catalogue past m =
-    row_with m (stop_of past m.execution) (abandoned_of past m.execution) (start_of past m.execution)
+    execution_row_with m (stop_of past m.execution) (abandoned_of past m.execution) (start_of past m.execution)
     (value_after catalogue past m) (end_of catalogue past m) (updated_of past m.execution)
 
 -- the rows of a past
-abbrev pub rows_of : List JobTree → List Entry → Rows
-rows_of catalogue past =
+abbrev pub folded_rows : List JobTree → List Entry → Rows
+folded_rows catalogue past =
     record {
       catalogue = catalogue;
       count = length past;
       instances = instances_of past;
       executions = map (execution_row catalogue past) (made past);
       works = works_of past;
-      checkpoint = checkpoint_of past;
+      checkpoint = folded_checkpoint past;
     }

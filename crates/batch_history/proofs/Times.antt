@@ -11,13 +11,13 @@ use Rattle.batch_history.specs.declared.call.Reply.TheVariants.{Execution as IsE
 use Rattle.batch_history.specs.declared.call.Entry.{Entry}
 use Rattle.batch_history.specs.declared.rows.WorkRow.{WorkRow}
 use Rattle.batch_history.proofs.Folds.{made, is_made, works_of, start_of, stop_of, abandoned_of, updated_of, end_of, value_after, bare_of, was_named}
-use Rattle.batch_history.specs.Executions.{Made, Origin, executions_in, is_making, made_as, origin_given, origin_of, instances_in}
+use Rattle.batch_history.specs.Executions.{Made, Origin, job_execution_count, makes_job_execution, made_as, origin_by_call, origin_of, job_instance_count}
 use Rattle.batch_history.specs.Lists.{is_at}
-use Rattle.batch_history.specs.Moments.{earliest, start_found, bare_found, end_found, updated_found}
-use Rattle.batch_history.specs.Operations.{taken, taken_by, asked, given_up, makes_execution}
-use Rattle.batch_history.specs.Statuses.{status_from, is_finished, stop_found, abandoned_found}
-use Rattle.batch_history.specs.Walks.{known_of, walk_of, job_named, walk_found, tree_found}
-use Rattle.batch_history.specs.Works.{touched, works_found}
+use Rattle.batch_history.specs.Moments.{first_moment, start_moment, status_unless_abandoned, end_moment, updated_moment}
+use Rattle.batch_history.specs.Operations.{taken_up, taken_up_by, stop_request, abandonment, makes_execution}
+use Rattle.batch_history.specs.Statuses.{batch_status, is_finished, stop_requested, is_abandoned}
+use Rattle.batch_history.specs.Walks.{known_elements, walk_of, job_named, walk_of_execution, job_of_origin}
+use Rattle.batch_history.specs.Works.{execution_of_operation, work_items}
 use Rattle.batch_history.proofs.Adding.{counted}
 use Rattle.batch_history.proofs.Pasts.{Fits, FitsClaim, AllFit}
 use Rattle.batch_history.proofs.Origins.{making, executions-made, made-within}
@@ -25,7 +25,7 @@ use Rattle.batch_history.proofs.Items.{works-law}
 
 -- Before it was made nothing is said of a job execution
 
-more-made : (older : List Entry) (who at : ℕ) (call : Call) (reply : Reply) → executions_in older ≤ executions_in (record { who = who; call = call; at = at; reply = reply } ∷ older)
+more-made : (older : List Entry) (who at : ℕ) (call : Call) (reply : Reply) → job_execution_count older ≤ job_execution_count (record { who = who; call = call; at = at; reply = reply } ∷ older)
 more-made older who at (Start job parameters) reply = omega (arith, counted (λ (e : Entry). makes_execution e.call) (record { who = who; call = Start job parameters; at = at; reply = reply }) older refl)
 more-made older who at (Restart y parameters) reply = omega (arith, counted (λ (e : Entry). makes_execution e.call) (record { who = who; call = Restart y parameters; at = at; reply = reply }) older refl)
 more-made older who at (Stop y) reply = omega arith
@@ -34,24 +34,24 @@ more-made older who at Claim reply = omega arith
 more-made older who at (Checkpoint w mark step) reply = omega arith
 more-made older who at (Finish w o t step) reply = omega arith
 
-fewer-before : (older : List Entry) (e : Entry) (x : ℕ) → executions_in (e ∷ older) < x → executions_in older < x
-fewer-before older e x lt = let le : executions_in older ≤ executions_in (e ∷ older) = more-made older e.who e.at e.call e.reply in omega (arith, le, lt)
+fewer-before : (older : List Entry) (e : Entry) (x : ℕ) → job_execution_count (e ∷ older) < x → job_execution_count older < x
+fewer-before older e x lt = let le : job_execution_count older ≤ job_execution_count (e ∷ older) = more-made older e.who e.at e.call e.reply in omega (arith, le, lt)
 
 -- whom an entry makes was not made before it
-making-after : (older : List Entry) (x : ℕ) (call : Call) → is_making older x call ≡ true → executions_in older < x
-making-after older x (Start job parameters) is = omega (arith, eqb-true (executions_in older + 1) x is)
-making-after older x (Restart y parameters) is = omega (arith, eqb-true (executions_in older + 1) x is)
+making-after : (older : List Entry) (x : ℕ) (call : Call) → makes_job_execution older x call ≡ true → job_execution_count older < x
+making-after older x (Start job parameters) is = omega (arith, eqb-true (job_execution_count older + 1) x is)
+making-after older x (Restart y parameters) is = omega (arith, eqb-true (job_execution_count older + 1) x is)
 making-after older x (Stop y) is = cc
 making-after older x (Abandon y) is = cc
 making-after older x Claim is = cc
 making-after older x (Checkpoint w mark step) is = cc
 making-after older x (Finish w o t step) is = cc
 
-named-none : (older : List Entry) (x y : ℕ) → is_some (find (is_made y) (made older)) ≡ true → executions_in older < x → is_at x (Some y) ≡ false
-named-none older x y some lt = let le : y ≤ executions_in older = made-within older y some in ne_eqb y x (λ e. omega (arith, le, lt, e))
+named-none : (older : List Entry) (x y : ℕ) → is_some (find (is_made y) (made older)) ≡ true → job_execution_count older < x → is_at x (Some y) ≡ false
+named-none older x y some lt = let le : y ≤ job_execution_count older = made-within older y some in ne_eqb y x (λ e. omega (arith, le, lt, e))
 
 -- nobody is asked to stop who was not made
-asked-none : (older : List Entry) (call : Call) (reply : Reply) (x : ℕ) → Fits older call reply → executions_in older < x → is_at x (asked call) ≡ false
+asked-none : (older : List Entry) (call : Call) (reply : Reply) (x : ℕ) → Fits older call reply → job_execution_count older < x → is_at x (stop_request call) ≡ false
 asked-none older (Stop y) reply x fits lt = named-none older x y fits.1 lt
 asked-none older (Start job parameters) reply x fits lt = refl
 asked-none older (Restart y parameters) reply x fits lt = refl
@@ -61,7 +61,7 @@ asked-none older (Checkpoint w mark step) reply x fits lt = refl
 asked-none older (Finish w o t step) reply x fits lt = refl
 
 -- nobody is given up who was not made
-given-none : (older : List Entry) (call : Call) (reply : Reply) (x : ℕ) → Fits older call reply → executions_in older < x → is_at x (given_up call) ≡ false
+given-none : (older : List Entry) (call : Call) (reply : Reply) (x : ℕ) → Fits older call reply → job_execution_count older < x → is_at x (abandonment call) ≡ false
 given-none older (Abandon y) reply x fits lt = named-none older x y fits.1 lt
 given-none older (Start job parameters) reply x fits lt = refl
 given-none older (Restart y parameters) reply x fits lt = refl
@@ -70,7 +70,7 @@ given-none older Claim reply x fits lt = refl
 given-none older (Checkpoint w mark step) reply x fits lt = refl
 given-none older (Finish w o t step) reply x fits lt = refl
 
-claim-takes-none : (works executions x : ℕ) (reply : Reply) → FitsClaim works executions reply → executions < x → is_at x (taken_by reply) ≡ false
+claim-takes-none : (works executions x : ℕ) (reply : Reply) → FitsClaim works executions reply → executions < x → is_at x (taken_up_by reply) ≡ false
 claim-takes-none works executions x (Work item) fits lt = ne_eqb item.execution x (λ e. omega (arith, fits.1, e, lt))
 claim-takes-none works executions x (Closed y) fits lt = ne_eqb y x (λ e. omega (arith, fits, e, lt))
 claim-takes-none works executions x (IsExecution y) fits lt = absurd fits
@@ -80,7 +80,7 @@ claim-takes-none works executions x Go fits lt = absurd fits
 claim-takes-none works executions x StopAsked fits lt = absurd fits
 
 -- nobody is taken up who was not made
-takes-none : (older : List Entry) (call : Call) (reply : Reply) (x : ℕ) → Fits older call reply → executions_in older < x → is_at x (taken_by reply) ≡ false
+takes-none : (older : List Entry) (call : Call) (reply : Reply) (x : ℕ) → Fits older call reply → job_execution_count older < x → is_at x (taken_up_by reply) ≡ false
 takes-none older (Start job parameters) reply x fits lt = ap (is_at x) fits
 takes-none older (Restart y parameters) reply x fits lt = ap (is_at x) fits.0
 takes-none older (Stop y) reply x fits lt = ap (is_at x) fits.0
@@ -94,25 +94,25 @@ takes-none older (Finish w o t step) reply x fits lt = ap (is_at x) fits.0
 
 -- a test of calls that names nobody who was not made
 abbrev NamesMade : (Call → Option ℕ) → Type 0
-NamesMade names = (older : List Entry) (call : Call) (reply : Reply) (x : ℕ) → Fits older call reply → executions_in older < x → is_at x (names call) ≡ false
+NamesMade names = (older : List Entry) (call : Call) (reply : Reply) (x : ℕ) → Fits older call reply → job_execution_count older < x → is_at x (names call) ≡ false
 
-none-named : (names : Call → Option ℕ) → NamesMade names → (past : List Entry) → AllFit past → (x : ℕ) → executions_in past < x
+none-named : (names : Call → Option ℕ) → NamesMade names → (past : List Entry) → AllFit past → (x : ℕ) → job_execution_count past < x
     → list_any (λ (e : Entry). is_at x (names e.call)) past ≡ false
 none-named names made [] fits x lt = refl
 none-named names made (e ∷ older) fits x lt =
-    let before : executions_in older < x = fewer-before older e x lt in
+    let before : job_execution_count older < x = fewer-before older e x lt in
     or_from (is_at x (names e.call)) _ (made older e.call e.reply x fits.0 before) (none-named names made older fits.1 x before)
 
 -- an entry more, where the rows forget what was said before a job execution was made
 named-step : (names : Call → Option ℕ) → NamesMade names → (older : List Entry) (e : Entry) (x : ℕ) (before : Bool) → AllFit (e ∷ older)
     → list_any (λ (e : Entry). is_at x (names e.call)) older ≡ before
     → (is_at x (names e.call) || list_any (λ (e : Entry). is_at x (names e.call)) older)
-    ≡ cond (is_making older x e.call) false (before || is_at x (names e.call))
+    ≡ cond (makes_job_execution older x e.call) false (before || is_at x (names e.call))
 named-step names made older e x before fits same =
     let found : Bool = list_any (λ (e : Entry). is_at x (names e.call)) older in
-    (elim (is_making older x e.call) as (λ b. is_making older x e.call ≡ b
+    (elim (makes_job_execution older x e.call) as (λ b. makes_job_execution older x e.call ≡ b
     → (is_at x (names e.call) || found) ≡ cond b false (before || is_at x (names e.call))) [
-      | true ↦ λ is. let lt : executions_in older < x = making-after older x e.call is in
+      | true ↦ λ is. let lt : job_execution_count older < x = making-after older x e.call is in
           or_from (is_at x (names e.call)) found (made older e.call e.reply x fits.0 lt) (none-named names made older fits.1 x lt)
       | false ↦ λ is. or_comm (is_at x (names e.call)) found ∙ ap (λ c. c || is_at x (names e.call)) same
     ]) refl
@@ -126,17 +126,17 @@ named-law names made (e ∷ older) fits x =
     ∙ ap (λ b. cond b false (was_named names older x || is_at x (names e.call))) (sym (making older x e.call))
 
 -- that a stop was asked for
-pub stop-law : (past : List Entry) → AllFit past → (x : ℕ) → stop_found past x ≡ stop_of past x
-stop-law past fits x = named-law asked asked-none past fits x
+pub stop-law : (past : List Entry) → AllFit past → (x : ℕ) → stop_requested past x ≡ stop_of past x
+stop-law past fits x = named-law stop_request asked-none past fits x
 
 -- that it was abandoned
-pub abandoned-law : (past : List Entry) → AllFit past → (x : ℕ) → abandoned_found past x ≡ abandoned_of past x
-abandoned-law past fits x = named-law given_up given-none past fits x
+pub abandoned-law : (past : List Entry) → AllFit past → (x : ℕ) → is_abandoned past x ≡ abandoned_of past x
+abandoned-law past fits x = named-law abandonment given-none past fits x
 
 -- Start
 
 -- an entry takes up whom the rows have it take up
-takes-law : (older : List Entry) (call : Call) (reply : Reply) (x : ℕ) → Fits older call reply → is_at x (taken_by reply) ≡ is_at x (taken call reply)
+takes-law : (older : List Entry) (call : Call) (reply : Reply) (x : ℕ) → Fits older call reply → is_at x (taken_up_by reply) ≡ is_at x (taken_up call reply)
 takes-law older (Start job parameters) reply x fits = ap (is_at x) fits
 takes-law older (Restart y parameters) reply x fits = ap (is_at x) fits.0
 takes-law older (Stop y) reply x fits = ap (is_at x) fits.0
@@ -146,32 +146,32 @@ takes-law older (Checkpoint w mark step) reply x fits = ap (is_at x) fits.0
 takes-law older (Finish w o t step) reply x fits = ap (is_at x) fits.0
 
 -- who is not made has no start
-start-none : (past : List Entry) → AllFit past → (x : ℕ) → executions_in past < x → start_found past x ≡ None
+start-none : (past : List Entry) → AllFit past → (x : ℕ) → job_execution_count past < x → start_moment past x ≡ None
 start-none [] fits x lt = refl
 start-none (e ∷ older) fits x lt =
-    let before : executions_in older < x = fewer-before older e x lt in
-    ap (λ o. earliest o (is_at x (taken_by e.reply)) e.at) (start-none older fits.1 x before)
-    ∙ ap (λ b. earliest None b e.at) (takes-none older e.call e.reply x fits.0 before)
+    let before : job_execution_count older < x = fewer-before older e x lt in
+    ap (λ o. first_moment o (is_at x (taken_up_by e.reply)) e.at) (start-none older fits.1 x before)
+    ∙ ap (λ b. first_moment None b e.at) (takes-none older e.call e.reply x fits.0 before)
 
 -- who is just made has no start
-start-made : (older : List Entry) (e : Entry) (x : ℕ) → AllFit (e ∷ older) → is_making older x e.call ≡ true → start_found (e ∷ older) x ≡ None
+start-made : (older : List Entry) (e : Entry) (x : ℕ) → AllFit (e ∷ older) → makes_job_execution older x e.call ≡ true → start_moment (e ∷ older) x ≡ None
 start-made older e x fits is =
-    let lt : executions_in older < x = making-after older x e.call is in
-    ap (λ o. earliest o (is_at x (taken_by e.reply)) e.at) (start-none older fits.1 x lt)
-    ∙ ap (λ b. earliest None b e.at) (takes-none older e.call e.reply x fits.0 lt)
+    let lt : job_execution_count older < x = making-after older x e.call is in
+    ap (λ o. first_moment o (is_at x (taken_up_by e.reply)) e.at) (start-none older fits.1 x lt)
+    ∙ ap (λ b. first_moment None b e.at) (takes-none older e.call e.reply x fits.0 lt)
 
 -- start is the one that the rows have
-pub start-law : (past : List Entry) → AllFit past → (x : ℕ) → start_found past x ≡ start_of past x
+pub start-law : (past : List Entry) → AllFit past → (x : ℕ) → start_moment past x ≡ start_of past x
 start-law [] fits x = refl
 start-law (e ∷ older) fits x =
     let before : Option ℕ = start_of older x in
-    (elim (is_making older x e.call) as (λ b. is_making older x e.call ≡ b
-    → start_found (e ∷ older) x ≡ cond b None (earliest before (is_at x (taken e.call e.reply)) e.at)) [
+    (elim (makes_job_execution older x e.call) as (λ b. makes_job_execution older x e.call ≡ b
+    → start_moment (e ∷ older) x ≡ cond b None (first_moment before (is_at x (taken_up e.call e.reply)) e.at)) [
       | true ↦ λ is. start-made older e x fits is
-      | false ↦ λ is. ap (λ o. earliest o (is_at x (taken_by e.reply)) e.at) (start-law older fits.1 x)
-          ∙ ap (λ b. earliest before b e.at) (takes-law older e.call e.reply x fits.0)
+      | false ↦ λ is. ap (λ o. first_moment o (is_at x (taken_up_by e.reply)) e.at) (start-law older fits.1 x)
+          ∙ ap (λ b. first_moment before b e.at) (takes-law older e.call e.reply x fits.0)
     ]) refl
-    ∙ ap (λ b. cond b None (earliest before (is_at x (taken e.call e.reply)) e.at)) (sym (making older x e.call))
+    ∙ ap (λ b. cond b None (first_moment before (is_at x (taken_up e.call e.reply)) e.at)) (sym (making older x e.call))
 
 -- Updated
 
@@ -180,71 +180,71 @@ cond-or true b n m = refl
 cond-or false b n m = refl
 
 -- updated is the one that the rows have
-pub updated-law : (past : List Entry) → AllFit past → (x : ℕ) → updated_found past x ≡ updated_of past x
+pub updated-law : (past : List Entry) → AllFit past → (x : ℕ) → updated_moment past x ≡ updated_of past x
 updated-law [] fits x = refl
 updated-law (e ∷ older) fits x =
-    let on : List WorkRow → Bool = λ works. is_at x (touched works e.call e.reply) in
-    cond-or (is_making older x e.call) (on (works_found older)) e.at (updated_found older x)
-    ∙ (ap (λ works. cond (is_making older x e.call) e.at (cond (on works) e.at (updated_found older x))) (works-law older fits.1)
-    ∙ (ap (λ n. cond (is_making older x e.call) e.at (cond (on (works_of older)) e.at n)) (updated-law older fits.1 x)
+    let on : List WorkRow → Bool = λ works. is_at x (execution_of_operation works e.call e.reply) in
+    cond-or (makes_job_execution older x e.call) (on (work_items older)) e.at (updated_moment older x)
+    ∙ (ap (λ works. cond (makes_job_execution older x e.call) e.at (cond (on works) e.at (updated_moment older x))) (works-law older fits.1)
+    ∙ (ap (λ n. cond (makes_job_execution older x e.call) e.at (cond (on (works_of older)) e.at n)) (updated-law older fits.1 x)
     ∙ ap (λ b. cond b e.at (cond (on (works_of older)) e.at (updated_of older x))) (sym (making older x e.call))))
 
 -- Walk and status
 
 -- the walk is the one that the rows have
 pub walk-law : (catalogue : List JobTree) (past : List Entry) (x : ℕ) (o : Origin) → AllFit past → origin_of past x ≡ Some o
-    → walk_found catalogue past x ≡ value_after catalogue past (made_as x o)
+    → walk_of_execution catalogue past x ≡ value_after catalogue past (made_as x o)
 walk-law catalogue past x o fits is =
-    ap (λ (f : Option Origin). walk_of (known_of x (works_found past)) (tree_found catalogue f)) is
-    ∙ ap (λ (rows : List WorkRow). walk_of (known_of x rows) (job_named catalogue o.job)) (works-law past fits)
+    ap (λ (f : Option Origin). walk_of (known_elements x (work_items past)) (job_of_origin catalogue f)) is
+    ∙ ap (λ (rows : List WorkRow). walk_of (known_elements x rows) (job_named catalogue o.job)) (works-law past fits)
 
 -- the status is the one that the rows have
 bare-law : (catalogue : List JobTree) (past : List Entry) (x : ℕ) (o : Origin) → AllFit past → origin_of past x ≡ Some o
-    → bare_found catalogue past x ≡ bare_of catalogue past (made_as x o)
+    → status_unless_abandoned catalogue past x ≡ bare_of catalogue past (made_as x o)
 bare-law catalogue past x o fits is =
-    ap (λ b. status_from b (start_found past x) (walk_found catalogue past x)) (stop-law past fits x)
-    ∙ (ap (λ s. status_from (stop_of past x) s (walk_found catalogue past x)) (start-law past fits x)
-    ∙ ap (status_from (stop_of past x) (start_of past x)) (walk-law catalogue past x o fits is))
+    ap (λ b. batch_status b (start_moment past x) (walk_of_execution catalogue past x)) (stop-law past fits x)
+    ∙ (ap (λ s. batch_status (stop_of past x) s (walk_of_execution catalogue past x)) (start-law past fits x)
+    ∙ ap (batch_status (stop_of past x) (start_of past x)) (walk-law catalogue past x o fits is))
 
 -- End
 
 -- who has no start and was not asked to stop isn't finished
-unfinished : (catalogue : List JobTree) (past : List Entry) (x : ℕ) → stop_found past x ≡ false → start_found past x ≡ None
-    → is_finished (bare_found catalogue past x) ≡ false
+unfinished : (catalogue : List JobTree) (past : List Entry) (x : ℕ) → stop_requested past x ≡ false → start_moment past x ≡ None
+    → is_finished (status_unless_abandoned catalogue past x) ≡ false
 unfinished catalogue past x off none =
-    ap (λ b. is_finished (status_from b (start_found past x) (walk_found catalogue past x))) off
-    ∙ ap (λ s. is_finished (status_from false s (walk_found catalogue past x))) none
+    ap (λ b. is_finished (batch_status b (start_moment past x) (walk_of_execution catalogue past x))) off
+    ∙ ap (λ s. is_finished (batch_status false s (walk_of_execution catalogue past x))) none
 
-end-none : (catalogue : List JobTree) (past : List Entry) → AllFit past → (x : ℕ) → executions_in past < x → end_found catalogue past x ≡ None
+end-none : (catalogue : List JobTree) (past : List Entry) → AllFit past → (x : ℕ) → job_execution_count past < x → end_moment catalogue past x ≡ None
 end-none catalogue [] fits x lt = refl
 end-none catalogue (e ∷ older) fits x lt =
-    ap (λ o. earliest o (is_finished (bare_found catalogue (e ∷ older) x)) e.at) (end-none catalogue older fits.1 x (fewer-before older e x lt))
-    ∙ ap (λ b. earliest None b e.at)
-    (unfinished catalogue (e ∷ older) x (none-named asked asked-none (e ∷ older) fits x lt) (start-none (e ∷ older) fits x lt))
+    ap (λ o. first_moment o (is_finished (status_unless_abandoned catalogue (e ∷ older) x)) e.at) (end-none catalogue older fits.1 x (fewer-before older e x lt))
+    ∙ ap (λ b. first_moment None b e.at)
+    (unfinished catalogue (e ∷ older) x (none-named stop_request asked-none (e ∷ older) fits x lt) (start-none (e ∷ older) fits x lt))
 
 -- who is just made was not asked to stop
-stop-made : (older : List Entry) (e : Entry) (x : ℕ) → AllFit (e ∷ older) → is_making older x e.call ≡ true → stop_found (e ∷ older) x ≡ false
+stop-made : (older : List Entry) (e : Entry) (x : ℕ) → AllFit (e ∷ older) → makes_job_execution older x e.call ≡ true → stop_requested (e ∷ older) x ≡ false
 stop-made older e x fits is =
-    let lt : executions_in older < x = making-after older x e.call is in
-    or_from (is_at x (asked e.call)) _ (asked-none older e.call e.reply x fits.0 lt) (none-named asked asked-none older fits.1 x lt)
+    let lt : job_execution_count older < x = making-after older x e.call is in
+    or_from (is_at x (stop_request e.call)) _ (asked-none older e.call e.reply x fits.0 lt) (none-named stop_request asked-none older fits.1 x lt)
 
 -- where it comes from was known before an entry that does not make it
-origin-before : (older : List Entry) (e : Entry) (x : ℕ) (o : Origin) → is_making older x e.call ≡ false → origin_of (e ∷ older) x ≡ Some o → origin_of older x ≡ Some o
+origin-before : (older : List Entry) (e : Entry) (x : ℕ) (o : Origin) → makes_job_execution older x e.call ≡ false → origin_of (e ∷ older) x ≡ Some o → origin_of older x ≡ Some o
 origin-before older e x o is from =
-    sym (ap (λ b. cond b (origin_given (instances_in older) e.at (origin_of older) e.call) (origin_of older x)) is) ∙ from
+    sym (ap (λ b. cond b (origin_by_call (job_instance_count older) e.at (origin_of older) e.call) (origin_of older x)) is) ∙ from
 
 -- end is the one that the rows have
 pub end-law : (catalogue : List JobTree) (past : List Entry) (x : ℕ) (o : Origin) → AllFit past → origin_of past x ≡ Some o
-    → end_found catalogue past x ≡ end_of catalogue past (made_as x o)
+    → end_moment catalogue past x ≡ end_of catalogue past (made_as x o)
 end-law catalogue [] x o fits from = refl
 end-law catalogue (e ∷ older) x o fits from =
     let m : Made = made_as x o in
     let done : Bool = is_finished (bare_of catalogue (e ∷ older) m) in
-    (elim (is_making older x e.call) as (λ b. is_making older x e.call ≡ b
-    → earliest (end_found catalogue older x) (is_finished (bare_found catalogue (e ∷ older) x)) e.at ≡ cond b None (earliest (end_of catalogue older m) done e.at)) [
-      | true ↦ λ is. ap (λ t. earliest t (is_finished (bare_found catalogue (e ∷ older) x)) e.at) (end-none catalogue older fits.1 x (making-after older x e.call is))
-          ∙ ap (λ b. earliest None b e.at) (unfinished catalogue (e ∷ older) x (stop-made older e x fits is) (start-made older e x fits is))
-      | false ↦ λ is. ap (λ t. earliest t (is_finished (bare_found catalogue (e ∷ older) x)) e.at) (end-law catalogue older x o fits.1 (origin-before older e x o is from))
-          ∙ ap (λ s. earliest (end_of catalogue older m) (is_finished s) e.at) (bare-law catalogue (e ∷ older) x o fits from)
+    (elim (makes_job_execution older x e.call) as (λ b. makes_job_execution older x e.call ≡ b
+    → first_moment (end_moment catalogue older x) (is_finished (status_unless_abandoned catalogue (e ∷ older) x)) e.at ≡ cond b None (first_moment (end_of catalogue older m) done e.at)) [
+      | true ↦ λ is. ap (λ t. first_moment t (is_finished (status_unless_abandoned catalogue (e ∷ older) x)) e.at) (end-none catalogue older fits.1 x (making-after older x e.call is))
+          ∙ ap (λ b. first_moment None b e.at) (unfinished catalogue (e ∷ older) x (stop-made older e x fits is) (start-made older e x fits is))
+      | false ↦ λ is. ap (λ t. first_moment t (is_finished (status_unless_abandoned catalogue (e ∷ older) x)) e.at) (end-law catalogue older x o fits.1 (origin-before older e x o is from))
+          ∙ ap (λ s. first_moment (end_of catalogue older m) (is_finished s) e.at) (bare-law catalogue (e ∷ older) x o fits from)
     ]) refl
-    ∙ ap (λ b. cond b None (earliest (end_of catalogue older m) done e.at)) (sym (making older x e.call))
+    ∙ ap (λ b. cond b None (first_moment (end_of catalogue older m) done e.at)) (sym (making older x e.call))

@@ -9,8 +9,8 @@ use Rattle.batch_history.specs.declared.rows.JobInstance.{JobInstance}
 use Rattle.batch_ids.specs.Parameters.{Pair}
 
 -- how many job instances there are
-abbrev pub instances_in : List Entry → ℕ
-instances_in past = count_by (λ e. makes_instance e.call) past
+abbrev pub job_instance_count : List Entry → ℕ
+job_instance_count past = count_by (λ e. makes_instance e.call) past
 
 -- the job instance that is begun under this number
 abbrev pub instance_begun : ℕ → Option Making → List JobInstance
@@ -19,21 +19,21 @@ instance_begun i (Some (begins job parameters)) = record { instance = i; job = j
 instance_begun i (Some (restarts y parameters)) = []
 
 -- the job instance that a call makes under this number
-abbrev pub begun_by : ℕ → Call → List JobInstance
-begun_by i call = instance_begun i (effects call).makes
+abbrev pub instance_begun_by : ℕ → Call → List JobInstance
+instance_begun_by i call = instance_begun i (effects call).makes
 
 -- the job instances, in order
-abbrev pub instances_found : List Entry → List JobInstance
-instances_found [] = []
-instances_found (e ∷ older) = instances_found older ++ begun_by (instances_in older + 1) e.call
+abbrev pub job_instances : List Entry → List JobInstance
+job_instances [] = []
+job_instances (e ∷ older) = job_instances older ++ instance_begun_by (job_instance_count older + 1) e.call
 
 -- how many job executions there are
-abbrev pub executions_in : List Entry → ℕ
-executions_in past = count_by (λ e. makes_execution e.call) past
+abbrev pub job_execution_count : List Entry → ℕ
+job_execution_count past = count_by (λ e. makes_execution e.call) past
 
 -- whether a call after these entries is the x-th Start or Restart
-abbrev pub is_making : List Entry → ℕ → Call → Bool
-is_making older x call = makes_execution call && (executions_in older + 1 == x)
+abbrev pub makes_job_execution : List Entry → ℕ → Call → Bool
+makes_job_execution older x call = makes_execution call && (job_execution_count older + 1 == x)
 
 -- where a job execution comes from: its job instance, the job's id, the parameters that it was started or restarted
 -- with, and the moment at which it was made
@@ -44,31 +44,31 @@ pub record Origin : Type 0 where
   pub create : ℕ
 
 -- a Restart at this moment keeps the job instance and the job of the job execution that it names
-abbrev pub made_again : List Pair → ℕ → Option Origin → Option Origin
-made_again parameters at None = None
-made_again parameters at (Some o) = Some record { instance = o.instance; job = o.job; parameters = parameters; create = at }
+abbrev pub restarted_origin : List Pair → ℕ → Option Origin → Option Origin
+restarted_origin parameters at None = None
+restarted_origin parameters at (Some o) = Some record { instance = o.instance; job = o.job; parameters = parameters; create = at }
 
 -- where a job execution comes from that is made at this moment: a Start begins the next job instance, and a Restart goes on
 -- with that of the job execution that it names
-abbrev pub origin_made : ℕ → ℕ → (ℕ → Option Origin) → Option Making → Option Origin
-origin_made instances at earlier None = None
-origin_made instances at earlier (Some (begins job parameters)) =
+abbrev pub origin_by_making : ℕ → ℕ → (ℕ → Option Origin) → Option Making → Option Origin
+origin_by_making instances at earlier None = None
+origin_by_making instances at earlier (Some (begins job parameters)) =
     Some record { instance = instances + 1; job = job; parameters = parameters; create = at }
-origin_made instances at earlier (Some (restarts y parameters)) = made_again parameters at (earlier y)
+origin_by_making instances at earlier (Some (restarts y parameters)) = restarted_origin parameters at (earlier y)
 
 -- the same of the job execution that a call makes
-abbrev pub origin_given : ℕ → ℕ → (ℕ → Option Origin) → Call → Option Origin
-origin_given instances at earlier call = origin_made instances at earlier (effects call).makes
+abbrev pub origin_by_call : ℕ → ℕ → (ℕ → Option Origin) → Call → Option Origin
+origin_by_call instances at earlier call = origin_by_making instances at earlier (effects call).makes
 
 -- the job instance, the job, the parameters and the moment of job execution x, if there is one
 abbrev pub origin_of : List Entry → ℕ → Option Origin
 origin_of [] x = None
 origin_of (e ∷ older) x =
-    if is_making older x e.call then origin_given (instances_in older) e.at (origin_of older) e.call else origin_of older x
+    if makes_job_execution older x e.call then origin_by_call (job_instance_count older) e.at (origin_of older) e.call else origin_of older x
 
 -- the job instance of job execution x, if there is one
-abbrev pub instance_found : List Entry → ℕ → Option ℕ
-instance_found past x = option_map (λ o. o.instance) (origin_of past x)
+abbrev pub instance_of_execution : List Entry → ℕ → Option ℕ
+instance_of_execution past x = option_map (λ o. o.instance) (origin_of past x)
 
 -- a job execution as it was made
 pub record Made : Type 0 where

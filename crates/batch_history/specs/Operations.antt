@@ -70,16 +70,16 @@ claim_effects Go = no_claim
 claim_effects StopAsked = no_claim
 
 -- the job execution that a reply takes up
-abbrev pub taken_by : Reply → Option ℕ
-taken_by reply = (claim_effects reply).takes_up
+abbrev pub taken_up_by : Reply → Option ℕ
+taken_up_by reply = (claim_effects reply).takes_up
 
 -- whether a reply hands out a work item
-abbrev pub hands_out : Reply → Bool
-hands_out reply = is_some (claim_effects reply).hands_out
+abbrev pub hands_out_work : Reply → Bool
+hands_out_work reply = is_some (claim_effects reply).hands_out
 
 -- the job execution that an operation takes up
-abbrev pub taken : Call → Reply → Option ℕ
-taken call reply = if (effects call).claims then taken_by reply else None
+abbrev pub taken_up : Call → Reply → Option ℕ
+taken_up call reply = if (effects call).claims then taken_up_by reply else None
 
 -- whether a call makes a job execution
 abbrev pub makes_execution : Call → Bool
@@ -96,12 +96,12 @@ abbrev pub makes_instance : Call → Bool
 makes_instance call = is_beginning (effects call).makes
 
 -- the job execution whose stop a call requests
-abbrev pub asked : Call → Option ℕ
-asked call = (effects call).stops
+abbrev pub stop_request : Call → Option ℕ
+stop_request call = (effects call).stops
 
 -- the job execution that a call abandons
-abbrev pub given_up : Call → Option ℕ
-given_up call = (effects call).abandons
+abbrev pub abandonment : Call → Option ℕ
+abandonment call = (effects call).abandons
 
 -- whether a report ends this work item
 abbrev pub is_end_of : ℕ → Option Report → Bool
@@ -109,8 +109,8 @@ is_end_of w None = false
 is_end_of w (Some r) = if is_some r.end then r.work == w else false
 
 -- whether a call ends this work item
-abbrev pub finishes : ℕ → Call → Bool
-finishes w call = is_end_of w (effects call).reports
+abbrev pub ends_work : ℕ → Call → Bool
+ends_work w call = is_end_of w (effects call).reports
 
 -- the counts that a report has for this work item
 abbrev pub counts_for : ℕ → Option Report → Option MetricStep
@@ -118,5 +118,5 @@ counts_for w None = None
 counts_for w (Some r) = if r.work == w then Some r.counts else None
 
 -- the counts that a call reports of this work item
-abbrev pub counts_given : ℕ → Call → Option MetricStep
-counts_given w call = counts_for w (effects call).reports
+abbrev pub counts_reported : ℕ → Call → Option MetricStep
+counts_reported w call = counts_for w (effects call).reports

@@ -1,12 +1,12 @@
 -- What a history says: a row for each job instance, job execution and work item, and the checkpoint of each step.
 use Rattle.std.specs.Option.{option_map}
 use Rattle.std.specs.Prelude.{ℕ, ◌+◌, Bool, Option, List, [], ◌∷◌, length, reverse, zero, suc, filter_map}
-use Rattle.batch_history.specs.Checkpoints.{Place, mark_found}
-use Rattle.batch_history.specs.Executions.{instances_found, executions_in, Origin, origin_of, Made, made_as}
-use Rattle.batch_history.specs.Moments.{start_found, end_found, updated_found}
-use Rattle.batch_history.specs.Statuses.{stop_found, abandoned_found, status_from, exit_from}
-use Rattle.batch_history.specs.Walks.{walk_found}
-use Rattle.batch_history.specs.Works.{works_found}
+use Rattle.batch_history.specs.Checkpoints.{InstanceStep, checkpoint_of}
+use Rattle.batch_history.specs.Executions.{job_instances, job_execution_count, Origin, origin_of, Made, made_as}
+use Rattle.batch_history.specs.Moments.{start_moment, end_moment, updated_moment}
+use Rattle.batch_history.specs.Statuses.{stop_requested, is_abandoned, batch_status, exit_status}
+use Rattle.batch_history.specs.Walks.{walk_of_execution}
+use Rattle.batch_history.specs.Works.{work_items}
 use Rattle.batch_history.specs.declared.call.Entry.{Entry}
 use Rattle.batch_history.specs.declared.rows.ExecutionRow.{ExecutionRow}
 use Rattle.batch_history.specs.declared.rows.JobInstance.{JobInstance}
@@ -27,10 +27,10 @@ pub record Rows : Type 0 where
   pub instances : List JobInstance
   pub executions : List ExecutionRow
   pub works : List WorkRow
-  pub checkpoint : Place → Option (List ℕ)
+  pub checkpoint : InstanceStep → Option (List ℕ)
 
-abbrev pub row_with : Made → Bool → Bool → Option ℕ → Value → Option ℕ → ℕ → ExecutionRow
-row_with m stop abandoned start value end updated =
+abbrev pub execution_row_with : Made → Bool → Bool → Option ℕ → Value → Option ℕ → ℕ → ExecutionRow
+execution_row_with m stop abandoned start value end updated =
     record {
       execution = m.execution;
       instance = m.instance;
@@ -38,23 +38,23 @@ row_with m stop abandoned start value end updated =
       parameters = m.parameters;
       stop = stop;
       abandoned = abandoned;
-      bare = status_from stop start value;
+      bare = batch_status stop start value;
       create = m.create;
       start = start;
       end = end;
-      exit = exit_from stop start value;
+      exit = exit_status stop start value;
       updated = updated;
     }
 
 -- the row of job execution x, by where it comes from
-abbrev pub row_found : List JobTree → List Entry → ℕ → Origin → ExecutionRow
-row_found catalogue past x o =
-    row_with (made_as x o) (stop_found past x) (abandoned_found past x) (start_found past x) (walk_found catalogue past x)
-    (end_found catalogue past x) (updated_found past x)
+abbrev pub row_of_origin : List JobTree → List Entry → ℕ → Origin → ExecutionRow
+row_of_origin catalogue past x o =
+    execution_row_with (made_as x o) (stop_requested past x) (is_abandoned past x) (start_moment past x) (walk_of_execution catalogue past x)
+    (end_moment catalogue past x) (updated_moment past x)
 
 -- the row of job execution x, if there is one
-abbrev pub execution_found : List JobTree → List Entry → ℕ → Option ExecutionRow
-execution_found catalogue past x = option_map (row_found catalogue past x) (origin_of past x)
+abbrev pub job_execution : List JobTree → List Entry → ℕ → Option ExecutionRow
+job_execution catalogue past x = option_map (row_of_origin catalogue past x) (origin_of past x)
 
 -- so many numbers, from this one on
 abbrev pub numbers_from : ℕ → ℕ → List ℕ
@@ -62,21 +62,21 @@ numbers_from x zero = []
 numbers_from x (suc n) = x ∷ numbers_from (x + 1) n
 
 -- the job executions, in order
-abbrev pub executions_found : List JobTree → List Entry → List ExecutionRow
-executions_found catalogue past = filter_map (execution_found catalogue past) (numbers_from 1 (executions_in past))
+abbrev pub job_executions : List JobTree → List Entry → List ExecutionRow
+job_executions catalogue past = filter_map (job_execution catalogue past) (numbers_from 1 (job_execution_count past))
 
 -- the rows of a past, each found by searches
-abbrev pub rows_found : List JobTree → List Entry → Rows
-rows_found catalogue past =
+abbrev pub rows_of_past : List JobTree → List Entry → Rows
+rows_of_past catalogue past =
     record {
       catalogue = catalogue;
       count = length past;
-      instances = instances_found past;
-      executions = executions_found catalogue past;
-      works = works_found past;
-      checkpoint = mark_found past;
+      instances = job_instances past;
+      executions = job_executions catalogue past;
+      works = work_items past;
+      checkpoint = checkpoint_of past;
     }
 
 -- the rows of a history
 abbrev pub rows : History → Rows
-rows h = rows_found h.catalogue (reverse h.log)
+rows h = rows_of_past h.catalogue (reverse h.log)

@@ -3,7 +3,7 @@
 use Rattle.std.specs.List.{list_any}
 use Rattle.std.specs.Prelude.{ℕ, Bool, true, false, Option, Some, None, List, [], ◌∷◌, if◌then◌else◌}
 use Rattle.batch_history.specs.Lists.{is_at}
-use Rattle.batch_history.specs.Operations.{asked, given_up}
+use Rattle.batch_history.specs.Operations.{stop_request, abandonment}
 use Rattle.batch_history.specs.declared.call.Entry.{Entry}
 use Rattle.batch_ids.specs.Statuses.{status_name, is_unfinished}
 use Rattle.batch_ids.specs.declared.status.BatchStatus.{BatchStatus}
@@ -12,43 +12,43 @@ use Rattle.job_walk.specs.declared.facts.Value.{Value}
 use Rattle.job_walk.specs.declared.facts.Value.TheVariants.{Open, Done as IsDone, Ended}
 
 -- whether some entry is a Stop that names job execution x
-abbrev pub stop_found : List Entry → ℕ → Bool
-stop_found past x = list_any (λ e. is_at x (asked e.call)) past
+abbrev pub stop_requested : List Entry → ℕ → Bool
+stop_requested past x = list_any (λ e. is_at x (stop_request e.call)) past
 
 -- whether some entry is an Abandon that names job execution x
-abbrev pub abandoned_found : List Entry → ℕ → Bool
-abandoned_found past x = list_any (λ e. is_at x (given_up e.call)) past
+abbrev pub is_abandoned : List Entry → ℕ → Bool
+is_abandoned past x = list_any (λ e. is_at x (abandonment e.call)) past
 
 -- a job execution that was asked to stop goes on while something is being run
-abbrev pub stopping : List (List ℕ) → BatchStatus
-stopping [] = IsStopped
-stopping (id ∷ busy) = Stopping
+abbrev pub stopping_status : List (List ℕ) → BatchStatus
+stopping_status [] = IsStopped
+stopping_status (id ∷ busy) = Stopping
 
-abbrev pub status_by : Bool → Value → BatchStatus
-status_by stop (Open ready busy) = if stop then stopping busy else Started
-status_by stop (IsDone exit) = IsCompleted
-status_by stop (Ended status exit point) = status
+abbrev pub status_of_walk : Bool → Value → BatchStatus
+status_of_walk stop (Open ready busy) = if stop then stopping_status busy else Started
+status_of_walk stop (IsDone exit) = IsCompleted
+status_of_walk stop (Ended status exit point) = status
 
-abbrev pub status_from : Bool → Option ℕ → Value → BatchStatus
-status_from stop None value = if stop then IsStopped else Starting
-status_from stop (Some t) value = status_by stop value
+abbrev pub batch_status : Bool → Option ℕ → Value → BatchStatus
+batch_status stop None value = if stop then IsStopped else Starting
+batch_status stop (Some t) value = status_of_walk stop value
 
 -- the exit status of a job execution that a stop ended
-abbrev pub stop_exit : Option (List ℕ)
-stop_exit = Some (status_name IsStopped)
+abbrev pub stopped_exit : Option (List ℕ)
+stopped_exit = Some (status_name IsStopped)
 
-abbrev pub stopping_exit : List (List ℕ) → Option (List ℕ)
-stopping_exit [] = stop_exit
-stopping_exit (id ∷ busy) = None
+abbrev pub stopping_exit_status : List (List ℕ) → Option (List ℕ)
+stopping_exit_status [] = stopped_exit
+stopping_exit_status (id ∷ busy) = None
 
-abbrev pub exit_by : Bool → Value → Option (List ℕ)
-exit_by stop (Open ready busy) = if stop then stopping_exit busy else None
-exit_by stop (IsDone exit) = Some (status_name IsCompleted)
-exit_by stop (Ended status exit point) = Some exit
+abbrev pub exit_of_walk : Bool → Value → Option (List ℕ)
+exit_of_walk stop (Open ready busy) = if stop then stopping_exit_status busy else None
+exit_of_walk stop (IsDone exit) = Some (status_name IsCompleted)
+exit_of_walk stop (Ended status exit point) = Some exit
 
-abbrev pub exit_from : Bool → Option ℕ → Value → Option (List ℕ)
-exit_from stop None value = if stop then stop_exit else None
-exit_from stop (Some t) value = exit_by stop value
+abbrev pub exit_status : Bool → Option ℕ → Value → Option (List ℕ)
+exit_status stop None value = if stop then stopped_exit else None
+exit_status stop (Some t) value = exit_of_walk stop value
 
 -- whether a job execution of this status is over
 abbrev pub is_finished : BatchStatus → Bool

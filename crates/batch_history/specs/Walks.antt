@@ -2,7 +2,7 @@
 -- Language").
 use Rattle.std.specs.Prelude.{ℕ, ◌==◌, Option, Some, None, List, [], ◌∷◌, find, if◌then◌else◌}
 use Rattle.batch_history.specs.Executions.{Origin, origin_of}
-use Rattle.batch_history.specs.Works.{works_found}
+use Rattle.batch_history.specs.Works.{work_items}
 use Rattle.batch_history.specs.declared.call.Entry.{Entry}
 use Rattle.batch_history.specs.declared.rows.WorkRow.{WorkRow}
 use Rattle.batch_history.specs.declared.rows.WorkState.{WorkState}
@@ -17,15 +17,15 @@ use Rattle.job_walk.specs.declared.facts.Value.TheVariants.{Done as IsDone}
 use Rattle.jsl_model.specs.Jobs.{JobTree}
 use Rattle.jsl_model.specs.declared.element.Element.{Element}
 
-abbrev pub fact_from : WorkState → Fact
-fact_from Busy = FactBusy
-fact_from (Over outcome exit) = FactOver outcome exit
+abbrev pub fact_of_state : WorkState → Fact
+fact_of_state Busy = FactBusy
+fact_of_state (Over outcome exit) = FactOver outcome exit
 
 -- what is known of the elements of a job execution, by its work items
-abbrev pub known_of : ℕ → List WorkRow → List Known
-known_of x [] = []
-known_of x (row ∷ rest) =
-    if row.execution == x then record { id = row.element; fact = fact_from row.state } ∷ known_of x rest else known_of x rest
+abbrev pub known_elements : ℕ → List WorkRow → List Known
+known_elements x [] = []
+known_elements x (row ∷ rest) =
+    if row.execution == x then record { id = row.element; fact = fact_of_state row.state } ∷ known_elements x rest else known_elements x rest
 
 abbrev pub first_element : List Element → List ℕ
 first_element [] = []
@@ -42,13 +42,13 @@ walk_of known (Some job) = value_of (fact_of known) job.elements (first_element 
 
 -- what the walk of a job execution of this job comes to, after this work
 abbrev pub walk_value : List JobTree → List WorkRow → ℕ → List ℕ → Value
-walk_value catalogue works x job = walk_of (known_of x works) (job_named catalogue job)
+walk_value catalogue works x job = walk_of (known_elements x works) (job_named catalogue job)
 
 -- the tree of the job of a job execution
-abbrev pub tree_found : List JobTree → Option Origin → Option JobTree
-tree_found catalogue None = None
-tree_found catalogue (Some o) = job_named catalogue o.job
+abbrev pub job_of_origin : List JobTree → Option Origin → Option JobTree
+job_of_origin catalogue None = None
+job_of_origin catalogue (Some o) = job_named catalogue o.job
 
 -- what the walk of job execution x comes to, by its work items
-abbrev pub walk_found : List JobTree → List Entry → ℕ → Value
-walk_found catalogue past x = walk_of (known_of x (works_found past)) (tree_found catalogue (origin_of past x))
+abbrev pub walk_of_execution : List JobTree → List Entry → ℕ → Value
+walk_of_execution catalogue past x = walk_of (known_elements x (work_items past)) (job_of_origin catalogue (origin_of past x))

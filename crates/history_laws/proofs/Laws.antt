@@ -16,14 +16,14 @@ use Rattle.batch_history.specs.declared.call.WorkItem.{WorkItem}
 use Rattle.batch_history.specs.declared.call.Reply.TheVariants.{Work}
 use Rattle.batch_history.specs.declared.query.Query.TheVariants.{JobNames}
 use Rattle.batch_history.specs.declared.query.Answer.TheVariants.{JobNames as AreNames}
-use Rattle.batch_history.proofs.Folds.{made, is_made, works_of, instances_of, instances_after, stop_of, start_of, abandoned_of, end_of, bare_of, value_after, rows_of, execution_row}
+use Rattle.batch_history.proofs.Folds.{made, is_made, works_of, instances_of, instances_after, stop_of, start_of, abandoned_of, end_of, bare_of, value_after, folded_rows, execution_row}
 use Rattle.batch_history.specs.Answers.{answer}
 use Rattle.batch_history.specs.Executions.{Made}
 use Rattle.batch_history.specs.Legal.{grown, IsLegal}
-use Rattle.batch_history.specs.Replies.{row_status, is_execution, reply, first_ready, walk_in, runs_in, claim_reply, item_of}
+use Rattle.batch_history.specs.Replies.{row_status, is_execution, reply, first_ready, walk_in_rows, runnable_of_job, claim_reply, next_work_item}
 use Rattle.batch_history.specs.Rows.{History, Rows, rows}
 use Rattle.batch_history.specs.Statuses.{is_finished}
-use Rattle.batch_history.specs.Walks.{job_named, known_of}
+use Rattle.batch_history.specs.Walks.{job_named, known_elements}
 use Rattle.batch_history.specs.Works.{is_work}
 use Rattle.batch_history.specs.declared.rows.ExecutionRow.{ExecutionRow}
 use Rattle.batch_history.specs.declared.rows.WorkRow.{WorkRow}
@@ -52,7 +52,7 @@ legal-beginning limit h legal before after cut = record {
 }
 
 -- the row of a job execution is the one that the fold has
-row-folded : (limit : ℕ) (h : History) → IsLegal limit h → (x : ℕ) → row_in h x ≡ find (is_execution x) (rows_of h.catalogue (reverse h.log)).executions
+row-folded : (limit : ℕ) (h : History) → IsLegal limit h → (x : ℕ) → row_in h x ≡ find (is_execution x) (folded_rows h.catalogue (reverse h.log)).executions
 row-folded limit h legal x = ap (λ (r : Rows). find (is_execution x) r.executions) (rows_folded limit h legal)
 
 -- so is that of a work item
@@ -63,7 +63,7 @@ work-folded limit h legal w = ap (λ (r : Rows). find (is_work w) r.works) (rows
 
 -- the row of a job execution that was made
 row-there : (catalogue : List JobTree) (past : List Entry) (x : ℕ) (m : Made) → find (is_made x) (made past) ≡ Some m
-    → find (is_execution x) (rows_of catalogue past).executions ≡ Some (execution_row catalogue past m)
+    → find (is_execution x) (folded_rows catalogue past).executions ≡ Some (execution_row catalogue past m)
 row-there catalogue past x m found =
     find-map (execution_row catalogue past) (is_execution x) (is_made x) (λ n. refl) (made past) ∙ ap (option_map (execution_row catalogue past)) found
 
@@ -73,10 +73,10 @@ record IsRowAt (catalogue : List JobTree) (past : List Entry) (x : ℕ) (row : E
   found : find (is_made one.execution) (made past) ≡ Some one
   is_row : row ≡ execution_row catalogue past one
 
-row-at : (catalogue : List JobTree) (past : List Entry) (x : ℕ) (row : ExecutionRow) → find (is_execution x) (rows_of catalogue past).executions ≡ Some row → IsRowAt catalogue past x row
+row-at : (catalogue : List JobTree) (past : List Entry) (x : ℕ) (row : ExecutionRow) → find (is_execution x) (folded_rows catalogue past).executions ≡ Some row → IsRowAt catalogue past x row
 row-at catalogue past x row found =
     let from : IsRowOf catalogue past row = row-of catalogue past (is_execution x) row found in
-    let number : row.execution ≡ x = eqb-true row.execution x (found-passes (is_execution x) (rows_of catalogue past).executions row found) in
+    let number : row.execution ≡ x = eqb-true row.execution x (found-passes (is_execution x) (folded_rows catalogue past).executions row found) in
     record {
       one = from.one;
       number = sym (ap (λ (r : ExecutionRow). r.execution) from.is_row) ∙ number;
@@ -97,8 +97,8 @@ over-bare limit catalogue past m due found over =
     open-status (abandoned_of past m.execution) (bare_of catalogue past m) (abandoned-finished limit catalogue past m due found) over
 
 stays-past : (limit : ℕ) (catalogue : List JobTree) (more past whole : List Entry) (x : ℕ) (row : ExecutionRow) → whole ≡ more ++ past → AllDue limit catalogue whole
-    → find (is_execution x) (rows_of catalogue past).executions ≡ Some row → is_finished (row_status row) ≡ true → AllDue limit catalogue past
-    → (after : ExecutionRow) × (find (is_execution x) (rows_of catalogue whole).executions ≡ Some after) × (is_finished (row_status after) ≡ true) × IsAsBefore row after
+    → find (is_execution x) (folded_rows catalogue past).executions ≡ Some row → is_finished (row_status row) ≡ true → AllDue limit catalogue past
+    → (after : ExecutionRow) × (find (is_execution x) (folded_rows catalogue whole).executions ≡ Some after) × (is_finished (row_status after) ≡ true) × IsAsBefore row after
 stays-past limit catalogue more past whole x row is due found over due_past =
     let from : IsRowAt catalogue past x row = row-at catalogue past x row found in
     let m : Made = from.one in
@@ -106,12 +106,12 @@ stays-past limit catalogue more past whole x row is due found over due_past =
     let bare : is_finished (bare_of catalogue past m) ≡ true = over-bare limit catalogue past m due_past from.found over_row in
     let due_more : AllDue limit catalogue (more ++ past) = subst (AllDue limit catalogue) is due in
     let same : IsAsBefore (execution_row catalogue past m) (execution_row catalogue (more ++ past) m) = finished-stays limit catalogue more past m due_more from.found bare in
-    let there : find (is_execution m.execution) (rows_of catalogue (more ++ past)).executions ≡ Some (execution_row catalogue (more ++ past) m) =
+    let there : find (is_execution m.execution) (folded_rows catalogue (more ++ past)).executions ≡ Some (execution_row catalogue (more ++ past) m) =
     row-there catalogue (more ++ past) m.execution m (made-after more past m.execution m from.found) in
     let still : is_finished (bare_of catalogue (more ++ past) m) ≡ true = ap (λ (r : ExecutionRow). is_finished r.bare) same ∙ bare in
     let after : ExecutionRow = execution_row catalogue (more ++ past) m in (
       after,
-      subst (λ l. find (is_execution x) (rows_of catalogue l).executions ≡ Some after) (sym is) (subst (λ n. find (is_execution n) (rows_of catalogue (more ++ past)).executions ≡ Some after) from.number there),
+      subst (λ l. find (is_execution x) (folded_rows catalogue l).executions ≡ Some after) (sym is) (subst (λ n. find (is_execution n) (folded_rows catalogue (more ++ past)).executions ≡ Some after) from.number there),
       finished-status (abandoned_of (more ++ past) m.execution) (bare_of catalogue (more ++ past) m) still,
       subst (λ r. IsAsBefore r after) (sym from.is_row) same,
     )
@@ -149,7 +149,7 @@ no-end limit catalogue past m due found unfinished =
 
 -- before the operation that brings the end it is not over
 earlier-open : (catalogue : List JobTree) (older : List Entry) (e : Entry) (x : ℕ) (m : Made) → m.execution ≡ x → find (is_made m.execution) (made (e ∷ older)) ≡ Some m
-    → is_finished (bare_of catalogue older m) ≡ false → (row : ExecutionRow) → find (is_execution x) (rows_of catalogue older).executions ≡ Some row → is_finished row.bare ≡ false
+    → is_finished (bare_of catalogue older m) ≡ false → (row : ExecutionRow) → find (is_execution x) (folded_rows catalogue older).executions ≡ Some row → is_finished row.bare ≡ false
 earlier-open catalogue older e x m number found unfinished row is =
     let from : IsRowAt catalogue older x row = row-at catalogue older x row is in
     let n : Made = from.one in
@@ -184,8 +184,8 @@ ended_at limit h legal x t row found ended =
     ∙ (ap (λ l. l ++ reverse cut.later) (reverse-append (cut.entry ∷ []) cut.older) ∙ append_assoc (reverse cut.older) (cut.entry ∷ []) (reverse cut.later)))) in
     let then_past : reverse (reverse cut.older ++ cut.entry ∷ []) ≡ cut.entry ∷ cut.older =
     reverse-append (reverse cut.older) (cut.entry ∷ []) ∙ ap (λ l. cut.entry ∷ l) (reverse-reverse cut.older) in
-    let there : find (is_execution x) (rows_of catalogue (cut.entry ∷ cut.older)).executions ≡ Some (execution_row catalogue (cut.entry ∷ cut.older) m) =
-    subst (λ n. find (is_execution n) (rows_of catalogue (cut.entry ∷ cut.older)).executions ≡ Some (execution_row catalogue (cut.entry ∷ cut.older) m)) from.number
+    let there : find (is_execution x) (folded_rows catalogue (cut.entry ∷ cut.older)).executions ≡ Some (execution_row catalogue (cut.entry ∷ cut.older) m) =
+    subst (λ n. find (is_execution n) (folded_rows catalogue (cut.entry ∷ cut.older)).executions ≡ Some (execution_row catalogue (cut.entry ∷ cut.older) m)) from.number
     (row-there catalogue (cut.entry ∷ cut.older) m.execution m cut.found) in
     let one_more : h.log ≡ (reverse cut.older ++ cut.entry ∷ []) ++ reverse cut.later =
     whole ∙ sym (append_assoc (reverse cut.older) (cut.entry ∷ []) (reverse cut.later)) in
@@ -199,10 +199,10 @@ ended_at limit h legal x t row found ended =
       moment = cut.moment;
       row = execution_row catalogue (cut.entry ∷ cut.older) m;
       found = row-folded limit (beginning h (reverse cut.older ++ cut.entry ∷ [])) legal_then x
-          ∙ subst (λ l. find (is_execution x) (rows_of catalogue l).executions ≡ Some (execution_row catalogue (cut.entry ∷ cut.older) m)) (sym then_past) there;
+          ∙ subst (λ l. find (is_execution x) (folded_rows catalogue l).executions ≡ Some (execution_row catalogue (cut.entry ∷ cut.older) m)) (sym then_past) there;
       finished = cut.over;
       until = λ earlier is. earlier-open catalogue cut.older (cut.entry) x m from.number cut.found cut.open_before earlier
-          (subst (λ l. find (is_execution x) (rows_of catalogue l).executions ≡ Some earlier) (reverse-reverse cut.older)
+          (subst (λ l. find (is_execution x) (folded_rows catalogue l).executions ≡ Some earlier) (reverse-reverse cut.older)
           (sym (row-folded limit (beginning h (reverse cut.older)) legal_before x) ∙ is));
     }
 
@@ -318,17 +318,17 @@ names_once h names is =
 
 was-ready : (h : History) (item : WorkItem) → ToldClaim (rows h) (Work item) → WasReady h item
 was-ready h item told =
-    (elim (first_ready (walk_in (rows h) told.row)) as (λ o. first_ready (walk_in (rows h) told.row) ≡ o → Work item ≡ claim_reply (rows h) told.row o → WasReady h item) [
+    (elim (first_ready (walk_in_rows (rows h) told.row)) as (λ o. first_ready (walk_in_rows (rows h) told.row) ≡ o → Work item ≡ claim_reply (rows h) told.row o → WasReady h item) [
       | None ↦ λ ready is. cc
       | Some id ↦ λ ready is.
-          let same : item ≡ item_of (rows h) told.row id = cc in
+          let same : item ≡ next_work_item (rows h) told.row id = cc in
           record {
             owner = told.row;
             least = told.found;
             execution = ap (λ (i : WorkItem). i.execution) same;
             ready = ready ∙ ap (λ (i : WorkItem). Some i.element) (sym same);
-            runs = ap (λ (i : WorkItem). is_some (runs_in (job_named h.catalogue told.row.job) i.element)) same
-                ∙ walk-runs ready_sight id (known_of told.row.execution (rows h).works) (job_named h.catalogue told.row.job) (first-seen id (walk_in (rows h) told.row) ready);
+            runs = ap (λ (i : WorkItem). is_some (runnable_of_job (job_named h.catalogue told.row.job) i.element)) same
+                ∙ walk-runs ready_sight id (known_elements told.row.execution (rows h).works) (job_named h.catalogue told.row.job) (first-seen id (walk_in_rows (rows h) told.row) ready);
             number = ap (λ (i : WorkItem). i.work) same;
           }
     ]) refl told.answered

@@ -11,9 +11,9 @@ use Rattle.batch_history.specs.declared.call.Reply.TheVariants.{Execution as IsE
 use Rattle.batch_history.specs.declared.call.Entry.{Entry}
 use Rattle.batch_history.specs.declared.rows.ExecutionRow.{ExecutionRow}
 use Rattle.batch_history.specs.declared.rows.JobInstance.{JobInstance}
-use Rattle.batch_history.proofs.Folds.{made, is_made, remade, instances_of, instances_after, rows_of}
+use Rattle.batch_history.proofs.Folds.{made, is_made, remade, instances_of, instances_after, folded_rows}
 use Rattle.batch_history.specs.Executions.{Made}
-use Rattle.batch_history.specs.Replies.{entered, is_execution}
+use Rattle.batch_history.specs.Replies.{accepted, is_execution}
 use Rattle.batch_history.specs.Rows.{Rows}
 use Rattle.batch_history.proofs.Finding.{found-passes}
 use Rattle.history_laws.proofs.Works.{Each, each-map, each-append, each-found, found-before}
@@ -58,14 +58,14 @@ find-new n k (i ∷ is) new h le e =
 
 -- a restart that is accepted names a job execution that was made
 named-found : (limit count n : ℕ) (found : Option ExecutionRow) (given : Reply)
-    → cond (is_some found) (entered limit count (IsExecution n)) (Err NoSuchJobExecutionException) ≡ Ok given → (row : ExecutionRow) × (found ≡ Some row)
+    → cond (is_some found) (accepted limit count (IsExecution n)) (Err NoSuchJobExecutionException) ≡ Ok given → (row : ExecutionRow) × (found ≡ Some row)
 named-found limit count n None given e = cc
 named-found limit count n (Some row) given e = (row, refl)
 
 restarted : (limit : ℕ) (catalogue : List JobTree) (older : List Entry) (who at y : ℕ) (parameters : List Pair) (reply : Reply)
     → Due limit catalogue older record { who = who; call = Restart y parameters; at = at; reply = reply } → (m : Made) × (find (is_made y) (made older) ≡ Some m)
 restarted limit catalogue older who at y parameters reply due =
-    let r : Rows = rows_of catalogue older in
+    let r : Rows = folded_rows catalogue older in
     let told = named-found limit r.count (length r.executions + 1) (find (is_execution y) r.executions) reply due.0 in
     let from : IsRowOf catalogue older told.0 = row-of catalogue older (is_execution y) told.0 told.1 in
     let number : told.0.execution ≡ y = eqb-true told.0.execution y (found-passes (is_execution y) r.executions told.0 told.1) in

@@ -29,7 +29,7 @@ use Rattle.job_walk.specs.declared.facts.Own.TheVariants.{Halts, Came}
 use Rattle.job_walk.specs.declared.runnable.Runnable.{Runnable}
 use Rattle.job_walk.specs.Walk.{Row, Part, IsStep, IsDecision, IsWhole, step_own, decision_own, taken, goes, arrives, at_row, follow, list_value, whole_value, flow_own, all_ready, all_busy, any_open, ended_as, split_own, body_part, part_own, element_row, flow_value, row_of, part_of, value_of_flow, value_of, fact_of}
 use Rattle.job_walk.specs.Runnables.{Leaf, Inside, IsRun, Holds, body_leaves, leaves_at, element_leaves, flow_leaves, leaves, leaves_of_flow, all_leaves, runnable_in}
-use Rattle.batch_history.specs.Replies.{runs_in}
+use Rattle.batch_history.specs.Replies.{runnable_of_job}
 use Rattle.batch_history.specs.Walks.{walk_of}
 use Rattle.history_laws.proofs.Walks.{part_at, Sight, seen, own_seen, all_seen, seen-either, nothing-seen, split_ended, strongest-unseen, find-closed}
 
@@ -234,6 +234,6 @@ elements-run s id facts elements from h =
     has-runs (all_leaves elements) id (list-has s id (row_of facts) leaves (element-has s id facts) elements from h)
 
 -- what a job execution's walk shows is run
-pub walk-runs : (s : Sight) (id : List ℕ) (known : List Known) (job : Option JobTree) → seen s id (walk_of known job) ≡ true → is_some (runs_in job id) ≡ true
+pub walk-runs : (s : Sight) (id : List ℕ) (known : List Known) (job : Option JobTree) → seen s id (walk_of known job) ≡ true → is_some (runnable_of_job job id) ≡ true
 walk-runs s id known None h = cc
 walk-runs s id known (Some job) h = elements-run s id (fact_of known) job.elements _ h

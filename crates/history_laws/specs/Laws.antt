@@ -10,7 +10,7 @@ use Rattle.batch_history.specs.declared.rows.ExecutionRow.{ExecutionRow}
 use Rattle.batch_history.specs.declared.rows.WorkRow.{WorkRow}
 use Rattle.batch_history.specs.declared.rows.WorkState.TheVariants.{Busy}
 use Rattle.batch_history.specs.declared.rows.JobInstance.{JobInstance}
-use Rattle.batch_history.specs.Replies.{row_status, is_execution, has_something, first_ready, walk_in, runs_in}
+use Rattle.batch_history.specs.Replies.{row_status, is_execution, has_something, first_ready, walk_in_rows, runnable_of_job}
 use Rattle.batch_history.specs.Rows.{History, rows}
 use Rattle.batch_history.specs.Statuses.{is_finished}
 use Rattle.batch_history.specs.Walks.{job_named}
@@ -62,8 +62,8 @@ pub record WasReady (h : History) (item : WorkItem) : Type 0 where
   pub owner : ExecutionRow
   pub least : find (has_something (rows h)) (rows h).executions ≡ Some owner
   pub execution : item.execution ≡ owner.execution
-  pub ready : first_ready (walk_in (rows h) owner) ≡ Some item.element
-  pub runs : is_some (runs_in (job_named h.catalogue owner.job) item.element) ≡ true
+  pub ready : first_ready (walk_in_rows (rows h) owner) ≡ Some item.element
+  pub runs : is_some (runnable_of_job (job_named h.catalogue owner.job) item.element) ≡ true
   pub number : item.work ≡ length (rows h).works + 1
 
 -- ---- Job instances and names

@@ -16,11 +16,11 @@ use Rattle.batch_history.specs.declared.rows.WorkRow.{WorkRow}
 use Rattle.batch_history.specs.declared.rows.CheckpointRow.{CheckpointRow}
 use Rattle.batch_history.proofs.Folds.{reported, over}
 use Rattle.batch_history.proofs.Steps.{refreshed, refreshed_by, instance_in, place_in}
-use Rattle.batch_history.specs.Checkpoints.{Place, place_by}
+use Rattle.batch_history.specs.Checkpoints.{InstanceStep, instance_step_by}
 use Rattle.batch_history.specs.Lists.{change_first, is_at}
 use Rattle.batch_history.specs.Replies.{is_execution}
-use Rattle.batch_history.specs.Walks.{known_of, walk_value, walk_of, job_named}
-use Rattle.batch_history.specs.Works.{is_work, handed_to}
+use Rattle.batch_history.specs.Walks.{known_elements, walk_value, walk_of, job_named}
+use Rattle.batch_history.specs.Works.{is_work, busy_work}
 use Rattle.seq_repository.specs.Entered.{put_mark, marks_left, kept_after}
 use Rattle.seq_repository.specs.Kept.{Kept, rows_in}
 use Rattle.batch_history.proofs.Finding.{found-passes}
@@ -119,11 +119,11 @@ closed_rows r who at x =
 
 -- a claim that hands out a work item
 pub work_rows : (r : Kept) (who at : ℕ) (item : WorkItem) (new : Option ExecutionRow)
-    → new ≡ option_map (row_after TakeUp r.catalogue (r.works ++ handed_to who at item ∷ []) at) (find (is_execution item.execution) r.executions)
-    → record r { count = r.count + 1; executions = put_row item.execution new r.executions; works = r.works ++ handed_to who at item ∷ [] }
+    → new ≡ option_map (row_after TakeUp r.catalogue (r.works ++ busy_work who at item ∷ []) at) (find (is_execution item.execution) r.executions)
+    → record r { count = r.count + 1; executions = put_row item.execution new r.executions; works = r.works ++ busy_work who at item ∷ [] }
     ≡ kept_after r record { who = who; call = Claim; at = at; reply = Work item }
 work_rows r who at item new is =
-    let works : List WorkRow = r.works ++ handed_to who at item ∷ [] in
+    let works : List WorkRow = r.works ++ busy_work who at item ∷ [] in
     ap (λ (xs : List ExecutionRow). record r { count = r.count + 1; executions = xs; works = works })
     (put_found item.execution (row_after TakeUp r.catalogue works at) r.executions new is ∙ changed-work r.catalogue works at item r.executions)
 
@@ -138,7 +138,7 @@ place-at r w row change works at new found is =
     ≡ option_map (λ i. record { instance = i; step = row.element }) (option_map (λ (e : ExecutionRow). e.instance) o)) [
       | None ↦ refl
       | Some e ↦ refl
-    ]) ∙ ap (place_by (instance_in r.executions)) (sym found))
+    ]) ∙ ap (instance_step_by (instance_in r.executions)) (sym found))
 
 -- a checkpoint
 pub checkpoint_rows : (r : Kept) (who at w : ℕ) (mark : List ℕ) (step : MetricStep) (reply : Reply) (row : WorkRow) (new : Option ExecutionRow)
@@ -157,7 +157,7 @@ checkpoint_rows r who at w mark step reply row new found is =
     (put_found row.execution (row_after Report r.catalogue works at) r.executions new is)
     ∙ (ap (λ (ws : List WorkRow). record r { count = r.count + 1; executions = change_first (is_execution row.execution) (row_after Report r.catalogue works at) r.executions; works = ws; checkpoints = placed })
     (change-found (is_work w) (reported step) r.works row found)
-    ∙ (ap (λ (p : Option Place). record r { count = r.count + 1; executions = change_first (is_execution row.execution) (row_after Report r.catalogue works at) r.executions; works = works; checkpoints = put_mark p mark r.checkpoints })
+    ∙ (ap (λ (p : Option InstanceStep). record r { count = r.count + 1; executions = change_first (is_execution row.execution) (row_after Report r.catalogue works at) r.executions; works = works; checkpoints = put_mark p mark r.checkpoints })
     (place-at r w row Report works at new found is)
     ∙ rw found refl))
 
@@ -178,7 +178,7 @@ finish_rows r who at w outcome exit step reply row new found is =
     (put_found row.execution (row_after Report r.catalogue works at) r.executions new is)
     ∙ (ap (λ (ws : List WorkRow). record r { count = r.count + 1; executions = change_first (is_execution row.execution) (row_after Report r.catalogue works at) r.executions; works = ws; checkpoints = left })
     (change-found (is_work w) (over outcome exit step at) r.works row found)
-    ∙ (ap (λ (p : Option Place). record r { count = r.count + 1; executions = change_first (is_execution row.execution) (row_after Report r.catalogue works at) r.executions; works = works; checkpoints = marks_left outcome p r.checkpoints })
+    ∙ (ap (λ (p : Option InstanceStep). record r { count = r.count + 1; executions = change_first (is_execution row.execution) (row_after Report r.catalogue works at) r.executions; works = works; checkpoints = marks_left outcome p r.checkpoints })
     (place-at r w row Report works at new found is)
     ∙ rw found refl))
 
@@ -192,12 +192,12 @@ found-work w rows row e = eqb-true row.work w (found-passes (is_work w) rows row
 
 -- the new row of a job execution that was found
 pub changed-row : (x : ℕ) (change : Change) (catalogue : List JobTree) (works : List WorkRow) (at : ℕ) (known : List Known) (rows : List ExecutionRow) (row new : ExecutionRow) (value : Value)
-    → find (is_execution x) rows ≡ Some row → known ≡ known_of x works → value ≡ walk_of known (job_named catalogue row.job)
+    → find (is_execution x) rows ≡ Some row → known ≡ known_elements x works → value ≡ walk_of known (job_named catalogue row.job)
     → new ≡ refreshed (effect_of change) value at row
     → Some new ≡ option_map (row_after change catalogue works at) (find (is_execution x) rows)
 changed-row x change catalogue works at known rows row new value found is walk made =
     let walked : value ≡ walk_value catalogue works row.execution row.job =
-    walk ∙ ap (λ k. walk_of k (job_named catalogue row.job)) (is ∙ ap (λ y. known_of y works) (sym (found-execution x rows row found))) in
+    walk ∙ ap (λ k. walk_of k (job_named catalogue row.job)) (is ∙ ap (λ y. known_elements y works) (sym (found-execution x rows row found))) in
     ap Some (made ∙ ap (λ v. refreshed (effect_of change) v at row) walked)
     ∙ ap (option_map (row_after change catalogue works at)) (sym found)
 
@@ -264,8 +264,8 @@ change-entered catalogue count old m at x change new made e =
     (put_found x (row_after change catalogue old.works at) old.executions new made)
 
 pub work-entered : (catalogue : List JobTree) (count : ℕ) (old m1 m2 : Maps) (who at : ℕ) (item : WorkItem) (kept : WorkRow) (new : Option ExecutionRow)
-    → kept ≡ handed_to who at item
-    → new ≡ option_map (row_after TakeUp catalogue (old.works ++ handed_to who at item ∷ []) at) (find (is_execution item.execution) old.executions)
+    → kept ≡ busy_work who at item
+    → new ≡ option_map (row_after TakeUp catalogue (old.works ++ busy_work who at item ∷ []) at) (find (is_execution item.execution) old.executions)
     → m1 ≡ record old { works = old.works ++ kept ∷ [] }
     → m2 ≡ record m1 { executions = put_row item.execution new m1.executions }
     → rows_with catalogue (count + 1) m2 ≡ kept_after (rows_with catalogue count old) record { who = who; call = Claim; at = at; reply = Work item }

@@ -4,7 +4,7 @@ use Rattle.batch_ids.specs.declared.status.WorkOutcome.{WorkOutcome}
 use Rattle.batch_ids.specs.declared.status.WorkOutcome.TheVariants.{Completed, Failed, Stopped}
 use Rattle.batch_history.proofs.Folds.{instances_after, works_after}
 use Rattle.batch_history.proofs.Steps.{executions_after, place_in}
-use Rattle.batch_history.specs.Checkpoints.{Place}
+use Rattle.batch_history.specs.Checkpoints.{InstanceStep}
 use Rattle.batch_history.specs.declared.call.Call.{Call}
 use Rattle.batch_history.specs.declared.call.Call.TheVariants.{Start, Restart, Stop, Abandon, Claim, Checkpoint, Finish}
 use Rattle.batch_history.specs.declared.call.Entry.{Entry}
@@ -12,22 +12,22 @@ use Rattle.batch_history.specs.declared.rows.CheckpointRow.{CheckpointRow}
 use Rattle.records.specs.Maps.{with_mark, without_mark}
 use Rattle.seq_repository.specs.Kept.{Kept, rows_in}
 
-abbrev pub put_mark : Option Place → List ℕ → List CheckpointRow → List CheckpointRow
+abbrev pub put_mark : Option InstanceStep → List ℕ → List CheckpointRow → List CheckpointRow
 put_mark None mark rows = rows
 put_mark (Some p) mark rows = with_mark p mark rows
 
-abbrev pub clear_mark : Option Place → List CheckpointRow → List CheckpointRow
+abbrev pub clear_mark : Option InstanceStep → List CheckpointRow → List CheckpointRow
 clear_mark None rows = rows
 clear_mark (Some p) rows = without_mark p rows
 
 -- a step that is completed keeps no checkpoint
-abbrev pub marks_left : WorkOutcome → Option Place → List CheckpointRow → List CheckpointRow
+abbrev pub marks_left : WorkOutcome → Option InstanceStep → List CheckpointRow → List CheckpointRow
 marks_left Completed p rows = clear_mark p rows
 marks_left Failed p rows = rows
 marks_left Stopped p rows = rows
 
 -- the checkpoints after an operation, by the steps of the work items before it
-abbrev pub checkpoints_after : (ℕ → Option Place) → Call → List CheckpointRow → List CheckpointRow
+abbrev pub checkpoints_after : (ℕ → Option InstanceStep) → Call → List CheckpointRow → List CheckpointRow
 checkpoints_after place_of (Checkpoint w mark step) rows = put_mark (place_of w) mark rows
 checkpoints_after place_of (Finish w outcome exit step) rows = marks_left outcome (place_of w) rows
 checkpoints_after place_of (Start job parameters) rows = rows

@@ -4,7 +4,7 @@ ghost use Rattle.batch_history.specs.declared.rows.WorkRow.{WorkRow as Work};
 ghost use Rattle.batch_history.specs.Due.{IsDue};
 ghost use Rattle.batch_history.specs.Lists.{change_first};
 ghost use Rattle.batch_history.specs.Replies.{is_execution, reply_by, is_nothing};
-ghost use Rattle.batch_history.specs.Walks.{known_of};
+ghost use Rattle.batch_history.specs.Walks.{known_elements};
 ghost use Rattle.batch_history.specs.Works.{is_work};
 ghost use Rattle.seq_repository.specs.Entered.{put_mark, marks_left, kept_after};
 ghost use Rattle.seq_repository.specs.Kept.{rows_in};
@@ -74,7 +74,7 @@ impl<const LIMIT: u64> Repository<LIMIT> {
         known: &[Known],
         at: Moment,
     ) -> Result<Option<ExecutionRow>, OutOfMemory>
-        ensures row { (works : List Work) → known.now ≡ known_of x works
+        ensures row { (works : List Work) → known.now ≡ known_elements x works
             → IfOk result (λ new. new ≡ option_map (row_after change self.now.catalogue works at) (find (is_execution x) self.now.executions)) }
         ensures own { IfOk result (λ new. IfSome new (λ row. (is_some (find (is_execution x) self.now.executions) ≡ true) × (row.execution ≡ x))) }
     {

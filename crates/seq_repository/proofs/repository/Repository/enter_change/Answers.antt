@@ -2,7 +2,7 @@ use Rattle.std.proofs.Common.{◌≡◌, ◌∙◌, sym, ap, find, subst, arith}
 use Rattle.std.specs.Option.{option_map}
 use Rattle.batch_history.specs.Replies.{is_execution}
 use Rattle.seq_repository.specs.Kept.{Kept}
-use Rattle.batch_history.specs.Walks.{known_of}
+use Rattle.batch_history.specs.Walks.{known_elements}
 use Rattle.seq_repository.specs.Changes.{row_after}
 use Rattle.seq_repository.proofs.Entries.{change-entered}
 use Rattle.seq_repository.proofs.Metering.{within_more}
@@ -14,7 +14,7 @@ returns-clause-rows g c =
     rw (← c.self.view_is)
     (change-entered c.self.inside.catalogue c.self.inside.count c.self.inside.records c.put_row.new.records c.args.at c.args.x c.args.change c.in_ok-row.row
     (subst P (sym c.self.view_is) (c.in_ok-row.ensures.row c.self.inside.records.works
-    (c.as_slice.ensures.value ∙ (c.in_ok-known.ensures ∙ ap (known_of c.args.x) c.works.ensures))))
+    (c.as_slice.ensures.value ∙ (c.in_ok-known.ensures ∙ ap (known_elements c.args.x) c.works.ensures))))
     c.put_row.ensures)
 
 pub invariant_of-self : goal.invariant_of-self

@@ -6,7 +6,7 @@ use Rattle.batch_history.proofs.Folds.{reported}
 use Rattle.batch_history.specs.Lists.{change_first}
 use Rattle.batch_history.specs.Replies.{is_execution}
 use Rattle.seq_repository.specs.Kept.{Kept}
-use Rattle.batch_history.specs.Walks.{known_of}
+use Rattle.batch_history.specs.Walks.{known_elements}
 use Rattle.batch_history.specs.Works.{is_work}
 use Rattle.std.specs.Option.{option_map}
 use Rattle.seq_repository.specs.declared.rows.Change.TheVariants.{Report}
@@ -47,6 +47,6 @@ returns-clause-rows g c =
     c.in-Some.work.now c.in_ok-work.work c.in_ok-row.row c.in_ok-element.element c.in_ok-mark.mark
     found c.in_ok-work.ensures.new c.in_ok-element.ensures c.in_ok-mark.ensures
     (subst P (sym c.self.view_is) (c.in_ok-row.ensures.row works
-    (c.as_slice.ensures.value ∙ (c.in_ok-known.ensures ∙ (ap (known_of c.in-Some.work.now.execution) c.works.ensures
+    (c.as_slice.ensures.value ∙ (c.in_ok-known.ensures ∙ (ap (known_elements c.in-Some.work.now.execution) c.works.ensures
     ∙ known_reported c.in-Some.work.now.execution (is_work c.args.w) c.args.step.now c.self.inside.records.works)))))
     c.in_ok-put_mark.ensures.rows c.change_work.ensures c.put_row.ensures)

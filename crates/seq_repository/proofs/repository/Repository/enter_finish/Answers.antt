@@ -6,7 +6,7 @@ use Rattle.batch_history.proofs.Folds.{over, over_as}
 use Rattle.batch_history.specs.Lists.{change_first}
 use Rattle.batch_history.specs.Replies.{is_execution}
 use Rattle.seq_repository.specs.Kept.{Kept}
-use Rattle.batch_history.specs.Walks.{known_of}
+use Rattle.batch_history.specs.Walks.{known_elements}
 use Rattle.batch_history.specs.Works.{is_work}
 use Rattle.std.specs.Option.{option_map}
 use Rattle.seq_repository.specs.declared.rows.Change.TheVariants.{Report}
@@ -48,6 +48,6 @@ returns-clause-rows g c =
     found (c.in_ok-work.ensures.new ∙ ap (λ e. over_as c.args.outcome e c.args.step.now c.args.at c.in-Some.work.now) c.in_ok-exit.ensures) c.in_ok-element.ensures
     (subst P (sym c.self.view_is) (c.in_ok-row.ensures.row works
     (c.as_slice.ensures.value ∙ (c.in_ok-known.ensures c.args.step.now c.args.at
-    ∙ (ap (λ e. known_of x (change_first (is_work c.args.w) (over_as c.args.outcome e c.args.step.now c.args.at) c.works.result.now)) c.in_ok-exit.ensures
-    ∙ ap (λ works. known_of x (change_first (is_work c.args.w) (over c.args.outcome c.args.exit.now c.args.step.now c.args.at) works)) c.works.ensures)))))
+    ∙ (ap (λ e. known_elements x (change_first (is_work c.args.w) (over_as c.args.outcome e c.args.step.now c.args.at) c.works.result.now)) c.in_ok-exit.ensures
+    ∙ ap (λ works. known_elements x (change_first (is_work c.args.w) (over c.args.outcome c.args.exit.now c.args.step.now c.args.at) works)) c.works.ensures)))))
     c.drop_mark.ensures c.change_work.ensures c.put_row.ensures)
