@@ -37,9 +37,11 @@ pub record Effects : Type 0 where
   pub reports : Option Report
   pub claims : Bool
 
+-- nothing of it
 abbrev no_effects : Effects
 no_effects = record { makes = None; stops = None; abandons = None; reports = None; claims = false }
 
+-- THE TABLE OF CALLS
 abbrev pub effects : Call → Effects
 effects (Start job parameters) = record no_effects { makes = Some (begins job parameters) }
 effects (Restart y parameters) = record no_effects { makes = Some (restarts y parameters) }
@@ -57,9 +59,11 @@ pub record ClaimEffects : Type 0 where
   pub takes_up : Option ℕ
   pub hands_out : Option WorkItem
 
+-- nothing of it
 abbrev no_claim : ClaimEffects
 no_claim = record { takes_up = None; hands_out = None }
 
+-- THE TABLE OF REPLIES TO CLAIMS
 abbrev pub claim_effects : Reply → ClaimEffects
 claim_effects (Work item) = record { takes_up = Some item.execution; hands_out = Some item }
 claim_effects (Closed x) = record no_claim { takes_up = Some x }

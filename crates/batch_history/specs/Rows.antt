@@ -29,6 +29,7 @@ pub record Rows : Type 0 where
   pub works : List WorkRow
   pub checkpoint : InstanceStep → Option (List ℕ)
 
+-- the row of a job execution, with what is kept of its stop, abandonment and moments, and the value of its walk
 abbrev pub execution_row_with : Made → Bool → Bool → Option ℕ → Value → Option ℕ → ℕ → ExecutionRow
 execution_row_with m stop abandoned start value end updated =
     record {

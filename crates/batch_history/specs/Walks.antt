@@ -17,6 +17,7 @@ use Rattle.job_walk.specs.declared.facts.Value.TheVariants.{Done as IsDone}
 use Rattle.jsl_model.specs.Jobs.{JobTree}
 use Rattle.jsl_model.specs.declared.element.Element.{Element}
 
+-- the fact about an element whose work item is so far
 abbrev pub fact_of_state : WorkState → Fact
 fact_of_state Busy = FactBusy
 fact_of_state (Over outcome exit) = FactOver outcome exit
@@ -27,6 +28,7 @@ known_elements x [] = []
 known_elements x (row ∷ rest) =
     if row.execution == x then record { id = row.element; fact = fact_of_state row.state } ∷ known_elements x rest else known_elements x rest
 
+-- the id of the first element of a list
 abbrev pub first_element : List Element → List ℕ
 first_element [] = []
 first_element (e ∷ rest) = e.id

@@ -20,6 +20,7 @@ use Rattle.batch_ids.specs.declared.metric_step.MetricStep.{MetricStep}
 use Rattle.batch_ids.specs.declared.metrics.Metrics.{Metrics}
 use Rattle.batch_ids.specs.declared.status.WorkOutcome.{WorkOutcome}
 
+-- whether it is the work item of this number
 abbrev pub is_work : ℕ → WorkRow → Bool
 is_work w row = row.work == w
 
