@@ -39,7 +39,7 @@ use Rattle.history_laws.proofs.Runs.{walk-runs}
 use Rattle.history_laws.proofs.Kept.{IsHeld, IsKept, kept, first-seen}
 use Rattle.history_laws.proofs.Ended.{on-it, busy-unfinished, finished-status, finished-stays, made-after}
 use Rattle.history_laws.proofs.Moments.{abandoned-finished, EndedPast, ended-past, over-ended}
-use Rattle.history_laws.proofs.Owners.{InstanceOf, instances-kept}
+use Rattle.history_laws.proofs.Owners.{InstanceOf, instances-kept, jobs-kept}
 use Rattle.history_laws.proofs.Names.{distinct-more, distinct-once}
 
 -- ---- Rows of a legal history
@@ -278,6 +278,16 @@ has_instance limit h legal x row found =
       found = ap (λ (r : Rows). find (λ j. j.instance == m.instance) r.instances) (rows_folded limit h legal) ∙ i.found;
       job = i.job;
     })
+
+-- ---- Jobs
+
+pub has_job : (limit : ℕ) (h : History) → IsLegal limit h → (x : ℕ) (row : ExecutionRow) → row_in h x ≡ Some row → is_some (job_named h.catalogue row.job) ≡ true
+has_job limit h legal x row found =
+    let past : List Entry = reverse h.log in
+    let from : IsRowAt h.catalogue past x row = row-at h.catalogue past x row (sym (row-folded limit h legal x) ∙ found) in
+    let m : Made = from.one in
+    ap (λ (r : ExecutionRow). is_some (job_named h.catalogue r.job)) from.is_row
+    ∙ each-found (λ (n : Made). is_some (job_named h.catalogue n.job) ≡ true) (is_made m.execution) (made past) m (jobs-kept limit h.catalogue past (past-due limit h legal)) from.found
 
 -- ---- Job names
 

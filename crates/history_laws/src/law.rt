@@ -10,6 +10,7 @@ ghost use Rattle.batch_history.specs.declared.rows.WorkRow.{WorkRow};
 ghost use Rattle.batch_history.specs.Answers.{answer};
 ghost use Rattle.batch_history.specs.Legal.{IsLegal, grown};
 ghost use Rattle.batch_history.specs.Replies.{row_status};
+ghost use Rattle.batch_history.specs.Walks.{job_named};
 ghost use Rattle.batch_history.specs.Rows.{History, rows};
 ghost use Rattle.batch_history.specs.Statuses.{is_finished};
 ghost use Rattle.batch_history.specs.Works.{is_work};
@@ -61,6 +62,14 @@ pub fn what_is_handed_out_was_ready()
 #[tactic(auto, using(crate::proofs::Laws::has_instance))]
 pub fn job_executions_have_job_instances()
     ensures { (limit : ℕ) (h : History) → IsLegal limit h → (x : ℕ) (row : ExecutionRow) → row_in h x ≡ Some row → HasInstance h row }
+{}
+
+/// The job of each job execution is in the catalogue, so that its walk is that of its job.
+///
+/// It does nothing: its contract is the law, of every legal history.
+pub fn jobs_of_job_executions_are_in_the_catalogue()
+    ensures { (limit : ℕ) (h : History) → IsLegal limit h → (x : ℕ) (row : ExecutionRow)
+        → row_in h x ≡ Some row → is_some (job_named h.catalogue row.job) ≡ true }
 {}
 
 /// The job names stand once each, in the order of their first start: a start of a job that is not
