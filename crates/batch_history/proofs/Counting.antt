@@ -4,10 +4,10 @@ use Rattle.batch_ids.specs.declared.status.BatchStatus.{BatchStatus}
 use Rattle.batch_ids.specs.declared.status.BatchStatus.TheVariants.{Starting, Started, Stopping, Stopped, Failed, Completed, Abandoned}
 use Rattle.batch_history.specs.declared.query.CountsByStatus.{CountsByStatus}
 use Rattle.batch_history.specs.declared.rows.ExecutionRow.{ExecutionRow}
-use Rattle.batch_history.specs.Rows.{row_status}
-use Rattle.batch_history.specs.Answers.{counted, counts_of, total}
+use Rattle.batch_history.specs.Answers.{with_one_more, counts_of, total}
+use Rattle.batch_history.specs.Replies.{row_status}
 
-one-more : (status : BatchStatus) (counts : CountsByStatus) → total (counted status counts) ≡ total counts + 1
+one-more : (status : BatchStatus) (counts : CountsByStatus) → total (with_one_more status counts) ≡ total counts + 1
 one-more Starting counts = omega arith
 one-more Started counts = omega arith
 one-more Stopping counts = omega arith

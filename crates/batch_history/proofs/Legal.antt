@@ -17,13 +17,16 @@ use Rattle.batch_history.specs.declared.call.Entry.{Entry}
 use Rattle.batch_history.specs.declared.rows.ExecutionRow.{ExecutionRow}
 use Rattle.batch_history.specs.declared.rows.WorkRow.{WorkRow}
 use Rattle.jsl_model.specs.Jobs.{JobTree}
-use Rattle.batch_history.specs.History.{job_named, is_work, is_finished}
-use Rattle.batch_history.specs.Replies.{is_nothing}
-use Rattle.batch_history.specs.Rows.{History, Rows, rows, reply, reply_by, row_status, is_running_in, entered, claimed, stopped, abandoned, going, marked_as, checkpointed, stopped_as, stopped_end, finished, finished_as, unheld_by, unless, stop_asked, has_something, is_execution, grown, after_call, StandsFor, IsNext, IsLegal}
+use Rattle.batch_history.specs.Legal.{grown, after_call, IsLegal}
+use Rattle.batch_history.specs.Replies.{is_nothing, reply, reply_by, row_status, is_running_in, accepted, reply_to_claim, reply_to_stop, reply_to_abandon, go_or_stop, reply_to_kept_checkpoint, reply_to_checkpoint, reply_to_stopped_step, reply_to_stopped_work, reply_to_finish, reply_to_end, report_refusal, unless, stop_requested_of, has_something, is_execution}
+use Rattle.batch_history.specs.Rows.{History, Rows, rows}
+use Rattle.batch_history.specs.Statuses.{is_finished}
+use Rattle.batch_history.specs.Walks.{job_named}
+use Rattle.batch_history.specs.Works.{is_work}
 
 -- What is entered has room
 
-entered-room : (limit count : ℕ) (given r : Reply) → entered limit count given ≡ Ok r → count < limit
+entered-room : (limit count : ℕ) (given r : Reply) → accepted limit count given ≡ Ok r → count < limit
 entered-room limit count given r e =
     ltb-true count limit ((elim (nat_lt count limit) as (λ b. cond b (Ok given) (Err RepositoryFull) ≡ Ok r → b ≡ true) [
       | true ↦ λ s. refl
@@ -31,14 +34,14 @@ entered-room limit count given r e =
     ]) e)
 
 -- and is what it was to be
-pub entered-is : (limit count : ℕ) (given r : Reply) → entered limit count given ≡ Ok r → r ≡ given
+pub entered-is : (limit count : ℕ) (given r : Reply) → accepted limit count given ≡ Ok r → r ≡ given
 entered-is limit count given r e =
     (elim (nat_lt count limit) as (λ b. cond b (Ok given) (Err RepositoryFull) ≡ Ok r → r ≡ given) [
       | true ↦ λ s. cc
       | false ↦ λ s. cc
     ]) e
 
-claimed-room : (limit : ℕ) (r : Rows) (found : Option ExecutionRow) (given : Reply) → claimed limit r found ≡ Ok given → is_nothing given ≡ false → r.count < limit
+claimed-room : (limit : ℕ) (r : Rows) (found : Option ExecutionRow) (given : Reply) → reply_to_claim limit r found ≡ Ok given → is_nothing given ≡ false → r.count < limit
 claimed-room limit r None given e n = cc
 claimed-room limit r (Some row) given e n = entered-room limit r.count _ given e
 
@@ -48,12 +51,12 @@ tested-room : (limit count : ℕ) (b : Bool) (refusal : Refusal) (reply : Result
 tested-room limit count true refusal reply given room e = cc
 tested-room limit count false refusal reply given room e = room e
 
-stopped-room : (limit count : ℕ) (found : Option ExecutionRow) (given : Reply) → stopped limit count found ≡ Ok given → count < limit
+stopped-room : (limit count : ℕ) (found : Option ExecutionRow) (given : Reply) → reply_to_stop limit count found ≡ Ok given → count < limit
 stopped-room limit count None given e = cc
 stopped-room limit count (Some row) given e =
     tested-room limit count (is_finished (row_status row)) JobExecutionNotRunningException _ given (entered-room limit count Done given) e
 
-abandoned-room : (limit : ℕ) (r : Rows) (found : Option ExecutionRow) (given : Reply) → abandoned limit r found ≡ Ok given → r.count < limit
+abandoned-room : (limit : ℕ) (r : Rows) (found : Option ExecutionRow) (given : Reply) → reply_to_abandon limit r found ≡ Ok given → r.count < limit
 abandoned-room limit r None given e = cc
 abandoned-room limit r (Some row) given e =
     tested-room limit r.count (list_any (is_running_in row.instance) r.executions) JobExecutionIsRunningException _ given
@@ -64,44 +67,44 @@ unless-room : (limit count : ℕ) (refusal : Option Refusal) (reply : Result Rep
 unless-room limit count None reply given room e = room e
 unless-room limit count (Some refusal) reply given room e = cc
 
-marked-room : (limit count : ℕ) (stop : Bool) (kind : WorkKind) (given : Reply) → marked_as limit count stop kind ≡ Ok given → count < limit
-marked-room limit count stop Chunk given e = entered-room limit count (going stop) given e
+marked-room : (limit count : ℕ) (stop : Bool) (kind : WorkKind) (given : Reply) → reply_to_kept_checkpoint limit count stop kind ≡ Ok given → count < limit
+marked-room limit count stop Chunk given e = entered-room limit count (go_or_stop stop) given e
 marked-room limit count stop Batchlet given e = cc
 marked-room limit count stop Decision given e = cc
 
-checkpointed-room : (limit : ℕ) (r : Rows) (who : ℕ) (found : Option WorkRow) (given : Reply) → checkpointed limit r who found ≡ Ok given → r.count < limit
+checkpointed-room : (limit : ℕ) (r : Rows) (who : ℕ) (found : Option WorkRow) (given : Reply) → reply_to_checkpoint limit r who found ≡ Ok given → r.count < limit
 checkpointed-room limit r who None given e = cc
 checkpointed-room limit r who (Some row) given e =
-    unless-room limit r.count (unheld_by who row.claimer row.state) _ given (marked-room limit r.count (stop_asked r row.execution) row.kind given) e
+    unless-room limit r.count (report_refusal who row.claimer row.state) _ given (marked-room limit r.count (stop_requested_of r row.execution) row.kind given) e
 
-stop-room : (limit count : ℕ) (stop : Bool) (given : Reply) → stopped_as limit count stop ≡ Ok given → count < limit
+stop-room : (limit count : ℕ) (stop : Bool) (given : Reply) → reply_to_stopped_step limit count stop ≡ Ok given → count < limit
 stop-room limit count true given e = entered-room limit count Done given e
 stop-room limit count false given e = cc
 
-end-room : (limit count : ℕ) (stop : Bool) (kind : WorkKind) (given : Reply) → stopped_end limit count stop kind ≡ Ok given → count < limit
+end-room : (limit count : ℕ) (stop : Bool) (kind : WorkKind) (given : Reply) → reply_to_stopped_work limit count stop kind ≡ Ok given → count < limit
 end-room limit count stop Decision given e = cc
 end-room limit count stop Batchlet given e = stop-room limit count stop given e
 end-room limit count stop Chunk given e = stop-room limit count stop given e
 
-as-room : (limit count : ℕ) (stop : Bool) (kind : WorkKind) (o : WorkOutcome) (given : Reply) → finished_as limit count stop kind o ≡ Ok given → count < limit
+as-room : (limit count : ℕ) (stop : Bool) (kind : WorkKind) (o : WorkOutcome) (given : Reply) → reply_to_end limit count stop kind o ≡ Ok given → count < limit
 as-room limit count stop kind Stopped given e = end-room limit count stop kind given e
 as-room limit count stop kind Completed given e = entered-room limit count Done given e
 as-room limit count stop kind Failed given e = entered-room limit count Done given e
 
-finished-room : (limit : ℕ) (r : Rows) (who : ℕ) (o : WorkOutcome) (found : Option WorkRow) (given : Reply) → finished limit r who o found ≡ Ok given → r.count < limit
+finished-room : (limit : ℕ) (r : Rows) (who : ℕ) (o : WorkOutcome) (found : Option WorkRow) (given : Reply) → reply_to_finish limit r who o found ≡ Ok given → r.count < limit
 finished-room limit r who o None given e = cc
 finished-room limit r who o (Some row) given e =
-    unless-room limit r.count (unheld_by who row.claimer row.state) _ given (as-room limit r.count (stop_asked r row.execution) row.kind o given) e
+    unless-room limit r.count (report_refusal who row.claimer row.state) _ given (as-room limit r.count (stop_requested_of r row.execution) row.kind o given) e
 
 -- a reply that is entered has room
 pub reply_room : (limit : ℕ) (r : Rows) (who : ℕ) (call : Call) (given : Reply) → reply_by limit r who call ≡ Ok given → is_nothing given ≡ false → r.count < limit
 reply_room limit r who (Start job parameters) given e n =
-    (elim (is_some (job_named r.catalogue job)) as (λ b. cond b (entered limit r.count (IsExecution (length r.executions + 1))) (Err JobStartException) ≡ Ok given → r.count < limit) [
+    (elim (is_some (job_named r.catalogue job)) as (λ b. cond b (accepted limit r.count (IsExecution (length r.executions + 1))) (Err JobStartException) ≡ Ok given → r.count < limit) [
       | true ↦ λ s. entered-room limit r.count _ given s
       | false ↦ λ s. cc
     ]) e
 reply_room limit r who (Restart x parameters) given e n =
-    (elim (is_some (find (is_execution x) r.executions)) as (λ b. cond b (entered limit r.count (IsExecution (length r.executions + 1))) (Err NoSuchJobExecutionException) ≡ Ok given → r.count < limit) [
+    (elim (is_some (find (is_execution x) r.executions)) as (λ b. cond b (accepted limit r.count (IsExecution (length r.executions + 1))) (Err NoSuchJobExecutionException) ≡ Ok given → r.count < limit) [
       | true ↦ λ s. entered-room limit r.count _ given s
       | false ↦ λ s. cc
     ]) e
@@ -146,27 +149,12 @@ IsDueAt limit h before e = (reply limit record { catalogue = h.catalogue; log = 
 
 -- a legal history grows by an operation with the reply that is due
 pub legal_grown : (limit : ℕ) (h : History) (e : Entry) → IsLegal limit h → reply limit h e.who e.call ≡ Ok e.reply → is_nothing e.reply ≡ false → IsLegal limit (grown h e)
-legal_grown limit h e legal due entered =
-    let room : length (reverse h.log) < limit = reply_room limit (rows h) e.who e.call e.reply due entered in
+legal_grown limit h e legal due accepted =
+    let room : length (reverse h.log) < limit = reply_room limit (rows h) e.who e.call e.reply due accepted in
     record {
       within = omega (arith, room, length-reverse h.log, length-append h.log (e ∷ []));
       due = λ before f after is. elim (cut-last h.log before e f after is) as (λ _. IsDueAt limit h before f) [
-        | inl w ↦ subst (IsDueAt limit h before) w.last (subst (λ (l : List Entry). IsDueAt limit h l e) w.front (due, entered))
+        | inl w ↦ subst (IsDueAt limit h before) w.last (subst (λ (l : List Entry). IsDueAt limit h l e) w.front (due, accepted))
         | inr w ↦ legal.due before f w.ws w.front
       ];
     }
-
--- an operation with the reply that is due is the next one
-pub next_of : (limit : ℕ) (r : Rows) (h : History) (e : Entry) → IsLegal limit h → StandsFor r h → reply limit h e.who e.call ≡ Ok e.reply → is_nothing e.reply ≡ false → IsNext limit r e
-next_of limit r h e legal stands due entered = record { history = h; stands = stands; legal = legal_grown limit h e legal due entered }
-
--- what stands for a history and its entry, and that they are legal
-pub log_grown : (limit : ℕ) (h : History) (e : Entry) (new : Rows) (items : List Entry)
-    → IsLegal limit h → reply limit h e.who e.call ≡ Ok e.reply → is_nothing e.reply ≡ false → StandsFor new (grown h e) → items ≡ h.log ++ e ∷ []
-    → StandsFor new record { catalogue = new.catalogue; log = items } × IsLegal limit record { catalogue = new.catalogue; log = items }
-log_grown limit h e new items legal due entered now is =
-    let over : new.catalogue ≡ h.catalogue = ap (λ (r : Rows). r.catalogue) now in
-    let whole : grown h e ≡ record { catalogue = new.catalogue; log = items } =
-    ap (λ (c : List JobTree). record { catalogue = c; log = h.log ++ e ∷ [] }) (sym over)
-    ∙ ap (λ (l : List Entry). record { catalogue = new.catalogue; log = l }) (sym is) in
-    (subst (StandsFor new) whole now, subst (IsLegal limit) whole (legal_grown limit h e legal due entered))

@@ -1,8 +1,9 @@
 -- The rows of a past with one operation more: what each record is after it, by what it was before.
 use mathlib.Core.Bool.{or-false}
-use Rattle.std.proofs.Common.{◌≡◌, ◌≢◌, ℕ, zero, suc, ◌+◌, ◌==◌, ◌<◌, ◌≤◌, ◌||◌, Bool, true, false, cond, Option, None, Some, List, [], ◌∷◌, ◌++◌, length, map, find, reverse, refl, sym, ◌∙◌, ap, arith, add-one}
+use Rattle.std.proofs.Common.{◌≡◌, ◌≢◌, ℕ, zero, suc, ◌+◌, ◌==◌, ◌<◌, ◌≤◌, ◌||◌, Bool, true, false, cond, Option, None, Some, List, [], ◌∷◌, ◌++◌, length, map, find, refl, sym, ◌∙◌, ap, arith, add-one}
 use Rattle.std.specs.Option.{option_map}
-use Rattle.std.proofs.lemmas.List.{map-append, length-map, length-append, reverse-append}
+use mathlib.Core.Path.{fun_ext}
+use Rattle.std.proofs.lemmas.List.{map-append, length-map, length-append}
 use Rattle.std.proofs.lemmas.Bool.{eqb-true, eqb-false, eq-eqb, ne_eqb}
 use Rattle.job_walk.proofs.Following.{find-map}
 use Rattle.job_walk.specs.declared.facts.Known.{Known}
@@ -18,45 +19,52 @@ use Rattle.batch_history.specs.declared.call.Reply.TheVariants.{Execution as IsE
 use Rattle.batch_history.specs.declared.call.Entry.{Entry}
 use Rattle.batch_history.specs.declared.rows.ExecutionRow.{ExecutionRow}
 use Rattle.batch_history.specs.declared.rows.WorkRow.{WorkRow}
-use Rattle.batch_history.specs.declared.rows.CheckpointRow.{CheckpointRow}
-use Rattle.batch_history.specs.History.{Made, Place, made, remade, is_made, makes, change_first, is_at, instances_of, works_of, works_after, handed_out, reported, over, fact_from, known_of, walk_of, job_named, taken, taken_by, asked, given_up, touched, earliest, start_of, was_named, stop_of, abandoned_of, updated_of, end_of, value_after, bare_of, status_from, is_finished, place_by, place_of, instance_made, checkpoints_of, checkpoints_after, put_mark, marks_left, is_work}
-use Rattle.batch_history.specs.Replies.{is_nothing}
-use Rattle.batch_history.specs.Rows.{after_call, History, Rows, row_with, execution_row, rows_of, rows, grown, is_execution, StandsFor}
-use Rattle.batch_history.specs.Steps.{Effect, effect_on, refreshed, refreshed_by, refreshed_at, fresh_row, again_row, instance_in, place_in, rows_after, executions_after}
+use Rattle.batch_history.proofs.Folds.{made, remade, is_made, makes, instances_of, works_of, works_after, with_handed_out as handed_out, reported, over, start_of, was_named, stop_of, abandoned_of, updated_of, end_of, value_after, bare_of, place_of, instance_made, folded_checkpoint, execution_row, folded_rows}
+use Rattle.batch_history.proofs.Steps.{Effect, effect_on, refreshed, refreshed_by, refreshed_at, fresh_row, again_row, instance_in, place_in, rows_after, executions_after}
+use Rattle.batch_history.specs.Checkpoints.{InstanceStep, instance_step_by, is_same_step, checkpoint_after}
+use Rattle.batch_history.specs.Executions.{Made}
+use Rattle.batch_history.specs.Lists.{change_first, is_at}
+use Rattle.batch_history.specs.Moments.{first_moment}
+use Rattle.batch_history.specs.Operations.{taken_up, taken_up_by, stop_request, abandonment}
+use Rattle.batch_history.specs.Replies.{is_execution}
+use Rattle.batch_history.specs.Rows.{Rows, execution_row_with}
+use Rattle.batch_history.specs.Statuses.{batch_status, is_finished}
+use Rattle.batch_history.specs.Walks.{fact_of_state, known_elements, walk_of, job_named}
+use Rattle.batch_history.specs.Works.{execution_of_operation, is_work}
 
 -- What an operation that is not on an execution leaves of it
 
-pub known-append : (x : ℕ) (works : List WorkRow) (r : WorkRow) → (r.execution == x) ≡ false → known_of x (works ++ r ∷ []) ≡ known_of x works
+pub known-append : (x : ℕ) (works : List WorkRow) (r : WorkRow) → (r.execution == x) ≡ false → known_elements x (works ++ r ∷ []) ≡ known_elements x works
 known-append x [] r h = rw h refl
 known-append x (w ∷ ws) r h =
-    let k : Known = record { id = w.element; fact = fact_from w.state } in
+    let k : Known = record { id = w.element; fact = fact_of_state w.state } in
     ap (λ (ks : List Known). cond (w.execution == x) (k ∷ ks) ks) (known-append x ws r h)
 
 pub known-change : (x : ℕ) (p : WorkRow → Bool) (o : WorkOutcome) (t : Option (List ℕ)) (step : MetricStep) (at : ℕ) (works : List WorkRow)
     → is_at x (option_map (λ row. row.execution) (find p works)) ≡ false
-    → known_of x (change_first p (over o t step at) works) ≡ known_of x works
+    → known_elements x (change_first p (over o t step at) works) ≡ known_elements x works
 known-change x p o t step at [] h = refl
 known-change x p o t step at (w ∷ ws) h =
-    let k : Known = record { id = w.element; fact = fact_from w.state } in
+    let k : Known = record { id = w.element; fact = fact_of_state w.state } in
     (elim (p w) as (λ b. is_at x (option_map (λ row. row.execution) (cond b (Some w) (find p ws))) ≡ false
-    → known_of x (cond b (over o t step at w ∷ ws) (w ∷ change_first p (over o t step at) ws)) ≡ known_of x (w ∷ ws)) [
+    → known_elements x (cond b (over o t step at w ∷ ws) (w ∷ change_first p (over o t step at) ws)) ≡ known_elements x (w ∷ ws)) [
       | true ↦ λ e. rw e refl
       | false ↦ λ e. ap (λ (ks : List Known). cond (w.execution == x) (k ∷ ks) ks) (known-change x p o t step at ws e)
     ]) h
 
 -- what is reported of a work item says nothing of its element
 pub known-reported : (x : ℕ) (p : WorkRow → Bool) (step : MetricStep) (works : List WorkRow)
-    → known_of x (change_first p (reported step) works) ≡ known_of x works
+    → known_elements x (change_first p (reported step) works) ≡ known_elements x works
 known-reported x p step [] = refl
 known-reported x p step (w ∷ ws) =
-    let k : Known = record { id = w.element; fact = fact_from w.state } in
-    elim (p w) as (λ b. known_of x (cond b (reported step w ∷ ws) (w ∷ change_first p (reported step) ws)) ≡ known_of x (w ∷ ws)) [
+    let k : Known = record { id = w.element; fact = fact_of_state w.state } in
+    elim (p w) as (λ b. known_elements x (cond b (reported step w ∷ ws) (w ∷ change_first p (reported step) ws)) ≡ known_elements x (w ∷ ws)) [
       | true ↦ refl
       | false ↦ ap (λ (ks : List Known). cond (w.execution == x) (k ∷ ks) ks) (known-reported x p step ws)
     ]
 
-known-handed : (x who at : ℕ) (reply : Reply) (works : List WorkRow) → is_at x (taken_by reply) ≡ false
-    → known_of x (handed_out who at reply works) ≡ known_of x works
+known-handed : (x who at : ℕ) (reply : Reply) (works : List WorkRow) → is_at x (taken_up_by reply) ≡ false
+    → known_elements x (handed_out who at reply works) ≡ known_elements x works
 known-handed x who at (Work item) works h = known-append x works _ h
 known-handed x who at (IsExecution y) works h = refl
 known-handed x who at (Closed y) works h = refl
@@ -66,8 +74,8 @@ known-handed x who at Go works h = refl
 known-handed x who at StopAsked works h = refl
 
 -- its work is as it was
-pub known-same : (x who at : ℕ) (call : Call) (reply : Reply) (works : List WorkRow) → is_at x (touched works call reply) ≡ false
-    → known_of x (works_after who at call reply works) ≡ known_of x works
+pub known-same : (x who at : ℕ) (call : Call) (reply : Reply) (works : List WorkRow) → is_at x (execution_of_operation works call reply) ≡ false
+    → known_elements x (works_after who at call reply works) ≡ known_elements x works
 known-same x who at (Start job parameters) reply works h = refl
 known-same x who at (Restart y parameters) reply works h = refl
 known-same x who at (Stop y) reply works h = refl
@@ -77,8 +85,8 @@ known-same x who at (Checkpoint w mark step) reply works h = known-reported x _ 
 known-same x who at (Finish w o t step) reply works h = known-change x _ o t step at works h
 
 -- who is taken up is touched
-pub taken-touched : (x : ℕ) (call : Call) (reply : Reply) (works : List WorkRow) → is_at x (touched works call reply) ≡ false
-    → is_at x (taken call reply) ≡ false
+pub taken-touched : (x : ℕ) (call : Call) (reply : Reply) (works : List WorkRow) → is_at x (execution_of_operation works call reply) ≡ false
+    → is_at x (taken_up call reply) ≡ false
 taken-touched x (Start job parameters) reply works h = refl
 taken-touched x (Restart y parameters) reply works h = refl
 taken-touched x (Stop y) reply works h = refl
@@ -88,8 +96,8 @@ taken-touched x (Checkpoint w mark step) reply works h = refl
 taken-touched x (Finish w o t step) reply works h = refl
 
 -- who is asked to stop is touched
-pub asked-touched : (x : ℕ) (call : Call) (reply : Reply) (works : List WorkRow) → is_at x (touched works call reply) ≡ false
-    → is_at x (asked call) ≡ false
+pub asked-touched : (x : ℕ) (call : Call) (reply : Reply) (works : List WorkRow) → is_at x (execution_of_operation works call reply) ≡ false
+    → is_at x (stop_request call) ≡ false
 asked-touched x (Start job parameters) reply works h = refl
 asked-touched x (Restart y parameters) reply works h = refl
 asked-touched x (Stop y) reply works h = h
@@ -99,8 +107,8 @@ asked-touched x (Checkpoint w mark step) reply works h = refl
 asked-touched x (Finish w o t step) reply works h = refl
 
 -- who is given up is touched
-given-touched : (x : ℕ) (call : Call) (reply : Reply) (works : List WorkRow) → is_at x (touched works call reply) ≡ false
-    → is_at x (given_up call) ≡ false
+given-touched : (x : ℕ) (call : Call) (reply : Reply) (works : List WorkRow) → is_at x (execution_of_operation works call reply) ≡ false
+    → is_at x (abandonment call) ≡ false
 given-touched x (Start job parameters) reply works h = refl
 given-touched x (Restart y parameters) reply works h = refl
 given-touched x (Stop y) reply works h = refl
@@ -109,81 +117,81 @@ given-touched x Claim reply works h = refl
 given-touched x (Checkpoint w mark step) reply works h = refl
 given-touched x (Finish w o t step) reply works h = refl
 
-pub earliest-false : (o : Option ℕ) (at : ℕ) → earliest o false at ≡ o
+pub earliest-false : (o : Option ℕ) (at : ℕ) → first_moment o false at ≡ o
 earliest-false None at = refl
 earliest-false (Some t) at = refl
 
-earliest-twice : (o : Option ℕ) (b : Bool) (at later : ℕ) → earliest (earliest o b at) b later ≡ earliest o b at
+earliest-twice : (o : Option ℕ) (b : Bool) (at later : ℕ) → first_moment (first_moment o b at) b later ≡ first_moment o b at
 earliest-twice (Some t) b at later = refl
 earliest-twice None true at later = refl
 earliest-twice None false at later = refl
 
 -- the end stands once it is finished
 pub settled : (catalogue : List JobTree) (past : List Entry) (m : Made) (at : ℕ)
-    → earliest (end_of catalogue past m) (is_finished (bare_of catalogue past m)) at ≡ end_of catalogue past m
+    → first_moment (end_of catalogue past m) (is_finished (bare_of catalogue past m)) at ≡ end_of catalogue past m
 settled catalogue [] m at = refl
 settled catalogue (e ∷ older) m at =
     let ended : Option ℕ = end_of catalogue older m in
     let value : Value = value_after catalogue (e ∷ older) m in
-    let begun : Option ℕ = earliest (start_of older m.execution) (is_at m.execution (taken e.call e.reply)) e.at in
-    let stop : Bool = stop_of older m.execution || is_at m.execution (asked e.call) in
+    let begun : Option ℕ = first_moment (start_of older m.execution) (is_at m.execution (taken_up e.call e.reply)) e.at in
+    let stop : Bool = stop_of older m.execution || is_at m.execution (stop_request e.call) in
     elim (makes (length (made older)) m.execution e.call) as (λ b.
-    earliest (cond b None (earliest ended (is_finished (status_from (cond b false stop) (cond b None begun) value)) e.at))
-    (is_finished (status_from (cond b false stop) (cond b None begun) value)) at
-    ≡ cond b None (earliest ended (is_finished (status_from (cond b false stop) (cond b None begun) value)) e.at)) [
+    first_moment (cond b None (first_moment ended (is_finished (batch_status (cond b false stop) (cond b None begun) value)) e.at))
+    (is_finished (batch_status (cond b false stop) (cond b None begun) value)) at
+    ≡ cond b None (first_moment ended (is_finished (batch_status (cond b false stop) (cond b None begun) value)) e.at)) [
       | true ↦ refl
-      | false ↦ earliest-twice ended (is_finished (status_from stop begun value)) e.at at
+      | false ↦ earliest-twice ended (is_finished (batch_status stop begun value)) e.at at
     ]
 
 pub begun-by : (past : List Entry) (e : Entry) (x : ℕ) → makes (length (made past)) x e.call ≡ false
-    → start_of (e ∷ past) x ≡ earliest (start_of past x) (is_at x (taken e.call e.reply)) e.at
-begun-by past e x made_no = ap (λ b. cond b None (earliest (start_of past x) (is_at x (taken e.call e.reply)) e.at)) made_no
+    → start_of (e ∷ past) x ≡ first_moment (start_of past x) (is_at x (taken_up e.call e.reply)) e.at
+begun-by past e x made_no = ap (λ b. cond b None (first_moment (start_of past x) (is_at x (taken_up e.call e.reply)) e.at)) made_no
 
 pub named-by : (names : Call → Option ℕ) (past : List Entry) (e : Entry) (x : ℕ) → makes (length (made past)) x e.call ≡ false
     → was_named names (e ∷ past) x ≡ (was_named names past x || is_at x (names e.call))
 named-by names past e x made_no = ap (λ b. cond b false (was_named names past x || is_at x (names e.call))) made_no
 
 pub ended-by : (catalogue : List JobTree) (past : List Entry) (e : Entry) (m : Made) → makes (length (made past)) m.execution e.call ≡ false
-    → end_of catalogue (e ∷ past) m ≡ earliest (end_of catalogue past m) (is_finished (bare_of catalogue (e ∷ past) m)) e.at
+    → end_of catalogue (e ∷ past) m ≡ first_moment (end_of catalogue past m) (is_finished (bare_of catalogue (e ∷ past) m)) e.at
 ended-by catalogue past e m made_no =
-    ap (λ b. cond b None (earliest (end_of catalogue past m) (is_finished (bare_of catalogue (e ∷ past) m)) e.at)) made_no
+    ap (λ b. cond b None (first_moment (end_of catalogue past m) (is_finished (bare_of catalogue (e ∷ past) m)) e.at)) made_no
 
 updated-by : (past : List Entry) (e : Entry) (x : ℕ) → makes (length (made past)) x e.call ≡ false
-    → updated_of (e ∷ past) x ≡ cond (is_at x (touched (works_of past) e.call e.reply)) e.at (updated_of past x)
+    → updated_of (e ∷ past) x ≡ cond (is_at x (execution_of_operation (works_of past) e.call e.reply)) e.at (updated_of past x)
 updated-by past e x made_no =
-    ap (λ b. cond b e.at (cond (is_at x (touched (works_of past) e.call e.reply)) e.at (updated_of past x))) made_no
+    ap (λ b. cond b e.at (cond (is_at x (execution_of_operation (works_of past) e.call e.reply)) e.at (updated_of past x))) made_no
 
 pub same_row : (m : Made) (p1 p2 a1 a2 : Bool) (s1 s2 : Option ℕ) (v1 v2 : Value) (e1 e2 : Option ℕ) (u1 u2 : ℕ)
     → p1 ≡ p2 → a1 ≡ a2 → s1 ≡ s2 → v1 ≡ v2 → e1 ≡ e2 → u1 ≡ u2
-    → row_with m p1 a1 s1 v1 e1 u1 ≡ row_with m p2 a2 s2 v2 e2 u2
+    → execution_row_with m p1 a1 s1 v1 e1 u1 ≡ execution_row_with m p2 a2 s2 v2 e2 u2
 same_row m p1 p2 a1 a2 s1 s2 v1 v2 e1 e2 u1 u2 p a s v e u =
-    ap (λ x. row_with m x a1 s1 v1 e1 u1) p ∙ (ap (λ x. row_with m p2 x s1 v1 e1 u1) a
-    ∙ (ap (λ x. row_with m p2 a2 x v1 e1 u1) s ∙ (ap (λ x. row_with m p2 a2 s2 x e1 u1) v
-    ∙ (ap (λ x. row_with m p2 a2 s2 v2 x u1) e ∙ ap (λ x. row_with m p2 a2 s2 v2 e2 x) u))))
+    ap (λ x. execution_row_with m x a1 s1 v1 e1 u1) p ∙ (ap (λ x. execution_row_with m p2 x s1 v1 e1 u1) a
+    ∙ (ap (λ x. execution_row_with m p2 a2 x v1 e1 u1) s ∙ (ap (λ x. execution_row_with m p2 a2 s2 x e1 u1) v
+    ∙ (ap (λ x. execution_row_with m p2 a2 s2 v2 x u1) e ∙ ap (λ x. execution_row_with m p2 a2 s2 v2 e2 x) u))))
 
-pub same_status : (p1 p2 : Bool) (s1 s2 : Option ℕ) (v1 v2 : Value) → p1 ≡ p2 → s1 ≡ s2 → v1 ≡ v2 → status_from p1 s1 v1 ≡ status_from p2 s2 v2
+pub same_status : (p1 p2 : Bool) (s1 s2 : Option ℕ) (v1 v2 : Value) → p1 ≡ p2 → s1 ≡ s2 → v1 ≡ v2 → batch_status p1 s1 v1 ≡ batch_status p2 s2 v2
 same_status p1 p2 s1 s2 v1 v2 p s v =
-    ap (λ x. status_from x s1 v1) p ∙ (ap (λ x. status_from p2 x v1) s ∙ ap (λ x. status_from p2 s2 x) v)
+    ap (λ x. batch_status x s1 v1) p ∙ (ap (λ x. batch_status p2 x v1) s ∙ ap (λ x. batch_status p2 s2 x) v)
 
 -- the row of a job execution that an operation neither makes nor is on
 pub untouched : (catalogue : List JobTree) (past : List Entry) (e : Entry) (m : Made) → makes (length (made past)) m.execution e.call ≡ false
-    → is_at m.execution (touched (works_of past) e.call e.reply) ≡ false
+    → is_at m.execution (execution_of_operation (works_of past) e.call e.reply) ≡ false
     → execution_row catalogue (e ∷ past) m ≡ execution_row catalogue past m
 untouched catalogue past e m made_no off =
     let x : ℕ = m.execution in
     let works : List WorkRow = works_of past in
     let p : stop_of (e ∷ past) x ≡ stop_of past x =
-    named-by asked past e x made_no ∙ (ap (λ b. stop_of past x || b) (asked-touched x e.call e.reply works off) ∙ or-false (stop_of past x)) in
+    named-by stop_request past e x made_no ∙ (ap (λ b. stop_of past x || b) (asked-touched x e.call e.reply works off) ∙ or-false (stop_of past x)) in
     let a : abandoned_of (e ∷ past) x ≡ abandoned_of past x =
-    named-by given_up past e x made_no ∙ (ap (λ b. abandoned_of past x || b) (given-touched x e.call e.reply works off) ∙ or-false (abandoned_of past x)) in
+    named-by abandonment past e x made_no ∙ (ap (λ b. abandoned_of past x || b) (given-touched x e.call e.reply works off) ∙ or-false (abandoned_of past x)) in
     let s : start_of (e ∷ past) x ≡ start_of past x =
     begun-by past e x made_no
-    ∙ (ap (λ b. earliest (start_of past x) b e.at) (taken-touched x e.call e.reply works off) ∙ earliest-false (start_of past x) e.at) in
+    ∙ (ap (λ b. first_moment (start_of past x) b e.at) (taken-touched x e.call e.reply works off) ∙ earliest-false (start_of past x) e.at) in
     let v : value_after catalogue (e ∷ past) m ≡ value_after catalogue past m =
     ap (λ k. walk_of k (job_named catalogue m.job)) (known-same x e.who e.at e.call e.reply works off) in
     let n : end_of catalogue (e ∷ past) m ≡ end_of catalogue past m =
     ended-by catalogue past e m made_no
-    ∙ (ap (λ b. earliest (end_of catalogue past m) (is_finished b) e.at) (same_status _ _ _ _ _ _ p s v)
+    ∙ (ap (λ b. first_moment (end_of catalogue past m) (is_finished b) e.at) (same_status _ _ _ _ _ _ p s v)
     ∙ settled catalogue past m e.at) in
     let u : updated_of (e ∷ past) x ≡ updated_of past x =
     updated-by past e x made_no ∙ ap (λ b. cond b e.at (updated_of past x)) off in
@@ -191,19 +199,19 @@ untouched catalogue past e m made_no off =
 
 -- the row of a job execution that an operation is on
 pub refreshed-by : (catalogue : List JobTree) (past : List Entry) (e : Entry) (m : Made) → makes (length (made past)) m.execution e.call ≡ false
-    → is_at m.execution (touched (works_of past) e.call e.reply) ≡ true
+    → is_at m.execution (execution_of_operation (works_of past) e.call e.reply) ≡ true
     → execution_row catalogue (e ∷ past) m ≡ refreshed_by catalogue (works_of (e ∷ past)) e.at e.call e.reply (execution_row catalogue past m)
 refreshed-by catalogue past e m made_no on =
     let x : ℕ = m.execution in
     let value : Value = value_after catalogue (e ∷ past) m in
-    let begun : Option ℕ = earliest (start_of past x) (is_at x (taken e.call e.reply)) e.at in
-    let stop : Bool = stop_of past x || is_at x (asked e.call) in
-    let p : stop_of (e ∷ past) x ≡ stop = named-by asked past e x made_no in
-    let a : abandoned_of (e ∷ past) x ≡ (abandoned_of past x || is_at x (given_up e.call)) = named-by given_up past e x made_no in
+    let begun : Option ℕ = first_moment (start_of past x) (is_at x (taken_up e.call e.reply)) e.at in
+    let stop : Bool = stop_of past x || is_at x (stop_request e.call) in
+    let p : stop_of (e ∷ past) x ≡ stop = named-by stop_request past e x made_no in
+    let a : abandoned_of (e ∷ past) x ≡ (abandoned_of past x || is_at x (abandonment e.call)) = named-by abandonment past e x made_no in
     let s : start_of (e ∷ past) x ≡ begun = begun-by past e x made_no in
-    let n : end_of catalogue (e ∷ past) m ≡ earliest (end_of catalogue past m) (is_finished (status_from stop begun value)) e.at =
+    let n : end_of catalogue (e ∷ past) m ≡ first_moment (end_of catalogue past m) (is_finished (batch_status stop begun value)) e.at =
     ended-by catalogue past e m made_no
-    ∙ ap (λ b. earliest (end_of catalogue past m) (is_finished b) e.at) (same_status _ _ _ _ value value p s refl) in
+    ∙ ap (λ b. first_moment (end_of catalogue past m) (is_finished b) e.at) (same_status _ _ _ _ value value p s refl) in
     let u : updated_of (e ∷ past) x ≡ e.at =
     updated-by past e x made_no ∙ ap (λ b. cond b e.at (updated_of past x)) on in
     same_row m _ _ _ _ _ _ value value _ _ _ _ p a s refl n u
@@ -270,7 +278,7 @@ is_at-Some : (x y : ℕ) (b : Bool) → (x == y) ≡ b → is_at x (Some y) ≡ 
 is_at-Some x y true e = eq-eqb y x (sym (eqb-true x y e))
 is_at-Some x y false e = ne_eqb y x (λ s. eqb-false x y e (sym s))
 
-refreshed-rows : (catalogue : List JobTree) (past : List Entry) (e : Entry) (t : Option ℕ) → touched (works_of past) e.call e.reply ≡ t
+refreshed-rows : (catalogue : List JobTree) (past : List Entry) (e : Entry) (t : Option ℕ) → execution_of_operation (works_of past) e.call e.reply ≡ t
     → ((m : Made) → makes (length (made past)) m.execution e.call ≡ false)
     → map (execution_row catalogue (e ∷ past)) (made past)
     ≡ refreshed_at catalogue (works_of (e ∷ past)) e.at e.call e.reply t (map (execution_row catalogue past) (made past))
@@ -285,7 +293,7 @@ refreshed-rows catalogue past e (Some x) is made_no =
 -- the executions that were there before one is made
 older-rows : (catalogue : List JobTree) (past : List Entry) (e : Entry)
     → ((m : Made) → m.execution < length (made past) + 1 → makes (length (made past)) m.execution e.call ≡ false)
-    → touched (works_of past) e.call e.reply ≡ None
+    → execution_of_operation (works_of past) e.call e.reply ≡ None
     → map (execution_row catalogue (e ∷ past)) (made past) ≡ map (execution_row catalogue past) (made past)
 older-rows catalogue past e made_no is =
     map-below (execution_row catalogue past) (execution_row catalogue (e ∷ past)) (length (made past) + 1) 1 (made past) (numbered past) (omega arith)
@@ -310,8 +318,8 @@ remade-create x at parameters None = refl
 remade-create x at parameters (Some m) = refl
 
 executions-step : (catalogue : List JobTree) (past : List Entry) (who at : ℕ) (call : Call) (reply : Reply)
-    → (rows_of catalogue (record { who = who; call = call; at = at; reply = reply } ∷ past)).executions
-    ≡ executions_after (rows_of catalogue past) (works_after who at call reply (works_of past)) at call reply
+    → (folded_rows catalogue (record { who = who; call = call; at = at; reply = reply } ∷ past)).executions
+    ≡ executions_after (folded_rows catalogue past) (works_after who at call reply (works_of past)) at call reply
 executions-step catalogue past who at (Start job parameters) reply =
     let e : Entry = record { who = who; call = Start job parameters; at = at; reply = reply } in
     let n : ℕ = length (made past) in
@@ -337,16 +345,16 @@ executions-step catalogue past who at (Stop y) reply =
 executions-step catalogue past who at (Abandon y) reply =
     refreshed-rows catalogue past (record { who = who; call = Abandon y; at = at; reply = reply }) (Some y) refl (λ m. refl)
 executions-step catalogue past who at Claim reply =
-    refreshed-rows catalogue past (record { who = who; call = Claim; at = at; reply = reply }) (taken_by reply) refl (λ m. refl)
+    refreshed-rows catalogue past (record { who = who; call = Claim; at = at; reply = reply }) (taken_up_by reply) refl (λ m. refl)
 executions-step catalogue past who at (Checkpoint w mark step) reply =
     let call : Call = Checkpoint w mark step in
-    refreshed-rows catalogue past (record { who = who; call = call; at = at; reply = reply }) (touched (works_of past) call reply) refl (λ m. refl)
+    refreshed-rows catalogue past (record { who = who; call = call; at = at; reply = reply }) (execution_of_operation (works_of past) call reply) refl (λ m. refl)
 executions-step catalogue past who at (Finish w o t step) reply =
     let call : Call = Finish w o t step in
-    refreshed-rows catalogue past (record { who = who; call = call; at = at; reply = reply }) (touched (works_of past) call reply) refl (λ m. refl)
+    refreshed-rows catalogue past (record { who = who; call = call; at = at; reply = reply }) (execution_of_operation (works_of past) call reply) refl (λ m. refl)
 
 -- the step of a work item in its job instance stands in the rows
-pub place-by-same : (one other : ℕ → Option ℕ) (row : Option WorkRow) → ((x : ℕ) → one x ≡ other x) → place_by one row ≡ place_by other row
+pub place-by-same : (one other : ℕ → Option ℕ) (row : Option WorkRow) → ((x : ℕ) → one x ≡ other x) → instance_step_by one row ≡ instance_step_by other row
 place-by-same one other None same = refl
 place-by-same one other (Some row) same =
     ap (λ (i : Option ℕ). option_map (λ n. record { instance = n; step = row.element }) i) (same row.execution)
@@ -361,47 +369,21 @@ instance-in catalogue past x =
     ap (λ (o : Option ExecutionRow). option_map (λ row. row.instance) o) (find-map (execution_row catalogue past) (is_execution x) (is_made x) (λ m. refl) (made past))
     ∙ option-map-map (execution_row catalogue past) (λ row. row.instance) (find (is_made x) (made past))
 
-pub place-in : (catalogue : List JobTree) (past : List Entry) (w : ℕ) → place_of past w ≡ place_in (rows_of catalogue past) w
+pub place-in : (catalogue : List JobTree) (past : List Entry) (w : ℕ) → place_of past w ≡ place_in (folded_rows catalogue past) w
 place-in catalogue past w =
     place-by-same (instance_made (made past)) (instance_in (map (execution_row catalogue past) (made past))) (find (is_work w) (works_of past))
     (λ x. sym (instance-in catalogue past x))
 
-checkpoints-step : (catalogue : List JobTree) (past : List Entry) (call : Call)
-    → checkpoints_after (place_of past) call (checkpoints_of past) ≡ checkpoints_after (place_in (rows_of catalogue past)) call (checkpoints_of past)
-checkpoints-step catalogue past (Start job parameters) = refl
-checkpoints-step catalogue past (Restart y parameters) = refl
-checkpoints-step catalogue past (Stop y) = refl
-checkpoints-step catalogue past (Abandon y) = refl
-checkpoints-step catalogue past Claim = refl
-checkpoints-step catalogue past (Checkpoint w mark step) = ap (λ p. put_mark p mark (checkpoints_of past)) (place-in catalogue past w)
-checkpoints-step catalogue past (Finish w o t step) = ap (λ p. marks_left o p (checkpoints_of past)) (place-in catalogue past w)
+-- the checkpoints after an operation, by the steps of the work items before it
+abbrev marks_after : (ℕ → Option InstanceStep) → Call → (InstanceStep → Option (List ℕ)) → InstanceStep → Option (List ℕ)
+marks_after place call earlier p = checkpoint_after (λ w. is_same_step p (place w)) call (earlier p)
 
 -- the rows of a past with one operation more
-pub rows-step : (catalogue : List JobTree) (past : List Entry) (e : Entry) → rows_of catalogue (e ∷ past) ≡ rows_after (rows_of catalogue past) e
+pub rows-step : (catalogue : List JobTree) (past : List Entry) (e : Entry) → folded_rows catalogue (e ∷ past) ≡ rows_after (folded_rows catalogue past) e
 rows-step catalogue past e =
-    let old : Rows = rows_of catalogue past in
+    let old : Rows = folded_rows catalogue past in
     let new : Rows = rows_after old e in
-    ap (λ (n : ℕ). record (rows_of catalogue (e ∷ past)) { count = n }) (sym (add-one (length past)))
-    ∙ (ap (λ (xs : List CheckpointRow). record new { executions = (rows_of catalogue (e ∷ past)).executions; checkpoints = xs }) (checkpoints-step catalogue past e.call)
+    let places : place_of past ≡ place_in old = fun_ext (place-in catalogue past) in
+    ap (λ (n : ℕ). record (folded_rows catalogue (e ∷ past)) { count = n }) (sym (add-one (length past)))
+    ∙ (ap (λ (place : ℕ → Option InstanceStep). record new { executions = (folded_rows catalogue (e ∷ past)).executions; checkpoint = marks_after place e.call (folded_checkpoint past) }) places
     ∙ ap (λ (xs : List ExecutionRow). record new { executions = xs }) (executions-step catalogue past e.who e.at e.call e.reply))
-
--- what stands for a history, changed by an operation, stands for the history with it
-pub stands_after : (r : Rows) (h : History) (e : Entry) → StandsFor r h → StandsFor (rows_after r e) (grown h e)
-stands_after r h e stands =
-    ap (λ (x : Rows). rows_after x e) stands
-    ∙ (sym (rows-step h.catalogue (reverse h.log) e) ∙ ap (rows_of h.catalogue) (sym (reverse-append h.log (e ∷ []))))
-
--- the rows of a history with one operation more
-pub rows_grown : (h : History) (e : Entry) → rows (grown h e) ≡ rows_after (rows h) e
-rows_grown h e = sym (stands_after (rows h) h e refl)
-
--- what stands for a history stands, after a call, for the history after the call
-pub stands_call : (r new : Rows) (h : History) (who : ℕ) (call : Call) (at : ℕ) (reply : Reply) → StandsFor r h
-    → new ≡ cond (is_nothing reply) r (rows_after r record { who = who; call = call; at = at; reply = reply })
-    → StandsFor new (after_call h who call at reply)
-stands_call r new h who call at reply stands is =
-    let e : Entry = record { who = who; call = call; at = at; reply = reply } in
-    (elim (is_nothing reply) as (λ b. new ≡ cond b r (rows_after r e) → StandsFor new (cond b h (grown h e))) [
-      | true ↦ λ s. s ∙ stands
-      | false ↦ λ s. s ∙ stands_after r h e stands
-    ]) is

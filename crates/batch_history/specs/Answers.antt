@@ -2,7 +2,7 @@
 use Rattle.std.specs.Prelude.{ℕ, ◌+◌, ◌==◌, ◌&&◌, Bool, true, false, Option, Some, None, Result, Ok, Err, List, [], ◌∷◌, length, map, find, filter, filter_map, reverse, take, drop, if◌then◌else◌}
 use Rattle.std.specs.Option.{option_map}
 use Rattle.std.specs.List.{list_any}
-use Rattle.std.specs.Str.{bytes_eq}
+use Rattle.batch_ids.specs.Texts.{is_text}
 use Rattle.batch_ids.specs.Statuses.{is_unfinished, outcome_status}
 use Rattle.batch_ids.specs.declared.status.BatchStatus.{BatchStatus}
 use Rattle.batch_ids.specs.declared.status.BatchStatus.TheVariants.{Starting, Started, Stopping, Stopped, Failed, Completed, Abandoned}
@@ -23,7 +23,8 @@ use Rattle.batch_history.specs.declared.rows.ExecutionRow.{ExecutionRow}
 use Rattle.batch_history.specs.declared.rows.WorkRow.{WorkRow}
 use Rattle.batch_history.specs.declared.rows.WorkState.{WorkState}
 use Rattle.batch_history.specs.declared.rows.WorkState.TheVariants.{Busy, Over}
-use Rattle.batch_history.specs.Rows.{History, Rows, rows, is_execution, row_status}
+use Rattle.batch_history.specs.Replies.{is_execution, row_status}
+use Rattle.batch_history.specs.Rows.{History, Rows, rows}
 
 -- ---- Records as they are shown
 
@@ -77,13 +78,13 @@ step_execution row = if_step row.kind (shown_step row)
 -- ---- Answers by the rows
 
 -- the job instances of a job
-abbrev pub named : List ℕ → List JobInstance → List JobInstance
-named name instances = filter (λ i. bytes_eq i.job name) instances
+abbrev pub instances_of_job : List ℕ → List JobInstance → List JobInstance
+instances_of_job name instances = filter (λ i. is_text i.job name) instances
 
 -- the answer about a job that has a job instance
-abbrev pub answered_of : List JobInstance → Answer → Result Answer Refusal
-answered_of [] answer = Err NoSuchJobException
-answered_of (i ∷ rest) answer = Ok answer
+abbrev pub if_job_known : List JobInstance → Answer → Result Answer Refusal
+if_job_known [] answer = Err NoSuchJobException
+if_job_known (i ∷ rest) answer = Ok answer
 
 -- at most so many, without the first ones
 abbrev pub page : {A : Type 0} → ℕ → ℕ → List A → List A
@@ -91,15 +92,15 @@ page start count all = take count (drop start all)
 
 -- whether it is an unfinished job execution of this job
 abbrev pub is_running_of : List ℕ → ExecutionRow → Bool
-is_running_of name row = bytes_eq row.job name && is_unfinished (row_status row)
+is_running_of name row = is_text row.job name && is_unfinished (row_status row)
 
-abbrev pub running_of : List ℕ → List ExecutionRow → List ℕ
-running_of name executions = map (λ row. row.execution) (filter (is_running_of name) executions)
+abbrev pub running_executions : List ℕ → List ExecutionRow → List ℕ
+running_executions name executions = map (λ row. row.execution) (filter (is_running_of name) executions)
 
 -- the answer about a job execution
-abbrev pub answered_with : Option ExecutionRow → (ExecutionRow → Answer) → Result Answer Refusal
-answered_with None answer = Err NoSuchJobExecutionException
-answered_with (Some row) answer = Ok (answer row)
+abbrev pub if_execution_known : Option ExecutionRow → (ExecutionRow → Answer) → Result Answer Refusal
+if_execution_known None answer = Err NoSuchJobExecutionException
+if_execution_known (Some row) answer = Ok (answer row)
 
 abbrev pub instance_shown : ExecutionRow → JobInstance
 instance_shown row = record { instance = row.instance; job = row.job }
@@ -116,14 +117,14 @@ abbrev pub no_counts : CountsByStatus
 no_counts = record { starting = 0; started = 0; stopping = 0; stopped = 0; failed = 0; completed = 0; abandoned = 0 }
 
 -- the counts with one more of this status
-abbrev pub counted : BatchStatus → CountsByStatus → CountsByStatus
-counted Starting counts = record counts { starting = counts.starting + 1 }
-counted Started counts = record counts { started = counts.started + 1 }
-counted Stopping counts = record counts { stopping = counts.stopping + 1 }
-counted Stopped counts = record counts { stopped = counts.stopped + 1 }
-counted Failed counts = record counts { failed = counts.failed + 1 }
-counted Completed counts = record counts { completed = counts.completed + 1 }
-counted Abandoned counts = record counts { abandoned = counts.abandoned + 1 }
+abbrev pub with_one_more : BatchStatus → CountsByStatus → CountsByStatus
+with_one_more Starting counts = record counts { starting = counts.starting + 1 }
+with_one_more Started counts = record counts { started = counts.started + 1 }
+with_one_more Stopping counts = record counts { stopping = counts.stopping + 1 }
+with_one_more Stopped counts = record counts { stopped = counts.stopped + 1 }
+with_one_more Failed counts = record counts { failed = counts.failed + 1 }
+with_one_more Completed counts = record counts { completed = counts.completed + 1 }
+with_one_more Abandoned counts = record counts { abandoned = counts.abandoned + 1 }
 
 -- how many are counted
 abbrev pub total : CountsByStatus → ℕ
@@ -133,23 +134,23 @@ total counts =
 -- how many of these job executions have each status
 abbrev pub counts_of : List ExecutionRow → CountsByStatus
 counts_of [] = no_counts
-counts_of (row ∷ rest) = counted (row_status row) (counts_of rest)
+counts_of (row ∷ rest) = with_one_more (row_status row) (counts_of rest)
 
 -- what a query is answered by these rows
 abbrev pub answer_by : Rows → Query → Result Answer Refusal
 answer_by r JobNames = Ok (AreNames (distinct (map (λ i. i.job) r.instances)))
-answer_by r (JobInstanceCount name) = answered_of (named name r.instances) (IsCount (length (named name r.instances)))
+answer_by r (JobInstanceCount name) = if_job_known (instances_of_job name r.instances) (IsCount (length (instances_of_job name r.instances)))
 answer_by r (JobInstances name start count) =
-    answered_of (named name r.instances) (AreInstances (page start count (reverse (named name r.instances))))
-answer_by r (RunningExecutions name) = answered_of (named name r.instances) (AreRunning (running_of name r.executions))
-answer_by r (Parameters x) = answered_with (find (is_execution x) r.executions) (λ row. AreParameters row.parameters)
-answer_by r (AskJobInstance x) = answered_with (find (is_execution x) r.executions) (λ row. IsJobInstance (instance_shown row))
+    if_job_known (instances_of_job name r.instances) (AreInstances (page start count (reverse (instances_of_job name r.instances))))
+answer_by r (RunningExecutions name) = if_job_known (instances_of_job name r.instances) (AreRunning (running_executions name r.executions))
+answer_by r (Parameters x) = if_execution_known (find (is_execution x) r.executions) (λ row. AreParameters row.parameters)
+answer_by r (AskJobInstance x) = if_execution_known (find (is_execution x) r.executions) (λ row. IsJobInstance (instance_shown row))
 answer_by r (JobExecutions i) =
     if list_any (λ instance. instance.instance == i) r.instances
     then Ok (AreJobExecutions (records_of i r.executions))
     else Err NoSuchJobInstanceException
-answer_by r (AskJobExecution x) = answered_with (find (is_execution x) r.executions) (λ row. IsJobExecution (record_of row))
-answer_by r (StepExecutions x) = answered_with (find (is_execution x) r.executions) (λ row. AreStepExecutions (steps_of x r.works))
+answer_by r (AskJobExecution x) = if_execution_known (find (is_execution x) r.executions) (λ row. IsJobExecution (record_of row))
+answer_by r (StepExecutions x) = if_execution_known (find (is_execution x) r.executions) (λ row. AreStepExecutions (steps_of x r.works))
 answer_by r StatusCounts = Ok (AreCounts (counts_of r.executions))
 
 -- THE ANSWER: what a query is answered after a history

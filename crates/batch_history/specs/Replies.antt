@@ -1,7 +1,37 @@
--- The reply that makes no entry.
-use Rattle.std.specs.Prelude.{Bool, true, false}
+-- What calls are answered after a history.
+use Rattle.std.specs.List.{list_any}
+use Rattle.std.specs.Prelude.{Bool, true, false, ℕ, ◌+◌, ◌==◌, ◌&&◌, nat_lt, Option, Some, None, is_some, Result, Ok, Err, List, [], ◌∷◌, length, find, if◌then◌else◌}
+use Rattle.batch_history.specs.Rows.{History, Rows, rows}
+use Rattle.batch_history.specs.Statuses.{is_finished}
+use Rattle.batch_history.specs.Walks.{job_named, walk_value}
+use Rattle.batch_history.specs.Works.{is_work}
+use Rattle.batch_history.specs.declared.call.Call.{Call}
+use Rattle.batch_history.specs.declared.call.Call.TheVariants.{Start, Restart, Stop, Abandon, Claim, Checkpoint, Finish}
 use Rattle.batch_history.specs.declared.call.Reply.{Reply}
-use Rattle.batch_history.specs.declared.call.Reply.TheVariants.{Execution, Work, Closed, Nothing, Done, Go, StopAsked}
+use Rattle.batch_history.specs.declared.call.Reply.TheVariants.{Execution, Work, Closed, Nothing, Done, Go, StopAsked, Execution as IsExecution}
+use Rattle.batch_history.specs.declared.call.WorkItem.{WorkItem}
+use Rattle.batch_history.specs.declared.call.WorkKind.{WorkKind}
+use Rattle.batch_history.specs.declared.call.WorkKind.TheVariants.{Batchlet as BatchletKind, Chunk as ChunkKind, Decision as DecisionKind}
+use Rattle.batch_history.specs.declared.call.WorkTask.{WorkTask}
+use Rattle.batch_history.specs.declared.call.WorkTask.TheVariants.{Batchlet as BatchletTask, Chunk as ChunkTask, Decision as DecisionTask}
+use Rattle.batch_history.specs.declared.rows.ExecutionRow.{ExecutionRow}
+use Rattle.batch_history.specs.declared.rows.WorkRow.{WorkRow}
+use Rattle.batch_history.specs.declared.rows.WorkState.{WorkState}
+use Rattle.batch_history.specs.declared.rows.WorkState.TheVariants.{Busy, Over}
+use Rattle.batch_ids.specs.Statuses.{is_unfinished}
+use Rattle.batch_ids.specs.declared.refusal.Refusal.{Refusal}
+use Rattle.batch_ids.specs.declared.refusal.Refusal.TheVariants.{JobStartException, NoSuchJobExecutionException, JobExecutionNotRunningException, JobExecutionIsRunningException, NoSuchWork, WorkNotRunning, NotClaimer, NotStopping, WrongOutcome, RepositoryFull}
+use Rattle.batch_ids.specs.declared.status.BatchStatus.{BatchStatus}
+use Rattle.batch_ids.specs.declared.status.BatchStatus.TheVariants.{Starting, Started, Stopping, Stopped as IsStopped, Failed as IsFailed, Completed as IsCompleted, Abandoned}
+use Rattle.batch_ids.specs.declared.status.WorkOutcome.{WorkOutcome}
+use Rattle.batch_ids.specs.declared.status.WorkOutcome.TheVariants.{Completed, Failed, Stopped}
+use Rattle.job_walk.specs.Runnables.{all_leaves, runnable_in}
+use Rattle.job_walk.specs.declared.facts.Value.{Value}
+use Rattle.job_walk.specs.declared.facts.Value.TheVariants.{Open, Done as IsDone, Ended}
+use Rattle.job_walk.specs.declared.runnable.Runnable.{Runnable}
+use Rattle.job_walk.specs.declared.runnable.Runnable.TheVariants.{Step as RunsStep, Decision as RunsDecision}
+use Rattle.jsl_model.specs.Jobs.{JobTree}
+use Rattle.jsl_model.specs.declared.element.Task.TheVariants.{Batchlet, Chunk}
 
 -- whether a reply is Nothing, which makes no entry
 abbrev pub is_nothing : Reply → Bool
@@ -12,3 +42,156 @@ is_nothing (Closed x) = false
 is_nothing Done = false
 is_nothing Go = false
 is_nothing StopAsked = false
+
+abbrev pub first_ready : Value → Option (List ℕ)
+first_ready (Open (id ∷ ready) busy) = Some id
+first_ready (Open [] busy) = None
+first_ready (IsDone exit) = None
+first_ready (Ended status exit point) = None
+
+abbrev pub is_execution : ℕ → ExecutionRow → Bool
+is_execution x row = row.execution == x
+
+-- the status of a job execution: ABANDONED once it was abandoned
+abbrev pub row_status : ExecutionRow → BatchStatus
+row_status row = if row.abandoned then Abandoned else row.bare
+
+abbrev pub walk_in_rows : Rows → ExecutionRow → Value
+walk_in_rows r row = walk_value r.catalogue r.works row.execution row.job
+
+-- whether there is something to do, by status and walk: it is STARTING, or STARTED with a ready element
+abbrev pub has_something_by : BatchStatus → Value → Bool
+has_something_by Starting value = true
+has_something_by Started value = is_some (first_ready value)
+has_something_by Stopping value = false
+has_something_by IsStopped value = false
+has_something_by IsFailed value = false
+has_something_by IsCompleted value = false
+has_something_by Abandoned value = false
+
+abbrev pub has_something : Rows → ExecutionRow → Bool
+has_something r row = has_something_by (row_status row) (walk_in_rows r row)
+
+-- a reply that is entered, or the refusal where the history is full
+abbrev pub accepted : ℕ → ℕ → Reply → Result Reply Refusal
+accepted limit count reply = if nat_lt count limit then Ok reply else Err RepositoryFull
+
+-- what a worker is to run, a chunk from this checkpoint on
+abbrev pub work_task : Option (List ℕ) → Option Runnable → WorkTask
+work_task mark (Some (RunsStep (Batchlet artifact))) = BatchletTask artifact
+work_task mark (Some (RunsStep (Chunk reader processor writer count))) = ChunkTask reader processor writer count mark
+work_task mark (Some (RunsDecision artifact)) = DecisionTask artifact
+work_task mark None = DecisionTask []
+
+-- what is run for an element of a job
+abbrev pub runnable_of_job : Option JobTree → List ℕ → Option Runnable
+runnable_of_job None id = None
+runnable_of_job (Some job) id = runnable_in (all_leaves job.elements) id
+
+-- the work item of an element of a job execution
+abbrev pub next_work_item : Rows → ExecutionRow → List ℕ → WorkItem
+next_work_item r row id =
+    record {
+      work = length r.works + 1;
+      execution = row.execution;
+      element = id;
+      task = work_task (r.checkpoint record { instance = row.instance; step = id }) (runnable_of_job (job_named r.catalogue row.job) id);
+    }
+
+-- a claim of a job execution hands out its first ready element, or closes it where it has none
+abbrev pub claim_reply : Rows → ExecutionRow → Option (List ℕ) → Reply
+claim_reply r row (Some id) = Work (next_work_item r row id)
+claim_reply r row None = Closed row.execution
+
+abbrev pub reply_to_claim : ℕ → Rows → Option ExecutionRow → Result Reply Refusal
+reply_to_claim limit r None = Ok Nothing
+reply_to_claim limit r (Some row) = accepted limit r.count (claim_reply r row (first_ready (walk_in_rows r row)))
+
+-- a stop is accepted while the job execution is unfinished
+abbrev pub reply_to_stop : ℕ → ℕ → Option ExecutionRow → Result Reply Refusal
+reply_to_stop limit count None = Err NoSuchJobExecutionException
+reply_to_stop limit count (Some row) =
+    if is_finished (row_status row) then Err JobExecutionNotRunningException else accepted limit count Done
+
+-- whether a job execution of this job instance is unfinished
+abbrev pub is_running_in : ℕ → ExecutionRow → Bool
+is_running_in i row = row.instance == i && is_unfinished (row_status row)
+
+-- an abandonment is accepted once no job execution of the job instance is unfinished
+abbrev pub reply_to_abandon : ℕ → Rows → Option ExecutionRow → Result Reply Refusal
+reply_to_abandon limit r None = Err NoSuchJobExecutionException
+reply_to_abandon limit r (Some row) =
+    if list_any (is_running_in row.instance) r.executions then Err JobExecutionIsRunningException else accepted limit r.count Done
+
+-- whether a job execution was asked to stop
+abbrev pub is_stop_requested : Option ExecutionRow → Bool
+is_stop_requested None = false
+is_stop_requested (Some row) = row.stop
+
+abbrev pub stop_requested_of : Rows → ℕ → Bool
+stop_requested_of r x = is_stop_requested (find (is_execution x) r.executions)
+
+-- why a session may not report of a work item: it must be busy, and the session's own
+abbrev pub report_refusal : ℕ → ℕ → WorkState → Option Refusal
+report_refusal who claimer (Over outcome exit) = Some WorkNotRunning
+report_refusal who claimer Busy = if claimer == who then None else Some NotClaimer
+
+-- the refusal, or else the reply
+abbrev pub unless : Option Refusal → Result Reply Refusal → Result Reply Refusal
+unless None reply = reply
+unless (Some refusal) reply = Err refusal
+
+-- a checkpoint of a chunk is kept, and its worker is told whether a stop was asked for
+abbrev pub go_or_stop : Bool → Reply
+go_or_stop true = StopAsked
+go_or_stop false = Go
+
+abbrev pub reply_to_kept_checkpoint : ℕ → ℕ → Bool → WorkKind → Result Reply Refusal
+reply_to_kept_checkpoint limit count stop ChunkKind = accepted limit count (go_or_stop stop)
+reply_to_kept_checkpoint limit count stop BatchletKind = Err WrongOutcome
+reply_to_kept_checkpoint limit count stop DecisionKind = Err WrongOutcome
+
+abbrev pub reply_to_checkpoint : ℕ → Rows → ℕ → Option WorkRow → Result Reply Refusal
+reply_to_checkpoint limit r who None = Err NoSuchWork
+reply_to_checkpoint limit r who (Some row) =
+    unless (report_refusal who row.claimer row.state) (reply_to_kept_checkpoint limit r.count (stop_requested_of r row.execution) row.kind)
+
+-- a step is STOPPED where a stop of its job execution was accepted
+abbrev pub reply_to_stopped_step : ℕ → ℕ → Bool → Result Reply Refusal
+reply_to_stopped_step limit count true = accepted limit count Done
+reply_to_stopped_step limit count false = Err NotStopping
+
+-- a decision is never STOPPED
+abbrev pub reply_to_stopped_work : ℕ → ℕ → Bool → WorkKind → Result Reply Refusal
+reply_to_stopped_work limit count stop DecisionKind = Err WrongOutcome
+reply_to_stopped_work limit count stop BatchletKind = reply_to_stopped_step limit count stop
+reply_to_stopped_work limit count stop ChunkKind = reply_to_stopped_step limit count stop
+
+-- the end of a work item by the session that claimed it
+abbrev pub reply_to_end : ℕ → ℕ → Bool → WorkKind → WorkOutcome → Result Reply Refusal
+reply_to_end limit count stop kind Stopped = reply_to_stopped_work limit count stop kind
+reply_to_end limit count stop kind Completed = accepted limit count Done
+reply_to_end limit count stop kind Failed = accepted limit count Done
+
+abbrev pub reply_to_finish : ℕ → Rows → ℕ → WorkOutcome → Option WorkRow → Result Reply Refusal
+reply_to_finish limit r who outcome None = Err NoSuchWork
+reply_to_finish limit r who outcome (Some row) =
+    unless (report_refusal who row.claimer row.state) (reply_to_end limit r.count (stop_requested_of r row.execution) row.kind outcome)
+
+-- what a call is answered by these rows
+abbrev pub reply_by : ℕ → Rows → ℕ → Call → Result Reply Refusal
+reply_by limit r who (Start job parameters) =
+    if is_some (job_named r.catalogue job) then accepted limit r.count (IsExecution (length r.executions + 1)) else Err JobStartException
+reply_by limit r who (Restart x parameters) =
+    if is_some (find (is_execution x) r.executions)
+    then accepted limit r.count (IsExecution (length r.executions + 1))
+    else Err NoSuchJobExecutionException
+reply_by limit r who (Stop x) = reply_to_stop limit r.count (find (is_execution x) r.executions)
+reply_by limit r who (Abandon x) = reply_to_abandon limit r (find (is_execution x) r.executions)
+reply_by limit r who Claim = reply_to_claim limit r (find (has_something r) r.executions)
+reply_by limit r who (Checkpoint w mark step) = reply_to_checkpoint limit r who (find (is_work w) r.works)
+reply_by limit r who (Finish w outcome exit step) = reply_to_finish limit r who outcome (find (is_work w) r.works)
+
+-- THE REPLY: what a call is answered after a history
+abbrev pub reply : ℕ → History → ℕ → Call → Result Reply Refusal
+reply limit h who call = reply_by limit (rows h) who call

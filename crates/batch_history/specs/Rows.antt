@@ -1,58 +1,37 @@
--- The rows that a history gives, and what calls are answered by them.
-use Rattle.std.specs.Prelude.{ℕ, ◌≡◌, ◌≤◌, ◌+◌, ◌==◌, ◌&&◌, Bool, true, false, nat_lt, Option, Some, None, is_some, Result, Ok, Err, List, [], ◌∷◌, ◌++◌, length, map, find, reverse, if◌then◌else◌}
+-- What a history says: a row for each job instance, job execution and work item, and the checkpoint of each step.
 use Rattle.std.specs.Option.{option_map}
-use Rattle.std.specs.List.{list_any}
-use Rattle.batch_ids.specs.Statuses.{is_unfinished}
-use Rattle.batch_ids.specs.declared.status.BatchStatus.{BatchStatus}
-use Rattle.batch_ids.specs.declared.status.BatchStatus.TheVariants.{Starting, Started, Stopping, Stopped as IsStopped, Failed as IsFailed, Completed as IsCompleted, Abandoned}
-use Rattle.batch_ids.specs.declared.refusal.Refusal.{Refusal}
-use Rattle.batch_ids.specs.declared.refusal.Refusal.TheVariants.{JobStartException, NoSuchJobExecutionException, JobExecutionNotRunningException, JobExecutionIsRunningException, NoSuchWork, WorkNotRunning, NotClaimer, NotStopping, WrongOutcome, RepositoryFull}
-use Rattle.batch_ids.specs.declared.status.WorkOutcome.{WorkOutcome}
-use Rattle.batch_ids.specs.declared.status.WorkOutcome.TheVariants.{Completed, Failed, Stopped}
-use Rattle.jsl_model.specs.Jobs.{JobTree}
-use Rattle.jsl_model.specs.declared.element.Task.{Task}
-use Rattle.jsl_model.specs.declared.element.Task.TheVariants.{Batchlet, Chunk}
-use Rattle.job_walk.specs.declared.facts.Value.{Value}
-use Rattle.job_walk.specs.declared.facts.Value.TheVariants.{Open, Done as IsDone, Ended}
-use Rattle.job_walk.specs.declared.runnable.Runnable.{Runnable}
-use Rattle.job_walk.specs.declared.runnable.Runnable.TheVariants.{Step as RunsStep, Decision as RunsDecision}
-use Rattle.job_walk.specs.Runnables.{all_leaves, runnable_in}
-use Rattle.batch_history.specs.declared.call.Call.{Call}
-use Rattle.batch_history.specs.declared.call.Call.TheVariants.{Start, Restart, Stop, Abandon, Claim, Checkpoint, Finish}
-use Rattle.batch_history.specs.declared.call.Reply.{Reply}
-use Rattle.batch_history.specs.declared.call.Reply.TheVariants.{Execution as IsExecution, Work, Closed, Nothing, Done, Go, StopAsked}
-use Rattle.batch_history.specs.declared.call.WorkItem.{WorkItem}
-use Rattle.batch_history.specs.declared.call.WorkTask.{WorkTask}
-use Rattle.batch_history.specs.declared.call.WorkTask.TheVariants.{Batchlet as BatchletTask, Chunk as ChunkTask, Decision as DecisionTask}
-use Rattle.batch_history.specs.declared.call.WorkKind.{WorkKind}
-use Rattle.batch_history.specs.declared.call.WorkKind.TheVariants.{Batchlet as BatchletKind, Chunk as ChunkKind, Decision as DecisionKind}
+use Rattle.std.specs.Prelude.{ℕ, ◌+◌, Bool, Option, List, [], ◌∷◌, length, reverse, zero, suc, filter_map}
+use Rattle.batch_history.specs.Checkpoints.{InstanceStep, checkpoint_of}
+use Rattle.batch_history.specs.Executions.{job_instances, job_execution_count, Origin, origin_of, Made, made_as}
+use Rattle.batch_history.specs.Moments.{start_moment, end_moment, updated_moment}
+use Rattle.batch_history.specs.Statuses.{stop_requested, is_abandoned, batch_status, exit_status}
+use Rattle.batch_history.specs.Walks.{walk_of_execution}
+use Rattle.batch_history.specs.Works.{work_items}
 use Rattle.batch_history.specs.declared.call.Entry.{Entry}
 use Rattle.batch_history.specs.declared.rows.ExecutionRow.{ExecutionRow}
-use Rattle.batch_history.specs.declared.rows.WorkRow.{WorkRow}
-use Rattle.batch_history.specs.declared.rows.WorkState.{WorkState}
-use Rattle.batch_history.specs.declared.rows.WorkState.TheVariants.{Busy, Over}
 use Rattle.batch_history.specs.declared.rows.JobInstance.{JobInstance}
-use Rattle.batch_history.specs.declared.rows.CheckpointRow.{CheckpointRow}
-use Rattle.batch_history.specs.History.{Made, made, instances_of, works_of, checkpoints_of, is_work, job_named, mark_at, walk_value, start_of, stop_of, abandoned_of, updated_of, end_of, value_after, status_from, exit_from, is_finished}
-use Rattle.batch_history.specs.Replies.{is_nothing}
+use Rattle.batch_history.specs.declared.rows.WorkRow.{WorkRow}
+use Rattle.job_walk.specs.declared.facts.Value.{Value}
+use Rattle.jsl_model.specs.Jobs.{JobTree}
 
 -- a history: a catalogue, and the operations that were accepted over it, in the order of their acceptance
 pub record History : Type 0 where
   pub catalogue : List JobTree
   pub log : List Entry
 
--- what a repository has: a catalogue, how many operations were accepted, a row for each job instance, job execution and
--- work item, by rising number, and one for each step of a job instance that has a checkpoint
+-- what a history says: its catalogue, how many operations were accepted, a row for each job instance, job execution and
+-- work item, by rising number, and the checkpoint of each step of a job instance
 pub record Rows : Type 0 where
   pub catalogue : List JobTree
   pub count : ℕ
   pub instances : List JobInstance
   pub executions : List ExecutionRow
   pub works : List WorkRow
-  pub checkpoints : List CheckpointRow
+  pub checkpoint : InstanceStep → Option (List ℕ)
 
-abbrev pub row_with : Made → Bool → Bool → Option ℕ → Value → Option ℕ → ℕ → ExecutionRow
-row_with m stop abandoned start value end updated =
+-- the row of a job execution, with what is kept of its stop, abandonment and moments, and the value of its walk
+abbrev pub execution_row_with : Made → Bool → Bool → Option ℕ → Value → Option ℕ → ℕ → ExecutionRow
+execution_row_with m stop abandoned start value end updated =
     record {
       execution = m.execution;
       instance = m.instance;
@@ -60,213 +39,45 @@ row_with m stop abandoned start value end updated =
       parameters = m.parameters;
       stop = stop;
       abandoned = abandoned;
-      bare = status_from stop start value;
+      bare = batch_status stop start value;
       create = m.create;
       start = start;
       end = end;
-      exit = exit_from stop start value;
+      exit = exit_status stop start value;
       updated = updated;
     }
 
--- the row of a job execution after a past
-abbrev pub execution_row : List JobTree → List Entry → Made → ExecutionRow
-execution_row catalogue past m =
-    row_with m (stop_of past m.execution) (abandoned_of past m.execution) (start_of past m.execution)
-    (value_after catalogue past m) (end_of catalogue past m) (updated_of past m.execution)
+-- the row of job execution x, by where it comes from
+abbrev pub row_of_origin : List JobTree → List Entry → ℕ → Origin → ExecutionRow
+row_of_origin catalogue past x o =
+    execution_row_with (made_as x o) (stop_requested past x) (is_abandoned past x) (start_moment past x) (walk_of_execution catalogue past x)
+    (end_moment catalogue past x) (updated_moment past x)
 
-abbrev pub rows_of : List JobTree → List Entry → Rows
-rows_of catalogue past =
+-- the row of job execution x, if there is one
+abbrev pub job_execution : List JobTree → List Entry → ℕ → Option ExecutionRow
+job_execution catalogue past x = option_map (row_of_origin catalogue past x) (origin_of past x)
+
+-- so many numbers, from this one on
+abbrev pub numbers_from : ℕ → ℕ → List ℕ
+numbers_from x zero = []
+numbers_from x (suc n) = x ∷ numbers_from (x + 1) n
+
+-- the job executions, in order
+abbrev pub job_executions : List JobTree → List Entry → List ExecutionRow
+job_executions catalogue past = filter_map (job_execution catalogue past) (numbers_from 1 (job_execution_count past))
+
+-- the rows of a past, each found by searches
+abbrev pub rows_of_past : List JobTree → List Entry → Rows
+rows_of_past catalogue past =
     record {
       catalogue = catalogue;
       count = length past;
-      instances = instances_of past;
-      executions = map (execution_row catalogue past) (made past);
-      works = works_of past;
-      checkpoints = checkpoints_of past;
+      instances = job_instances past;
+      executions = job_executions catalogue past;
+      works = work_items past;
+      checkpoint = checkpoint_of past;
     }
 
 -- the rows of a history
 abbrev pub rows : History → Rows
-rows h = rows_of h.catalogue (reverse h.log)
-
--- ---- Replies
-
-abbrev pub first_ready : Value → Option (List ℕ)
-first_ready (Open (id ∷ ready) busy) = Some id
-first_ready (Open [] busy) = None
-first_ready (IsDone exit) = None
-first_ready (Ended status exit point) = None
-
-abbrev pub is_execution : ℕ → ExecutionRow → Bool
-is_execution x row = row.execution == x
-
--- the status of a job execution: ABANDONED once it was abandoned
-abbrev pub row_status : ExecutionRow → BatchStatus
-row_status row = if row.abandoned then Abandoned else row.bare
-
-abbrev pub walk_in : Rows → ExecutionRow → Value
-walk_in r row = walk_value r.catalogue r.works row.execution row.job
-
--- whether there is something to do, by status and walk: it is STARTING, or STARTED with a ready element
-abbrev pub has_by : BatchStatus → Value → Bool
-has_by Starting value = true
-has_by Started value = is_some (first_ready value)
-has_by Stopping value = false
-has_by IsStopped value = false
-has_by IsFailed value = false
-has_by IsCompleted value = false
-has_by Abandoned value = false
-
-abbrev pub has_something : Rows → ExecutionRow → Bool
-has_something r row = has_by (row_status row) (walk_in r row)
-
--- a reply that is entered, or the refusal where the history is full
-abbrev pub entered : ℕ → ℕ → Reply → Result Reply Refusal
-entered limit count reply = if nat_lt count limit then Ok reply else Err RepositoryFull
-
--- what a worker is to run, a chunk from this checkpoint on
-abbrev pub task_of : Option (List ℕ) → Option Runnable → WorkTask
-task_of mark (Some (RunsStep (Batchlet artifact))) = BatchletTask artifact
-task_of mark (Some (RunsStep (Chunk reader processor writer count))) = ChunkTask reader processor writer count mark
-task_of mark (Some (RunsDecision artifact)) = DecisionTask artifact
-task_of mark None = DecisionTask []
-
--- what is run for an element of a job
-abbrev pub runs_in : Option JobTree → List ℕ → Option Runnable
-runs_in None id = None
-runs_in (Some job) id = runnable_in (all_leaves job.elements) id
-
--- the work item of an element of a job execution
-abbrev pub item_of : Rows → ExecutionRow → List ℕ → WorkItem
-item_of r row id =
-    record {
-      work = length r.works + 1;
-      execution = row.execution;
-      element = id;
-      task = task_of (mark_at r.checkpoints record { instance = row.instance; step = id }) (runs_in (job_named r.catalogue row.job) id);
-    }
-
--- a claim of a job execution hands out its first ready element, or closes it where it has none
-abbrev pub claim_reply : Rows → ExecutionRow → Option (List ℕ) → Reply
-claim_reply r row (Some id) = Work (item_of r row id)
-claim_reply r row None = Closed row.execution
-
-abbrev pub claimed : ℕ → Rows → Option ExecutionRow → Result Reply Refusal
-claimed limit r None = Ok Nothing
-claimed limit r (Some row) = entered limit r.count (claim_reply r row (first_ready (walk_in r row)))
-
--- a stop is accepted while the job execution is unfinished
-abbrev pub stopped : ℕ → ℕ → Option ExecutionRow → Result Reply Refusal
-stopped limit count None = Err NoSuchJobExecutionException
-stopped limit count (Some row) =
-    if is_finished (row_status row) then Err JobExecutionNotRunningException else entered limit count Done
-
--- whether a job execution of this job instance is unfinished
-abbrev pub is_running_in : ℕ → ExecutionRow → Bool
-is_running_in i row = row.instance == i && is_unfinished (row_status row)
-
--- an abandonment is accepted once no job execution of the job instance is unfinished
-abbrev pub abandoned : ℕ → Rows → Option ExecutionRow → Result Reply Refusal
-abandoned limit r None = Err NoSuchJobExecutionException
-abandoned limit r (Some row) =
-    if list_any (is_running_in row.instance) r.executions then Err JobExecutionIsRunningException else entered limit r.count Done
-
--- whether a job execution was asked to stop
-abbrev pub has_stop : Option ExecutionRow → Bool
-has_stop None = false
-has_stop (Some row) = row.stop
-
-abbrev pub stop_asked : Rows → ℕ → Bool
-stop_asked r x = has_stop (find (is_execution x) r.executions)
-
--- why a session may not report of a work item: it must be busy, and the session's own
-abbrev pub unheld_by : ℕ → ℕ → WorkState → Option Refusal
-unheld_by who claimer (Over outcome exit) = Some WorkNotRunning
-unheld_by who claimer Busy = if claimer == who then None else Some NotClaimer
-
--- the refusal, or else the reply
-abbrev pub unless : Option Refusal → Result Reply Refusal → Result Reply Refusal
-unless None reply = reply
-unless (Some refusal) reply = Err refusal
-
--- a checkpoint of a chunk is kept, and its worker is told whether a stop was asked for
-abbrev pub going : Bool → Reply
-going true = StopAsked
-going false = Go
-
-abbrev pub marked_as : ℕ → ℕ → Bool → WorkKind → Result Reply Refusal
-marked_as limit count stop ChunkKind = entered limit count (going stop)
-marked_as limit count stop BatchletKind = Err WrongOutcome
-marked_as limit count stop DecisionKind = Err WrongOutcome
-
-abbrev pub checkpointed : ℕ → Rows → ℕ → Option WorkRow → Result Reply Refusal
-checkpointed limit r who None = Err NoSuchWork
-checkpointed limit r who (Some row) =
-    unless (unheld_by who row.claimer row.state) (marked_as limit r.count (stop_asked r row.execution) row.kind)
-
--- a step is STOPPED where a stop of its job execution was accepted
-abbrev pub stopped_as : ℕ → ℕ → Bool → Result Reply Refusal
-stopped_as limit count true = entered limit count Done
-stopped_as limit count false = Err NotStopping
-
--- a decision is never STOPPED
-abbrev pub stopped_end : ℕ → ℕ → Bool → WorkKind → Result Reply Refusal
-stopped_end limit count stop DecisionKind = Err WrongOutcome
-stopped_end limit count stop BatchletKind = stopped_as limit count stop
-stopped_end limit count stop ChunkKind = stopped_as limit count stop
-
--- the end of a work item by the session that claimed it
-abbrev pub finished_as : ℕ → ℕ → Bool → WorkKind → WorkOutcome → Result Reply Refusal
-finished_as limit count stop kind Stopped = stopped_end limit count stop kind
-finished_as limit count stop kind Completed = entered limit count Done
-finished_as limit count stop kind Failed = entered limit count Done
-
-abbrev pub finished : ℕ → Rows → ℕ → WorkOutcome → Option WorkRow → Result Reply Refusal
-finished limit r who outcome None = Err NoSuchWork
-finished limit r who outcome (Some row) =
-    unless (unheld_by who row.claimer row.state) (finished_as limit r.count (stop_asked r row.execution) row.kind outcome)
-
--- what a call is answered by these rows
-abbrev pub reply_by : ℕ → Rows → ℕ → Call → Result Reply Refusal
-reply_by limit r who (Start job parameters) =
-    if is_some (job_named r.catalogue job) then entered limit r.count (IsExecution (length r.executions + 1)) else Err JobStartException
-reply_by limit r who (Restart x parameters) =
-    if is_some (find (is_execution x) r.executions)
-    then entered limit r.count (IsExecution (length r.executions + 1))
-    else Err NoSuchJobExecutionException
-reply_by limit r who (Stop x) = stopped limit r.count (find (is_execution x) r.executions)
-reply_by limit r who (Abandon x) = abandoned limit r (find (is_execution x) r.executions)
-reply_by limit r who Claim = claimed limit r (find (has_something r) r.executions)
-reply_by limit r who (Checkpoint w mark step) = checkpointed limit r who (find (is_work w) r.works)
-reply_by limit r who (Finish w outcome exit step) = finished limit r who outcome (find (is_work w) r.works)
-
--- THE REPLY: what a call is answered after a history
-abbrev pub reply : ℕ → History → ℕ → Call → Result Reply Refusal
-reply limit h who call = reply_by limit (rows h) who call
-
--- ---- Histories
-
--- a history and one operation more
-abbrev pub grown : History → Entry → History
-grown h e = record { catalogue = h.catalogue; log = h.log ++ e ∷ [] }
-
--- the history after a call with this reply: Nothing is not entered
-abbrev pub after_call : History → ℕ → Call → ℕ → Reply → History
-after_call h who call at reply =
-    if is_nothing reply then h else grown h record { who = who; call = call; at = at; reply = reply }
-
--- a legal history has at most so many entries, and each has the reply that its call was due after those before it
-pub record IsLegal (limit : ℕ) (h : History) : Type 0 where
-  pub within : length h.log ≤ limit
-  pub due : (before : List Entry) (e : Entry) (after : List Entry) → h.log ≡ before ++ e ∷ after
-      → (reply limit record { catalogue = h.catalogue; log = before } e.who e.call ≡ Ok e.reply) × (is_nothing e.reply ≡ false)
-
--- a repository stands for a history if its rows are those of the history
-abbrev pub StandsFor : Rows → History → Type 0
-StandsFor r h = r ≡ rows h
-
--- an entry is the next operation after these rows: some legal history that they stand for is legal with it too
-pub record IsNext (limit : ℕ) (r : Rows) (e : Entry) : Type 0 where
-  pub history : History
-  pub stands : StandsFor r history
-  pub legal : IsLegal limit (grown history e)
+rows h = rows_of_past h.catalogue (reverse h.log)

@@ -1,6 +1,6 @@
 ghost use Rattle.std.specs.Prelude.{◌≡◌, IfOk};
-ghost use Rattle.batch_history.specs.History.{kind_of};
 ghost use Rattle.batch_history.specs.Replies.{is_nothing};
+ghost use Rattle.batch_history.specs.Works.{work_kind};
 
 use batch_ids::{
     ExecutionId, MetricStep, Moment, OutOfMemory, Parameters, T256, Text, WorkId, WorkOutcome,
@@ -218,7 +218,7 @@ fn finish_copy(
 impl WorkTask {
     /// What kind of work it is.
     pub fn kind(&self) -> WorkKind
-        ensures { result ≡ kind_of self.now }
+        ensures { result ≡ work_kind self.now }
     {
         match self {
             WorkTask::Batchlet { .. } => WorkKind::Batchlet,

@@ -8,6 +8,6 @@ mod query;
 mod rows;
 
 pub use call::{Call, Entry, Reply, WorkItem, WorkKind, WorkTask};
-pub use law::{legal_histories_grow, one_operation_more};
+pub use law::legal_histories_grow;
 pub use query::{Answer, CountsByStatus, JobExecution, Query, StepExecution};
 pub use rows::{CheckpointRow, ExecutionRow, JobInstance, WorkRow, WorkState};

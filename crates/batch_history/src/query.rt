@@ -1,5 +1,5 @@
 ghost use Rattle.std.specs.Prelude.{◌≡◌, ◌+◌, ◌<◌, ◌^◌};
-ghost use Rattle.batch_history.specs.Answers.{no_counts, counted, total};
+ghost use Rattle.batch_history.specs.Answers.{no_counts, with_one_more, total};
 
 use crate::rows::JobInstance;
 use batch_ids::{
@@ -168,7 +168,7 @@ impl CountsByStatus {
     /// counted.
     pub fn add(&mut self, status: BatchStatus)
         requires { total self.old + 1 < 2 ^ 64 }
-        ensures { self.new ≡ counted status self.old }
+        ensures { self.new ≡ with_one_more status self.old }
     {
         match status {
             BatchStatus::Starting => self.starting += 1,

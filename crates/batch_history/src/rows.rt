@@ -1,6 +1,6 @@
 ghost use Rattle.std.specs.Prelude.{◌≡◌, IfOk};
 ghost use Rattle.batch_history.specs.Answers.{record_of, step_execution, shown_step, state_status};
-ghost use Rattle.batch_history.specs.Rows.{row_status};
+ghost use Rattle.batch_history.specs.Replies.{row_status};
 
 use crate::call::WorkKind;
 use crate::query::{JobExecution, StepExecution};

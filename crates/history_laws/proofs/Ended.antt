@@ -14,8 +14,16 @@ use Rattle.batch_history.specs.declared.call.Reply.{Reply}
 use Rattle.batch_history.specs.declared.call.Entry.{Entry}
 use Rattle.batch_history.specs.declared.rows.ExecutionRow.{ExecutionRow}
 use Rattle.batch_history.specs.declared.rows.WorkRow.{WorkRow}
-use Rattle.batch_history.specs.History.{Made, made, makes, is_made, is_at, is_work, works_of, taken, taken_by, asked, touched, earliest, start_of, stop_of, abandoned_of, updated_of, end_of, known_of, job_named, walk_of, value_after, bare_of, status_from, is_finished, owner_of}
-use Rattle.batch_history.specs.Rows.{Rows, rows_of, row_status, first_ready, walk_in, has_by, has_something, claim_reply, is_execution, execution_row}
+use Rattle.batch_history.proofs.Folds.{made, makes, is_made, works_of, start_of, stop_of, abandoned_of, updated_of, end_of, value_after, bare_of, folded_rows, execution_row}
+use Rattle.batch_history.specs.Executions.{Made}
+use Rattle.batch_history.specs.Lists.{is_at}
+use Rattle.batch_history.specs.Moments.{first_moment}
+use Rattle.batch_history.specs.Operations.{taken_up, taken_up_by, stop_request}
+use Rattle.batch_history.specs.Replies.{row_status, first_ready, walk_in_rows, has_something_by, has_something, claim_reply, is_execution}
+use Rattle.batch_history.specs.Rows.{Rows}
+use Rattle.batch_history.specs.Statuses.{batch_status, is_finished}
+use Rattle.batch_history.specs.Walks.{known_elements, job_named, walk_of}
+use Rattle.batch_history.specs.Works.{is_work, execution_of_operation, execution_of_work}
 use Rattle.batch_history.proofs.Stepping.{known-same, begun-by, named-by, ended-by, same_row, same_status, settled, earliest-false, taken-touched, asked-touched}
 use Rattle.history_laws.specs.Laws.{IsAsBefore}
 use Rattle.history_laws.proofs.Walks.{busy_sight, seen}
@@ -28,25 +36,25 @@ use Rattle.history_laws.proofs.Kept.{IsHeld, IsKept, kept}
 
 -- the row as it was, where the operation neither asks it to stop, nor takes it up, nor is known by its walk
 row-kept : (catalogue : List JobTree) (past : List Entry) (e : Entry) (m : Made) → makes (length (made past)) m.execution e.call ≡ false
-    → is_at m.execution (asked e.call) ≡ false → is_at m.execution (taken e.call e.reply) ≡ false
-    → known_of m.execution (works_of (e ∷ past)) ≡ known_of m.execution (works_of past)
+    → is_at m.execution (stop_request e.call) ≡ false → is_at m.execution (taken_up e.call e.reply) ≡ false
+    → known_elements m.execution (works_of (e ∷ past)) ≡ known_elements m.execution (works_of past)
     → IsAsBefore (execution_row catalogue past m) (execution_row catalogue (e ∷ past) m)
 row-kept catalogue past e m made_no not_asked not_taken known =
     let x : ℕ = m.execution in
     let p : stop_of (e ∷ past) x ≡ stop_of past x =
-    named-by asked past e x made_no ∙ (ap (λ b. stop_of past x || b) not_asked ∙ or-false (stop_of past x)) in
+    named-by stop_request past e x made_no ∙ (ap (λ b. stop_of past x || b) not_asked ∙ or-false (stop_of past x)) in
     let s : start_of (e ∷ past) x ≡ start_of past x =
-    begun-by past e x made_no ∙ (ap (λ b. earliest (start_of past x) b e.at) not_taken ∙ earliest-false (start_of past x) e.at) in
+    begun-by past e x made_no ∙ (ap (λ b. first_moment (start_of past x) b e.at) not_taken ∙ earliest-false (start_of past x) e.at) in
     let v : value_after catalogue (e ∷ past) m ≡ value_after catalogue past m = ap (λ k. walk_of k (job_named catalogue m.job)) known in
     let n : end_of catalogue (e ∷ past) m ≡ end_of catalogue past m =
     ended-by catalogue past e m made_no
-    ∙ (ap (λ b. earliest (end_of catalogue past m) (is_finished b) e.at) (same_status _ _ _ _ _ _ p s v) ∙ settled catalogue past m e.at) in
+    ∙ (ap (λ b. first_moment (end_of catalogue past m) (is_finished b) e.at) (same_status _ _ _ _ _ _ p s v) ∙ settled catalogue past m e.at) in
     same_row m _ _ (abandoned_of (e ∷ past) x) _ _ _ _ _ _ _ (updated_of (e ∷ past) x) _ p refl s v n refl
 
 -- ---- An operation that is on it
 
 -- a walk that shows something busy, of a job execution that was taken up, is not over
-pub busy-unfinished : (id : List ℕ) (stop : Bool) (start : Option ℕ) (v : Value) → seen busy_sight id v ≡ true → is_some start ≡ true → is_finished (status_from stop start v) ≡ false
+pub busy-unfinished : (id : List ℕ) (stop : Bool) (start : Option ℕ) (v : Value) → seen busy_sight id v ≡ true → is_some start ≡ true → is_finished (batch_status stop start v) ≡ false
 busy-unfinished id stop None v shown begun = cc
 busy-unfinished id false (Some t) (Open ready busy) shown begun = refl
 busy-unfinished id true (Some t) (Open ready []) shown begun = cc
@@ -56,7 +64,7 @@ busy-unfinished id stop (Some t) (Ended status exit point) shown begun = cc
 
 -- the job execution of a busy work item is not over
 owner-unfinished : (catalogue : List JobTree) (past : List Entry) (w : ℕ) (m : Made) → IsKept catalogue past → ToldReport (works_of past) w
-    → find (is_made m.execution) (made past) ≡ Some m → is_at m.execution (owner_of (works_of past) w) ≡ true → is_finished (bare_of catalogue past m) ≡ false
+    → find (is_made m.execution) (made past) ≡ Some m → is_at m.execution (execution_of_work (works_of past) w) ≡ true → is_finished (bare_of catalogue past m) ≡ false
 owner-unfinished catalogue past w m k told found on =
     let c : WorkRow = told.row in
     let held : IsHeld catalogue past c = each-found (IsHeld catalogue past) (is_work w) (works_of past) c k.held told.found in
@@ -68,7 +76,7 @@ owner-unfinished catalogue past w m k told found on =
     busy-unfinished c.element (stop_of past m.execution) (start_of past m.execution) (value_after catalogue past m) shown begun
 
 -- a job execution with something to do is not over
-has-unfinished : (abandoned : Bool) (bare : BatchStatus) (v : Value) → has_by (cond abandoned Abandoned bare) v ≡ true → is_finished bare ≡ false
+has-unfinished : (abandoned : Bool) (bare : BatchStatus) (v : Value) → has_something_by (cond abandoned Abandoned bare) v ≡ true → is_finished bare ≡ false
 has-unfinished true bare v h = cc
 has-unfinished false Starting v h = refl
 has-unfinished false Started v h = refl
@@ -78,19 +86,19 @@ has-unfinished false Failed v h = cc
 has-unfinished false Completed v h = cc
 has-unfinished false Abandoned v h = cc
 
-claimed-execution : (r : Rows) (row : ExecutionRow) (ready : Option (List ℕ)) → taken_by (claim_reply r row ready) ≡ Some row.execution
+claimed-execution : (r : Rows) (row : ExecutionRow) (ready : Option (List ℕ)) → taken_up_by (claim_reply r row ready) ≡ Some row.execution
 claimed-execution r row None = refl
 claimed-execution r row (Some id) = refl
 
 -- the job execution of a claim is not over
-claim-unfinished : (catalogue : List JobTree) (past : List Entry) (m : Made) (reply : Reply) → ToldClaim (rows_of catalogue past) reply
-    → find (is_made m.execution) (made past) ≡ Some m → is_at m.execution (taken_by reply) ≡ true → is_finished (bare_of catalogue past m) ≡ false
+claim-unfinished : (catalogue : List JobTree) (past : List Entry) (m : Made) (reply : Reply) → ToldClaim (folded_rows catalogue past) reply
+    → find (is_made m.execution) (made past) ≡ Some m → is_at m.execution (taken_up_by reply) ≡ true → is_finished (bare_of catalogue past m) ≡ false
 claim-unfinished catalogue past m reply told found on =
-    let r : Rows = rows_of catalogue past in
+    let r : Rows = folded_rows catalogue past in
     let from : IsRowOf catalogue past told.row = row-of catalogue past (has_something r) told.row told.found in
     let n : Made = from.one in
-    let whom : taken_by reply ≡ Some n.execution =
-    ap taken_by told.answered ∙ (claimed-execution r told.row (first_ready (walk_in r told.row)) ∙ ap (λ (row : ExecutionRow). Some row.execution) from.is_row) in
+    let whom : taken_up_by reply ≡ Some n.execution =
+    ap taken_up_by told.answered ∙ (claimed-execution r told.row (first_ready (walk_in_rows r told.row)) ∙ ap (λ (row : ExecutionRow). Some row.execution) from.is_row) in
     let here : (n.execution == m.execution) ≡ true = sym (ap (is_at m.execution) whom) ∙ on in
     let same : n.execution ≡ m.execution = eqb-true n.execution m.execution here in
     let one : n ≡ m = let both : Some n ≡ Some m = sym from.found ∙ (ap (λ x. find (is_made x) (made past)) same ∙ found) in cc in
@@ -103,10 +111,10 @@ finished-status true bare h = refl
 finished-status false bare h = h
 
 -- a job execution that is stopped is not over
-stop-unfinished : (catalogue : List JobTree) (past : List Entry) (m : Made) (y : ℕ) → ToldStop (rows_of catalogue past) y
+stop-unfinished : (catalogue : List JobTree) (past : List Entry) (m : Made) (y : ℕ) → ToldStop (folded_rows catalogue past) y
     → find (is_made m.execution) (made past) ≡ Some m → (y == m.execution) ≡ true → is_finished (bare_of catalogue past m) ≢ true
 stop-unfinished catalogue past m y told found on over =
-    let r : Rows = rows_of catalogue past in
+    let r : Rows = folded_rows catalogue past in
     let from : IsRowOf catalogue past told.row = row-of catalogue past (is_execution y) told.row told.found in
     let n : Made = from.one in
     let number : told.row.execution ≡ y = eqb-true told.row.execution y (found-passes (is_execution y) r.executions told.row told.found) in
@@ -121,7 +129,7 @@ stop-unfinished catalogue past m y told found on over =
 
 -- an operation that is not on it
 away : (catalogue : List JobTree) (past : List Entry) (e : Entry) (m : Made) → makes (length (made past)) m.execution e.call ≡ false
-    → is_at m.execution (touched (works_of past) e.call e.reply) ≡ false → IsAsBefore (execution_row catalogue past m) (execution_row catalogue (e ∷ past) m)
+    → is_at m.execution (execution_of_operation (works_of past) e.call e.reply) ≡ false → IsAsBefore (execution_row catalogue past m) (execution_row catalogue (e ∷ past) m)
 away catalogue past e m made_no off =
     row-kept catalogue past e m made_no (asked-touched m.execution e.call e.reply (works_of past) off) (taken-touched m.execution e.call e.reply (works_of past) off)
     (known-same m.execution e.who e.at e.call e.reply (works_of past) off)
@@ -151,20 +159,20 @@ finished-call limit catalogue past who at (Restart y parameters) reply m due k f
     away catalogue past (entry who at (Restart y parameters) reply) m (made-once past m.execution m (Restart y parameters) found) refl
 finished-call limit catalogue past who at (Stop y) reply m due k found over =
     on-it (y == m.execution)
-    (λ on. absurd (stop-unfinished catalogue past m y (stop-told limit (rows_of catalogue past) y reply due.0) found on over))
+    (λ on. absurd (stop-unfinished catalogue past m y (stop-told limit (folded_rows catalogue past) y reply due.0) found on over))
     (λ off. away catalogue past (entry who at (Stop y) reply) m refl (is-other m.execution y off))
 finished-call limit catalogue past who at (Abandon y) reply m due k found over = row-kept catalogue past (entry who at (Abandon y) reply) m refl refl refl refl
 finished-call limit catalogue past who at Claim reply m due k found over =
-    on-it (is_at m.execution (taken_by reply))
-    (λ on. absurd (not-both (bare_of catalogue past m) over (claim-unfinished catalogue past m reply (claim-told limit (rows_of catalogue past) reply due.0 due.1) found on)))
+    on-it (is_at m.execution (taken_up_by reply))
+    (λ on. absurd (not-both (bare_of catalogue past m) over (claim-unfinished catalogue past m reply (claim-told limit (folded_rows catalogue past) reply due.0 due.1) found on)))
     (λ off. away catalogue past (entry who at Claim reply) m refl off)
 finished-call limit catalogue past who at (Checkpoint w mark step) reply m due k found over =
-    on-it (is_at m.execution (owner_of (works_of past) w))
-    (λ on. absurd (not-both (bare_of catalogue past m) over (owner-unfinished catalogue past w m k (checkpoint-told limit (rows_of catalogue past) who w reply due.0) found on)))
+    on-it (is_at m.execution (execution_of_work (works_of past) w))
+    (λ on. absurd (not-both (bare_of catalogue past m) over (owner-unfinished catalogue past w m k (checkpoint-told limit (folded_rows catalogue past) who w reply due.0) found on)))
     (λ off. away catalogue past (entry who at (Checkpoint w mark step) reply) m refl off)
 finished-call limit catalogue past who at (Finish w o t step) reply m due k found over =
-    on-it (is_at m.execution (owner_of (works_of past) w))
-    (λ on. absurd (not-both (bare_of catalogue past m) over (owner-unfinished catalogue past w m k (finish-told limit (rows_of catalogue past) who w o reply due.0) found on)))
+    on-it (is_at m.execution (execution_of_work (works_of past) w))
+    (λ on. absurd (not-both (bare_of catalogue past m) over (owner-unfinished catalogue past w m k (finish-told limit (folded_rows catalogue past) who w o reply due.0) found on)))
     (λ off. away catalogue past (entry who at (Finish w o t step) reply) m refl off)
 
 -- after one operation more

@@ -20,8 +20,15 @@ use Rattle.batch_history.specs.declared.call.Reply.TheVariants.{Work, Closed}
 use Rattle.batch_history.specs.declared.call.Entry.{Entry}
 use Rattle.batch_history.specs.declared.rows.WorkRow.{WorkRow}
 use Rattle.batch_history.specs.declared.rows.WorkState.TheVariants.{Busy}
-use Rattle.batch_history.specs.History.{Made, made, is_made, is_at, is_work, change_first, reported, over, handed_to, works_of, taken, earliest, start_of, known_of, job_named, walk_of, walk_value, value_after}
-use Rattle.batch_history.specs.Rows.{Rows, rows_of, first_ready, walk_in, has_something, claim_reply, item_of, execution_row}
+use Rattle.batch_history.proofs.Folds.{made, is_made, reported, over, works_of, start_of, value_after, folded_rows, execution_row}
+use Rattle.batch_history.specs.Executions.{Made}
+use Rattle.batch_history.specs.Lists.{is_at, change_first}
+use Rattle.batch_history.specs.Moments.{first_moment}
+use Rattle.batch_history.specs.Operations.{taken_up}
+use Rattle.batch_history.specs.Replies.{first_ready, walk_in_rows, has_something, claim_reply, next_work_item}
+use Rattle.batch_history.specs.Rows.{Rows}
+use Rattle.batch_history.specs.Walks.{known_elements, job_named, walk_of, walk_value}
+use Rattle.batch_history.specs.Works.{is_work, busy_work}
 use Rattle.batch_history.proofs.Stepping.{known-append, known-change, known-reported, begun-by}
 use Rattle.history_laws.proofs.Walks.{Sight, ready_sight, busy_sight, no_sight, seen, GoesOn, Learns, walk-goes, claim-here, claim-away, report-away, worked-unready}
 use Rattle.history_laws.proofs.Works.{Each, each-map, each-append, each-found, each-change, each-report, Apart, AllApart, apart-append, apart-change, known-worked, unknown-away, new-differs, new-fact, busy-fact, over-differs}
@@ -57,15 +64,15 @@ first-seen id (IsDone exit) h = cc
 first-seen id (Ended status exit point) h = cc
 
 -- nothing is known of what is ready
-pub ready-unknown : (x : ℕ) (works : List WorkRow) (job : Option JobTree) (id : List ℕ) → first_ready (walk_of (known_of x works) job) ≡ Some id
-    → fact_of (known_of x works) id ≡ FactNothing
+pub ready-unknown : (x : ℕ) (works : List WorkRow) (job : Option JobTree) (id : List ℕ) → first_ready (walk_of (known_elements x works) job) ≡ Some id
+    → fact_of (known_elements x works) id ≡ FactNothing
 ready-unknown x works job id h =
     elim (known-worked x works id) [
       | inl nothing ↦ nothing
       | inr worked ↦
-          let shown = (walk_of-goes ready_sight no_sight id (known_of x works) (known_of x works) (worked-unready id (fact_of (known_of x works)) worked) job).kept
-          (first-seen id (walk_of (known_of x works) job) h) in
-          let none = none-seen id (walk_of (known_of x works) job) in
+          let shown = (walk_of-goes ready_sight no_sight id (known_elements x works) (known_elements x works) (worked-unready id (fact_of (known_elements x works)) worked) job).kept
+          (first-seen id (walk_of (known_elements x works) job) h) in
+          let none = none-seen id (walk_of (known_elements x works) job) in
           absurd (let no : true ≡ false = sym shown ∙ none in cc)
     ]
 
@@ -81,7 +88,7 @@ pub record IsKept (catalogue : List JobTree) (past : List Entry) : Type 0 where
   pub held : Each (IsHeld catalogue past) (works_of past)
   pub apart : AllApart (works_of past)
 
-begun-earlier : (o : Option ℕ) (b : Bool) (at : ℕ) → is_some o ≡ true → is_some (earliest o b at) ≡ true
+begun-earlier : (o : Option ℕ) (b : Bool) (at : ℕ) → is_some o ≡ true → is_some (first_moment o b at) ≡ true
 begun-earlier (Some t) b at h = refl
 begun-earlier None b at h = cc
 
@@ -95,12 +102,12 @@ held-on catalogue older e row h goes =
       one = h.one;
       found = made-more older e x h.one h.found;
       under_way = λ busy. (goes h.one (made-number x older h.one h.found)).kept (h.under_way busy);
-      begun = ap is_some (begun-by older e x (made-once older x h.one e.call h.found)) ∙ begun-earlier (start_of older x) (is_at x (taken e.call e.reply)) e.at h.begun;
+      begun = ap is_some (begun-by older e x (made-once older x h.one e.call h.found)) ∙ begun-earlier (start_of older x) (is_at x (taken_up e.call e.reply)) e.at h.begun;
     }
 
 -- what is known stays, so does the walk
 known-goes : (catalogue : List JobTree) (older : List Entry) (e : Entry) (m : Made) (id : List ℕ)
-    → known_of m.execution (works_of (e ∷ older)) ≡ known_of m.execution (works_of older)
+    → known_elements m.execution (works_of (e ∷ older)) ≡ known_elements m.execution (works_of older)
     → GoesOn busy_sight busy_sight id (value_after catalogue older m) (value_after catalogue (e ∷ older) m)
 known-goes catalogue older e m id same = rw same (same-goes busy_sight id (value_after catalogue older m))
 
@@ -109,7 +116,7 @@ still-kept : (catalogue : List JobTree) (older : List Entry) (e : Entry) → wor
 still-kept catalogue older e same k =
     record {
       held = rw same (each-map (IsHeld catalogue older) (IsHeld catalogue (e ∷ older)) (works_of older)
-          (λ row h. held-on catalogue older e row h (λ m _. known-goes catalogue older e m row.element (ap (known_of m.execution) same))) k.held);
+          (λ row h. held-on catalogue older e row h (λ m _. known-goes catalogue older e m row.element (ap (known_elements m.execution) same))) k.held);
       apart = rw same k.apart;
     }
 
@@ -148,9 +155,9 @@ over-goes catalogue older w o t step at c m id found apart busy other =
     on-or-off c.execution m.execution
     (λ on.
     let same : c.execution ≡ m.execution = eqb-true c.execution m.execution on in
-    let was : fact_of (known_of m.execution rows) c.element ≡ FactBusy = subst (λ x. fact_of (known_of x rows) c.element ≡ FactBusy) same (busy-fact (is_work w) rows c found apart busy) in
-    walk_of-goes busy_sight busy_sight id (known_of m.execution rows) (known_of m.execution new)
-    (report-away id c.element (fact_of (known_of m.execution rows)) (fact_of (known_of m.execution new)) (over-differs m.execution (is_work w) rows c o t step at found) was (other (sym same)))
+    let was : fact_of (known_elements m.execution rows) c.element ≡ FactBusy = subst (λ x. fact_of (known_elements x rows) c.element ≡ FactBusy) same (busy-fact (is_work w) rows c found apart busy) in
+    walk_of-goes busy_sight busy_sight id (known_elements m.execution rows) (known_elements m.execution new)
+    (report-away id c.element (fact_of (known_elements m.execution rows)) (fact_of (known_elements m.execution new)) (over-differs m.execution (is_work w) rows c o t step at found) was (other (sym same)))
     (job_named catalogue m.job))
     (λ off.
     let is : is_at m.execution (option_map (λ (row : WorkRow). row.execution) (find (is_work w) rows)) ≡ false = rw found off in
@@ -180,42 +187,42 @@ finish-kept catalogue older who at w o t step reply told k =
 -- ---- A claim
 
 new-goes : (catalogue : List JobTree) (works : List WorkRow) (new : WorkRow) (m : Made) (id : List ℕ)
-    → ((new.execution == m.execution) ≡ true → fact_of (known_of m.execution works) new.element ≡ FactNothing)
+    → ((new.execution == m.execution) ≡ true → fact_of (known_elements m.execution works) new.element ≡ FactNothing)
     → GoesOn busy_sight busy_sight id (walk_value catalogue works m.execution m.job) (walk_value catalogue (works ++ new ∷ []) m.execution m.job)
 new-goes catalogue works new m id was =
     on-or-off new.execution m.execution
-    (λ on. walk_of-goes busy_sight busy_sight id (known_of m.execution works) (known_of m.execution (works ++ new ∷ []))
-    (claim-away id new.element (fact_of (known_of m.execution works)) (fact_of (known_of m.execution (works ++ new ∷ []))) (new-differs m.execution works new on) (was on))
+    (λ on. walk_of-goes busy_sight busy_sight id (known_elements m.execution works) (known_elements m.execution (works ++ new ∷ []))
+    (claim-away id new.element (fact_of (known_elements m.execution works)) (fact_of (known_elements m.execution (works ++ new ∷ []))) (new-differs m.execution works new on) (was on))
     (job_named catalogue m.job))
     (λ off. rw (known-append m.execution works new off) (same-goes busy_sight id (walk_value catalogue works m.execution m.job)))
 
-begun-now : (o : Option ℕ) (at : ℕ) → is_some (earliest o true at) ≡ true
+begun-now : (o : Option ℕ) (at : ℕ) → is_some (first_moment o true at) ≡ true
 begun-now (Some t) at = refl
 begun-now None at = refl
 
 work-kept : (catalogue : List JobTree) (older : List Entry) (who at : ℕ) (m : Made) (id : List ℕ)
     → find (is_made m.execution) (made older) ≡ Some m
     → first_ready (value_after catalogue older m) ≡ Some id → IsKept catalogue older
-    → IsKept catalogue (record { who = who; call = Claim; at = at; reply = Work (item_of (rows_of catalogue older) (execution_row catalogue older m) id) } ∷ older)
+    → IsKept catalogue (record { who = who; call = Claim; at = at; reply = Work (next_work_item (folded_rows catalogue older) (execution_row catalogue older m) id) } ∷ older)
 work-kept catalogue older who at m id found ready k =
     let works : List WorkRow = works_of older in
     let x : ℕ = m.execution in
-    let new : WorkRow = handed_to who at (item_of (rows_of catalogue older) (execution_row catalogue older m) id) in
-    let e : Entry = record { who = who; call = Claim; at = at; reply = Work (item_of (rows_of catalogue older) (execution_row catalogue older m) id) } in
-    let was : fact_of (known_of x works) id ≡ FactNothing = ready-unknown x works (job_named catalogue m.job) id ready in
+    let new : WorkRow = busy_work who at (next_work_item (folded_rows catalogue older) (execution_row catalogue older m) id) in
+    let e : Entry = record { who = who; call = Claim; at = at; reply = Work (next_work_item (folded_rows catalogue older) (execution_row catalogue older m) id) } in
+    let was : fact_of (known_elements x works) id ≡ FactNothing = ready-unknown x works (job_named catalogue m.job) id ready in
     let on : (x == x) ≡ true = eq-eqb x x refl in
-    let learns = claim-here id (fact_of (known_of x works)) (fact_of (known_of x (works ++ new ∷ []))) (new-differs x works new on) was (new-fact x works new on was) in
+    let learns = claim-here id (fact_of (known_elements x works)) (fact_of (known_elements x (works ++ new ∷ []))) (new-differs x works new on) was (new-fact x works new on was) in
     record {
       held = each-append (IsHeld catalogue (e ∷ older)) works new
           (each-map (IsHeld catalogue older) (IsHeld catalogue (e ∷ older)) works
           (λ row h. held-on catalogue older e row h (λ n same. new-goes catalogue works new n row.element
-          (λ here. subst (λ y. fact_of (known_of y works) id ≡ FactNothing) (eqb-true x n.execution here) was))) k.held)
+          (λ here. subst (λ y. fact_of (known_elements y works) id ≡ FactNothing) (eqb-true x n.execution here) was))) k.held)
           (record {
             one = m;
             found = found;
-            under_way = λ busy. (walk_of-goes ready_sight busy_sight id (known_of x works) (known_of x (works ++ new ∷ [])) learns (job_named catalogue m.job)).kept
+            under_way = λ busy. (walk_of-goes ready_sight busy_sight id (known_elements x works) (known_elements x (works ++ new ∷ [])) learns (job_named catalogue m.job)).kept
                 (first-seen id (value_after catalogue older m) ready);
-            begun = ap is_some (begun-by older e x refl) ∙ (ap (λ b. is_some (earliest (start_of older x) b at)) on ∙ begun-now (start_of older x) at);
+            begun = ap is_some (begun-by older e x refl) ∙ (ap (λ b. is_some (first_moment (start_of older x) b at)) on ∙ begun-now (start_of older x) at);
           });
       apart = apart-append works new k.apart
           (each-map (λ r. r.execution ≡ x → r.element ≢ id) (λ r. Apart r new) works (λ r h same el. h (sym same) (sym el)) (unknown-away x works id was));
@@ -223,7 +230,7 @@ work-kept catalogue older who at m id found ready k =
 
 claimed-kept : (catalogue : List JobTree) (older : List Entry) (who at : ℕ) (m : Made) (ready : Option (List ℕ)) (reply : Reply)
     → find (is_made m.execution) (made older) ≡ Some m → first_ready (value_after catalogue older m) ≡ ready
-    → reply ≡ claim_reply (rows_of catalogue older) (execution_row catalogue older m) ready → IsKept catalogue older
+    → reply ≡ claim_reply (folded_rows catalogue older) (execution_row catalogue older m) ready → IsKept catalogue older
     → IsKept catalogue (record { who = who; call = Claim; at = at; reply = reply } ∷ older)
 claimed-kept catalogue older who at m None reply found ready is k =
     subst (λ r. IsKept catalogue (record { who = who; call = Claim; at = at; reply = r } ∷ older)) (sym is)
@@ -232,13 +239,13 @@ claimed-kept catalogue older who at m (Some id) reply found ready is k =
     subst (λ r. IsKept catalogue (record { who = who; call = Claim; at = at; reply = r } ∷ older)) (sym is)
     (work-kept catalogue older who at m id found ready k)
 
-claim-kept : (catalogue : List JobTree) (older : List Entry) (who at : ℕ) (reply : Reply) → ToldClaim (rows_of catalogue older) reply → IsKept catalogue older
+claim-kept : (catalogue : List JobTree) (older : List Entry) (who at : ℕ) (reply : Reply) → ToldClaim (folded_rows catalogue older) reply → IsKept catalogue older
     → IsKept catalogue (record { who = who; call = Claim; at = at; reply = reply } ∷ older)
 claim-kept catalogue older who at reply told k =
-    let r : Rows = rows_of catalogue older in
+    let r : Rows = folded_rows catalogue older in
     let from : IsRowOf catalogue older told.row = row-of catalogue older (has_something r) told.row told.found in
     claimed-kept catalogue older who at from.one (first_ready (value_after catalogue older from.one)) reply from.found refl
-    (told.answered ∙ ap (λ row. claim_reply r row (first_ready (walk_in r row))) from.is_row) k
+    (told.answered ∙ ap (λ row. claim_reply r row (first_ready (walk_in_rows r row))) from.is_row) k
 
 -- ---- Every legal history
 
@@ -250,10 +257,10 @@ kept-step limit catalogue older who at (Restart y parameters) reply due k = stil
 kept-step limit catalogue older who at (Stop y) reply due k = still-kept catalogue older _ refl k
 kept-step limit catalogue older who at (Abandon y) reply due k = still-kept catalogue older _ refl k
 kept-step limit catalogue older who at Claim reply due k =
-    claim-kept catalogue older who at reply (claim-told limit (rows_of catalogue older) reply due.0 due.1) k
+    claim-kept catalogue older who at reply (claim-told limit (folded_rows catalogue older) reply due.0 due.1) k
 kept-step limit catalogue older who at (Checkpoint w mark step) reply due k = checkpoint-kept catalogue older who at w mark step reply k
 kept-step limit catalogue older who at (Finish w o t step) reply due k =
-    finish-kept catalogue older who at w o t step reply (finish-told limit (rows_of catalogue older) who w o reply due.0) k
+    finish-kept catalogue older who at w o t step reply (finish-told limit (folded_rows catalogue older) who w o reply due.0) k
 
 pub kept : (limit : ℕ) (catalogue : List JobTree) (past : List Entry) → AllDue limit catalogue past → IsKept catalogue past
 kept limit catalogue [] due = record { held = tt; apart = tt }

@@ -1,7 +1,7 @@
 -- The laws over whole histories.
-use Rattle.std.proofs.Common.{◌≡◌, ◌≢◌, ℕ, ◌+◌, ◌==◌, Bool, true, false, cond, None, Some, is_some, Ok, List, [], ◌∷◌, ◌++◌, length, map, find, reverse, refl, sym, ◌∙◌, ap, subst}
+use Rattle.std.proofs.Common.{◌≡◌, ◌≢◌, ℕ, ◌+◌, ◌==◌, Bool, true, false, cond, None, Some, is_some, Ok, List, [], ◌∷◌, ◌++◌, length, map, find, reverse, refl, sym, ◌∙◌, ap, subst, arith}
 use Rattle.std.specs.Option.{option_map}
-use Rattle.std.proofs.lemmas.List.{append_assoc, reverse-append, reverse-reverse, map-append}
+use Rattle.std.proofs.lemmas.List.{length-append, append_assoc, reverse-append, reverse-reverse, map-append}
 use Rattle.std.proofs.lemmas.Bool.{eqb-true}
 use Rattle.batch_ids.specs.Statuses.{is_unfinished}
 use Rattle.batch_ids.specs.declared.status.BatchStatus.{BatchStatus}
@@ -16,14 +16,22 @@ use Rattle.batch_history.specs.declared.call.WorkItem.{WorkItem}
 use Rattle.batch_history.specs.declared.call.Reply.TheVariants.{Work}
 use Rattle.batch_history.specs.declared.query.Query.TheVariants.{JobNames}
 use Rattle.batch_history.specs.declared.query.Answer.TheVariants.{JobNames as AreNames}
+use Rattle.batch_history.proofs.Folds.{made, is_made, works_of, instances_of, instances_after, stop_of, start_of, abandoned_of, end_of, bare_of, value_after, folded_rows, execution_row}
 use Rattle.batch_history.specs.Answers.{answer}
+use Rattle.batch_history.specs.Executions.{Made}
+use Rattle.batch_history.specs.Legal.{grown, IsLegal}
+use Rattle.batch_history.specs.Replies.{row_status, is_execution, reply, first_ready, walk_in_rows, runnable_of_job, claim_reply, next_work_item}
+use Rattle.batch_history.specs.Rows.{History, Rows, rows}
+use Rattle.batch_history.specs.Statuses.{is_finished}
+use Rattle.batch_history.specs.Walks.{job_named, known_elements}
+use Rattle.batch_history.specs.Works.{is_work}
 use Rattle.batch_history.specs.declared.rows.ExecutionRow.{ExecutionRow}
 use Rattle.batch_history.specs.declared.rows.WorkRow.{WorkRow}
 use Rattle.batch_history.specs.declared.rows.JobInstance.{JobInstance}
-use Rattle.batch_history.specs.History.{Made, made, is_made, is_work, works_of, instances_of, instances_after, stop_of, start_of, abandoned_of, end_of, bare_of, value_after, is_finished, job_named, known_of}
-use Rattle.batch_history.specs.Rows.{History, rows_of, rows, row_status, is_execution, execution_row, reply, grown, first_ready, walk_in, runs_in, claim_reply, item_of, IsLegal}
 use Rattle.history_laws.specs.Laws.{beginning, row_in, IsAsBefore, StaysFinished, EndedAt, BelongsTo, HasInstance, WasReady, with_name}
 use Rattle.batch_history.proofs.Finding.{found-passes}
+use Rattle.batch_history.proofs.Legality.{rows_folded}
+use Rattle.batch_history.proofs.Origins.{instances-law}
 use Rattle.history_laws.proofs.Works.{each-found, Apart, AllApart}
 use Rattle.history_laws.proofs.Told.{AllDue, past-due, IsRowOf, row-of, made-number, made-more, ToldClaim, work-told}
 use Rattle.history_laws.proofs.Walks.{ready_sight}
@@ -31,14 +39,31 @@ use Rattle.history_laws.proofs.Runs.{walk-runs}
 use Rattle.history_laws.proofs.Kept.{IsHeld, IsKept, kept, first-seen}
 use Rattle.history_laws.proofs.Ended.{on-it, busy-unfinished, finished-status, finished-stays, made-after}
 use Rattle.history_laws.proofs.Moments.{abandoned-finished, EndedPast, ended-past, over-ended}
-use Rattle.history_laws.proofs.Owners.{InstanceOf, instances-kept}
+use Rattle.history_laws.proofs.Owners.{InstanceOf, instances-kept, jobs-kept}
 use Rattle.history_laws.proofs.Names.{distinct-more, distinct-once}
+
+-- ---- Rows of a legal history
+
+-- a beginning of a legal history is legal
+legal-beginning : (limit : ℕ) (h : History) → IsLegal limit h → (before after : List Entry) → h.log ≡ before ++ after → IsLegal limit (beginning h before)
+legal-beginning limit h legal before after cut = record {
+  within = omega (arith, legal.within, ap length cut, length-append before after);
+  due = λ b e a is. legal.due b e (a ++ after) (cut ∙ (ap (λ l. l ++ after) is ∙ append_assoc b (e ∷ a) after));
+}
+
+-- the row of a job execution is the one that the fold has
+row-folded : (limit : ℕ) (h : History) → IsLegal limit h → (x : ℕ) → row_in h x ≡ find (is_execution x) (folded_rows h.catalogue (reverse h.log)).executions
+row-folded limit h legal x = ap (λ (r : Rows). find (is_execution x) r.executions) (rows_folded limit h legal)
+
+-- so is that of a work item
+work-folded : (limit : ℕ) (h : History) → IsLegal limit h → (w : ℕ) → find (is_work w) (rows h).works ≡ find (is_work w) (works_of (reverse h.log))
+work-folded limit h legal w = ap (λ (r : Rows). find (is_work w) r.works) (rows_folded limit h legal)
 
 -- ---- Rows of a past
 
 -- the row of a job execution that was made
 row-there : (catalogue : List JobTree) (past : List Entry) (x : ℕ) (m : Made) → find (is_made x) (made past) ≡ Some m
-    → find (is_execution x) (rows_of catalogue past).executions ≡ Some (execution_row catalogue past m)
+    → find (is_execution x) (folded_rows catalogue past).executions ≡ Some (execution_row catalogue past m)
 row-there catalogue past x m found =
     find-map (execution_row catalogue past) (is_execution x) (is_made x) (λ n. refl) (made past) ∙ ap (option_map (execution_row catalogue past)) found
 
@@ -48,10 +73,10 @@ record IsRowAt (catalogue : List JobTree) (past : List Entry) (x : ℕ) (row : E
   found : find (is_made one.execution) (made past) ≡ Some one
   is_row : row ≡ execution_row catalogue past one
 
-row-at : (catalogue : List JobTree) (past : List Entry) (x : ℕ) (row : ExecutionRow) → find (is_execution x) (rows_of catalogue past).executions ≡ Some row → IsRowAt catalogue past x row
+row-at : (catalogue : List JobTree) (past : List Entry) (x : ℕ) (row : ExecutionRow) → find (is_execution x) (folded_rows catalogue past).executions ≡ Some row → IsRowAt catalogue past x row
 row-at catalogue past x row found =
     let from : IsRowOf catalogue past row = row-of catalogue past (is_execution x) row found in
-    let number : row.execution ≡ x = eqb-true row.execution x (found-passes (is_execution x) (rows_of catalogue past).executions row found) in
+    let number : row.execution ≡ x = eqb-true row.execution x (found-passes (is_execution x) (folded_rows catalogue past).executions row found) in
     record {
       one = from.one;
       number = sym (ap (λ (r : ExecutionRow). r.execution) from.is_row) ∙ number;
@@ -72,8 +97,8 @@ over-bare limit catalogue past m due found over =
     open-status (abandoned_of past m.execution) (bare_of catalogue past m) (abandoned-finished limit catalogue past m due found) over
 
 stays-past : (limit : ℕ) (catalogue : List JobTree) (more past whole : List Entry) (x : ℕ) (row : ExecutionRow) → whole ≡ more ++ past → AllDue limit catalogue whole
-    → find (is_execution x) (rows_of catalogue past).executions ≡ Some row → is_finished (row_status row) ≡ true → AllDue limit catalogue past
-    → (after : ExecutionRow) × (find (is_execution x) (rows_of catalogue whole).executions ≡ Some after) × (is_finished (row_status after) ≡ true) × IsAsBefore row after
+    → find (is_execution x) (folded_rows catalogue past).executions ≡ Some row → is_finished (row_status row) ≡ true → AllDue limit catalogue past
+    → (after : ExecutionRow) × (find (is_execution x) (folded_rows catalogue whole).executions ≡ Some after) × (is_finished (row_status after) ≡ true) × IsAsBefore row after
 stays-past limit catalogue more past whole x row is due found over due_past =
     let from : IsRowAt catalogue past x row = row-at catalogue past x row found in
     let m : Made = from.one in
@@ -81,12 +106,12 @@ stays-past limit catalogue more past whole x row is due found over due_past =
     let bare : is_finished (bare_of catalogue past m) ≡ true = over-bare limit catalogue past m due_past from.found over_row in
     let due_more : AllDue limit catalogue (more ++ past) = subst (AllDue limit catalogue) is due in
     let same : IsAsBefore (execution_row catalogue past m) (execution_row catalogue (more ++ past) m) = finished-stays limit catalogue more past m due_more from.found bare in
-    let there : find (is_execution m.execution) (rows_of catalogue (more ++ past)).executions ≡ Some (execution_row catalogue (more ++ past) m) =
+    let there : find (is_execution m.execution) (folded_rows catalogue (more ++ past)).executions ≡ Some (execution_row catalogue (more ++ past) m) =
     row-there catalogue (more ++ past) m.execution m (made-after more past m.execution m from.found) in
     let still : is_finished (bare_of catalogue (more ++ past) m) ≡ true = ap (λ (r : ExecutionRow). is_finished r.bare) same ∙ bare in
     let after : ExecutionRow = execution_row catalogue (more ++ past) m in (
       after,
-      subst (λ l. find (is_execution x) (rows_of catalogue l).executions ≡ Some after) (sym is) (subst (λ n. find (is_execution n) (rows_of catalogue (more ++ past)).executions ≡ Some after) from.number there),
+      subst (λ l. find (is_execution x) (folded_rows catalogue l).executions ≡ Some after) (sym is) (subst (λ n. find (is_execution n) (folded_rows catalogue (more ++ past)).executions ≡ Some after) from.number there),
       finished-status (abandoned_of (more ++ past) m.execution) (bare_of catalogue (more ++ past) m) still,
       subst (λ r. IsAsBefore r after) (sym from.is_row) same,
     )
@@ -101,8 +126,9 @@ finished_stays limit h legal before after cut x row found over =
     let is : reverse h.log ≡ reverse after ++ reverse before = ap reverse cut ∙ reverse-append before after in
     let due : AllDue limit h.catalogue (reverse h.log) = past-due limit h legal in
     let due_past : AllDue limit h.catalogue (reverse before) = due-older limit h.catalogue (reverse after) (reverse before) (subst (AllDue limit h.catalogue) is due) in
-    let stays = stays-past limit h.catalogue (reverse after) (reverse before) (reverse h.log) x row is due found over due_past in
-    record { after = stays.0; found = stays.1; finished = stays.2; same = stays.3 }
+    let begun : IsLegal limit (beginning h before) = legal-beginning limit h legal before after cut in
+    let stays = stays-past limit h.catalogue (reverse after) (reverse before) (reverse h.log) x row is due (sym (row-folded limit (beginning h before) begun x) ∙ found) over due_past in
+    record { after = stays.0; found = row-folded limit h legal x ∙ stays.1; finished = stays.2; same = stays.3 }
 
 -- ---- The end
 
@@ -123,7 +149,7 @@ no-end limit catalogue past m due found unfinished =
 
 -- before the operation that brings the end it is not over
 earlier-open : (catalogue : List JobTree) (older : List Entry) (e : Entry) (x : ℕ) (m : Made) → m.execution ≡ x → find (is_made m.execution) (made (e ∷ older)) ≡ Some m
-    → is_finished (bare_of catalogue older m) ≡ false → (row : ExecutionRow) → find (is_execution x) (rows_of catalogue older).executions ≡ Some row → is_finished row.bare ≡ false
+    → is_finished (bare_of catalogue older m) ≡ false → (row : ExecutionRow) → find (is_execution x) (folded_rows catalogue older).executions ≡ Some row → is_finished row.bare ≡ false
 earlier-open catalogue older e x m number found unfinished row is =
     let from : IsRowAt catalogue older x row = row-at catalogue older x row is in
     let n : Made = from.one in
@@ -136,7 +162,7 @@ earlier-open catalogue older e x m number found unfinished row is =
 pub has_end_where_over : (limit : ℕ) (h : History) → IsLegal limit h → (x : ℕ) (row : ExecutionRow) → row_in h x ≡ Some row → is_some row.end ≡ is_finished row.bare
 has_end_where_over limit h legal x row found =
     let past : List Entry = reverse h.log in
-    let from : IsRowAt h.catalogue past x row = row-at h.catalogue past x row found in
+    let from : IsRowAt h.catalogue past x row = row-at h.catalogue past x row (sym (row-folded limit h legal x) ∙ found) in
     let m : Made = from.one in
     let due : AllDue limit h.catalogue past = past-due limit h legal in
     subst (λ (r : ExecutionRow). is_some r.end ≡ is_finished r.bare) (sym from.is_row)
@@ -145,11 +171,11 @@ has_end_where_over limit h legal x row found =
     (λ unfinished. no-end limit h.catalogue past m due from.found unfinished ∙ sym unfinished))
 
 -- an end is the moment of the operation that brought it
-pub ended_at : (h : History) (x t : ℕ) (row : ExecutionRow) → row_in h x ≡ Some row → row.end ≡ Some t → EndedAt h x t
-ended_at h x t row found ended =
+pub ended_at : (limit : ℕ) (h : History) → IsLegal limit h → (x t : ℕ) (row : ExecutionRow) → row_in h x ≡ Some row → row.end ≡ Some t → EndedAt h x t
+ended_at limit h legal x t row found ended =
     let past : List Entry = reverse h.log in
     let catalogue : List JobTree = h.catalogue in
-    let from : IsRowAt catalogue past x row = row-at catalogue past x row found in
+    let from : IsRowAt catalogue past x row = row-at catalogue past x row (sym (row-folded limit h legal x) ∙ found) in
     let m : Made = from.one in
     let end : end_of catalogue past m ≡ Some t = sym (ap (λ (r : ExecutionRow). r.end) from.is_row) ∙ ended in
     let cut : EndedPast catalogue past m t = ended-past catalogue past m t from.found end in
@@ -158,9 +184,13 @@ ended_at h x t row found ended =
     ∙ (ap (λ l. l ++ reverse cut.later) (reverse-append (cut.entry ∷ []) cut.older) ∙ append_assoc (reverse cut.older) (cut.entry ∷ []) (reverse cut.later)))) in
     let then_past : reverse (reverse cut.older ++ cut.entry ∷ []) ≡ cut.entry ∷ cut.older =
     reverse-append (reverse cut.older) (cut.entry ∷ []) ∙ ap (λ l. cut.entry ∷ l) (reverse-reverse cut.older) in
-    let there : find (is_execution x) (rows_of catalogue (cut.entry ∷ cut.older)).executions ≡ Some (execution_row catalogue (cut.entry ∷ cut.older) m) =
-    subst (λ n. find (is_execution n) (rows_of catalogue (cut.entry ∷ cut.older)).executions ≡ Some (execution_row catalogue (cut.entry ∷ cut.older) m)) from.number
+    let there : find (is_execution x) (folded_rows catalogue (cut.entry ∷ cut.older)).executions ≡ Some (execution_row catalogue (cut.entry ∷ cut.older) m) =
+    subst (λ n. find (is_execution n) (folded_rows catalogue (cut.entry ∷ cut.older)).executions ≡ Some (execution_row catalogue (cut.entry ∷ cut.older) m)) from.number
     (row-there catalogue (cut.entry ∷ cut.older) m.execution m cut.found) in
+    let one_more : h.log ≡ (reverse cut.older ++ cut.entry ∷ []) ++ reverse cut.later =
+    whole ∙ sym (append_assoc (reverse cut.older) (cut.entry ∷ []) (reverse cut.later)) in
+    let legal_then = legal-beginning limit h legal (reverse cut.older ++ cut.entry ∷ []) (reverse cut.later) one_more in
+    let legal_before = legal-beginning limit h legal (reverse cut.older) (cut.entry ∷ reverse cut.later) whole in
     record {
       before = reverse cut.older;
       entry = cut.entry;
@@ -168,10 +198,12 @@ ended_at h x t row found ended =
       cut = whole;
       moment = cut.moment;
       row = execution_row catalogue (cut.entry ∷ cut.older) m;
-      found = subst (λ l. find (is_execution x) (rows_of catalogue l).executions ≡ Some (execution_row catalogue (cut.entry ∷ cut.older) m)) (sym then_past) there;
+      found = row-folded limit (beginning h (reverse cut.older ++ cut.entry ∷ [])) legal_then x
+          ∙ subst (λ l. find (is_execution x) (folded_rows catalogue l).executions ≡ Some (execution_row catalogue (cut.entry ∷ cut.older) m)) (sym then_past) there;
       finished = cut.over;
       until = λ earlier is. earlier-open catalogue cut.older (cut.entry) x m from.number cut.found cut.open_before earlier
-          (subst (λ l. find (is_execution x) (rows_of catalogue l).executions ≡ Some earlier) (reverse-reverse cut.older) is);
+          (subst (λ l. find (is_execution x) (folded_rows catalogue l).executions ≡ Some earlier) (reverse-reverse cut.older)
+          (sym (row-folded limit (beginning h (reverse cut.older)) legal_before x) ∙ is));
     }
 
 -- ---- Work
@@ -194,14 +226,14 @@ belongs limit h legal w work found =
     let past : List Entry = reverse h.log in
     let due : AllDue limit h.catalogue past = past-due limit h legal in
     let k : IsKept h.catalogue past = kept limit h.catalogue past due in
-    let held : IsHeld h.catalogue past work = each-found (IsHeld h.catalogue past) (is_work w) (works_of past) work k.held found in
+    let held : IsHeld h.catalogue past work = each-found (IsHeld h.catalogue past) (is_work w) (works_of past) work k.held (sym (work-folded limit h legal w) ∙ found) in
     let m : Made = held.one in
     let number : m.execution ≡ work.execution = made-number work.execution past m held.found in
     let made_so : find (is_made m.execution) (made past) ≡ Some m = ap (λ n. find (is_made n) (made past)) number ∙ held.found in
     let begun : is_some (start_of past m.execution) ≡ true = ap (λ n. is_some (start_of past n)) number ∙ held.begun in
     record {
       owner = execution_row h.catalogue past m;
-      found = row-there h.catalogue past work.execution m held.found;
+      found = row-folded limit h legal work.execution ∙ row-there h.catalogue past work.execution m held.found;
       begun = begun;
       unfinished = λ busy. shown-unfinished (abandoned_of past m.execution) (bare_of h.catalogue past m) (abandoned-finished limit h.catalogue past m due made_so)
           (busy-unfinished work.element (stop_of past m.execution) (start_of past m.execution) (value_after h.catalogue past m) (held.under_way busy) begun);
@@ -230,17 +262,32 @@ apart-found (r ∷ rs) v w one other apart e1 e2 differ same el =
 pub once_each : (limit : ℕ) (h : History) → IsLegal limit h → (v w : ℕ) (one other : WorkRow) → find (is_work v) (rows h).works ≡ Some one
     → find (is_work w) (rows h).works ≡ Some other → v ≢ w → one.execution ≡ other.execution → one.element ≢ other.element
 once_each limit h legal v w one other e1 e2 differ same =
-    apart-found (works_of (reverse h.log)) v w one other (kept limit h.catalogue (reverse h.log) (past-due limit h legal)).apart e1 e2 differ same
+    apart-found (works_of (reverse h.log)) v w one other (kept limit h.catalogue (reverse h.log) (past-due limit h legal)).apart
+    (sym (work-folded limit h legal v) ∙ e1) (sym (work-folded limit h legal w) ∙ e2) differ same
 
 -- ---- Job instances
 
 pub has_instance : (limit : ℕ) (h : History) → IsLegal limit h → (x : ℕ) (row : ExecutionRow) → row_in h x ≡ Some row → HasInstance h row
 has_instance limit h legal x row found =
     let past : List Entry = reverse h.log in
-    let from : IsRowAt h.catalogue past x row = row-at h.catalogue past x row found in
+    let from : IsRowAt h.catalogue past x row = row-at h.catalogue past x row (sym (row-folded limit h legal x) ∙ found) in
     let m : Made = from.one in
     let i : InstanceOf past m = each-found (InstanceOf past) (is_made m.execution) (made past) m (instances-kept limit h.catalogue past (past-due limit h legal)) from.found in
-    subst (HasInstance h) (sym from.is_row) (record { instance = i.instance; found = i.found; job = i.job })
+    subst (HasInstance h) (sym from.is_row) (record {
+      instance = i.instance;
+      found = ap (λ (r : Rows). find (λ j. j.instance == m.instance) r.instances) (rows_folded limit h legal) ∙ i.found;
+      job = i.job;
+    })
+
+-- ---- Jobs
+
+pub has_job : (limit : ℕ) (h : History) → IsLegal limit h → (x : ℕ) (row : ExecutionRow) → row_in h x ≡ Some row → is_some (job_named h.catalogue row.job) ≡ true
+has_job limit h legal x row found =
+    let past : List Entry = reverse h.log in
+    let from : IsRowAt h.catalogue past x row = row-at h.catalogue past x row (sym (row-folded limit h legal x) ∙ found) in
+    let m : Made = from.one in
+    ap (λ (r : ExecutionRow). is_some (job_named h.catalogue r.job)) from.is_row
+    ∙ each-found (λ (n : Made). is_some (job_named h.catalogue n.job) ≡ true) (is_made m.execution) (made past) m (jobs-kept limit h.catalogue past (past-due limit h legal)) from.found
 
 -- ---- Job names
 
@@ -256,17 +303,24 @@ names-call Claim instances = refl
 names-call (Checkpoint w mark step) instances = refl
 names-call (Finish w o t step) instances = refl
 
+-- the names that a query is answered with
+names-answered : (h : History) → answer h JobNames ≡ Ok (AreNames (distinct (map (λ (i : JobInstance). i.job) (instances_of (reverse h.log)))))
+names-answered h = ap (λ (l : List JobInstance). Ok (AreNames (distinct (map (λ (i : JobInstance). i.job) l)))) (instances-law (reverse h.log))
+
 -- the names after an operation more
 pub names_grow : (h : History) (e : Entry) (names : List (List ℕ)) → answer h JobNames ≡ Ok (AreNames names) → answer (grown h e) JobNames ≡ Ok (AreNames (with_name names e.call))
 names_grow h e names is =
+    let both : Ok (AreNames (distinct (map (λ (i : JobInstance). i.job) (instances_of (reverse h.log))))) ≡ Ok (AreNames names) = sym (names-answered h) ∙ is in
     let before : distinct (map (λ (i : JobInstance). i.job) (instances_of (reverse h.log))) ≡ names = cc in
     let past : reverse (h.log ++ e ∷ []) ≡ e ∷ reverse h.log = reverse-append h.log (e ∷ []) in
-    ap (λ l. Ok (AreNames (distinct (map (λ (i : JobInstance). i.job) (instances_of l))))) past
-    ∙ (ap (λ ns. Ok (AreNames ns)) (names-call e.call (instances_of (reverse h.log))) ∙ ap (λ ns. Ok (AreNames (with_name ns e.call))) before)
+    names-answered (grown h e)
+    ∙ (ap (λ l. Ok (AreNames (distinct (map (λ (i : JobInstance). i.job) (instances_of l))))) past
+    ∙ (ap (λ ns. Ok (AreNames ns)) (names-call e.call (instances_of (reverse h.log))) ∙ ap (λ ns. Ok (AreNames (with_name ns e.call))) before))
 
 -- no name stands twice
 pub names_once : (h : History) (names : List (List ℕ)) → answer h JobNames ≡ Ok (AreNames names) → has_twice names ≡ false
 names_once h names is =
+    let both : Ok (AreNames (distinct (map (λ (i : JobInstance). i.job) (instances_of (reverse h.log))))) ≡ Ok (AreNames names) = sym (names-answered h) ∙ is in
     let before : distinct (map (λ (i : JobInstance). i.job) (instances_of (reverse h.log))) ≡ names = cc in
     ap has_twice (sym before) ∙ distinct-once (map (λ i. i.job) (instances_of (reverse h.log)))
 
@@ -274,17 +328,17 @@ names_once h names is =
 
 was-ready : (h : History) (item : WorkItem) → ToldClaim (rows h) (Work item) → WasReady h item
 was-ready h item told =
-    (elim (first_ready (walk_in (rows h) told.row)) as (λ o. first_ready (walk_in (rows h) told.row) ≡ o → Work item ≡ claim_reply (rows h) told.row o → WasReady h item) [
+    (elim (first_ready (walk_in_rows (rows h) told.row)) as (λ o. first_ready (walk_in_rows (rows h) told.row) ≡ o → Work item ≡ claim_reply (rows h) told.row o → WasReady h item) [
       | None ↦ λ ready is. cc
       | Some id ↦ λ ready is.
-          let same : item ≡ item_of (rows h) told.row id = cc in
+          let same : item ≡ next_work_item (rows h) told.row id = cc in
           record {
             owner = told.row;
             least = told.found;
             execution = ap (λ (i : WorkItem). i.execution) same;
             ready = ready ∙ ap (λ (i : WorkItem). Some i.element) (sym same);
-            runs = ap (λ (i : WorkItem). is_some (runs_in (job_named h.catalogue told.row.job) i.element)) same
-                ∙ walk-runs ready_sight id (known_of told.row.execution (rows h).works) (job_named h.catalogue told.row.job) (first-seen id (walk_in (rows h) told.row) ready);
+            runs = ap (λ (i : WorkItem). is_some (runnable_of_job (job_named h.catalogue told.row.job) i.element)) same
+                ∙ walk-runs ready_sight id (known_elements told.row.execution (rows h).works) (job_named h.catalogue told.row.job) (first-seen id (walk_in_rows (rows h) told.row) ready);
             number = ap (λ (i : WorkItem). i.work) same;
           }
     ]) refl told.answered

@@ -11,8 +11,14 @@ use Rattle.batch_history.specs.declared.call.Call.TheVariants.{Start, Restart, S
 use Rattle.batch_history.specs.declared.call.Reply.{Reply}
 use Rattle.batch_history.specs.declared.call.Entry.{Entry}
 use Rattle.batch_history.specs.declared.rows.ExecutionRow.{ExecutionRow}
-use Rattle.batch_history.specs.History.{Made, made, makes, is_made, is_at, given_up, earliest, abandoned_of, end_of, bare_of, is_finished}
-use Rattle.batch_history.specs.Rows.{Rows, rows_of, row_status, is_running_in, is_execution, execution_row}
+use Rattle.batch_history.proofs.Folds.{made, makes, is_made, abandoned_of, end_of, bare_of, folded_rows, execution_row}
+use Rattle.batch_history.specs.Executions.{Made}
+use Rattle.batch_history.specs.Lists.{is_at}
+use Rattle.batch_history.specs.Moments.{first_moment}
+use Rattle.batch_history.specs.Operations.{abandonment}
+use Rattle.batch_history.specs.Replies.{row_status, is_running_in, is_execution}
+use Rattle.batch_history.specs.Rows.{Rows}
+use Rattle.batch_history.specs.Statuses.{is_finished}
 use Rattle.batch_history.proofs.Stepping.{remade-number, settled, ended-by, named-by}
 use Rattle.batch_history.proofs.Finding.{found-passes}
 use Rattle.history_laws.proofs.Told.{Due, AllDue, IsRowOf, row-of, ToldAbandonment, abandonment-told}
@@ -60,11 +66,11 @@ not-running true bare before h = before refl
 not-running false bare before h = rw h refl
 
 -- an abandonment finds the job execution over
-abandonment-over : (catalogue : List JobTree) (past : List Entry) (m : Made) (y : ℕ) → ToldAbandonment (rows_of catalogue past) y
+abandonment-over : (catalogue : List JobTree) (past : List Entry) (m : Made) (y : ℕ) → ToldAbandonment (folded_rows catalogue past) y
     → find (is_made m.execution) (made past) ≡ Some m → (y == m.execution) ≡ true
     → (abandoned_of past m.execution ≡ true → is_finished (bare_of catalogue past m) ≡ true) → is_finished (bare_of catalogue past m) ≡ true
 abandonment-over catalogue past m y told found on before =
-    let r : Rows = rows_of catalogue past in
+    let r : Rows = folded_rows catalogue past in
     let from : IsRowOf catalogue past told.row = row-of catalogue past (is_execution y) told.row told.found in
     let n : Made = from.one in
     let number : told.row.execution ≡ y = eqb-true told.row.execution y (found-passes (is_execution y) r.executions told.row told.found) in
@@ -78,10 +84,10 @@ abandonment-over catalogue past m y told found on before =
 
 given-call : (limit : ℕ) (catalogue : List JobTree) (older : List Entry) (who at : ℕ) (call : Call) (reply : Reply) (m : Made)
     → Due limit catalogue older record { who = who; call = call; at = at; reply = reply } → find (is_made m.execution) (made older) ≡ Some m
-    → is_at m.execution (given_up call) ≡ true → (abandoned_of older m.execution ≡ true → is_finished (bare_of catalogue older m) ≡ true)
+    → is_at m.execution (abandonment call) ≡ true → (abandoned_of older m.execution ≡ true → is_finished (bare_of catalogue older m) ≡ true)
     → is_finished (bare_of catalogue older m) ≡ true
 given-call limit catalogue older who at (Abandon y) reply m due found on before =
-    abandonment-over catalogue older m y (abandonment-told limit (rows_of catalogue older) y reply due.0) found on before
+    abandonment-over catalogue older m y (abandonment-told limit (folded_rows catalogue older) y reply due.0) found on before
 given-call limit catalogue older who at (Start job parameters) reply m due found on before = cc
 given-call limit catalogue older who at (Restart y parameters) reply m due found on before = cc
 given-call limit catalogue older who at (Stop y) reply m due found on before = cc
@@ -100,10 +106,10 @@ abandoned-finished limit catalogue (e ∷ older) m due found given =
     (λ made_no.
     let earlier = made-before older e x m made_no found in
     let before : abandoned_of older x ≡ true → is_finished (bare_of catalogue older m) ≡ true = abandoned-finished limit catalogue older m due.1 earlier in
-    let one_of : (abandoned_of older x || is_at x (given_up e.call)) ≡ true = sym (named-by given_up older e x made_no) ∙ given in
+    let one_of : (abandoned_of older x || is_at x (abandonment e.call)) ≡ true = sym (named-by abandonment older e x made_no) ∙ given in
     let over : is_finished (bare_of catalogue older m) ≡ true =
     on-it (abandoned_of older x) before
-    (λ off. given-call limit catalogue older e.who e.at e.call e.reply m due.0 earlier (sym (ap (λ b. b || is_at x (given_up e.call)) off) ∙ one_of) before) in
+    (λ off. given-call limit catalogue older e.who e.at e.call e.reply m due.0 earlier (sym (ap (λ b. b || is_at x (abandonment e.call)) off) ∙ one_of) before) in
     ap (λ (row : ExecutionRow). is_finished row.bare) (finished-step limit catalogue older e m due earlier over) ∙ over)
 
 -- ---- The end
@@ -119,7 +125,7 @@ pub record EndedPast (catalogue : List JobTree) (past : List Entry) (m : Made) (
   pub over : is_finished (bare_of catalogue (entry ∷ older) m) ≡ true
   pub open_before : is_finished (bare_of catalogue older m) ≡ false
 
-still-open : (b : Bool) (o : Option ℕ) (at : ℕ) → o ≡ None → earliest o b at ≡ o → b ≡ false
+still-open : (b : Bool) (o : Option ℕ) (at : ℕ) → o ≡ None → first_moment o b at ≡ o → b ≡ false
 still-open true None at none h = cc
 still-open true (Some t) at none h = cc
 still-open false o at none h = refl
@@ -133,8 +139,8 @@ ended-past catalogue (e ∷ older) m t found ended =
     (λ made_yes. absurd (let no : end_of catalogue (e ∷ older) m ≡ None = rw made_yes refl in let bad : Some t ≡ None = sym ended ∙ no in cc))
     (λ made_no.
     let earlier = made-before older e x m made_no found in
-    let by : earliest (end_of catalogue older m) (is_finished (bare_of catalogue (e ∷ older) m)) e.at ≡ Some t = sym (ended-by catalogue older e m made_no) ∙ ended in
-    (elim (end_of catalogue older m) as (λ o. end_of catalogue older m ≡ o → earliest o (is_finished (bare_of catalogue (e ∷ older) m)) e.at ≡ Some t → EndedPast catalogue (e ∷ older) m t) [
+    let by : first_moment (end_of catalogue older m) (is_finished (bare_of catalogue (e ∷ older) m)) e.at ≡ Some t = sym (ended-by catalogue older e m made_no) ∙ ended in
+    (elim (end_of catalogue older m) as (λ o. end_of catalogue older m ≡ o → first_moment o (is_finished (bare_of catalogue (e ∷ older) m)) e.at ≡ Some t → EndedPast catalogue (e ∷ older) m t) [
       | Some u ↦ λ was now.
           let rest = ended-past catalogue older m t earlier (was ∙ now) in
           record {
@@ -150,7 +156,7 @@ ended-past catalogue (e ∷ older) m t found ended =
       | None ↦ λ was now.
           on-it (is_finished (bare_of catalogue (e ∷ older) m))
           (λ over.
-          let at : Some e.at ≡ Some t = sym (ap (λ b. earliest None b e.at) over) ∙ now in
+          let at : Some e.at ≡ Some t = sym (ap (λ b. first_moment None b e.at) over) ∙ now in
           record {
             later = [];
             entry = e;
@@ -161,10 +167,10 @@ ended-past catalogue (e ∷ older) m t found ended =
             over = over;
             open_before = still-open (is_finished (bare_of catalogue older m)) (end_of catalogue older m) e.at was (settled catalogue older m e.at);
           })
-          (λ open_still. absurd (let none : None ≡ Some t = sym (ap (λ b. earliest None b e.at) open_still) ∙ now in cc))
+          (λ open_still. absurd (let none : None ≡ Some t = sym (ap (λ b. first_moment None b e.at) open_still) ∙ now in cc))
     ]) refl by)
 
-has-end : (b : Bool) (o : Option ℕ) (at : ℕ) → b ≡ true → earliest o b at ≡ o → is_some o ≡ true
+has-end : (b : Bool) (o : Option ℕ) (at : ℕ) → b ≡ true → first_moment o b at ≡ o → is_some o ≡ true
 has-end true (Some t) at over h = refl
 has-end true None at over h = cc
 has-end false o at over h = cc

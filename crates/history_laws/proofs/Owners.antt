@@ -2,7 +2,7 @@
 use Rattle.std.proofs.Common.{◌≡◌, ℕ, ◌+◌, ◌==◌, ◌≤◌, Bool, true, false, cond, Option, None, Some, is_some, Ok, Err, List, [], ◌∷◌, ◌++◌, length, find, refl, sym, ◌∙◌, ap, subst, arith}
 use Rattle.std.proofs.lemmas.Bool.{eqb-true, eq-eqb, ne_eqb}
 use Rattle.batch_ids.specs.Parameters.{Pair}
-use Rattle.batch_ids.specs.declared.refusal.Refusal.TheVariants.{NoSuchJobExecutionException}
+use Rattle.batch_ids.specs.declared.refusal.Refusal.TheVariants.{NoSuchJobExecutionException, JobStartException}
 use Rattle.jsl_model.specs.Jobs.{JobTree}
 use Rattle.batch_history.specs.declared.call.Call.{Call}
 use Rattle.batch_history.specs.declared.call.Call.TheVariants.{Start, Restart, Stop, Abandon, Claim, Checkpoint, Finish}
@@ -11,8 +11,11 @@ use Rattle.batch_history.specs.declared.call.Reply.TheVariants.{Execution as IsE
 use Rattle.batch_history.specs.declared.call.Entry.{Entry}
 use Rattle.batch_history.specs.declared.rows.ExecutionRow.{ExecutionRow}
 use Rattle.batch_history.specs.declared.rows.JobInstance.{JobInstance}
-use Rattle.batch_history.specs.History.{Made, made, is_made, remade, instances_of, instances_after}
-use Rattle.batch_history.specs.Rows.{Rows, rows_of, entered, is_execution}
+use Rattle.batch_history.proofs.Folds.{made, is_made, remade, instances_of, instances_after, folded_rows}
+use Rattle.batch_history.specs.Executions.{Made}
+use Rattle.batch_history.specs.Replies.{accepted, is_execution}
+use Rattle.batch_history.specs.Rows.{Rows}
+use Rattle.batch_history.specs.Walks.{job_named}
 use Rattle.batch_history.proofs.Finding.{found-passes}
 use Rattle.history_laws.proofs.Works.{Each, each-map, each-append, each-found, found-before}
 use Rattle.history_laws.proofs.Told.{Due, AllDue, IsRowOf, row-of}
@@ -56,14 +59,14 @@ find-new n k (i ∷ is) new h le e =
 
 -- a restart that is accepted names a job execution that was made
 named-found : (limit count n : ℕ) (found : Option ExecutionRow) (given : Reply)
-    → cond (is_some found) (entered limit count (IsExecution n)) (Err NoSuchJobExecutionException) ≡ Ok given → (row : ExecutionRow) × (found ≡ Some row)
+    → cond (is_some found) (accepted limit count (IsExecution n)) (Err NoSuchJobExecutionException) ≡ Ok given → (row : ExecutionRow) × (found ≡ Some row)
 named-found limit count n None given e = cc
 named-found limit count n (Some row) given e = (row, refl)
 
 restarted : (limit : ℕ) (catalogue : List JobTree) (older : List Entry) (who at y : ℕ) (parameters : List Pair) (reply : Reply)
     → Due limit catalogue older record { who = who; call = Restart y parameters; at = at; reply = reply } → (m : Made) × (find (is_made y) (made older) ≡ Some m)
 restarted limit catalogue older who at y parameters reply due =
-    let r : Rows = rows_of catalogue older in
+    let r : Rows = folded_rows catalogue older in
     let told = named-found limit r.count (length r.executions + 1) (find (is_execution y) r.executions) reply due.0 in
     let from : IsRowOf catalogue older told.0 = row-of catalogue older (is_execution y) told.0 told.1 in
     let number : told.0.execution ≡ y = eqb-true told.0.execution y (found-passes (is_execution y) r.executions told.0 told.1) in
@@ -98,3 +101,35 @@ pub instances-kept : (limit : ℕ) (catalogue : List JobTree) (past : List Entry
 instances-kept limit catalogue [] due = tt
 instances-kept limit catalogue (e ∷ older) due =
     instance-call limit catalogue older e.who e.at e.call e.reply due.0 (instances-kept limit catalogue older due.1)
+
+-- ---- Jobs
+
+-- the job of a job execution is in the catalogue
+abbrev JobIsThere : List JobTree → Made → Type 0
+JobIsThere catalogue m = is_some (job_named catalogue m.job) ≡ true
+
+-- a start that is accepted is of a job of the catalogue
+started-there : (b : Bool) (limit count : ℕ) (reply given : Reply) → cond b (accepted limit count reply) (Err JobStartException) ≡ Ok given → b ≡ true
+started-there true limit count reply given e = refl
+started-there false limit count reply given e = cc
+
+job-call : (limit : ℕ) (catalogue : List JobTree) (older : List Entry) (who at : ℕ) (call : Call) (reply : Reply)
+    → Due limit catalogue older record { who = who; call = call; at = at; reply = reply } → Each (JobIsThere catalogue) (made older)
+    → Each (JobIsThere catalogue) (made (record { who = who; call = call; at = at; reply = reply } ∷ older))
+job-call limit catalogue older who at (Start job parameters) reply due h =
+    each-append (JobIsThere catalogue) (made older) _ h
+    (started-there (is_some (job_named catalogue job)) limit (length older) (IsExecution (length (folded_rows catalogue older).executions + 1)) reply due.0)
+job-call limit catalogue older who at (Restart y parameters) reply due h =
+    let named = restarted limit catalogue older who at y parameters reply due in
+    each-append (JobIsThere catalogue) (made older) _ h
+    (subst (λ o. JobIsThere catalogue (remade (length (made older) + 1) parameters at o)) (sym named.1)
+    (each-found (JobIsThere catalogue) (is_made y) (made older) named.0 h named.1))
+job-call limit catalogue older who at (Stop y) reply due h = h
+job-call limit catalogue older who at (Abandon y) reply due h = h
+job-call limit catalogue older who at Claim reply due h = h
+job-call limit catalogue older who at (Checkpoint w mark step) reply due h = h
+job-call limit catalogue older who at (Finish w o t step) reply due h = h
+
+pub jobs-kept : (limit : ℕ) (catalogue : List JobTree) (past : List Entry) → AllDue limit catalogue past → Each (JobIsThere catalogue) (made past)
+jobs-kept limit catalogue [] due = tt
+jobs-kept limit catalogue (e ∷ older) due = job-call limit catalogue older e.who e.at e.call e.reply due.0 (jobs-kept limit catalogue older due.1)

@@ -20,10 +20,17 @@ use Rattle.batch_history.specs.declared.rows.ExecutionRow.{ExecutionRow}
 use Rattle.batch_history.specs.declared.rows.WorkRow.{WorkRow}
 use Rattle.batch_history.specs.declared.rows.WorkState.{WorkState}
 use Rattle.batch_history.specs.declared.rows.WorkState.TheVariants.{Busy, Over}
-use Rattle.batch_history.specs.History.{Made, made, makes, is_made, is_work, job_named, is_finished}
-use Rattle.batch_history.specs.Replies.{is_nothing}
-use Rattle.batch_history.specs.Rows.{History, Rows, rows_of, reply_by, row_status, is_running_in, entered, claimed, claim_reply, stopped, abandoned, going, marked_as, stopped_as, checkpointed, finished, finished_as, unheld_by, unless, stop_asked, first_ready, walk_in, has_something, is_execution, execution_row, IsLegal}
+use Rattle.batch_history.proofs.Folds.{made, makes, is_made, folded_rows, execution_row}
+use Rattle.batch_history.specs.Executions.{Made}
+use Rattle.batch_history.specs.Legal.{IsLegal}
+use Rattle.batch_history.specs.Replies.{is_nothing, reply_by, row_status, is_running_in, accepted, reply_to_claim, claim_reply, reply_to_stop, reply_to_abandon, go_or_stop, reply_to_kept_checkpoint, reply_to_stopped_step, reply_to_checkpoint, reply_to_finish, reply_to_end, report_refusal, unless, stop_requested_of, first_ready, walk_in_rows, has_something, is_execution}
+use Rattle.batch_history.specs.Rows.{History, Rows, rows_of_past}
+use Rattle.batch_history.specs.Statuses.{is_finished}
+use Rattle.batch_history.specs.Walks.{job_named}
+use Rattle.batch_history.specs.Works.{is_work}
+use Rattle.batch_history.proofs.Agreeing.{reply-law}
 use Rattle.batch_history.proofs.Legal.{entered-is, cut-before}
+use Rattle.batch_history.proofs.Legality.{legal-fits}
 use Rattle.batch_history.proofs.Stepping.{AreNumbered, numbered}
 use Rattle.batch_history.proofs.Finding.{found-passes}
 use Rattle.history_laws.proofs.Works.{found-before}
@@ -32,7 +39,7 @@ use Rattle.history_laws.proofs.Works.{found-before}
 
 -- an entry has the reply that its call was due, and that is not Nothing
 abbrev pub Due : ℕ → List JobTree → List Entry → Entry → Type 0
-Due limit catalogue older e = (reply_by limit (rows_of catalogue older) e.who e.call ≡ Ok e.reply) × (is_nothing e.reply ≡ false)
+Due limit catalogue older e = (reply_by limit (folded_rows catalogue older) e.who e.call ≡ Ok e.reply) × (is_nothing e.reply ≡ false)
 
 -- so has each entry of a past
 abbrev pub AllDue : ℕ → List JobTree → List Entry → Type 0
@@ -44,8 +51,10 @@ pub legal-due : (limit : ℕ) (h : History) (past rest : List Entry) → IsLegal
 legal-due limit h [] rest legal is = tt
 legal-due limit h (e ∷ older) rest legal is =
     let cut : h.log ≡ reverse older ++ e ∷ rest = cut-before h.log older rest e is in
-    let due = legal.due (reverse older) e rest cut in (
-      (subst (λ (p : List Entry). reply_by limit (rows_of h.catalogue p) e.who e.call ≡ Ok e.reply) (reverse-reverse older) due.0, due.1),
+    let due = legal.due (reverse older) e rest cut in
+    let found : reply_by limit (rows_of_past h.catalogue older) e.who e.call ≡ Ok e.reply =
+    subst (λ (p : List Entry). reply_by limit (rows_of_past h.catalogue p) e.who e.call ≡ Ok e.reply) (reverse-reverse older) due.0 in (
+      (sym (reply-law limit h.catalogue older e.who e.call (legal-fits limit h older (e ∷ rest) legal cut)) ∙ found, due.1),
       legal-due limit h older (e ∷ rest) legal cut,
     )
 
@@ -81,7 +90,7 @@ found-from f p k (m ∷ ms) row h e =
     ]) e
 
 pub row-of : (catalogue : List JobTree) (past : List Entry) (p : ExecutionRow → Bool) (row : ExecutionRow)
-    → find p (rows_of catalogue past).executions ≡ Some row → IsRowOf catalogue past row
+    → find p (folded_rows catalogue past).executions ≡ Some row → IsRowOf catalogue past row
 row-of catalogue past p row e =
     let from = found-from (execution_row catalogue past) p 1 (made past) row (numbered past) e in
     record { one = from.one; is_row = from.is_row; found = from.found }
@@ -131,14 +140,14 @@ made-number x past m h = eqb-true m.execution x (found-passes (is_made x) (made 
 pub record ToldClaim (r : Rows) (given : Reply) : Type 0 where
   pub row : ExecutionRow
   pub found : find (has_something r) r.executions ≡ Some row
-  pub answered : given ≡ claim_reply r row (first_ready (walk_in r row))
+  pub answered : given ≡ claim_reply r row (first_ready (walk_in_rows r row))
 
 claim-found : (limit : ℕ) (r : Rows) (found : Option ExecutionRow) (given : Reply) → find (has_something r) r.executions ≡ found
-    → claimed limit r found ≡ Ok given → is_nothing given ≡ false → ToldClaim r given
+    → reply_to_claim limit r found ≡ Ok given → is_nothing given ≡ false → ToldClaim r given
 claim-found limit r None given is e some = cc
 claim-found limit r (Some row) given is e some = record { row = row; found = is; answered = entered-is limit r.count _ given e }
 
-pub claim-told : (limit : ℕ) (r : Rows) (given : Reply) → claimed limit r (find (has_something r) r.executions) ≡ Ok given → is_nothing given ≡ false → ToldClaim r given
+pub claim-told : (limit : ℕ) (r : Rows) (given : Reply) → reply_to_claim limit r (find (has_something r) r.executions) ≡ Ok given → is_nothing given ≡ false → ToldClaim r given
 claim-told limit r given e some = claim-found limit r (find (has_something r) r.executions) given refl e some
 
 -- a report that is accepted is of a busy work item
@@ -147,24 +156,24 @@ pub record ToldReport (works : List WorkRow) (w : ℕ) : Type 0 where
   pub found : find (is_work w) works ≡ Some row
   pub busy : row.state ≡ Busy
 
-held-busy : (who claimer : ℕ) (state : WorkState) (reply : Result Reply Refusal) (given : Reply) → unless (unheld_by who claimer state) reply ≡ Ok given → state ≡ Busy
+held-busy : (who claimer : ℕ) (state : WorkState) (reply : Result Reply Refusal) (given : Reply) → unless (report_refusal who claimer state) reply ≡ Ok given → state ≡ Busy
 held-busy who claimer Busy reply given e = refl
 held-busy who claimer (Over outcome exit) reply given e = cc
 
 checkpoint-found : (limit : ℕ) (r : Rows) (who w : ℕ) (found : Option WorkRow) (given : Reply) → find (is_work w) r.works ≡ found
-    → checkpointed limit r who found ≡ Ok given → ToldReport r.works w
+    → reply_to_checkpoint limit r who found ≡ Ok given → ToldReport r.works w
 checkpoint-found limit r who w None given is e = cc
 checkpoint-found limit r who w (Some row) given is e = record { row = row; found = is; busy = held-busy who row.claimer row.state _ given e }
 
 finish-found : (limit : ℕ) (r : Rows) (who w : ℕ) (o : WorkOutcome) (found : Option WorkRow) (given : Reply) → find (is_work w) r.works ≡ found
-    → finished limit r who o found ≡ Ok given → ToldReport r.works w
+    → reply_to_finish limit r who o found ≡ Ok given → ToldReport r.works w
 finish-found limit r who w o None given is e = cc
 finish-found limit r who w o (Some row) given is e = record { row = row; found = is; busy = held-busy who row.claimer row.state _ given e }
 
-pub checkpoint-told : (limit : ℕ) (r : Rows) (who w : ℕ) (given : Reply) → checkpointed limit r who (find (is_work w) r.works) ≡ Ok given → ToldReport r.works w
+pub checkpoint-told : (limit : ℕ) (r : Rows) (who w : ℕ) (given : Reply) → reply_to_checkpoint limit r who (find (is_work w) r.works) ≡ Ok given → ToldReport r.works w
 checkpoint-told limit r who w given e = checkpoint-found limit r who w (find (is_work w) r.works) given refl e
 
-pub finish-told : (limit : ℕ) (r : Rows) (who w : ℕ) (o : WorkOutcome) (given : Reply) → finished limit r who o (find (is_work w) r.works) ≡ Ok given → ToldReport r.works w
+pub finish-told : (limit : ℕ) (r : Rows) (who w : ℕ) (o : WorkOutcome) (given : Reply) → reply_to_finish limit r who o (find (is_work w) r.works) ≡ Ok given → ToldReport r.works w
 finish-told limit r who w o given e = finish-found limit r who w o (find (is_work w) r.works) given refl e
 
 -- a stop that is accepted is of an unfinished job execution
@@ -174,15 +183,15 @@ pub record ToldStop (r : Rows) (x : ℕ) : Type 0 where
   pub unfinished : is_finished (row_status row) ≡ false
 
 stop-found : (limit : ℕ) (r : Rows) (x : ℕ) (found : Option ExecutionRow) (given : Reply) → find (is_execution x) r.executions ≡ found
-    → stopped limit r.count found ≡ Ok given → ToldStop r x
+    → reply_to_stop limit r.count found ≡ Ok given → ToldStop r x
 stop-found limit r x None given is e = cc
 stop-found limit r x (Some row) given is e =
-    (elim (is_finished (row_status row)) as (λ b. is_finished (row_status row) ≡ b → cond b (Err JobExecutionNotRunningException) (entered limit r.count Done) ≡ Ok given → ToldStop r x) [
+    (elim (is_finished (row_status row)) as (λ b. is_finished (row_status row) ≡ b → cond b (Err JobExecutionNotRunningException) (accepted limit r.count Done) ≡ Ok given → ToldStop r x) [
       | true ↦ λ s t. cc
       | false ↦ λ s t. record { row = row; found = is; unfinished = s }
     ]) refl e
 
-pub stop-told : (limit : ℕ) (r : Rows) (x : ℕ) (given : Reply) → stopped limit r.count (find (is_execution x) r.executions) ≡ Ok given → ToldStop r x
+pub stop-told : (limit : ℕ) (r : Rows) (x : ℕ) (given : Reply) → reply_to_stop limit r.count (find (is_execution x) r.executions) ≡ Ok given → ToldStop r x
 stop-told limit r x given e = stop-found limit r x (find (is_execution x) r.executions) given refl e
 
 -- an abandonment that is accepted is of a job instance with no unfinished job execution
@@ -192,21 +201,21 @@ pub record ToldAbandonment (r : Rows) (x : ℕ) : Type 0 where
   pub none : list_any (is_running_in row.instance) r.executions ≡ false
 
 abandonment-found : (limit : ℕ) (r : Rows) (x : ℕ) (found : Option ExecutionRow) (given : Reply) → find (is_execution x) r.executions ≡ found
-    → abandoned limit r found ≡ Ok given → ToldAbandonment r x
+    → reply_to_abandon limit r found ≡ Ok given → ToldAbandonment r x
 abandonment-found limit r x None given is e = cc
 abandonment-found limit r x (Some row) given is e =
     (elim (list_any (is_running_in row.instance) r.executions) as (λ b. list_any (is_running_in row.instance) r.executions ≡ b
-    → cond b (Err JobExecutionIsRunningException) (entered limit r.count Done) ≡ Ok given → ToldAbandonment r x) [
+    → cond b (Err JobExecutionIsRunningException) (accepted limit r.count Done) ≡ Ok given → ToldAbandonment r x) [
       | true ↦ λ s t. cc
       | false ↦ λ s t. record { row = row; found = is; none = s }
     ]) refl e
 
-pub abandonment-told : (limit : ℕ) (r : Rows) (x : ℕ) (given : Reply) → abandoned limit r (find (is_execution x) r.executions) ≡ Ok given → ToldAbandonment r x
+pub abandonment-told : (limit : ℕ) (r : Rows) (x : ℕ) (given : Reply) → reply_to_abandon limit r (find (is_execution x) r.executions) ≡ Ok given → ToldAbandonment r x
 abandonment-told limit r x given e = abandonment-found limit r x (find (is_execution x) r.executions) given refl e
 
 -- ---- Work is handed out by claims alone
 
-not-work : (limit count : ℕ) (given : Reply) (item : WorkItem) → (given ≡ Work item → ⊥) → entered limit count given ≡ Ok (Work item) → ⊥
+not-work : (limit count : ℕ) (given : Reply) (item : WorkItem) → (given ≡ Work item → ⊥) → accepted limit count given ≡ Ok (Work item) → ⊥
 not-work limit count given item other e = other (sym (entered-is limit count given (Work item) e))
 
 not-tested : (b : Bool) (refusal : Refusal) (reply : Result Reply Refusal) (item : WorkItem) → (reply ≡ Ok (Work item) → ⊥) → cond b (Err refusal) reply ≡ Ok (Work item) → ⊥
@@ -221,41 +230,41 @@ not-unless : (refusal : Option Refusal) (reply : Result Reply Refusal) (item : W
 not-unless None reply item other e = other e
 not-unless (Some refusal) reply item other e = cc
 
-going-other : (stop : Bool) (item : WorkItem) → going stop ≡ Work item → ⊥
+going-other : (stop : Bool) (item : WorkItem) → go_or_stop stop ≡ Work item → ⊥
 going-other true item e = cc
 going-other false item e = cc
 
-not-marked : (limit count : ℕ) (stop : Bool) (kind : WorkKind) (item : WorkItem) → marked_as limit count stop kind ≡ Ok (Work item) → ⊥
-not-marked limit count stop Chunk item e = not-work limit count (going stop) item (going-other stop item) e
+not-marked : (limit count : ℕ) (stop : Bool) (kind : WorkKind) (item : WorkItem) → reply_to_kept_checkpoint limit count stop kind ≡ Ok (Work item) → ⊥
+not-marked limit count stop Chunk item e = not-work limit count (go_or_stop stop) item (going-other stop item) e
 not-marked limit count stop Batchlet item e = cc
 not-marked limit count stop Decision item e = cc
 
-not-stopped : (limit count : ℕ) (stop : Bool) (item : WorkItem) → stopped_as limit count stop ≡ Ok (Work item) → ⊥
+not-stopped : (limit count : ℕ) (stop : Bool) (item : WorkItem) → reply_to_stopped_step limit count stop ≡ Ok (Work item) → ⊥
 not-stopped limit count true item e = not-work limit count Done item (λ s. cc) e
 not-stopped limit count false item e = cc
 
-not-ended : (limit count : ℕ) (stop : Bool) (kind : WorkKind) (o : WorkOutcome) (item : WorkItem) → finished_as limit count stop kind o ≡ Ok (Work item) → ⊥
+not-ended : (limit count : ℕ) (stop : Bool) (kind : WorkKind) (o : WorkOutcome) (item : WorkItem) → reply_to_end limit count stop kind o ≡ Ok (Work item) → ⊥
 not-ended limit count stop Decision Stopped item e = cc
 not-ended limit count stop Batchlet Stopped item e = not-stopped limit count stop item e
 not-ended limit count stop Chunk Stopped item e = not-stopped limit count stop item e
 not-ended limit count stop kind Completed item e = not-work limit count Done item (λ s. cc) e
 not-ended limit count stop kind Failed item e = not-work limit count Done item (λ s. cc) e
 
-not-checkpointed : (limit : ℕ) (r : Rows) (who : ℕ) (found : Option WorkRow) (item : WorkItem) → checkpointed limit r who found ≡ Ok (Work item) → ⊥
+not-checkpointed : (limit : ℕ) (r : Rows) (who : ℕ) (found : Option WorkRow) (item : WorkItem) → reply_to_checkpoint limit r who found ≡ Ok (Work item) → ⊥
 not-checkpointed limit r who None item e = cc
 not-checkpointed limit r who (Some row) item e =
-    not-unless (unheld_by who row.claimer row.state) _ item (not-marked limit r.count (stop_asked r row.execution) row.kind item) e
+    not-unless (report_refusal who row.claimer row.state) _ item (not-marked limit r.count (stop_requested_of r row.execution) row.kind item) e
 
-not-finished : (limit : ℕ) (r : Rows) (who : ℕ) (o : WorkOutcome) (found : Option WorkRow) (item : WorkItem) → finished limit r who o found ≡ Ok (Work item) → ⊥
+not-finished : (limit : ℕ) (r : Rows) (who : ℕ) (o : WorkOutcome) (found : Option WorkRow) (item : WorkItem) → reply_to_finish limit r who o found ≡ Ok (Work item) → ⊥
 not-finished limit r who o None item e = cc
 not-finished limit r who o (Some row) item e =
-    not-unless (unheld_by who row.claimer row.state) _ item (not-ended limit r.count (stop_asked r row.execution) row.kind o item) e
+    not-unless (report_refusal who row.claimer row.state) _ item (not-ended limit r.count (stop_requested_of r row.execution) row.kind o item) e
 
-not-stop : (limit count : ℕ) (found : Option ExecutionRow) (item : WorkItem) → stopped limit count found ≡ Ok (Work item) → ⊥
+not-stop : (limit count : ℕ) (found : Option ExecutionRow) (item : WorkItem) → reply_to_stop limit count found ≡ Ok (Work item) → ⊥
 not-stop limit count None item e = cc
 not-stop limit count (Some row) item e = not-tested (is_finished (row_status row)) JobExecutionNotRunningException _ item (not-work limit count Done item (λ s. cc)) e
 
-not-abandoned : (limit : ℕ) (r : Rows) (found : Option ExecutionRow) (item : WorkItem) → abandoned limit r found ≡ Ok (Work item) → ⊥
+not-abandoned : (limit : ℕ) (r : Rows) (found : Option ExecutionRow) (item : WorkItem) → reply_to_abandon limit r found ≡ Ok (Work item) → ⊥
 not-abandoned limit r None item e = cc
 not-abandoned limit r (Some row) item e =
     not-tested (list_any (is_running_in row.instance) r.executions) JobExecutionIsRunningException _ item (not-work limit r.count Done item (λ s. cc)) e

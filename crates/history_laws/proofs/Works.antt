@@ -2,7 +2,7 @@
 use Rattle.std.proofs.Common.{◌≡◌, ◌≢◌, ◌⊎◌, inl, inr, ℕ, ◌==◌, Bool, true, false, cond, Option, Some, List, [], ◌∷◌, ◌++◌, find, refl, sym, ◌∙◌, ap, subst}
 use Rattle.std.specs.Cmp.Lexicographic.{bytes_decides}
 use Rattle.std.proofs.lemmas.Bool.{eqb-true, eqb-false, eq-eqb}
-use Rattle.std.specs.Str.{bytes_eq}
+use Rattle.batch_ids.specs.Texts.{is_text}
 use Rattle.batch_ids.specs.declared.metric_step.MetricStep.{MetricStep}
 use Rattle.batch_ids.specs.declared.status.WorkOutcome.{WorkOutcome}
 use Rattle.job_walk.specs.declared.facts.Fact.TheVariants.{Nothing, Busy as FactBusy}
@@ -12,7 +12,9 @@ use Rattle.job_walk.specs.Walk.{fact_of}
 use Rattle.batch_history.specs.declared.rows.WorkRow.{WorkRow}
 use Rattle.batch_history.specs.declared.rows.WorkState.{WorkState}
 use Rattle.batch_history.specs.declared.rows.WorkState.TheVariants.{Busy, Over}
-use Rattle.batch_history.specs.History.{change_first, over, known_of, fact_from}
+use Rattle.batch_history.proofs.Folds.{over}
+use Rattle.batch_history.specs.Lists.{change_first}
+use Rattle.batch_history.specs.Walks.{known_elements, fact_of_state}
 use Rattle.history_laws.proofs.Walks.{is_worked, DifferAt}
 
 -- ---- Each of a list
@@ -101,37 +103,37 @@ each-report P Q p f (r ∷ rs) c e apart h new others =
 
 -- ---- What is known of an element by the work items of its job execution
 
-from-state : (state : WorkState) → is_worked (fact_from state) ≡ true
+from-state : (state : WorkState) → is_worked (fact_of_state state) ≡ true
 from-state Busy = refl
 from-state (Over outcome exit) = refl
 
 -- nothing is known of an element, or there is work of it
-pub known-worked : (x : ℕ) (works : List WorkRow) (id : List ℕ) → (fact_of (known_of x works) id ≡ Nothing) ⊎ (is_worked (fact_of (known_of x works) id) ≡ true)
+pub known-worked : (x : ℕ) (works : List WorkRow) (id : List ℕ) → (fact_of (known_elements x works) id ≡ Nothing) ⊎ (is_worked (fact_of (known_elements x works) id) ≡ true)
 known-worked x [] id = inl refl
 known-worked x (r ∷ rs) id =
-    let k : Known = record { id = r.element; fact = fact_from r.state } in
-    elim (r.execution == x) as (λ b. (fact_of (cond b (k ∷ known_of x rs) (known_of x rs)) id ≡ Nothing) ⊎ (is_worked (fact_of (cond b (k ∷ known_of x rs) (known_of x rs)) id) ≡ true)) [
-      | true ↦ elim (bytes_eq r.element id) as (λ b. (cond b (fact_from r.state) (fact_of (known_of x rs) id) ≡ Nothing) ⊎ (is_worked (cond b (fact_from r.state) (fact_of (known_of x rs) id)) ≡ true)) [
+    let k : Known = record { id = r.element; fact = fact_of_state r.state } in
+    elim (r.execution == x) as (λ b. (fact_of (cond b (k ∷ known_elements x rs) (known_elements x rs)) id ≡ Nothing) ⊎ (is_worked (fact_of (cond b (k ∷ known_elements x rs) (known_elements x rs)) id) ≡ true)) [
+      | true ↦ elim (is_text r.element id) as (λ b. (cond b (fact_of_state r.state) (fact_of (known_elements x rs) id) ≡ Nothing) ⊎ (is_worked (cond b (fact_of_state r.state) (fact_of (known_elements x rs) id)) ≡ true)) [
         | true ↦ inr (from-state r.state)
         | false ↦ known-worked x rs id
       ]
       | false ↦ known-worked x rs id
     ]
 
-not-nothing : (state : WorkState) → fact_from state ≢ Nothing
+not-nothing : (state : WorkState) → fact_of_state state ≢ Nothing
 not-nothing Busy h = cc
 not-nothing (Over outcome exit) h = cc
 
 -- where nothing is known of an element, no work item is of it
-pub unknown-away : (x : ℕ) (works : List WorkRow) (id : List ℕ) → fact_of (known_of x works) id ≡ Nothing → Each (λ r. r.execution ≡ x → r.element ≢ id) works
+pub unknown-away : (x : ℕ) (works : List WorkRow) (id : List ℕ) → fact_of (known_elements x works) id ≡ Nothing → Each (λ r. r.execution ≡ x → r.element ≢ id) works
 unknown-away x [] id h = tt
 unknown-away x (r ∷ rs) id h =
-    let k : Known = record { id = r.element; fact = fact_from r.state } in
-    (elim (r.execution == x) as (λ b. (r.execution == x) ≡ b → fact_of (cond b (k ∷ known_of x rs) (known_of x rs)) id ≡ Nothing → Each (λ r. r.execution ≡ x → r.element ≢ id) (r ∷ rs)) [
-      | true ↦ λ on. (elim (bytes_eq r.element id) as (λ b. bytes_eq r.element id ≡ b → cond b (fact_from r.state) (fact_of (known_of x rs) id) ≡ Nothing
+    let k : Known = record { id = r.element; fact = fact_of_state r.state } in
+    (elim (r.execution == x) as (λ b. (r.execution == x) ≡ b → fact_of (cond b (k ∷ known_elements x rs) (known_elements x rs)) id ≡ Nothing → Each (λ r. r.execution ≡ x → r.element ≢ id) (r ∷ rs)) [
+      | true ↦ λ on. (elim (is_text r.element id) as (λ b. is_text r.element id ≡ b → cond b (fact_of_state r.state) (fact_of (known_elements x rs) id) ≡ Nothing
           → Each (λ r. r.execution ≡ x → r.element ≢ id) (r ∷ rs)) [
             | true ↦ λ is s. absurd (not-nothing r.state s)
-            | false ↦ λ is s. ((λ _ same. let yes : bytes_eq r.element id ≡ true = (bytes_decides r.element id).1 same in cc), unknown-away x rs id s)
+            | false ↦ λ is s. ((λ _ same. let yes : is_text r.element id ≡ true = (bytes_decides r.element id).1 same in cc), unknown-away x rs id s)
           ]) refl
       | false ↦ λ off s. ((λ on _. eqb-false r.execution x off on), unknown-away x rs id s)
     ]) refl h
@@ -139,38 +141,38 @@ unknown-away x (r ∷ rs) id h =
 -- ---- One work item more
 
 abbrev known_as : WorkRow → Known
-known_as r = record { id = r.element; fact = fact_from r.state }
+known_as r = record { id = r.element; fact = fact_of_state r.state }
 
-pub known-new : (x : ℕ) (works : List WorkRow) (new : WorkRow) → (new.execution == x) ≡ true → known_of x (works ++ new ∷ []) ≡ known_of x works ++ known_as new ∷ []
+pub known-new : (x : ℕ) (works : List WorkRow) (new : WorkRow) → (new.execution == x) ≡ true → known_elements x (works ++ new ∷ []) ≡ known_elements x works ++ known_as new ∷ []
 known-new x [] new on = rw on refl
 known-new x (r ∷ rs) new on =
-    elim (r.execution == x) as (λ b. cond b (known_as r ∷ known_of x (rs ++ new ∷ [])) (known_of x (rs ++ new ∷ []))
-    ≡ cond b (known_as r ∷ known_of x rs) (known_of x rs) ++ known_as new ∷ []) [
+    elim (r.execution == x) as (λ b. cond b (known_as r ∷ known_elements x (rs ++ new ∷ [])) (known_elements x (rs ++ new ∷ []))
+    ≡ cond b (known_as r ∷ known_elements x rs) (known_elements x rs) ++ known_as new ∷ []) [
       | true ↦ ap (λ ks. known_as r ∷ ks) (known-new x rs new on)
       | false ↦ known-new x rs new on
     ]
 
-fact-other : (known : List Known) (new : Known) (id : List ℕ) → bytes_eq new.id id ≡ false → fact_of (known ++ new ∷ []) id ≡ fact_of known id
+fact-other : (known : List Known) (new : Known) (id : List ℕ) → is_text new.id id ≡ false → fact_of (known ++ new ∷ []) id ≡ fact_of known id
 fact-other [] new id off = rw off refl
-fact-other (k ∷ ks) new id off = ap (λ f. cond (bytes_eq k.id id) k.fact f) (fact-other ks new id off)
+fact-other (k ∷ ks) new id off = ap (λ f. cond (is_text k.id id) k.fact f) (fact-other ks new id off)
 
 fact-new : (x : ℕ) (works : List WorkRow) (new : Known) → Each (λ r. r.execution ≡ x → r.element ≢ new.id) works
-    → fact_of (known_of x works ++ new ∷ []) new.id ≡ new.fact
-fact-new x [] new away = let here : bytes_eq new.id new.id ≡ true = (bytes_decides new.id new.id).1 refl in rw here refl
+    → fact_of (known_elements x works ++ new ∷ []) new.id ≡ new.fact
+fact-new x [] new away = let here : is_text new.id new.id ≡ true = (bytes_decides new.id new.id).1 refl in rw here refl
 fact-new x (r ∷ rs) new away =
-    (elim (r.execution == x) as (λ b. (r.execution == x) ≡ b → fact_of (cond b (known_as r ∷ known_of x rs) (known_of x rs) ++ new ∷ []) new.id ≡ new.fact) [
-      | true ↦ λ on. let off : bytes_eq r.element new.id ≡ false = differing r.element new.id (away.0 (eqb-true r.execution x on)) in rw off (fact-new x rs new away.1)
+    (elim (r.execution == x) as (λ b. (r.execution == x) ≡ b → fact_of (cond b (known_as r ∷ known_elements x rs) (known_elements x rs) ++ new ∷ []) new.id ≡ new.fact) [
+      | true ↦ λ on. let off : is_text r.element new.id ≡ false = differing r.element new.id (away.0 (eqb-true r.execution x on)) in rw off (fact-new x rs new away.1)
       | false ↦ λ off. fact-new x rs new away.1
     ]) refl
 
 -- the facts with one work item more, of an element that nothing was known of
 pub new-differs : (x : ℕ) (works : List WorkRow) (new : WorkRow) → (new.execution == x) ≡ true
-    → DifferAt new.element (fact_of (known_of x works)) (fact_of (known_of x (works ++ new ∷ [])))
+    → DifferAt new.element (fact_of (known_elements x works)) (fact_of (known_elements x (works ++ new ∷ [])))
 new-differs x works new on i other =
-    ap (λ ks. fact_of ks i) (known-new x works new on) ∙ fact-other (known_of x works) (known_as new) i (differing new.element i (λ e. other (sym e)))
+    ap (λ ks. fact_of ks i) (known-new x works new on) ∙ fact-other (known_elements x works) (known_as new) i (differing new.element i (λ e. other (sym e)))
 
-pub new-fact : (x : ℕ) (works : List WorkRow) (new : WorkRow) → (new.execution == x) ≡ true → fact_of (known_of x works) new.element ≡ Nothing
-    → fact_of (known_of x (works ++ new ∷ [])) new.element ≡ fact_from new.state
+pub new-fact : (x : ℕ) (works : List WorkRow) (new : WorkRow) → (new.execution == x) ≡ true → fact_of (known_elements x works) new.element ≡ Nothing
+    → fact_of (known_elements x (works ++ new ∷ [])) new.element ≡ fact_of_state new.state
 new-fact x works new on was =
     ap (λ ks. fact_of ks new.element) (known-new x works new on) ∙ fact-new x works (known_as new) (unknown-away x works new.element was)
 
@@ -178,21 +180,21 @@ new-fact x works new on was =
 
 -- what was known of the element of a busy work item
 pub busy-fact : (p : WorkRow → Bool) (works : List WorkRow) (c : WorkRow) → find p works ≡ Some c → AllApart works → c.state ≡ Busy
-    → fact_of (known_of c.execution works) c.element ≡ FactBusy
+    → fact_of (known_elements c.execution works) c.element ≡ FactBusy
 busy-fact p [] c e apart busy = cc
 busy-fact p (r ∷ rs) c e apart busy =
-    (elim (p r) as (λ b. cond b (Some r) (find p rs) ≡ Some c → fact_of (known_of c.execution (r ∷ rs)) c.element ≡ FactBusy) [
+    (elim (p r) as (λ b. cond b (Some r) (find p rs) ≡ Some c → fact_of (known_elements c.execution (r ∷ rs)) c.element ≡ FactBusy) [
       | true ↦ λ s.
           let same : r ≡ c = cc in
           let on : (r.execution == c.execution) ≡ true = eq-eqb r.execution c.execution (ap (λ (z : WorkRow). z.execution) same) in
-          let here : bytes_eq r.element c.element ≡ true = (bytes_decides r.element c.element).1 (ap (λ (z : WorkRow). z.element) same) in
-          rw on (rw here (ap fact_from (ap (λ (z : WorkRow). z.state) same ∙ busy)))
+          let here : is_text r.element c.element ≡ true = (bytes_decides r.element c.element).1 (ap (λ (z : WorkRow). z.element) same) in
+          rw on (rw here (ap fact_of_state (ap (λ (z : WorkRow). z.state) same ∙ busy)))
       | false ↦ λ s.
           let from : Apart r c = each-found (Apart r) p rs c apart.0 s in
           let rest = busy-fact p rs c s apart.1 busy in
-          (elim (r.execution == c.execution) as (λ b. (r.execution == c.execution) ≡ b → fact_of (cond b (known_as r ∷ known_of c.execution rs) (known_of c.execution rs)) c.element ≡ FactBusy) [
+          (elim (r.execution == c.execution) as (λ b. (r.execution == c.execution) ≡ b → fact_of (cond b (known_as r ∷ known_elements c.execution rs) (known_elements c.execution rs)) c.element ≡ FactBusy) [
             | true ↦ λ on.
-                let off : bytes_eq r.element c.element ≡ false = differing r.element c.element (λ same. from (sym (eqb-true r.execution c.execution on)) (sym same)) in
+                let off : is_text r.element c.element ≡ false = differing r.element c.element (λ same. from (sym (eqb-true r.execution c.execution on)) (sym same)) in
                 rw off rest
             | false ↦ λ off. rest
           ]) refl
@@ -200,23 +202,23 @@ busy-fact p (r ∷ rs) c e apart busy =
 
 -- the facts with one work item over differ at its element alone
 pub over-differs : (x : ℕ) (p : WorkRow → Bool) (works : List WorkRow) (c : WorkRow) (o : WorkOutcome) (t : Option (List ℕ)) (step : MetricStep) (at : ℕ)
-    → find p works ≡ Some c → DifferAt c.element (fact_of (known_of x works)) (fact_of (known_of x (change_first p (over o t step at) works)))
+    → find p works ≡ Some c → DifferAt c.element (fact_of (known_elements x works)) (fact_of (known_elements x (change_first p (over o t step at) works)))
 over-differs x p [] c o t step at e i other = cc
 over-differs x p (r ∷ rs) c o t step at e i other =
     (elim (p r) as (λ b. cond b (Some r) (find p rs) ≡ Some c
-    → fact_of (known_of x (cond b (over o t step at r ∷ rs) (r ∷ change_first p (over o t step at) rs))) i ≡ fact_of (known_of x (r ∷ rs)) i) [
+    → fact_of (known_elements x (cond b (over o t step at r ∷ rs) (r ∷ change_first p (over o t step at) rs))) i ≡ fact_of (known_elements x (r ∷ rs)) i) [
       | true ↦ λ s.
           let same : r ≡ c = cc in
-          let off : bytes_eq r.element i ≡ false = differing r.element i (λ h. other (sym h ∙ ap (λ (z : WorkRow). z.element) same)) in
-          elim (r.execution == x) as (λ b. fact_of (cond b (known_as (over o t step at r) ∷ known_of x rs) (known_of x rs)) i ≡ fact_of (cond b (known_as r ∷ known_of x rs) (known_of x rs)) i) [
+          let off : is_text r.element i ≡ false = differing r.element i (λ h. other (sym h ∙ ap (λ (z : WorkRow). z.element) same)) in
+          elim (r.execution == x) as (λ b. fact_of (cond b (known_as (over o t step at r) ∷ known_elements x rs) (known_elements x rs)) i ≡ fact_of (cond b (known_as r ∷ known_elements x rs) (known_elements x rs)) i) [
             | true ↦ rw off refl
             | false ↦ refl
           ]
       | false ↦ λ s.
           let rest = over-differs x p rs c o t step at s i other in
-          elim (r.execution == x) as (λ b. fact_of (cond b (known_as r ∷ known_of x (change_first p (over o t step at) rs)) (known_of x (change_first p (over o t step at) rs))) i
-          ≡ fact_of (cond b (known_as r ∷ known_of x rs) (known_of x rs)) i) [
-            | true ↦ ap (λ f. cond (bytes_eq r.element i) (fact_from r.state) f) rest
+          elim (r.execution == x) as (λ b. fact_of (cond b (known_as r ∷ known_elements x (change_first p (over o t step at) rs)) (known_elements x (change_first p (over o t step at) rs))) i
+          ≡ fact_of (cond b (known_as r ∷ known_elements x rs) (known_elements x rs)) i) [
+            | true ↦ ap (λ f. cond (is_text r.element i) (fact_of_state r.state) f) rest
             | false ↦ rest
           ]
     ]) e

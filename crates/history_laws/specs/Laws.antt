@@ -1,17 +1,19 @@
 -- What every legal history keeps, in the words of its subject.
-use Rattle.std.specs.Prelude.{ℕ, ◌≡◌, ◌+◌, ◌==◌, true, false, Option, Some, is_some, List, [], ◌∷◌, ◌++◌, length, find, if◌then◌else◌}
+use Rattle.std.specs.Prelude.{ℕ, ◌≡◌, ◌+◌, ◌==◌, true, false, Option, None, Some, is_some, List, [], ◌∷◌, ◌++◌, length, find, if◌then◌else◌}
 use Rattle.batch_ids.specs.Statuses.{is_unfinished}
 use Rattle.jsl_model.specs.Names.{is_among}
 use Rattle.batch_history.specs.declared.call.Call.{Call}
-use Rattle.batch_history.specs.declared.call.Call.TheVariants.{Start, Restart, Stop, Abandon, Claim, Checkpoint, Finish}
+use Rattle.batch_history.specs.Operations.{Making, begins, restarts, effects}
 use Rattle.batch_history.specs.declared.call.WorkItem.{WorkItem}
 use Rattle.batch_history.specs.declared.call.Entry.{Entry}
 use Rattle.batch_history.specs.declared.rows.ExecutionRow.{ExecutionRow}
 use Rattle.batch_history.specs.declared.rows.WorkRow.{WorkRow}
 use Rattle.batch_history.specs.declared.rows.WorkState.TheVariants.{Busy}
 use Rattle.batch_history.specs.declared.rows.JobInstance.{JobInstance}
-use Rattle.batch_history.specs.History.{is_finished, job_named}
-use Rattle.batch_history.specs.Rows.{History, rows, row_status, is_execution, has_something, first_ready, walk_in, runs_in}
+use Rattle.batch_history.specs.Replies.{row_status, is_execution, has_something, first_ready, walk_in_rows, runnable_of_job}
+use Rattle.batch_history.specs.Rows.{History, rows}
+use Rattle.batch_history.specs.Statuses.{is_finished}
+use Rattle.batch_history.specs.Walks.{job_named}
 
 -- the history as it was after its first operations
 abbrev pub beginning : History → List Entry → History
@@ -60,8 +62,8 @@ pub record WasReady (h : History) (item : WorkItem) : Type 0 where
   pub owner : ExecutionRow
   pub least : find (has_something (rows h)) (rows h).executions ≡ Some owner
   pub execution : item.execution ≡ owner.execution
-  pub ready : first_ready (walk_in (rows h) owner) ≡ Some item.element
-  pub runs : is_some (runs_in (job_named h.catalogue owner.job) item.element) ≡ true
+  pub ready : first_ready (walk_in_rows (rows h) owner) ≡ Some item.element
+  pub runs : is_some (runnable_of_job (job_named h.catalogue owner.job) item.element) ≡ true
   pub number : item.work ≡ length (rows h).works + 1
 
 -- ---- Job instances and names
@@ -72,12 +74,12 @@ pub record HasInstance (h : History) (row : ExecutionRow) : Type 0 where
   pub found : find (λ i. i.instance == row.instance) (rows h).instances ≡ Some instance
   pub job : instance.job ≡ row.job
 
--- a job that is started for the first time comes last
+-- the names with that of a job whose job instance is begun: a job that is started for the first time comes last
+abbrev pub with_begun : List (List ℕ) → Option Making → List (List ℕ)
+with_begun names None = names
+with_begun names (Some (begins job parameters)) = if is_among names job then names else names ++ job ∷ []
+with_begun names (Some (restarts y parameters)) = names
+
+-- the names after a call
 abbrev pub with_name : List (List ℕ) → Call → List (List ℕ)
-with_name names (Start job parameters) = if is_among names job then names else names ++ job ∷ []
-with_name names (Restart y parameters) = names
-with_name names (Stop y) = names
-with_name names (Abandon y) = names
-with_name names Claim = names
-with_name names (Checkpoint w mark step) = names
-with_name names (Finish w outcome exit step) = names
+with_name names call = with_begun names (effects call).makes

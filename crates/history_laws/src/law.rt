@@ -8,8 +8,12 @@ ghost use Rattle.batch_history.specs.declared.query.Answer.TheVariants.{JobNames
 ghost use Rattle.batch_history.specs.declared.rows.ExecutionRow.{ExecutionRow};
 ghost use Rattle.batch_history.specs.declared.rows.WorkRow.{WorkRow};
 ghost use Rattle.batch_history.specs.Answers.{answer};
-ghost use Rattle.batch_history.specs.History.{is_work, is_finished};
-ghost use Rattle.batch_history.specs.Rows.{History, IsLegal, rows, row_status, grown};
+ghost use Rattle.batch_history.specs.Legal.{IsLegal, grown};
+ghost use Rattle.batch_history.specs.Replies.{row_status};
+ghost use Rattle.batch_history.specs.Walks.{job_named};
+ghost use Rattle.batch_history.specs.Rows.{History, rows};
+ghost use Rattle.batch_history.specs.Statuses.{is_finished};
+ghost use Rattle.batch_history.specs.Works.{is_work};
 ghost use Rattle.history_laws.specs.Laws.{beginning, row_in, StaysFinished, EndedAt, BelongsTo, WasReady, HasInstance, with_name};
 
 /// A job execution that is over stays so: whatever is accepted later, all of it stays as it was, its
@@ -26,10 +30,9 @@ pub fn finished_job_executions_stay_finished()
 /// after which it was over for the first time.
 ///
 /// It only cites the law that it rests on: its contract is the law.
-#[tactic(auto, using(crate::proofs::Laws::has_end_where_over, crate::proofs::Laws::ended_at))]
 pub fn ends_are_moments_of_operations()
     ensures there { (limit : ℕ) (h : History) → IsLegal limit h → (x : ℕ) (row : ExecutionRow) → row_in h x ≡ Some row → is_some row.end ≡ is_finished row.bare }
-    ensures moment { (h : History) (x t : ℕ) (row : ExecutionRow) → row_in h x ≡ Some row → row.end ≡ Some t → EndedAt h x t }
+    ensures moment { (limit : ℕ) (h : History) → IsLegal limit h → (x t : ℕ) (row : ExecutionRow) → row_in h x ≡ Some row → row.end ≡ Some t → EndedAt h x t }
 {
     finished_job_executions_stay_finished();
 }
@@ -59,6 +62,14 @@ pub fn what_is_handed_out_was_ready()
 #[tactic(auto, using(crate::proofs::Laws::has_instance))]
 pub fn job_executions_have_job_instances()
     ensures { (limit : ℕ) (h : History) → IsLegal limit h → (x : ℕ) (row : ExecutionRow) → row_in h x ≡ Some row → HasInstance h row }
+{}
+
+/// The job of each job execution is in the catalogue, so that its walk is that of its job.
+///
+/// It does nothing: its contract is the law, of every legal history.
+pub fn jobs_of_job_executions_are_in_the_catalogue()
+    ensures { (limit : ℕ) (h : History) → IsLegal limit h → (x : ℕ) (row : ExecutionRow)
+        → row_in h x ≡ Some row → is_some (job_named h.catalogue row.job) ≡ true }
 {}
 
 /// The job names stand once each, in the order of their first start: a start of a job that is not

@@ -2,7 +2,8 @@ ghost use Rattle.std.specs.Prelude.{◌≡◌, ◌≤◌, ◌<◌, ◌-◌, [], 
 ghost use Rattle.std.specs.Option.{option_copied};
 ghost use Rattle.batch_history.specs.Answers.{answer};
 ghost use Rattle.batch_history.specs.Due.{IsDue};
-ghost use Rattle.batch_history.specs.Rows.{reply, after_call, IsLegal};
+ghost use Rattle.batch_history.specs.Legal.{after_call, IsLegal};
+ghost use Rattle.batch_history.specs.Replies.{reply};
 
 use batch_ids::{Moment, OutOfMemory, Refusal};
 use jsl_model::Catalogue;
@@ -22,7 +23,9 @@ pub struct Book<const LIMIT: u64> {
 }
 
 impl<const LIMIT: u64> Model for Book<LIMIT> {
-    ghost use Rattle.batch_history.specs.Rows.{History, IsLegal, StandsFor};
+    ghost use Rattle.batch_history.specs.Legal.{IsLegal};
+    ghost use Rattle.batch_history.specs.Rows.{History};
+    ghost use Rattle.seq_repository.specs.Kept.{StandsFor};
     ghost use Rattle.jsl_model.specs.contracts.element.Body as body;
     ghost use Rattle.std.specs.Coded.{codes};
 

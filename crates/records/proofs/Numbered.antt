@@ -3,9 +3,9 @@ use Rattle.std.proofs.Common.{◌≡◌, ℕ, zero, suc, ◌+◌, ◌-◌, ◌==
 use Rattle.std.specs.List.{slice_get}
 use Rattle.std.proofs.lemmas.List.{map-append, length-map}
 use Rattle.std.proofs.lemmas.Bool.{eq-eqb, ne_eqb}
-use Rattle.batch_history.specs.History.{change_first}
-use Rattle.batch_history.specs.History.{is_work}
-use Rattle.batch_history.specs.Rows.{is_execution}
+use Rattle.batch_history.specs.Lists.{change_first}
+use Rattle.batch_history.specs.Replies.{is_execution}
+use Rattle.batch_history.specs.Works.{is_work}
 use Rattle.batch_history.specs.declared.rows.JobInstance.{JobInstance}
 use Rattle.batch_history.specs.declared.rows.ExecutionRow.{ExecutionRow}
 use Rattle.batch_history.specs.declared.rows.WorkRow.{WorkRow}

@@ -5,7 +5,7 @@ use Rattle.jsl_model.specs.Names.{unheld, is_among}
 use Rattle.batch_history.specs.declared.rows.JobInstance.{JobInstance}
 use Rattle.batch_history.specs.declared.rows.ExecutionRow.{ExecutionRow}
 use Rattle.batch_history.specs.declared.rows.WorkRow.{WorkRow}
-use Rattle.batch_history.specs.Answers.{named}
+use Rattle.batch_history.specs.Answers.{instances_of_job}
 use Rattle.records.specs.declared.readers.Names.{Names}
 use Rattle.records.specs.declared.readers.InstancesOf.{InstancesOf}
 use Rattle.records.specs.declared.readers.ExecutionsOf.{ExecutionsOf}
@@ -31,7 +31,7 @@ abbrev pub works_of : ℕ → List WorkRow → List WorkRow
 works_of x rows = filter (λ row. row.execution == x) rows
 
 abbrev pub instances_left : InstancesOf → List JobInstance
-instances_left instances = named instances.name.now instances.rows.now
+instances_left instances = instances_of_job instances.name.now instances.rows.now
 
 abbrev pub executions_left : ExecutionsOf → List ExecutionRow
 executions_left executions = executions_of executions.instance executions.rows.now

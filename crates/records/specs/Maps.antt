@@ -1,11 +1,13 @@
 -- The rows of a job repository: four finite maps.
-use Rattle.std.specs.Prelude.{ℕ, zero, suc, ◌≡◌, ◌+◌, ◌==◌, Bool, Option, Some, None, List, [], ◌∷◌, map}
+use Rattle.std.specs.Prelude.{ℕ, zero, suc, ◌≡◌, ◌+◌, ◌==◌, ◌&&◌, Bool, true, false, Option, Some, None, List, [], ◌∷◌, map, find, filter, if◌then◌else◌}
+use Rattle.std.specs.Option.{option_map}
 use Rattle.std.specs.List.{slice_get}
 use Rattle.batch_history.specs.declared.rows.JobInstance.{JobInstance}
 use Rattle.batch_history.specs.declared.rows.ExecutionRow.{ExecutionRow}
 use Rattle.batch_history.specs.declared.rows.WorkRow.{WorkRow}
 use Rattle.batch_history.specs.declared.rows.CheckpointRow.{CheckpointRow}
-use Rattle.batch_history.specs.History.{Place, with_mark, without_mark}
+use Rattle.batch_history.specs.Checkpoints.{InstanceStep}
+use Rattle.batch_ids.specs.Texts.{is_text}
 
 -- the job instances, the job executions and the work items by their numbers, and the checkpoints by job instance and step
 pub record Maps : Type 0 where
@@ -31,8 +33,30 @@ pub record AreNumbered (maps : Maps) : Type 0 where
 abbrev pub is_instance : ℕ → JobInstance → Bool
 is_instance i row = row.instance == i
 
+abbrev pub is_place : InstanceStep → CheckpointRow → Bool
+is_place p row = row.instance == p.instance && is_text row.step p.step
+
+abbrev pub is_elsewhere : InstanceStep → CheckpointRow → Bool
+is_elsewhere p row = if is_place p row then false else true
+
+abbrev pub marked : InstanceStep → List ℕ → CheckpointRow
+marked p mark = record { instance = p.instance; step = p.step; mark = mark }
+
+-- the checkpoints with this one at its place
+abbrev pub with_mark : InstanceStep → List ℕ → List CheckpointRow → List CheckpointRow
+with_mark p mark [] = marked p mark ∷ []
+with_mark p mark (row ∷ rest) = if is_place p row then marked p mark ∷ rest else row ∷ with_mark p mark rest
+
+-- the checkpoints without those at this place
+abbrev pub without_mark : InstanceStep → List CheckpointRow → List CheckpointRow
+without_mark p rows = filter (is_elsewhere p) rows
+
+-- the checkpoint at a place
+abbrev pub mark_at : List CheckpointRow → InstanceStep → Option (List ℕ)
+mark_at rows p = option_map (λ row. row.mark) (find (is_place p) rows)
+
 -- the checkpoints with this mark at a place, or without one there
-abbrev pub marks_with : Place → Option (List ℕ) → List CheckpointRow → List CheckpointRow
+abbrev pub marks_with : InstanceStep → Option (List ℕ) → List CheckpointRow → List CheckpointRow
 marks_with p (Some mark) rows = with_mark p mark rows
 marks_with p None rows = without_mark p rows
 

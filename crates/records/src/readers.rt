@@ -1,6 +1,6 @@
 ghost use Rattle.std.specs.Prelude.{◌≡◌, [], map, take};
 ghost use Rattle.jsl_model.specs.Names.{distinct, is_among};
-ghost use Rattle.batch_history.specs.Answers.{named};
+ghost use Rattle.batch_history.specs.Answers.{instances_of_job};
 ghost use Rattle.records.specs.Left.{job_names, names_left, instances_left, executions_of, executions_left, works_of, works_left};
 
 use batch_history::{ExecutionRow, JobInstance, WorkRow};
@@ -67,7 +67,7 @@ pub struct InstancesOf<'r> {
 
 impl<'r> InstancesOf<'r> {
     pub(crate) fn new(rows: &'r [JobInstance], name: &'r str) -> InstancesOf<'r>
-        ensures { instances_left result ≡ named name.now rows.now }
+        ensures { instances_left result ≡ instances_of_job name.now rows.now }
     {
         InstancesOf { rows, name }
     }

@@ -1,8 +1,10 @@
 ghost use Rattle.std.specs.Prelude.{◌≡◌, ◌+◌, ◌-◌, ◌<◌, ◌≤◌, ◌++◌, ◌∷◌, [], ℕ, List, None, true, length, find, slice_set, is_some, option_copied, IsOk, IfSome, IfNone, OnOk, OnErr};
 ghost use Rattle.jsl_model.specs.Names.{distinct};
-ghost use Rattle.batch_history.specs.History.{change_first, is_work, is_place, is_elsewhere, with_mark, without_mark, mark_at};
-ghost use Rattle.batch_history.specs.Rows.{is_execution};
-ghost use Rattle.batch_history.specs.Answers.{named};
+ghost use Rattle.batch_history.specs.Answers.{instances_of_job};
+ghost use Rattle.batch_history.specs.Lists.{change_first};
+ghost use Rattle.batch_history.specs.Replies.{is_execution};
+ghost use Rattle.batch_history.specs.Works.{is_work};
+ghost use Rattle.records.specs.Maps.{is_place, is_elsewhere, with_mark, without_mark, mark_at};
 ghost use Rattle.records.specs.Maps.{no_rows, is_instance, marks_with, at_number};
 ghost use Rattle.records.specs.Left.{job_names, names_left, instances_left, executions_of, executions_left, works_of, works_left};
 
@@ -115,7 +117,7 @@ impl Records {
 
     /// The job instances of this name, by rising number. It takes no memory.
     pub fn instances_of<'r>(&'r self, name: &'r str) -> InstancesOf<'r>
-        ensures { instances_left result ≡ named name.now self.now.instances }
+        ensures { instances_left result ≡ instances_of_job name.now self.now.instances }
     {
         InstancesOf::new(self.instances.as_slice(), name)
     }

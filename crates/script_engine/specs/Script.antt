@@ -6,7 +6,9 @@ use Rattle.jsl_model.specs.Jobs.{JobTree}
 use Rattle.batch_history.specs.declared.call.Call.{Call}
 use Rattle.batch_history.specs.declared.call.Reply.{Reply}
 use Rattle.batch_history.specs.Answers.{answer}
-use Rattle.batch_history.specs.Rows.{History, reply, after_call}
+use Rattle.batch_history.specs.Legal.{after_call}
+use Rattle.batch_history.specs.Replies.{reply}
+use Rattle.batch_history.specs.Rows.{History}
 use Rattle.script_lines.specs.declared.line.TheConstants.{MAX_LINE}
 use Rattle.script_lines.specs.Cut.{script_lines}
 use Rattle.script_text.specs.declared.command.Command.{Command}

@@ -4,7 +4,8 @@ use Rattle.batch_ids.specs.declared.refusal.Refusal.{Refusal}
 use Rattle.jsl_model.specs.Jobs.{JobTree}
 use Rattle.jsl_json.specs.declared.fault.ReadFault.{ReadFault}
 use Rattle.batch_history.specs.Answers.{answer}
-use Rattle.batch_history.specs.Rows.{History, reply}
+use Rattle.batch_history.specs.Replies.{reply}
+use Rattle.batch_history.specs.Rows.{History}
 use Rattle.script_text.specs.declared.command.Command.{Command}
 use Rattle.script_text.specs.declared.command.Command.TheVariants.{BadLine, TextTooLong, Act, Ask}
 use Rattle.script_engine.specs.declared.summary.Kind.{Kind}

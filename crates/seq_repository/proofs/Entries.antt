@@ -14,9 +14,15 @@ use Rattle.batch_history.specs.declared.call.WorkItem.{WorkItem}
 use Rattle.batch_history.specs.declared.rows.ExecutionRow.{ExecutionRow}
 use Rattle.batch_history.specs.declared.rows.WorkRow.{WorkRow}
 use Rattle.batch_history.specs.declared.rows.CheckpointRow.{CheckpointRow}
-use Rattle.batch_history.specs.History.{Place, change_first, is_work, is_at, known_of, reported, over, put_mark, marks_left, place_by, walk_value, walk_of, job_named, handed_to}
-use Rattle.batch_history.specs.Rows.{Rows, is_execution}
-use Rattle.batch_history.specs.Steps.{refreshed, refreshed_by, rows_after, instance_in, place_in}
+use Rattle.batch_history.proofs.Folds.{reported, over}
+use Rattle.batch_history.proofs.Steps.{refreshed, refreshed_by, instance_in, place_in}
+use Rattle.batch_history.specs.Checkpoints.{InstanceStep, instance_step_by}
+use Rattle.batch_history.specs.Lists.{change_first, is_at}
+use Rattle.batch_history.specs.Replies.{is_execution}
+use Rattle.batch_history.specs.Walks.{known_elements, walk_value, walk_of, job_named}
+use Rattle.batch_history.specs.Works.{is_work, busy_work}
+use Rattle.seq_repository.specs.Entered.{put_mark, marks_left, kept_after}
+use Rattle.seq_repository.specs.Kept.{Kept, rows_in}
 use Rattle.batch_history.proofs.Finding.{found-passes}
 use Rattle.records.specs.Maps.{Maps}
 use Rattle.seq_repository.specs.declared.rows.Change.{Change}
@@ -91,51 +97,51 @@ changed-work catalogue works at item rows =
 -- The rows after an operation
 
 -- a stop
-pub stop_rows : (r : Rows) (who at x : ℕ) (reply : Reply)
+pub stop_rows : (r : Kept) (who at x : ℕ) (reply : Reply)
     → record r { count = r.count + 1; executions = change_first (is_execution x) (row_after StopRequest r.catalogue r.works at) r.executions }
-    ≡ rows_after r record { who = who; call = Stop x; at = at; reply = reply }
+    ≡ kept_after r record { who = who; call = Stop x; at = at; reply = reply }
 stop_rows r who at x reply =
     ap (λ (xs : List ExecutionRow). record r { count = r.count + 1; executions = xs }) (changed_stop r.catalogue r.works at x reply r.executions)
 
 -- an abandonment
-pub abandon_rows : (r : Rows) (who at x : ℕ) (reply : Reply)
+pub abandon_rows : (r : Kept) (who at x : ℕ) (reply : Reply)
     → record r { count = r.count + 1; executions = change_first (is_execution x) (row_after Abandonment r.catalogue r.works at) r.executions }
-    ≡ rows_after r record { who = who; call = Abandon x; at = at; reply = reply }
+    ≡ kept_after r record { who = who; call = Abandon x; at = at; reply = reply }
 abandon_rows r who at x reply =
     ap (λ (xs : List ExecutionRow). record r { count = r.count + 1; executions = xs }) (changed_abandon r.catalogue r.works at x reply r.executions)
 
 -- a claim that closes
-pub closed_rows : (r : Rows) (who at x : ℕ)
+pub closed_rows : (r : Kept) (who at x : ℕ)
     → record r { count = r.count + 1; executions = change_first (is_execution x) (row_after TakeUp r.catalogue r.works at) r.executions }
-    ≡ rows_after r record { who = who; call = Claim; at = at; reply = Closed x }
+    ≡ kept_after r record { who = who; call = Claim; at = at; reply = Closed x }
 closed_rows r who at x =
     ap (λ (xs : List ExecutionRow). record r { count = r.count + 1; executions = xs }) (changed_closed r.catalogue r.works at x r.executions)
 
 -- a claim that hands out a work item
-pub work_rows : (r : Rows) (who at : ℕ) (item : WorkItem) (new : Option ExecutionRow)
-    → new ≡ option_map (row_after TakeUp r.catalogue (r.works ++ handed_to who at item ∷ []) at) (find (is_execution item.execution) r.executions)
-    → record r { count = r.count + 1; executions = put_row item.execution new r.executions; works = r.works ++ handed_to who at item ∷ [] }
-    ≡ rows_after r record { who = who; call = Claim; at = at; reply = Work item }
+pub work_rows : (r : Kept) (who at : ℕ) (item : WorkItem) (new : Option ExecutionRow)
+    → new ≡ option_map (row_after TakeUp r.catalogue (r.works ++ busy_work who at item ∷ []) at) (find (is_execution item.execution) r.executions)
+    → record r { count = r.count + 1; executions = put_row item.execution new r.executions; works = r.works ++ busy_work who at item ∷ [] }
+    ≡ kept_after r record { who = who; call = Claim; at = at; reply = Work item }
 work_rows r who at item new is =
-    let works : List WorkRow = r.works ++ handed_to who at item ∷ [] in
+    let works : List WorkRow = r.works ++ busy_work who at item ∷ [] in
     ap (λ (xs : List ExecutionRow). record r { count = r.count + 1; executions = xs; works = works })
     (put_found item.execution (row_after TakeUp r.catalogue works at) r.executions new is ∙ changed-work r.catalogue works at item r.executions)
 
 -- the step of a work item in its job instance, by the new row of its job execution
-place-at : (r : Rows) (w : ℕ) (row : WorkRow) (change : Change) (works : List WorkRow) (at : ℕ) (new : Option ExecutionRow)
+place-at : (r : Kept) (w : ℕ) (row : WorkRow) (change : Change) (works : List WorkRow) (at : ℕ) (new : Option ExecutionRow)
     → find (is_work w) r.works ≡ Some row
     → new ≡ option_map (row_after change r.catalogue works at) (find (is_execution row.execution) r.executions)
-    → place_at new row.element ≡ place_in r w
+    → place_at new row.element ≡ place_in (rows_in r) w
 place-at r w row change works at new found is =
     ap (λ (o : Option ExecutionRow). place_at o row.element) is
     ∙ ((elim (find (is_execution row.execution) r.executions) as (λ o. place_at (option_map (row_after change r.catalogue works at) o) row.element
     ≡ option_map (λ i. record { instance = i; step = row.element }) (option_map (λ (e : ExecutionRow). e.instance) o)) [
       | None ↦ refl
       | Some e ↦ refl
-    ]) ∙ ap (place_by (instance_in r.executions)) (sym found))
+    ]) ∙ ap (instance_step_by (instance_in r.executions)) (sym found))
 
 -- a checkpoint
-pub checkpoint_rows : (r : Rows) (who at w : ℕ) (mark : List ℕ) (step : MetricStep) (reply : Reply) (row : WorkRow) (new : Option ExecutionRow)
+pub checkpoint_rows : (r : Kept) (who at w : ℕ) (mark : List ℕ) (step : MetricStep) (reply : Reply) (row : WorkRow) (new : Option ExecutionRow)
     → find (is_work w) r.works ≡ Some row
     → new ≡ option_map (row_after Report r.catalogue (change_first (is_work w) (reported step) r.works) at) (find (is_execution row.execution) r.executions)
     → record r {
@@ -143,7 +149,7 @@ pub checkpoint_rows : (r : Rows) (who at w : ℕ) (mark : List ℕ) (step : Metr
       executions = put_row row.execution new r.executions;
       works = change_first (is_work w) (λ old. reported step row) r.works;
       checkpoints = put_mark (place_at new row.element) mark r.checkpoints;
-    } ≡ rows_after r record { who = who; call = Checkpoint w mark step; at = at; reply = reply }
+    } ≡ kept_after r record { who = who; call = Checkpoint w mark step; at = at; reply = reply }
 checkpoint_rows r who at w mark step reply row new found is =
     let works : List WorkRow = change_first (is_work w) (reported step) r.works in
     let placed : List CheckpointRow = put_mark (place_at new row.element) mark r.checkpoints in
@@ -151,12 +157,12 @@ checkpoint_rows r who at w mark step reply row new found is =
     (put_found row.execution (row_after Report r.catalogue works at) r.executions new is)
     ∙ (ap (λ (ws : List WorkRow). record r { count = r.count + 1; executions = change_first (is_execution row.execution) (row_after Report r.catalogue works at) r.executions; works = ws; checkpoints = placed })
     (change-found (is_work w) (reported step) r.works row found)
-    ∙ (ap (λ (p : Option Place). record r { count = r.count + 1; executions = change_first (is_execution row.execution) (row_after Report r.catalogue works at) r.executions; works = works; checkpoints = put_mark p mark r.checkpoints })
+    ∙ (ap (λ (p : Option InstanceStep). record r { count = r.count + 1; executions = change_first (is_execution row.execution) (row_after Report r.catalogue works at) r.executions; works = works; checkpoints = put_mark p mark r.checkpoints })
     (place-at r w row Report works at new found is)
     ∙ rw found refl))
 
 -- the end of a work item
-pub finish_rows : (r : Rows) (who at w : ℕ) (outcome : WorkOutcome) (exit : Option (List ℕ)) (step : MetricStep) (reply : Reply) (row : WorkRow) (new : Option ExecutionRow)
+pub finish_rows : (r : Kept) (who at w : ℕ) (outcome : WorkOutcome) (exit : Option (List ℕ)) (step : MetricStep) (reply : Reply) (row : WorkRow) (new : Option ExecutionRow)
     → find (is_work w) r.works ≡ Some row
     → new ≡ option_map (row_after Report r.catalogue (change_first (is_work w) (over outcome exit step at) r.works) at) (find (is_execution row.execution) r.executions)
     → record r {
@@ -164,7 +170,7 @@ pub finish_rows : (r : Rows) (who at w : ℕ) (outcome : WorkOutcome) (exit : Op
       executions = put_row row.execution new r.executions;
       works = change_first (is_work w) (λ old. over outcome exit step at row) r.works;
       checkpoints = marks_left outcome (place_at new row.element) r.checkpoints;
-    } ≡ rows_after r record { who = who; call = Finish w outcome exit step; at = at; reply = reply }
+    } ≡ kept_after r record { who = who; call = Finish w outcome exit step; at = at; reply = reply }
 finish_rows r who at w outcome exit step reply row new found is =
     let works : List WorkRow = change_first (is_work w) (over outcome exit step at) r.works in
     let left : List CheckpointRow = marks_left outcome (place_at new row.element) r.checkpoints in
@@ -172,7 +178,7 @@ finish_rows r who at w outcome exit step reply row new found is =
     (put_found row.execution (row_after Report r.catalogue works at) r.executions new is)
     ∙ (ap (λ (ws : List WorkRow). record r { count = r.count + 1; executions = change_first (is_execution row.execution) (row_after Report r.catalogue works at) r.executions; works = ws; checkpoints = left })
     (change-found (is_work w) (over outcome exit step at) r.works row found)
-    ∙ (ap (λ (p : Option Place). record r { count = r.count + 1; executions = change_first (is_execution row.execution) (row_after Report r.catalogue works at) r.executions; works = works; checkpoints = marks_left outcome p r.checkpoints })
+    ∙ (ap (λ (p : Option InstanceStep). record r { count = r.count + 1; executions = change_first (is_execution row.execution) (row_after Report r.catalogue works at) r.executions; works = works; checkpoints = marks_left outcome p r.checkpoints })
     (place-at r w row Report works at new found is)
     ∙ rw found refl))
 
@@ -186,12 +192,12 @@ found-work w rows row e = eqb-true row.work w (found-passes (is_work w) rows row
 
 -- the new row of a job execution that was found
 pub changed-row : (x : ℕ) (change : Change) (catalogue : List JobTree) (works : List WorkRow) (at : ℕ) (known : List Known) (rows : List ExecutionRow) (row new : ExecutionRow) (value : Value)
-    → find (is_execution x) rows ≡ Some row → known ≡ known_of x works → value ≡ walk_of known (job_named catalogue row.job)
+    → find (is_execution x) rows ≡ Some row → known ≡ known_elements x works → value ≡ walk_of known (job_named catalogue row.job)
     → new ≡ refreshed (effect_of change) value at row
     → Some new ≡ option_map (row_after change catalogue works at) (find (is_execution x) rows)
 changed-row x change catalogue works at known rows row new value found is walk made =
     let walked : value ≡ walk_value catalogue works row.execution row.job =
-    walk ∙ ap (λ k. walk_of k (job_named catalogue row.job)) (is ∙ ap (λ y. known_of y works) (sym (found-execution x rows row found))) in
+    walk ∙ ap (λ k. walk_of k (job_named catalogue row.job)) (is ∙ ap (λ y. known_elements y works) (sym (found-execution x rows row found))) in
     ap Some (made ∙ ap (λ v. refreshed (effect_of change) v at row) walked)
     ∙ ap (option_map (row_after change catalogue works at)) (sym found)
 
@@ -204,7 +210,7 @@ changed-own x change at rows row new value found made =
 -- The maps, changed one after the other
 
 -- the rows over these maps
-abbrev pub rows_with : List JobTree → ℕ → Maps → Rows
+abbrev pub rows_with : List JobTree → ℕ → Maps → Kept
 rows_with catalogue count maps =
     record {
       catalogue = catalogue;
@@ -228,7 +234,7 @@ pub checkpoint-entered : (catalogue : List JobTree) (count : ℕ) (old m1 m2 m3 
     → m1 ≡ record old { checkpoints = put_mark (place_at new element) marked old.checkpoints }
     → m2 ≡ record m1 { works = change_first (is_work w) (λ gone. kept) m1.works }
     → m3 ≡ record m2 { executions = put_row row.execution new m2.executions }
-    → rows_with catalogue (count + 1) m3 ≡ rows_after (rows_with catalogue count old) record { who = who; call = Checkpoint w mark step; at = at; reply = reply }
+    → rows_with catalogue (count + 1) m3 ≡ kept_after (rows_with catalogue count old) record { who = who; call = Checkpoint w mark step; at = at; reply = reply }
 checkpoint-entered catalogue count old m1 m2 m3 who at w mark step reply row kept new element marked found is id same made e1 e2 e3 =
     ap (rows_with catalogue (count + 1))
     (maps-changed old m1 m2 m3 _ (change_first (is_work w) (λ gone. kept)) (put_row row.execution new) e1 e2 e3)
@@ -241,7 +247,7 @@ pub finish-entered : (catalogue : List JobTree) (count : ℕ) (old m1 m2 m3 : Ma
     → m1 ≡ record old { checkpoints = marks_left outcome (place_at new element) old.checkpoints }
     → m2 ≡ record m1 { works = change_first (is_work w) (λ gone. kept) m1.works }
     → m3 ≡ record m2 { executions = put_row row.execution new m2.executions }
-    → rows_with catalogue (count + 1) m3 ≡ rows_after (rows_with catalogue count old) record { who = who; call = Finish w outcome exit step; at = at; reply = reply }
+    → rows_with catalogue (count + 1) m3 ≡ kept_after (rows_with catalogue count old) record { who = who; call = Finish w outcome exit step; at = at; reply = reply }
 finish-entered catalogue count old m1 m2 m3 who at w outcome exit step reply row kept new element found is id made e1 e2 e3 =
     ap (rows_with catalogue (count + 1))
     (maps-changed old m1 m2 m3 _ (change_first (is_work w) (λ gone. kept)) (put_row row.execution new) e1 e2 e3)
@@ -258,11 +264,11 @@ change-entered catalogue count old m at x change new made e =
     (put_found x (row_after change catalogue old.works at) old.executions new made)
 
 pub work-entered : (catalogue : List JobTree) (count : ℕ) (old m1 m2 : Maps) (who at : ℕ) (item : WorkItem) (kept : WorkRow) (new : Option ExecutionRow)
-    → kept ≡ handed_to who at item
-    → new ≡ option_map (row_after TakeUp catalogue (old.works ++ handed_to who at item ∷ []) at) (find (is_execution item.execution) old.executions)
+    → kept ≡ busy_work who at item
+    → new ≡ option_map (row_after TakeUp catalogue (old.works ++ busy_work who at item ∷ []) at) (find (is_execution item.execution) old.executions)
     → m1 ≡ record old { works = old.works ++ kept ∷ [] }
     → m2 ≡ record m1 { executions = put_row item.execution new m1.executions }
-    → rows_with catalogue (count + 1) m2 ≡ rows_after (rows_with catalogue count old) record { who = who; call = Claim; at = at; reply = Work item }
+    → rows_with catalogue (count + 1) m2 ≡ kept_after (rows_with catalogue count old) record { who = who; call = Claim; at = at; reply = Work item }
 work-entered catalogue count old m1 m2 who at item kept new is made e1 e2 =
     ap (rows_with catalogue (count + 1)) (e2 ∙ ap (λ (m : Maps). record m { executions = put_row item.execution new m.executions }) e1)
     ∙ (rw is (work_rows (rows_with catalogue count old) who at item new made))

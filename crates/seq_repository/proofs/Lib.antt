@@ -5,3 +5,5 @@ pub mod Metering
 pub mod Pages
 pub mod Replying
 pub mod Tallies
+pub mod Marks
+pub mod Standing

@@ -4,7 +4,7 @@ use Rattle.batch_ids.specs.declared.metrics.Metrics.{Metrics}
 use Rattle.batch_ids.specs.declared.metric_step.MetricStep.{MetricStep}
 use Rattle.batch_ids.specs.Metrics.{added, zero_metrics}
 use Rattle.batch_history.specs.declared.rows.WorkRow.{WorkRow}
-use Rattle.batch_history.specs.History.{change_first}
+use Rattle.batch_history.specs.Lists.{change_first}
 use Rattle.batch_ids.specs.Metrics.{IsWithin, most_after}
 use Rattle.seq_repository.specs.Metered.{AreWithin, IsStep}
 

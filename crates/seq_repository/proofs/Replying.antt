@@ -11,10 +11,12 @@ use Rattle.batch_history.specs.declared.call.Entry.{Entry}
 use Rattle.batch_history.specs.declared.call.WorkItem.{WorkItem}
 use Rattle.batch_history.specs.declared.rows.ExecutionRow.{ExecutionRow}
 use Rattle.batch_history.specs.declared.rows.WorkRow.{WorkRow}
-use Rattle.batch_history.specs.Rows.{History, IsNext, Rows, reply_by, entered, is_execution, claimed, claim_reply, checkpointed, finished, first_ready, walk_in, has_something}
 use Rattle.batch_history.specs.Due.{IsDue}
+use Rattle.batch_history.specs.Replies.{reply_by, accepted, is_execution, reply_to_claim, claim_reply, reply_to_checkpoint, reply_to_finish, first_ready, walk_in_rows, has_something, is_nothing}
+use Rattle.batch_history.specs.Rows.{History, Rows}
+use Rattle.seq_repository.specs.Kept.{Kept, rows_in, IsNext}
+use Rattle.batch_history.specs.declared.call.Call.{Call}
 use Rattle.job_walk.specs.declared.facts.Value.{Value}
-use Rattle.batch_history.specs.Replies.{is_nothing}
 use Rattle.batch_history.proofs.Legal.{entered-is, reply_room}
 
 item-next : (r : Rows) (row : ExecutionRow) (id : Option (List ℕ)) (item : WorkItem) → claim_reply r row id ≡ Work item → item.work ≡ length r.works + 1
@@ -22,9 +24,9 @@ item-next r row None item e = cc
 item-next r row (Some id) item e = cc
 
 -- a claim hands out the next work item
-pub claimed_next : (limit : ℕ) (r : Rows) (found : Option ExecutionRow) (item : WorkItem) → claimed limit r found ≡ Ok (Work item) → item.work ≡ length r.works + 1
+pub claimed_next : (limit : ℕ) (r : Rows) (found : Option ExecutionRow) (item : WorkItem) → reply_to_claim limit r found ≡ Ok (Work item) → item.work ≡ length r.works + 1
 claimed_next limit r None item e = cc
-claimed_next limit r (Some row) item e = item-next r row (first_ready (walk_in r row)) item (sym (entered-is limit r.count _ (Work item) e))
+claimed_next limit r (Some row) item e = item-next r row (first_ready (walk_in_rows r row)) item (sym (entered-is limit r.count _ (Work item) e))
 
 is-due : {R : Type 0} (result due : Result R Refusal) → result ≡ due → IsDue result due
 is-due (Ok reply) due same = sym same
@@ -32,44 +34,48 @@ is-due (Err refusal) due same = λ _. sym same
 
 -- the reply to a claim that finds a job execution is due
 pub claim_due : (limit : ℕ) (r : Rows) (row : ExecutionRow) (value : Value) (given : Reply) (result : Result Reply Refusal)
-    → Some row ≡ find (has_something r) r.executions → value ≡ walk_in r row → given ≡ claim_reply r row (first_ready value)
-    → result ≡ entered limit r.count given → IsDue result (claimed limit r (find (has_something r) r.executions))
+    → Some row ≡ find (has_something r) r.executions → value ≡ walk_in_rows r row → given ≡ claim_reply r row (first_ready value)
+    → result ≡ accepted limit r.count given → IsDue result (reply_to_claim limit r (find (has_something r) r.executions))
 claim_due limit r row value given result found walked made is =
-    is-due result _ (is ∙ (ap (entered limit r.count) (made ∙ ap (λ v. claim_reply r row (first_ready v)) walked) ∙ ap (claimed limit r) found))
+    is-due result _ (is ∙ (ap (accepted limit r.count) (made ∙ ap (λ v. claim_reply r row (first_ready v)) walked) ∙ ap (reply_to_claim limit r) found))
 
 -- what is reported of, is there
-pub checkpointed_there : (limit : ℕ) (r : Rows) (who : ℕ) (found : Option WorkRow) (given : Reply) → checkpointed limit r who found ≡ Ok given → is_some found ≡ true
+pub checkpointed_there : (limit : ℕ) (r : Rows) (who : ℕ) (found : Option WorkRow) (given : Reply) → reply_to_checkpoint limit r who found ≡ Ok given → is_some found ≡ true
 checkpointed_there limit r who None given e = cc
 checkpointed_there limit r who (Some row) given e = refl
 
-pub finished_there : (limit : ℕ) (r : Rows) (who : ℕ) (outcome : WorkOutcome) (found : Option WorkRow) (given : Reply) → finished limit r who outcome found ≡ Ok given → is_some found ≡ true
+pub finished_there : (limit : ℕ) (r : Rows) (who : ℕ) (outcome : WorkOutcome) (found : Option WorkRow) (given : Reply) → reply_to_finish limit r who outcome found ≡ Ok given → is_some found ≡ true
 finished_there limit r who outcome None given e = cc
 finished_there limit r who outcome (Some row) given e = refl
+
+-- there is room for what is accepted
+pub accepted_room : (limit : ℕ) (kept : Kept) (who : ℕ) (call : Call) (given : Reply) → reply_by limit (rows_in kept) who call ≡ Ok given → is_nothing given ≡ false
+    → kept.count < limit
+accepted_room limit kept who call given due accepted = reply_room limit (rows_in kept) who call given due accepted
 
 -- The next entry
 
 -- its reply is due by the rows, and is not Nothing
-next-parts : (limit : ℕ) (r : Rows) (e : Entry) → IsNext limit r e → (reply_by limit r e.who e.call ≡ Ok e.reply) × (is_nothing e.reply ≡ false)
-next-parts limit r e next =
+next-parts : (limit : ℕ) (kept : Kept) (e : Entry) → IsNext limit kept e → (reply_by limit (rows_in kept) e.who e.call ≡ Ok e.reply) × (is_nothing e.reply ≡ false)
+next-parts limit kept e next =
     let h : History = next.history in
     let parts = next.legal.due h.log e [] refl in
     (ap (λ (rs : Rows). reply_by limit rs e.who e.call) next.stands ∙ parts.0, parts.1)
 
-pub next_due : (limit : ℕ) (r : Rows) (e : Entry) → IsNext limit r e → reply_by limit r e.who e.call ≡ Ok e.reply
-next_due limit r e next = (next-parts limit r e next).0
+pub next_due : (limit : ℕ) (kept : Kept) (e : Entry) → IsNext limit kept e → reply_by limit (rows_in kept) e.who e.call ≡ Ok e.reply
+next_due limit kept e next = (next-parts limit kept e next).0
 
-pub next_entered : (limit : ℕ) (r : Rows) (e : Entry) → IsNext limit r e → is_nothing e.reply ≡ false
-next_entered limit r e next = (next-parts limit r e next).1
+pub next_entered : (limit : ℕ) (kept : Kept) (e : Entry) → IsNext limit kept e → is_nothing e.reply ≡ false
+next_entered limit kept e next = (next-parts limit kept e next).1
 
--- there is room for it
-pub next_room : (limit : ℕ) (r : Rows) (e : Entry) → IsNext limit r e → r.count < limit
-next_room limit r e next = reply_room limit r e.who e.call e.reply (next_due limit r e next) (next_entered limit r e next)
+pub next_room : (limit : ℕ) (kept : Kept) (e : Entry) → IsNext limit kept e → kept.count < limit
+next_room limit kept e next = accepted_room limit kept e.who e.call e.reply (next_due limit kept e next) (next_entered limit kept e next)
 
 -- what is restarted, is there
 pub restarted_there : (limit : ℕ) (r : Rows) (who y : ℕ) (parameters : List Pair) (given : Reply) → reply_by limit r who (Restart y parameters) ≡ Ok given
     → is_some (find (is_execution y) r.executions) ≡ true
 restarted_there limit r who y parameters given e =
-    (elim (is_some (find (is_execution y) r.executions)) as (λ b. cond b (entered limit r.count (IsExecution (length r.executions + 1))) (Err NoSuchJobExecutionException) ≡ Ok given → b ≡ true) [
+    (elim (is_some (find (is_execution y) r.executions)) as (λ b. cond b (accepted limit r.count (IsExecution (length r.executions + 1))) (Err NoSuchJobExecutionException) ≡ Ok given → b ≡ true) [
       | true ↦ λ s. refl
       | false ↦ λ s. cc
     ]) e

@@ -3,7 +3,7 @@ use Rattle.std.proofs.Common.{◌≡◌, ℕ, ◌+◌, List, [], ◌∷◌, sym,
 use Rattle.batch_ids.specs.declared.status.BatchStatus.{BatchStatus}
 use Rattle.batch_ids.specs.declared.status.BatchStatus.TheVariants.{Starting, Started, Stopping, Stopped, Failed, Completed, Abandoned}
 use Rattle.batch_history.specs.declared.query.CountsByStatus.{CountsByStatus}
-use Rattle.batch_history.specs.Answers.{no_counts, counted, total}
+use Rattle.batch_history.specs.Answers.{no_counts, with_one_more, total}
 
 -- the counts of two lists together
 abbrev pub both : CountsByStatus → CountsByStatus → CountsByStatus
@@ -19,7 +19,7 @@ both a b =
     }
 
 -- one that is counted with the first list, or with the second
-pub both_counted : (status : BatchStatus) (a b : CountsByStatus) → both (counted status a) b ≡ both a (counted status b)
+pub both_counted : (status : BatchStatus) (a b : CountsByStatus) → both (with_one_more status a) b ≡ both a (with_one_more status b)
 both_counted Starting a b = let e : a.starting + 1 + b.starting ≡ a.starting + (b.starting + 1) = omega arith in ap (λ (n : ℕ). record (both a b) { starting = n }) e
 both_counted Started a b = let e : a.started + 1 + b.started ≡ a.started + (b.started + 1) = omega arith in ap (λ (n : ℕ). record (both a b) { started = n }) e
 both_counted Stopping a b = let e : a.stopping + 1 + b.stopping ≡ a.stopping + (b.stopping + 1) = omega arith in ap (λ (n : ℕ). record (both a b) { stopping = n }) e
@@ -37,7 +37,7 @@ pub none_after : (a : CountsByStatus) → both a no_counts ≡ a
 none_after a = grind arith
 
 -- one more is counted
-pub total_counted : (status : BatchStatus) (a : CountsByStatus) → total (counted status a) ≡ total a + 1
+pub total_counted : (status : BatchStatus) (a : CountsByStatus) → total (with_one_more status a) ≡ total a + 1
 total_counted Starting a = omega arith
 total_counted Started a = omega arith
 total_counted Stopping a = omega arith

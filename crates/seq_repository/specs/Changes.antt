@@ -4,9 +4,11 @@ use Rattle.std.specs.Option.{option_map}
 use Rattle.jsl_model.specs.Jobs.{JobTree}
 use Rattle.batch_history.specs.declared.rows.ExecutionRow.{ExecutionRow}
 use Rattle.batch_history.specs.declared.rows.WorkRow.{WorkRow}
-use Rattle.batch_history.specs.History.{Place, walk_value, change_first}
-use Rattle.batch_history.specs.Rows.{is_execution}
-use Rattle.batch_history.specs.Steps.{Effect, refreshed}
+use Rattle.batch_history.proofs.Steps.{Effect, refreshed}
+use Rattle.batch_history.specs.Checkpoints.{InstanceStep}
+use Rattle.batch_history.specs.Lists.{change_first}
+use Rattle.batch_history.specs.Replies.{is_execution}
+use Rattle.batch_history.specs.Walks.{walk_value}
 use Rattle.seq_repository.specs.declared.rows.Change.{Change}
 use Rattle.seq_repository.specs.declared.rows.Change.TheVariants.{StopRequest, Abandonment, Claim as TakeUp, Report}
 
@@ -28,5 +30,5 @@ put_row x None rows = rows
 put_row x (Some row) rows = change_first (is_execution x) (λ old. row) rows
 
 -- the step of the job instance of this job execution, if there is one
-abbrev pub place_at : Option ExecutionRow → List ℕ → Option Place
+abbrev pub place_at : Option ExecutionRow → List ℕ → Option InstanceStep
 place_at row step = option_map (λ r. record { instance = r.instance; step = step }) row

@@ -2,9 +2,10 @@ ghost use Rattle.std.specs.Prelude.{◌≡◌, ◌==◌, Ok, Err, Some, None, If
 ghost use Rattle.std.specs.List.{list_any};
 ghost use Rattle.jsl_model.specs.Names.{distinct};
 ghost use Rattle.batch_history.specs.declared.query.Answer.{Answer};
-ghost use Rattle.batch_history.specs.Rows.{Rows, is_execution};
-ghost use Rattle.batch_history.specs.Answers.{named, page, running_of, is_running_of, records_of, steps_of, counts_of, answered_of, answered_with, answer_by};
+ghost use Rattle.batch_history.specs.Answers.{instances_of_job, page, running_executions, is_running_of, records_of, steps_of, counts_of, if_job_known, if_execution_known, answer_by};
 ghost use Rattle.batch_history.specs.Due.{IsDue};
+ghost use Rattle.batch_history.specs.Replies.{is_execution};
+ghost use Rattle.batch_history.specs.Rows.{Rows};
 ghost use Rattle.records.specs.Left.{job_names};
 
 use batch_history::{
@@ -61,7 +62,7 @@ fn known(rows: &Records, x: ExecutionId) -> Result<&ExecutionRow, Refusal>
 
 /// Whether a job has a job instance.
 fn is_known(rows: &Records, job: &T256) -> bool
-    ensures { (found : Answer) → answered_of (named job.now rows.now.instances) found ≡ (if result then Ok found else Err Refusal.NoSuchJobException) }
+    ensures { (found : Answer) → if_job_known (instances_of_job job.now rows.now.instances) found ≡ (if result then Ok found else Err Refusal.NoSuchJobException) }
 {
     rows.instances_of(job.as_str()).next().is_some()
 }
@@ -77,7 +78,7 @@ fn names(alloc: Global, rows: &Records) -> Result<Listed<T256>, OutOfMemory>
 }
 
 fn instance_count(rows: &Records, job: &T256) -> Result<Answer, Refusal>
-    ensures { result ≡ answered_of (named job.now rows.now.instances) (Answer.JobInstanceCount (length (named job.now rows.now.instances))) }
+    ensures { result ≡ if_job_known (instances_of_job job.now rows.now.instances) (Answer.JobInstanceCount (length (instances_of_job job.now rows.now.instances))) }
 {
     if !is_known(rows, job) {
         return Err(Refusal::NoSuchJobException);
@@ -87,7 +88,7 @@ fn instance_count(rows: &Records, job: &T256) -> Result<Answer, Refusal>
 
 /// How many of these job instances a job has.
 fn count_named(rows: &[JobInstance], job: &T256) -> u64
-    ensures { result ≡ length (named job.now rows.now) }
+    ensures { result ≡ length (instances_of_job job.now rows.now) }
 {
     let mut count = 0;
     for row in rows {
@@ -105,7 +106,7 @@ fn instances(
     start: u64,
     count: u64,
 ) -> Result<Answer, Refusal>
-    ensures { IsDue result (answered_of (named job.now rows.now.instances) (Answer.JobInstances (page start count (reverse (named job.now rows.now.instances))))) }
+    ensures { IsDue result (if_job_known (instances_of_job job.now rows.now.instances) (Answer.JobInstances (page start count (reverse (instances_of_job job.now rows.now.instances))))) }
 {
     if !is_known(rows, job) {
         return Err(Refusal::NoSuchJobException);
@@ -122,7 +123,7 @@ fn newest(
     start: u64,
     count: u64,
 ) -> Result<Vec<JobInstance>, OutOfMemory>
-    ensures { IfOk result (λ found. found.items ≡ page start count (reverse (named job.now rows.now))) }
+    ensures { IfOk result (λ found. found.items ≡ page start count (reverse (instances_of_job job.now rows.now))) }
 {
     let mut found = Vec::new(alloc);
     let mut left_out = 0;
@@ -142,7 +143,7 @@ fn newest(
 }
 
 fn running(alloc: Global, rows: &Records, job: &T256) -> Result<Answer, Refusal>
-    ensures { IsDue result (answered_of (named job.now rows.now.instances) (Answer.RunningExecutions (running_of job.now rows.now.executions))) }
+    ensures { IsDue result (if_job_known (instances_of_job job.now rows.now.instances) (Answer.RunningExecutions (running_executions job.now rows.now.executions))) }
 {
     if !is_known(rows, job) {
         return Err(Refusal::NoSuchJobException);
@@ -157,7 +158,7 @@ fn unfinished(
     rows: &[ExecutionRow],
     job: &T256,
 ) -> Result<Vec<ExecutionId>, OutOfMemory>
-    ensures { IfOk result (λ found. found.items ≡ running_of job.now rows.now) }
+    ensures { IfOk result (λ found. found.items ≡ running_executions job.now rows.now) }
 {
     let mut found = Vec::new(alloc);
     for row in rows {

@@ -2,10 +2,12 @@ ghost use Rattle.std.specs.Prelude.{◌≡◌, ◌<◌, ◌+◌, [], true, false
 ghost use Rattle.std.specs.Option.{option_map};
 ghost use Rattle.batch_history.specs.declared.rows.WorkRow.{WorkRow as Work};
 ghost use Rattle.batch_history.specs.Due.{IsDue};
-ghost use Rattle.batch_history.specs.History.{change_first, is_work, known_of, put_mark, marks_left};
-ghost use Rattle.batch_history.specs.Rows.{is_execution, reply_by};
-ghost use Rattle.batch_history.specs.Replies.{is_nothing};
-ghost use Rattle.batch_history.specs.Steps.{rows_after};
+ghost use Rattle.batch_history.specs.Lists.{change_first};
+ghost use Rattle.batch_history.specs.Replies.{is_execution, reply_by, is_nothing};
+ghost use Rattle.batch_history.specs.Walks.{known_elements};
+ghost use Rattle.batch_history.specs.Works.{is_work};
+ghost use Rattle.seq_repository.specs.Entered.{put_mark, marks_left, kept_after};
+ghost use Rattle.seq_repository.specs.Kept.{rows_in};
 ghost use Rattle.seq_repository.specs.Changes.{put_row, place_at, row_after};
 
 use crate::repository::Repository;
@@ -72,7 +74,7 @@ impl<const LIMIT: u64> Repository<LIMIT> {
         known: &[Known],
         at: Moment,
     ) -> Result<Option<ExecutionRow>, OutOfMemory>
-        ensures row { (works : List Work) → known.now ≡ known_of x works
+        ensures row { (works : List Work) → known.now ≡ known_elements x works
             → IfOk result (λ new. new ≡ option_map (row_after change self.now.catalogue works at) (find (is_execution x) self.now.executions)) }
         ensures own { IfOk result (λ new. IfSome new (λ row. (is_some (find (is_execution x) self.now.executions) ≡ true) × (row.execution ≡ x))) }
     {
@@ -92,7 +94,7 @@ impl<const LIMIT: u64> Repository<LIMIT> {
         at: Moment,
     ) -> Result<(), OutOfMemory>
         requires { self.old.count < LIMIT }
-        ensures rows { OnOk result (self.new ≡ rows_after self.old record { who = 0; call = Call.Start job.now parameters.now; at = at; reply = Reply.Done }) }
+        ensures rows { OnOk result (self.new ≡ kept_after self.old record { who = 0; call = Call.Start job.now parameters.now; at = at; reply = Reply.Done }) }
         ensures unchanged { OnErr result (self.new ≡ self.old) }
     {
         let first = job.try_clone()?;
@@ -118,7 +120,7 @@ impl<const LIMIT: u64> Repository<LIMIT> {
     ) -> Result<(), OutOfMemory>
         requires room { self.old.count < LIMIT }
         requires there { is_some (find (is_execution y) self.old.executions) ≡ true }
-        ensures rows { OnOk result (self.new ≡ rows_after self.old record { who = 0; call = Call.Restart y parameters.now; at = at; reply = Reply.Done }) }
+        ensures rows { OnOk result (self.new ≡ kept_after self.old record { who = 0; call = Call.Restart y parameters.now; at = at; reply = Reply.Done }) }
         ensures unchanged { OnErr result (self.new ≡ self.old) }
     {
         let Some(earlier) = self.records.execution(y) else {
@@ -155,7 +157,7 @@ impl<const LIMIT: u64> Repository<LIMIT> {
     fn enter_work(&mut self, who: u64, at: Moment, item: &WorkItem) -> Result<(), OutOfMemory>
         requires room { self.old.count < LIMIT }
         requires number { item.now.work ≡ length self.old.works + 1 }
-        ensures rows { OnOk result (self.new ≡ rows_after self.old record { who = who; call = Call.Claim; at = at; reply = Reply.Work item.now }) }
+        ensures rows { OnOk result (self.new ≡ kept_after self.old record { who = who; call = Call.Claim; at = at; reply = Reply.Work item.now }) }
         ensures unchanged { OnErr result (self.new ≡ self.old) }
     {
         let x = item.execution;
@@ -177,7 +179,7 @@ impl<const LIMIT: u64> Repository<LIMIT> {
     ) -> Result<(), OutOfMemory>
         requires room { self.old.count < LIMIT }
         requires held { is_some (find (is_work w) self.old.works) ≡ true }
-        ensures rows { OnOk result (self.new ≡ rows_after self.old record { who = 0; call = Call.Checkpoint w mark.now step.now; at = at; reply = Reply.Done }) }
+        ensures rows { OnOk result (self.new ≡ kept_after self.old record { who = 0; call = Call.Checkpoint w mark.now step.now; at = at; reply = Reply.Done }) }
         ensures unchanged { OnErr result (self.new ≡ self.old) }
     {
         let Some(work) = self.records.work(w) else {
@@ -206,7 +208,7 @@ impl<const LIMIT: u64> Repository<LIMIT> {
     ) -> Result<(), OutOfMemory>
         requires room { self.old.count < LIMIT }
         requires held { is_some (find (is_work w) self.old.works) ≡ true }
-        ensures rows { OnOk result (self.new ≡ rows_after self.old record { who = 0; call = Call.Finish w outcome exit.now step.now; at = at; reply = Reply.Done }) }
+        ensures rows { OnOk result (self.new ≡ kept_after self.old record { who = 0; call = Call.Finish w outcome exit.now step.now; at = at; reply = Reply.Done }) }
         ensures unchanged { OnErr result (self.new ≡ self.old) }
     {
         let Some(work) = self.records.work(w) else {
@@ -235,9 +237,9 @@ impl<const LIMIT: u64> Repository<LIMIT> {
     #[tactic(auto, using(crate::proofs::Replying::claimed_next, crate::proofs::Entries::closed_rows))]
     fn enter_claim(&mut self, who: u64, at: Moment, reply: &Reply) -> Result<(), OutOfMemory>
         requires room { self.old.count < LIMIT }
-        requires due { reply_by LIMIT self.old who Call.Claim ≡ Ok reply.now }
+        requires due { reply_by LIMIT (rows_in self.old) who Call.Claim ≡ Ok reply.now }
         requires entered { is_nothing reply.now ≡ false }
-        ensures rows { OnOk result (self.new ≡ rows_after self.old record { who = who; call = Call.Claim; at = at; reply = reply.now }) }
+        ensures rows { OnOk result (self.new ≡ kept_after self.old record { who = who; call = Call.Claim; at = at; reply = reply.now }) }
         ensures unchanged { OnErr result (self.new ≡ self.old) }
     {
         match reply {
@@ -257,9 +259,9 @@ impl<const LIMIT: u64> Repository<LIMIT> {
         reply: &Reply,
     ) -> Result<(), OutOfMemory>
         requires room { self.old.count < LIMIT }
-        requires due { reply_by LIMIT self.old who call.now ≡ Ok reply.now }
+        requires due { reply_by LIMIT (rows_in self.old) who call.now ≡ Ok reply.now }
         requires entered { is_nothing reply.now ≡ false }
-        ensures rows { OnOk result (self.new ≡ rows_after self.old record { who = who; call = call.now; at = at; reply = reply.now }) }
+        ensures rows { OnOk result (self.new ≡ kept_after self.old record { who = who; call = call.now; at = at; reply = reply.now }) }
         ensures unchanged { OnErr result (self.new ≡ self.old) }
     {
         match call {
@@ -284,15 +286,15 @@ impl<const LIMIT: u64> Repository<LIMIT> {
     }
 
     /// Answers a call, and enters it where it is accepted.
-    #[tactic(auto, using(batch_history::proofs::Legal::reply_room))]
+    #[tactic(auto, using(crate::proofs::Replying::accepted_room))]
     pub(crate) fn decide_and_enter(
         &mut self,
         who: u64,
         call: &Call,
         at: Moment,
     ) -> Result<Reply, Refusal>
-        ensures due { IsDue result (reply_by LIMIT self.old who call.now) }
-        ensures rows { IfOk result (λ reply. self.new ≡ (if is_nothing reply then self.old else rows_after self.old record { who = who; call = call.now; at = at; reply = reply })) }
+        ensures due { IsDue result (reply_by LIMIT (rows_in self.old) who call.now) }
+        ensures rows { IfOk result (λ reply. self.new ≡ (if is_nothing reply then self.old else kept_after self.old record { who = who; call = call.now; at = at; reply = reply })) }
         ensures refused { OnErr result (self.new ≡ self.old) }
     {
         let reply = self.reply(who, call)?;

@@ -1,8 +1,10 @@
 ghost use Rattle.std.specs.Prelude.{◌≡◌, [], find, IfOk};
 ghost use Rattle.std.specs.Option.{option_copied};
 ghost use Rattle.batch_history.specs.Due.{IsDue};
-ghost use Rattle.batch_history.specs.History.{is_work, job_named};
-ghost use Rattle.batch_history.specs.Rows.{is_execution, reply_by, entered, claim_reply, stopped, abandoned, checkpointed, finished, stop_asked, unheld_by, marked_as, stopped_as, stopped_end, finished_as, item_of, task_of, runs_in, walk_in, first_ready};
+ghost use Rattle.batch_history.specs.Replies.{is_execution, reply_by, accepted, claim_reply, reply_to_stop, reply_to_abandon, reply_to_checkpoint, reply_to_finish, stop_requested_of, report_refusal, reply_to_kept_checkpoint, reply_to_stopped_step, reply_to_stopped_work, reply_to_end, next_work_item, work_task, runnable_of_job, walk_in_rows, first_ready};
+ghost use Rattle.batch_history.specs.Walks.{job_named};
+ghost use Rattle.batch_history.specs.Works.{is_work};
+ghost use Rattle.seq_repository.specs.Kept.{rows_in};
 
 use crate::repository::Repository;
 use crate::search::Claimable;
@@ -15,7 +17,7 @@ use std::alloc::Global;
 
 /// The reply to a call that is accepted, or the refusal where the history is full.
 fn accept<const LIMIT: u64>(count: u64, reply: Reply) -> Result<Reply, Refusal>
-    ensures { result ≡ entered LIMIT count reply }
+    ensures { result ≡ accepted LIMIT count reply }
 {
     if count < LIMIT {
         Ok(reply)
@@ -30,7 +32,7 @@ fn task_of(
     mark: Option<&Text<65536>>,
     found: Option<Runnable>,
 ) -> Result<WorkTask, OutOfMemory>
-    ensures { IfOk result (λ task. task ≡ task_of (option_copied mark.entry) found) }
+    ensures { IfOk result (λ task. task ≡ work_task (option_copied mark.entry) found) }
 {
     match found {
         None => Ok(WorkTask::Decision {
@@ -63,7 +65,7 @@ fn task_of(
 
 /// Why a session may not report of a work item.
 fn report_refusal(who: u64, claimer: u64, state: &WorkState) -> Option<Refusal>
-    ensures { result ≡ unheld_by who claimer state.now }
+    ensures { result ≡ report_refusal who claimer state.now }
 {
     match state {
         WorkState::Over(_, _) => Some(Refusal::WorkNotRunning),
@@ -81,7 +83,7 @@ fn checkpoint_reply<const LIMIT: u64>(
     stop: bool,
     kind: WorkKind,
 ) -> Result<Reply, Refusal>
-    ensures { result ≡ marked_as LIMIT count stop kind }
+    ensures { result ≡ reply_to_kept_checkpoint LIMIT count stop kind }
 {
     match kind {
         WorkKind::Chunk => if stop {
@@ -95,7 +97,7 @@ fn checkpoint_reply<const LIMIT: u64>(
 }
 
 fn stopped_step_reply<const LIMIT: u64>(count: u64, stop: bool) -> Result<Reply, Refusal>
-    ensures { result ≡ stopped_as LIMIT count stop }
+    ensures { result ≡ reply_to_stopped_step LIMIT count stop }
 {
     if stop {
         accept::<LIMIT>(count, Reply::Done)
@@ -109,7 +111,7 @@ fn stopped_work_reply<const LIMIT: u64>(
     stop: bool,
     kind: WorkKind,
 ) -> Result<Reply, Refusal>
-    ensures { result ≡ stopped_end LIMIT count stop kind }
+    ensures { result ≡ reply_to_stopped_work LIMIT count stop kind }
 {
     match kind {
         WorkKind::Decision => Err(Refusal::WrongOutcome),
@@ -125,7 +127,7 @@ fn finish_reply<const LIMIT: u64>(
     kind: WorkKind,
     outcome: WorkOutcome,
 ) -> Result<Reply, Refusal>
-    ensures { result ≡ finished_as LIMIT count stop kind outcome }
+    ensures { result ≡ reply_to_end LIMIT count stop kind outcome }
 {
     match outcome {
         WorkOutcome::Stopped => stopped_work_reply::<LIMIT>(count, stop, kind),
@@ -136,7 +138,7 @@ fn finish_reply<const LIMIT: u64>(
 
 impl<const LIMIT: u64> Repository<LIMIT> {
     fn reply_to_start(&self, job: &T256) -> Result<Reply, Refusal>
-        ensures { result ≡ reply_by LIMIT self.now 0 (Call.Start job.now []) }
+        ensures { result ≡ reply_by LIMIT (rows_in self.now) 0 (Call.Start job.now []) }
     {
         if self.catalogue.job(job.as_str()).is_none() {
             return Err(Refusal::JobStartException);
@@ -146,7 +148,7 @@ impl<const LIMIT: u64> Repository<LIMIT> {
     }
 
     fn reply_to_restart(&self, x: ExecutionId) -> Result<Reply, Refusal>
-        ensures { result ≡ reply_by LIMIT self.now 0 (Call.Restart x []) }
+        ensures { result ≡ reply_by LIMIT (rows_in self.now) 0 (Call.Restart x []) }
     {
         if self.records.execution(x).is_none() {
             return Err(Refusal::NoSuchJobExecutionException);
@@ -156,7 +158,7 @@ impl<const LIMIT: u64> Repository<LIMIT> {
     }
 
     fn reply_to_stop(&self, x: ExecutionId) -> Result<Reply, Refusal>
-        ensures { result ≡ stopped LIMIT self.now.count (find (is_execution x) self.now.executions) }
+        ensures { result ≡ reply_to_stop LIMIT self.now.count (find (is_execution x) self.now.executions) }
     {
         match self.records.execution(x) {
             None => Err(Refusal::NoSuchJobExecutionException),
@@ -169,7 +171,7 @@ impl<const LIMIT: u64> Repository<LIMIT> {
     }
 
     fn reply_to_abandon(&self, x: ExecutionId) -> Result<Reply, Refusal>
-        ensures { result ≡ abandoned LIMIT self.now (find (is_execution x) self.now.executions) }
+        ensures { result ≡ reply_to_abandon LIMIT (rows_in self.now) (find (is_execution x) self.now.executions) }
     {
         match self.records.execution(x) {
             None => Err(Refusal::NoSuchJobExecutionException),
@@ -187,7 +189,7 @@ impl<const LIMIT: u64> Repository<LIMIT> {
         job: &T256,
         element: &T256,
     ) -> Result<WorkTask, OutOfMemory>
-        ensures { IfOk result (λ task. task ≡ task_of (option_copied mark.entry) (runs_in (job_named self.now.catalogue job.now) element.now)) }
+        ensures { IfOk result (λ task. task ≡ work_task (option_copied mark.entry) (runnable_of_job (job_named self.now.catalogue job.now) element.now)) }
     {
         match self.catalogue.job(job.as_str()) {
             None => task_of(self.alloc, mark, None),
@@ -199,7 +201,7 @@ impl<const LIMIT: u64> Repository<LIMIT> {
     }
 
     fn item_of(&self, row: &ExecutionRow, id: &T256) -> Result<WorkItem, OutOfMemory>
-        ensures { IfOk result (λ item. item ≡ item_of self.now row.now id.now) }
+        ensures { IfOk result (λ item. item ≡ next_work_item (rows_in self.now) row.now id.now) }
     {
         let mark = self.records.checkpoint(row.instance, id);
         let task = self.task_in(mark, &row.job, id)?;
@@ -215,7 +217,7 @@ impl<const LIMIT: u64> Repository<LIMIT> {
 
     /// What a claim of a job execution is answered, whose walk has this value.
     fn claim_reply(&self, row: &ExecutionRow, value: &Value) -> Result<Reply, OutOfMemory>
-        ensures { IfOk result (λ reply. reply ≡ claim_reply self.now row.now (first_ready value.now)) }
+        ensures { IfOk result (λ reply. reply ≡ claim_reply (rows_in self.now) row.now (first_ready value.now)) }
     {
         match status::first_ready(value) {
             None => Ok(Reply::Closed(row.execution)),
@@ -224,7 +226,7 @@ impl<const LIMIT: u64> Repository<LIMIT> {
     }
 
     fn reply_to_claim(&self) -> Result<Reply, Refusal>
-        ensures { IsDue result (reply_by LIMIT self.now 0 Call.Claim) }
+        ensures { IsDue result (reply_by LIMIT (rows_in self.now) 0 Call.Claim) }
     {
         let works = self.records.works();
         let rows = self.records.executions();
@@ -238,7 +240,7 @@ impl<const LIMIT: u64> Repository<LIMIT> {
     }
 
     fn stop_requested(&self, x: ExecutionId) -> bool
-        ensures { result ≡ stop_asked self.now x }
+        ensures { result ≡ stop_requested_of (rows_in self.now) x }
     {
         match self.records.execution(x) {
             None => false,
@@ -247,7 +249,7 @@ impl<const LIMIT: u64> Repository<LIMIT> {
     }
 
     fn reply_to_checkpoint(&self, who: u64, w: WorkId) -> Result<Reply, Refusal>
-        ensures { result ≡ checkpointed LIMIT self.now who (find (is_work w) self.now.works) }
+        ensures { result ≡ reply_to_checkpoint LIMIT (rows_in self.now) who (find (is_work w) self.now.works) }
     {
         match self.records.work(w) {
             None => Err(Refusal::NoSuchWork),
@@ -263,7 +265,7 @@ impl<const LIMIT: u64> Repository<LIMIT> {
     }
 
     fn reply_to_finish(&self, who: u64, w: WorkId, outcome: WorkOutcome) -> Result<Reply, Refusal>
-        ensures { result ≡ finished LIMIT self.now who outcome (find (is_work w) self.now.works) }
+        ensures { result ≡ reply_to_finish LIMIT (rows_in self.now) who outcome (find (is_work w) self.now.works) }
     {
         match self.records.work(w) {
             None => Err(Refusal::NoSuchWork),
@@ -279,7 +281,7 @@ impl<const LIMIT: u64> Repository<LIMIT> {
 
     /// What a call of the session `who` is answered.
     pub(crate) fn reply(&self, who: u64, call: &Call) -> Result<Reply, Refusal>
-        ensures { IsDue result (reply_by LIMIT self.now who call.now) }
+        ensures { IsDue result (reply_by LIMIT (rows_in self.now) who call.now) }
     {
         match call {
             Call::Start { job, .. } => self.reply_to_start(job),

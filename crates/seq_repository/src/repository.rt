@@ -1,7 +1,10 @@
 ghost use Rattle.std.specs.Prelude.{◌≡◌, ◌≤◌, [], IfOk, IsOk, OnErr, OnOk};
 ghost use Rattle.batch_history.specs.Answers.{answer};
 ghost use Rattle.batch_history.specs.Due.{IsDue};
-ghost use Rattle.batch_history.specs.Rows.{History, IsNext, StandsFor, reply, after_call, grown};
+ghost use Rattle.batch_history.specs.Legal.{IsLegal, after_call, grown};
+ghost use Rattle.batch_history.specs.Replies.{reply};
+ghost use Rattle.batch_history.specs.Rows.{History};
+ghost use Rattle.seq_repository.specs.Kept.{IsNext, StandsFor};
 
 use crate::answers;
 use batch_history::{Answer, Call, Entry, Query, Reply};
@@ -26,13 +29,13 @@ pub struct Repository<const LIMIT: u64> {
 
 impl<const LIMIT: u64> Model for Repository<LIMIT> {
     ghost use Rattle.std.specs.Prelude.{◌≤◌};
-    ghost use Rattle.batch_history.specs.Rows.{Rows};
+    ghost use Rattle.seq_repository.specs.Kept.{Kept};
     ghost use Rattle.jsl_model.specs.contracts.element.Body as body;
     ghost use Rattle.std.specs.Coded.{codes};
     ghost use Rattle.batch_ids.specs.Metrics.{most_after};
     ghost use Rattle.seq_repository.specs.Metered.{AreWithin};
 
-    ghost Value = { Rows };
+    ghost Value = { Kept };
 
     ghost coded = { Prim.hlevel (codes, body.the_row.coded) };
 
@@ -76,6 +79,7 @@ impl<const LIMIT: u64> Repository<LIMIT> {
     ///
     /// The first refusal of the call that stands, `RepositoryFull` after the call's own refusals where
     /// `LIMIT` operations were accepted, or `OutOfMemory` in place of any answer.
+    #[tactic(auto, using(crate::proofs::Standing::due_for))]
     pub fn preview(&self, who: u64, call: &Call) -> Result<Reply, Refusal>
         ensures { (h : History) → StandsFor self.now h → IsDue result (reply LIMIT h who call.now) }
     {
@@ -90,10 +94,10 @@ impl<const LIMIT: u64> Repository<LIMIT> {
     /// The first refusal of the call that stands, `RepositoryFull` after the call's own refusals where
     /// `LIMIT` operations were accepted, or `OutOfMemory` in place of any answer. A refused call changes
     /// nothing.
-    #[tactic(auto, using(batch_history::proofs::Stepping::stands_call))]
+    #[tactic(auto, using(crate::proofs::Standing::due_for, crate::proofs::Standing::stands_call))]
     pub fn apply(&mut self, who: u64, call: &Call, at: Moment) -> Result<Reply, Refusal>
         ensures reply { (h : History) → StandsFor self.old h → IsDue result (reply LIMIT h who call.now) }
-        ensures after { (h : History) → StandsFor self.old h → IfOk result (λ reply. StandsFor self.new (after_call h who call.now at reply)) }
+        ensures after { (h : History) → IsLegal LIMIT h → StandsFor self.old h → IfOk result (λ reply. StandsFor self.new (after_call h who call.now at reply)) }
         ensures refused { OnErr result (self.new ≡ self.old) }
     {
         self.decide_and_enter(who, call, at)
@@ -105,10 +109,10 @@ impl<const LIMIT: u64> Repository<LIMIT> {
     /// # Errors
     ///
     /// `OutOfMemory` alone, and then nothing has changed.
-    #[tactic(auto, using(batch_history::proofs::Stepping::stands_after, crate::proofs::Replying::next_room, crate::proofs::Replying::next_due, crate::proofs::Replying::next_entered))]
+    #[tactic(auto, using(crate::proofs::Standing::stands_after, crate::proofs::Replying::next_room, crate::proofs::Replying::next_due, crate::proofs::Replying::next_entered))]
     pub fn enter(&mut self, entry: &Entry) -> Result<(), OutOfMemory>
         requires { IsNext LIMIT self.old entry.now }
-        ensures stands { (h : History) → StandsFor self.old h
+        ensures stands { (h : History) → IsLegal LIMIT h → StandsFor self.old h
             → OnOk result (StandsFor self.new (grown h entry.now)) }
         ensures unchanged { OnErr result (self.new ≡ self.old) }
     {

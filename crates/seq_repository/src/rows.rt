@@ -2,8 +2,9 @@ ghost use Rattle.std.specs.Prelude.{◌≡◌, IfOk};
 ghost use Rattle.batch_ids.specs.Metrics.{added};
 ghost use Rattle.batch_ids.specs.Metrics.{IsWithin, most_after};
 ghost use Rattle.seq_repository.specs.Metered.{IsStep};
-ghost use Rattle.batch_history.specs.History.{handed_to, reported, over_as};
-ghost use Rattle.batch_history.specs.Steps.{fresh_row, renewed, refreshed};
+ghost use Rattle.batch_history.proofs.Folds.{reported, over_as};
+ghost use Rattle.batch_history.proofs.Steps.{fresh_row, renewed, refreshed};
+ghost use Rattle.batch_history.specs.Works.{busy_work};
 ghost use Rattle.seq_repository.specs.Changes.{effect_of};
 
 use crate::status::{batch_status, earliest, exit_status, is_finished};
@@ -109,7 +110,7 @@ pub(crate) fn change_row(
 
 /// The row of a work item that is handed out to this session.
 pub(crate) fn new_work(who: u64, at: Moment, item: &WorkItem) -> Result<WorkRow, OutOfMemory>
-    ensures { IfOk result (λ row. row ≡ handed_to who at item.now) }
+    ensures { IfOk result (λ row. row ≡ busy_work who at item.now) }
 {
     let element = item.element.try_clone()?;
     Ok(WorkRow {

@@ -2,8 +2,11 @@ ghost use Rattle.std.specs.Prelude.{ℕ, ◌≡◌, ◌++◌, ◌∷◌, [], IfO
 ghost use Rattle.std.specs.List.{list_any};
 ghost use Rattle.std.specs.Option.{option_map};
 ghost use Rattle.batch_ids.specs.declared.metric_step.MetricStep.{MetricStep as Step};
-ghost use Rattle.batch_history.specs.History.{change_first, is_work, over_as, fact_from, known_of, walk_of, walk_value, job_named, handed_to};
-ghost use Rattle.batch_history.specs.Rows.{is_running_in};
+ghost use Rattle.batch_history.proofs.Folds.{over_as};
+ghost use Rattle.batch_history.specs.Lists.{change_first};
+ghost use Rattle.batch_history.specs.Replies.{is_running_in};
+ghost use Rattle.batch_history.specs.Walks.{fact_of_state, known_elements, walk_of, walk_value, job_named};
+ghost use Rattle.batch_history.specs.Works.{is_work, busy_work};
 ghost use Rattle.seq_repository.specs.Searches.{has_ready};
 
 use crate::status::first_ready;
@@ -36,7 +39,7 @@ pub(crate) fn is_running(rows: &[ExecutionRow], i: InstanceId) -> bool
 }
 
 fn fact_from(state: &WorkState) -> Result<Fact, OutOfMemory>
-    ensures { IfOk result (λ fact. fact ≡ fact_from state.now) }
+    ensures { IfOk result (λ fact. fact ≡ fact_of_state state.now) }
 {
     match state {
         WorkState::Busy => Ok(Fact::Busy),
@@ -50,7 +53,7 @@ pub(crate) fn known_of(
     works: &[WorkRow],
     x: ExecutionId,
 ) -> Result<Vec<Known>, OutOfMemory>
-    ensures { IfOk result (λ known. known.items ≡ known_of x works.now) }
+    ensures { IfOk result (λ known. known.items ≡ known_elements x works.now) }
 {
     let mut known = Vec::new(alloc);
     for row in works {
@@ -70,7 +73,7 @@ pub(crate) fn known_once_claimed(
     works: &[WorkRow],
     item: &WorkItem,
 ) -> Result<Vec<Known>, OutOfMemory>
-    ensures { (who at : ℕ) → IfOk result (λ known. known.items ≡ known_of item.now.execution (works.now ++ handed_to who at item.now ∷ [])) }
+    ensures { (who at : ℕ) → IfOk result (λ known. known.items ≡ known_elements item.now.execution (works.now ++ busy_work who at item.now ∷ [])) }
 {
     let mut known = known_of(alloc, works, item.execution)?;
     known.push(Known {
@@ -89,7 +92,7 @@ pub(crate) fn known_once_finished(
     outcome: WorkOutcome,
     exit: &T256,
 ) -> Result<Vec<Known>, OutOfMemory>
-    ensures { (step : Step) (at : ℕ) → IfOk result (λ known. known.items ≡ known_of x (change_first (is_work w) (over_as outcome exit.now step at) works.now)) }
+    ensures { (step : Step) (at : ℕ) → IfOk result (λ known. known.items ≡ known_elements x (change_first (is_work w) (over_as outcome exit.now step at) works.now)) }
 {
     let mut known = Vec::new(alloc);
     let mut met = false;

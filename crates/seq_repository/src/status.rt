@@ -1,7 +1,9 @@
 ghost use Rattle.std.specs.Prelude.{◌≡◌, IfOk};
 ghost use Rattle.std.specs.Option.{option_copied};
-ghost use Rattle.batch_history.specs.History.{is_finished, earliest, exit_given, status_from, exit_from, status_by, exit_by, stopping, stop_exit, stopping_exit};
-ghost use Rattle.batch_history.specs.Rows.{first_ready};
+ghost use Rattle.batch_history.specs.Moments.{first_moment};
+ghost use Rattle.batch_history.specs.Replies.{first_ready};
+ghost use Rattle.batch_history.specs.Statuses.{is_finished, batch_status, exit_status, status_of_walk, exit_of_walk, stopping_status, stopped_exit, stopping_exit_status};
+ghost use Rattle.batch_history.specs.Works.{exit_or_name};
 
 use batch_ids::{BatchStatus, Listed, Moment, OutOfMemory, T256, WorkOutcome};
 use job_walk::Value;
@@ -13,7 +15,7 @@ pub(crate) fn exit_or_name(
     outcome: WorkOutcome,
     exit: &Option<T256>,
 ) -> Result<T256, OutOfMemory>
-    ensures { IfOk result (λ text. text ≡ exit_given outcome exit.now) }
+    ensures { IfOk result (λ text. text ≡ exit_or_name outcome exit.now) }
 {
     match exit {
         Some(exit) => Ok(exit.try_clone()?),
@@ -41,7 +43,7 @@ pub(crate) fn is_finished(status: BatchStatus) -> bool
 
 /// The earlier moment where there is one, else this one if it counts.
 pub(crate) fn earliest(earlier: Option<Moment>, counts: bool, at: Moment) -> Option<Moment>
-    ensures { result ≡ earliest earlier counts at }
+    ensures { result ≡ first_moment earlier counts at }
 {
     match earlier {
         Some(moment) => Some(moment),
@@ -51,7 +53,7 @@ pub(crate) fn earliest(earlier: Option<Moment>, counts: bool, at: Moment) -> Opt
 
 /// The status of a job execution that was asked to stop, by what is being run.
 fn stop_status(busy: &Listed<T256>) -> BatchStatus
-    ensures { result ≡ stopping busy.now }
+    ensures { result ≡ stopping_status busy.now }
 {
     match busy.as_slice().first() {
         None => BatchStatus::Stopped,
@@ -60,7 +62,7 @@ fn stop_status(busy: &Listed<T256>) -> BatchStatus
 }
 
 fn status_of_walk(stop: bool, value: &Value) -> BatchStatus
-    ensures { result ≡ status_by stop value.now }
+    ensures { result ≡ status_of_walk stop value.now }
 {
     match value {
         Value::Open { busy, .. } => if stop {
@@ -76,7 +78,7 @@ fn status_of_walk(stop: bool, value: &Value) -> BatchStatus
 /// The status of a job execution, abandonment aside: by whether it was asked to stop, its start and
 /// its walk.
 pub(crate) fn batch_status(stop: bool, start: Option<Moment>, value: &Value) -> BatchStatus
-    ensures { result ≡ status_from stop start value.now }
+    ensures { result ≡ batch_status stop start value.now }
 {
     match start {
         None => if stop {
@@ -90,13 +92,13 @@ pub(crate) fn batch_status(stop: bool, start: Option<Moment>, value: &Value) -> 
 
 /// The exit status of a job execution that a stop ended.
 fn stopped_exit(alloc: Global) -> Result<Option<T256>, OutOfMemory>
-    ensures { IfOk result (λ exit. exit ≡ stop_exit) }
+    ensures { IfOk result (λ exit. exit ≡ stopped_exit) }
 {
     Ok(Some(T256::within(alloc, BatchStatus::Stopped.name())?))
 }
 
 fn exit_of_stop(alloc: Global, busy: &Listed<T256>) -> Result<Option<T256>, OutOfMemory>
-    ensures { IfOk result (λ exit. exit ≡ stopping_exit busy.now) }
+    ensures { IfOk result (λ exit. exit ≡ stopping_exit_status busy.now) }
 {
     match busy.as_slice().first() {
         None => stopped_exit(alloc),
@@ -105,7 +107,7 @@ fn exit_of_stop(alloc: Global, busy: &Listed<T256>) -> Result<Option<T256>, OutO
 }
 
 fn exit_of_walk(alloc: Global, stop: bool, value: Value) -> Result<Option<T256>, OutOfMemory>
-    ensures { IfOk result (λ exit. exit ≡ exit_by stop value) }
+    ensures { IfOk result (λ exit. exit ≡ exit_of_walk stop value) }
 {
     match value {
         Value::Open { busy, .. } => if stop {
@@ -125,7 +127,7 @@ pub(crate) fn exit_status(
     start: Option<Moment>,
     value: Value,
 ) -> Result<Option<T256>, OutOfMemory>
-    ensures { IfOk result (λ exit. exit ≡ exit_from stop start value) }
+    ensures { IfOk result (λ exit. exit ≡ exit_status stop start value) }
 {
     match start {
         None => if stop { stopped_exit(alloc) } else { Ok(None) },

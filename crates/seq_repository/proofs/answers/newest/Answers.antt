@@ -2,7 +2,7 @@ use Rattle.std.proofs.Common.{◌≡◌, ◌-◌, ◌<◌, ◌++◌, true, List,
 use Rattle.std.proofs.lemmas.List.{length-append}
 use Rattle.std.specs.Str.{bytes_eq}
 use Rattle.batch_history.specs.declared.rows.JobInstance.{JobInstance}
-use Rattle.batch_history.specs.Answers.{named, page}
+use Rattle.batch_history.specs.Answers.{instances_of_job, page}
 use Rattle.seq_repository.proofs.Pages.{left_out, gathered}
 use Rattle.seq_repository.proofs.answers.newest.Goals as goal
 
@@ -33,7 +33,7 @@ loop-place-preserved-in_ok-push c =
     (omega (arith, c.loop-place-test.true)) c.loop-place.invariant.place c.index-rows-place.is matched
     (omega (arith, c.if-left_out-start.false, c.loop-place.invariant.left_out)) few c.loop-place.invariant.found in
     record {
-      found = subst (λ (l : List JobInstance). l ++ page (c.args.start - c.loop-place.left_out) (c.args.count - length l) (reverse (named c.args.job.now (take (c.loop-place.place - 1) c.args.rows.now))) ≡ page c.args.start c.args.count (reverse (named c.args.job.now c.args.rows.now))) (sym pushed) more;
+      found = subst (λ (l : List JobInstance). l ++ page (c.args.start - c.loop-place.left_out) (c.args.count - length l) (reverse (instances_of_job c.args.job.now (take (c.loop-place.place - 1) c.args.rows.now))) ≡ page c.args.start c.args.count (reverse (instances_of_job c.args.job.now c.args.rows.now))) (sym pushed) more;
       place = omega (arith, c.loop-place.invariant.place);
       left_out = c.loop-place.invariant.left_out;
       few = omega (arith, few, ap length pushed, length-append found (row ∷ []));

@@ -1,9 +1,9 @@
 use Rattle.std.proofs.Common.{◌≡◌, ◌++◌, ◌-◌, ◌≤◌, length, take, reverse}
-use Rattle.batch_history.specs.Answers.{named, page}
+use Rattle.batch_history.specs.Answers.{instances_of_job, page}
 use Rattle.seq_repository.proofs.answers.newest.Given as goal
 
 pub record Invariant (l : goal.Live-loop-place) : Type 0 where
-  pub found : l.found.items ++ page (l.start - l.left_out) (l.count - length l.found.items) (reverse (named l.job (take l.place l.rows))) ≡ page l.start l.count (reverse (named l.job l.rows))
+  pub found : l.found.items ++ page (l.start - l.left_out) (l.count - length l.found.items) (reverse (instances_of_job l.job (take l.place l.rows))) ≡ page l.start l.count (reverse (instances_of_job l.job l.rows))
   pub place : l.place ≤ length l.rows
   pub left_out : l.left_out ≤ l.start
   pub few : length l.found.items ≤ l.count

@@ -1,6 +1,6 @@
 use Rattle.std.proofs.Common.{◌≡◌, ◌++◌, drop}
-use Rattle.batch_history.specs.Answers.{running_of}
+use Rattle.batch_history.specs.Answers.{running_executions}
 use Rattle.seq_repository.proofs.answers.unfinished.Given as goal
 
 abbrev pub invariant-loop-row : goal.invariant-loop-row
-invariant-loop-row l = l.found.items ++ running_of l.job (drop l.row-index l.rows) ≡ running_of l.job l.rows
+invariant-loop-row l = l.found.items ++ running_executions l.job (drop l.row-index l.rows) ≡ running_executions l.job l.rows

@@ -1,6 +1,6 @@
 use Rattle.std.proofs.Common.{◌≡◌, drop}
 use Rattle.std.specs.List.{list_any}
-use Rattle.batch_history.specs.Rows.{is_running_in}
+use Rattle.batch_history.specs.Replies.{is_running_in}
 use Rattle.seq_repository.proofs.search.is_running.Given as goal
 
 abbrev pub invariant-loop-row : goal.invariant-loop-row

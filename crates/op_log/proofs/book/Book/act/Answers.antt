@@ -1,7 +1,7 @@
 use Rattle.std.proofs.Common.{◌≡◌, false, Ok, sym, ◌∙◌, ap, arith, List, [], ◌∷◌, ◌++◌}
-use Rattle.batch_history.proofs.Legal.{log_grown, next_of}
-use Rattle.batch_history.specs.Rows.{History, reply}
-use Rattle.batch_history.specs.Replies.{is_nothing}
+use Rattle.op_log.proofs.Growing.{log_grown, next_of}
+use Rattle.batch_history.specs.Replies.{reply, is_nothing}
+use Rattle.batch_history.specs.Rows.{History}
 use Rattle.batch_history.specs.declared.call.Entry.{Entry}
 use Rattle.op_log.proofs.book.Book.act.Goals as goal
 
@@ -18,5 +18,5 @@ invariant_of-self-2 g c =
     let e : Entry = record { who = c.args.who; call = c.args.call; at = c.args.at; reply = c.in_ok-try_clone.field-0 } in
     let entered : is_nothing e.reply ≡ false = ap is_nothing c.in_ok-try_clone.ensures ∙ (sym c.is_nothing.ensures ∙ c.if-is_nothing.false) in
     log_grown g.row.LIMIT h e c.enter.new.self c.push.new.self.items c.self.invariant.1
-    (c.in_ok-reply.ensures h c.self.invariant.0 ∙ ap Ok (sym c.in_ok-try_clone.ensures)) entered (c.in_ok-enter.ensures.stands h c.self.invariant.0)
+    (c.in_ok-reply.ensures h c.self.invariant.0 ∙ ap Ok (sym c.in_ok-try_clone.ensures)) entered (c.in_ok-enter.ensures.stands h c.self.invariant.1 c.self.invariant.0)
     (c.in-Ok.ensures.items ∙ ap (λ (l : List Entry). l ++ e ∷ []) c.in_ok-reserve.ensures.items)

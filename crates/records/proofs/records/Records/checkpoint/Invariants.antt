@@ -1,5 +1,5 @@
 use Rattle.std.proofs.Common.{◌≡◌, drop}
-use Rattle.batch_history.specs.History.{mark_at}
+use Rattle.records.specs.Maps.{mark_at}
 use Rattle.records.proofs.records.Records.checkpoint.Given as goal
 
 abbrev pub invariant-loop-row : goal.invariant-loop-row

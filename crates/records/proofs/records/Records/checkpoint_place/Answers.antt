@@ -1,13 +1,14 @@
 use Rattle.std.proofs.Common.{◌≡◌, ◌++◌, ◌<◌, List, ℕ, length, take, drop, get_or, set, sym, ◌∙◌, ap, subst, arith}
 use Rattle.batch_history.specs.declared.rows.CheckpointRow.{CheckpointRow}
-use Rattle.batch_history.specs.History.{Place, is_place, marked, with_mark}
+use Rattle.batch_history.specs.Checkpoints.{InstanceStep}
+use Rattle.records.specs.Maps.{is_place, marked, with_mark}
 use Rattle.records.proofs.Marks.{held_at}
 use Rattle.records.proofs.records.Records.checkpoint_place.Goals as goal
 
 pub returns-then-is_place-clause-held : goal.returns-then-is_place-clause-held
 returns-then-is_place-clause-held c =
     let rows : List CheckpointRow = c.deref-row-items.result.now in
-    let p : Place = record { instance = c.args.i; step = c.args.step.now } in
+    let p : InstanceStep = record { instance = c.args.i; step = c.args.step.now } in
     let same = c.deref-row-items.ensures.value ∙ ap (λ maps. maps.checkpoints) c.self.view_is in (
       omega (arith, ap length same, c.loop-place-test.true),
       λ mark.

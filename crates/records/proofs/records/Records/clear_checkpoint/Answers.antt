@@ -1,13 +1,14 @@
 use Rattle.std.proofs.Common.{rules, ◌≡◌, List, ◌∙◌, ap}
 use Rattle.std.proofs.lemmas.Fn.{filter_same}
 use Rattle.batch_history.specs.declared.rows.CheckpointRow.{CheckpointRow}
-use Rattle.batch_history.specs.History.{Place, is_elsewhere, without_mark}
+use Rattle.batch_history.specs.Checkpoints.{InstanceStep}
+use Rattle.records.specs.Maps.{is_elsewhere, without_mark}
 use Rattle.records.specs.Maps.{Maps}
 use Rattle.records.proofs.records.Records.clear_checkpoint.Goals as goal
 
 pub returns : goal.returns
 returns c =
-    let p : Place = record { instance = c.args.i; step = c.args.step.now } in
+    let p : InstanceStep = record { instance = c.args.i; step = c.args.step.now } in
     let left = filter_same _ (is_elsewhere p) _ (λ x b f k. search rules) _ _ c.retain.ensures.filtered in
     ap (λ (l : List CheckpointRow).
     record { instances = c.self.inside.instances.items; executions = c.self.inside.executions.items; works = c.self.inside.works.items; checkpoints = l }) left

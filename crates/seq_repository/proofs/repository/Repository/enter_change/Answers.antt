@@ -1,7 +1,8 @@
 use Rattle.std.proofs.Common.{◌≡◌, ◌∙◌, sym, ap, find, subst, arith}
 use Rattle.std.specs.Option.{option_map}
-use Rattle.batch_history.specs.History.{known_of}
-use Rattle.batch_history.specs.Rows.{Rows, is_execution}
+use Rattle.batch_history.specs.Replies.{is_execution}
+use Rattle.seq_repository.specs.Kept.{Kept}
+use Rattle.batch_history.specs.Walks.{known_elements}
 use Rattle.seq_repository.specs.Changes.{row_after}
 use Rattle.seq_repository.proofs.Entries.{change-entered}
 use Rattle.seq_repository.proofs.Metering.{within_more}
@@ -9,16 +10,16 @@ use Rattle.seq_repository.proofs.repository.Repository.enter_change.Goals as goa
 
 pub returns-clause-rows : goal.returns-clause-rows
 returns-clause-rows g c =
-    let P : Rows → Type 0 = λ r. c.in_ok-row.row ≡ option_map (row_after c.args.change r.catalogue c.self.inside.records.works c.args.at) (find (is_execution c.args.x) r.executions) in
+    let P : Kept → Type 0 = λ r. c.in_ok-row.row ≡ option_map (row_after c.args.change r.catalogue c.self.inside.records.works c.args.at) (find (is_execution c.args.x) r.executions) in
     rw (← c.self.view_is)
     (change-entered c.self.inside.catalogue c.self.inside.count c.self.inside.records c.put_row.new.records c.args.at c.args.x c.args.change c.in_ok-row.row
     (subst P (sym c.self.view_is) (c.in_ok-row.ensures.row c.self.inside.records.works
-    (c.as_slice.ensures.value ∙ (c.in_ok-known.ensures ∙ ap (known_of c.args.x) c.works.ensures))))
+    (c.as_slice.ensures.value ∙ (c.in_ok-known.ensures ∙ ap (known_elements c.args.x) c.works.ensures))))
     c.put_row.ensures)
 
 pub invariant_of-self : goal.invariant_of-self
 invariant_of-self g c = (
   c.self.invariant.0,
-  omega (arith, c.requires, ap (λ (r : Rows). r.count) c.self.view_is),
+  omega (arith, c.requires, ap (λ (r : Kept). r.count) c.self.view_is),
   rw c.put_row.ensures (within_more c.self.inside.count c.self.inside.records.works c.self.invariant.2),
 )

@@ -2,8 +2,12 @@ use Rattle.std.proofs.Common.{◌≡◌, sym, ◌∙◌, ap, find, Some, List, s
 use Rattle.batch_ids.specs.Metrics.{added}
 use Rattle.batch_history.specs.declared.rows.WorkRow.{WorkRow}
 use Rattle.batch_history.specs.declared.call.Reply.TheVariants.{Done}
-use Rattle.batch_history.specs.History.{change_first, is_work, known_of, reported}
-use Rattle.batch_history.specs.Rows.{Rows, is_execution}
+use Rattle.batch_history.proofs.Folds.{reported}
+use Rattle.batch_history.specs.Lists.{change_first}
+use Rattle.batch_history.specs.Replies.{is_execution}
+use Rattle.seq_repository.specs.Kept.{Kept}
+use Rattle.batch_history.specs.Walks.{known_elements}
+use Rattle.batch_history.specs.Works.{is_work}
 use Rattle.std.specs.Option.{option_map}
 use Rattle.seq_repository.specs.declared.rows.Change.TheVariants.{Report}
 use Rattle.seq_repository.specs.Changes.{row_after}
@@ -27,7 +31,7 @@ invariant_of-self-2 g c =
     let found : find (is_work c.args.w) c.self.inside.records.works ≡ Some c.in-Some.work.now = sym c.in-Some.ensures in
     let metrics : c.in_ok-work.work.metrics ≡ added c.in-Some.work.now.metrics c.args.step.now = ap (λ (row : WorkRow). row.metrics) c.in_ok-work.ensures.new in (
       c.self.invariant.0,
-      omega (arith, c.requires.room, ap (λ (r : Rows). r.count) c.self.view_is),
+      omega (arith, c.requires.room, ap (λ (r : Kept). r.count) c.self.view_is),
       rw c.put_row.ensures (rw c.change_work.ensures (rw c.in_ok-put_mark.ensures.rows
           (within_put c.self.inside.count (is_work c.args.w) c.self.inside.records.works c.in-Some.work.now c.in_ok-work.work c.args.step.now
           found metrics c.in_ok-work.ensures.small c.self.invariant.2))),
@@ -37,12 +41,12 @@ pub returns-clause-rows : goal.returns-clause-rows
 returns-clause-rows g c =
     let found : find (is_work c.args.w) c.self.inside.records.works ≡ Some c.in-Some.work.now = sym c.in-Some.ensures in
     let works : List WorkRow = change_first (is_work c.args.w) (reported c.args.step.now) c.self.inside.records.works in
-    let P : Rows → Type 0 = λ r. c.in_ok-row.row ≡ option_map (row_after Report r.catalogue works c.args.at) (find (is_execution c.in-Some.work.now.execution) r.executions) in
+    let P : Kept → Type 0 = λ r. c.in_ok-row.row ≡ option_map (row_after Report r.catalogue works c.args.at) (find (is_execution c.in-Some.work.now.execution) r.executions) in
     rw (← c.self.view_is)
     (checkpoint-entered c.self.inside.catalogue c.self.inside.count c.self.inside.records _ _ c.put_row.new.records 0 c.args.at c.args.w c.args.mark.now c.args.step.now Done
     c.in-Some.work.now c.in_ok-work.work c.in_ok-row.row c.in_ok-element.element c.in_ok-mark.mark
     found c.in_ok-work.ensures.new c.in_ok-element.ensures c.in_ok-mark.ensures
     (subst P (sym c.self.view_is) (c.in_ok-row.ensures.row works
-    (c.as_slice.ensures.value ∙ (c.in_ok-known.ensures ∙ (ap (known_of c.in-Some.work.now.execution) c.works.ensures
+    (c.as_slice.ensures.value ∙ (c.in_ok-known.ensures ∙ (ap (known_elements c.in-Some.work.now.execution) c.works.ensures
     ∙ known_reported c.in-Some.work.now.execution (is_work c.args.w) c.args.step.now c.self.inside.records.works)))))
     c.in_ok-put_mark.ensures.rows c.change_work.ensures c.put_row.ensures)

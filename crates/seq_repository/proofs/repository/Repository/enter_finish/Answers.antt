@@ -2,8 +2,12 @@ use Rattle.std.proofs.Common.{◌≡◌, ℕ, sym, ◌∙◌, ap, find, Some, Li
 use Rattle.batch_ids.specs.Metrics.{added}
 use Rattle.batch_history.specs.declared.rows.WorkRow.{WorkRow}
 use Rattle.batch_history.specs.declared.call.Reply.TheVariants.{Done}
-use Rattle.batch_history.specs.History.{change_first, is_work, known_of, over, over_as}
-use Rattle.batch_history.specs.Rows.{Rows, is_execution}
+use Rattle.batch_history.proofs.Folds.{over, over_as}
+use Rattle.batch_history.specs.Lists.{change_first}
+use Rattle.batch_history.specs.Replies.{is_execution}
+use Rattle.seq_repository.specs.Kept.{Kept}
+use Rattle.batch_history.specs.Walks.{known_elements}
+use Rattle.batch_history.specs.Works.{is_work}
 use Rattle.std.specs.Option.{option_map}
 use Rattle.seq_repository.specs.declared.rows.Change.TheVariants.{Report}
 use Rattle.seq_repository.specs.Changes.{row_after}
@@ -26,7 +30,7 @@ invariant_of-self g c =
     let found : find (is_work c.args.w) c.self.inside.records.works ≡ Some c.in-Some.work.now = sym c.in-Some.ensures in
     let metrics : c.in_ok-work.work.metrics ≡ added c.in-Some.work.now.metrics c.args.step.now = ap (λ (row : WorkRow). row.metrics) c.in_ok-work.ensures.new in (
       c.self.invariant.0,
-      omega (arith, c.requires.room, ap (λ (r : Rows). r.count) c.self.view_is),
+      omega (arith, c.requires.room, ap (λ (r : Kept). r.count) c.self.view_is),
       rw c.put_row.ensures (rw c.change_work.ensures (rw c.drop_mark.ensures
           (within_put c.self.inside.count (is_work c.args.w) c.self.inside.records.works c.in-Some.work.now c.in_ok-work.work c.args.step.now
           found metrics c.in_ok-work.ensures.small c.self.invariant.2))),
@@ -37,13 +41,13 @@ returns-clause-rows g c =
     let found : find (is_work c.args.w) c.self.inside.records.works ≡ Some c.in-Some.work.now = sym c.in-Some.ensures in
     let x : ℕ = c.in-Some.work.now.execution in
     let works : List WorkRow = change_first (is_work c.args.w) (over c.args.outcome c.args.exit.now c.args.step.now c.args.at) c.self.inside.records.works in
-    let P : Rows → Type 0 = λ r. c.in_ok-row.row ≡ option_map (row_after Report r.catalogue works c.args.at) (find (is_execution c.in-Some.work.now.execution) r.executions) in
+    let P : Kept → Type 0 = λ r. c.in_ok-row.row ≡ option_map (row_after Report r.catalogue works c.args.at) (find (is_execution c.in-Some.work.now.execution) r.executions) in
     rw (← c.self.view_is)
     (finish-entered c.self.inside.catalogue c.self.inside.count c.self.inside.records _ _ c.put_row.new.records 0 c.args.at c.args.w c.args.outcome c.args.exit.now c.args.step.now Done
     c.in-Some.work.now c.in_ok-work.work c.in_ok-row.row c.in_ok-element.element
     found (c.in_ok-work.ensures.new ∙ ap (λ e. over_as c.args.outcome e c.args.step.now c.args.at c.in-Some.work.now) c.in_ok-exit.ensures) c.in_ok-element.ensures
     (subst P (sym c.self.view_is) (c.in_ok-row.ensures.row works
     (c.as_slice.ensures.value ∙ (c.in_ok-known.ensures c.args.step.now c.args.at
-    ∙ (ap (λ e. known_of x (change_first (is_work c.args.w) (over_as c.args.outcome e c.args.step.now c.args.at) c.works.result.now)) c.in_ok-exit.ensures
-    ∙ ap (λ works. known_of x (change_first (is_work c.args.w) (over c.args.outcome c.args.exit.now c.args.step.now c.args.at) works)) c.works.ensures)))))
+    ∙ (ap (λ e. known_elements x (change_first (is_work c.args.w) (over_as c.args.outcome e c.args.step.now c.args.at) c.works.result.now)) c.in_ok-exit.ensures
+    ∙ ap (λ works. known_elements x (change_first (is_work c.args.w) (over c.args.outcome c.args.exit.now c.args.step.now c.args.at) works)) c.works.ensures)))))
     c.drop_mark.ensures c.change_work.ensures c.put_row.ensures)

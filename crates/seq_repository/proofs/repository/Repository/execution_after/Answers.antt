@@ -1,5 +1,5 @@
 use Rattle.std.proofs.Common.{◌≡◌, sym, find, Some}
-use Rattle.batch_history.specs.Rows.{is_execution}
+use Rattle.batch_history.specs.Replies.{is_execution}
 use Rattle.seq_repository.proofs.Entries.{changed-row, changed-own}
 use Rattle.seq_repository.proofs.repository.Repository.execution_after.Goals as goal
 

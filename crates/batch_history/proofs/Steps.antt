@@ -1,19 +1,26 @@
--- How one operation changes the rows.
-use Rattle.std.specs.Prelude.{ℕ, ◌+◌, ◌||◌, Bool, false, Option, Some, None, List, [], ◌∷◌, ◌++◌, length, find}
+-- A device of proofs: how one operation changes the rows.
 use Rattle.std.specs.Option.{option_map}
-use Rattle.batch_ids.specs.Parameters.{Pair}
-use Rattle.batch_ids.specs.declared.status.BatchStatus.{BatchStatus}
-use Rattle.batch_ids.specs.declared.status.BatchStatus.TheVariants.{Starting}
-use Rattle.jsl_model.specs.Jobs.{JobTree}
-use Rattle.job_walk.specs.declared.facts.Value.{Value}
+use Rattle.std.specs.Prelude.{ℕ, ◌+◌, ◌||◌, Bool, false, Option, Some, None, List, [], ◌∷◌, ◌++◌, length, find}
+use Rattle.batch_history.proofs.Folds.{instances_after, works_after}
+use Rattle.batch_history.specs.Checkpoints.{InstanceStep, instance_step_by, is_same_step, checkpoint_after}
+use Rattle.batch_history.specs.Lists.{change_first, is_at}
+use Rattle.batch_history.specs.Moments.{first_moment}
+use Rattle.batch_history.specs.Operations.{taken_up, stop_request, abandonment}
+use Rattle.batch_history.specs.Replies.{is_execution}
+use Rattle.batch_history.specs.Rows.{Rows}
+use Rattle.batch_history.specs.Statuses.{batch_status, exit_status, is_finished}
+use Rattle.batch_history.specs.Walks.{walk_value}
+use Rattle.batch_history.specs.Works.{is_work, execution_of_operation}
 use Rattle.batch_history.specs.declared.call.Call.{Call}
 use Rattle.batch_history.specs.declared.call.Call.TheVariants.{Start, Restart, Stop, Abandon, Claim, Checkpoint, Finish}
-use Rattle.batch_history.specs.declared.call.Reply.{Reply}
 use Rattle.batch_history.specs.declared.call.Entry.{Entry}
+use Rattle.batch_history.specs.declared.call.Reply.{Reply}
 use Rattle.batch_history.specs.declared.rows.ExecutionRow.{ExecutionRow}
 use Rattle.batch_history.specs.declared.rows.WorkRow.{WorkRow}
-use Rattle.batch_history.specs.History.{Place, change_first, is_at, instances_after, works_after, checkpoints_after, place_by, is_work, taken, asked, given_up, touched, earliest, walk_value, status_from, exit_from, is_finished}
-use Rattle.batch_history.specs.Rows.{Rows, is_execution}
+use Rattle.batch_ids.specs.Parameters.{Pair}
+use Rattle.batch_ids.specs.declared.status.BatchStatus.TheVariants.{Starting}
+use Rattle.job_walk.specs.declared.facts.Value.{Value}
+use Rattle.jsl_model.specs.Jobs.{JobTree}
 
 -- the row of a job execution that was just made
 abbrev pub fresh_row : ℕ → ℕ → ℕ → List ℕ → List Pair → ExecutionRow
@@ -48,11 +55,11 @@ renewed stop abandoned start value at row =
       parameters = row.parameters;
       stop = stop;
       abandoned = abandoned;
-      bare = status_from stop start value;
+      bare = batch_status stop start value;
       create = row.create;
       start = start;
-      end = earliest row.end (is_finished (status_from stop start value)) at;
-      exit = exit_from stop start value;
+      end = first_moment row.end (is_finished (batch_status stop start value)) at;
+      exit = exit_status stop start value;
       updated = at;
     }
 
@@ -63,12 +70,12 @@ pub record Effect : Type 0 where
   pub takes : Bool
 
 abbrev pub effect_on : ℕ → Call → Reply → Effect
-effect_on x call reply = record { asks = is_at x (asked call); gives_up = is_at x (given_up call); takes = is_at x (taken call reply) }
+effect_on x call reply = record { asks = is_at x (stop_request call); gives_up = is_at x (abandonment call); takes = is_at x (taken_up call reply) }
 
 -- the row after an operation on its job execution, `value` being that of the walk after it
 abbrev pub refreshed : Effect → Value → ℕ → ExecutionRow → ExecutionRow
 refreshed effect value at row =
-    renewed (row.stop || effect.asks) (row.abandoned || effect.gives_up) (earliest row.start effect.takes at) value at row
+    renewed (row.stop || effect.asks) (row.abandoned || effect.gives_up) (first_moment row.start effect.takes at) value at row
 
 -- the same, `works` being the work items after it
 abbrev pub refreshed_by : List JobTree → List WorkRow → ℕ → Call → Reply → ExecutionRow → ExecutionRow
@@ -87,19 +94,19 @@ executions_after r works at (Restart y parameters) reply =
     r.executions ++ again_row (length r.executions + 1) at parameters (find (is_execution y) r.executions) ∷ []
 executions_after r works at (Stop y) reply = refreshed_at r.catalogue works at (Stop y) reply (Some y) r.executions
 executions_after r works at (Abandon y) reply = refreshed_at r.catalogue works at (Abandon y) reply (Some y) r.executions
-executions_after r works at Claim reply = refreshed_at r.catalogue works at Claim reply (touched r.works Claim reply) r.executions
+executions_after r works at Claim reply = refreshed_at r.catalogue works at Claim reply (execution_of_operation r.works Claim reply) r.executions
 executions_after r works at (Checkpoint w mark step) reply =
-    refreshed_at r.catalogue works at (Checkpoint w mark step) reply (touched r.works (Checkpoint w mark step) reply) r.executions
+    refreshed_at r.catalogue works at (Checkpoint w mark step) reply (execution_of_operation r.works (Checkpoint w mark step) reply) r.executions
 executions_after r works at (Finish w outcome exit step) reply =
-    refreshed_at r.catalogue works at (Finish w outcome exit step) reply (touched r.works (Finish w outcome exit step) reply) r.executions
+    refreshed_at r.catalogue works at (Finish w outcome exit step) reply (execution_of_operation r.works (Finish w outcome exit step) reply) r.executions
 
 -- the job instance of a job execution, by its row
 abbrev pub instance_in : List ExecutionRow → ℕ → Option ℕ
 instance_in rows x = option_map (λ row. row.instance) (find (is_execution x) rows)
 
 -- the step of a work item in its job instance, by the rows
-abbrev pub place_in : Rows → ℕ → Option Place
-place_in r w = place_by (instance_in r.executions) (find (is_work w) r.works)
+abbrev pub place_in : Rows → ℕ → Option InstanceStep
+place_in r w = instance_step_by (instance_in r.executions) (find (is_work w) r.works)
 
 -- the rows after an operation
 abbrev pub rows_after : Rows → Entry → Rows
@@ -111,5 +118,5 @@ rows_after r e =
       instances = instances_after e.call r.instances;
       executions = executions_after r works e.at e.call e.reply;
       works = works;
-      checkpoints = checkpoints_after (place_in r) e.call r.checkpoints;
+      checkpoint = λ p. checkpoint_after (λ w. is_same_step p (place_in r w)) e.call (r.checkpoint p);
     }

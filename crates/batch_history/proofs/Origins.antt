@@ -11,16 +11,17 @@ use Rattle.batch_history.specs.declared.call.Call.TheVariants.{Start, Restart, S
 use Rattle.batch_history.specs.declared.call.Reply.{Reply}
 use Rattle.batch_history.specs.declared.call.Entry.{Entry}
 use Rattle.batch_history.specs.declared.rows.JobInstance.{JobInstance}
-use Rattle.batch_history.specs.History.{Made, made, made_after, remade, is_made, makes, instances_of, instances_after, instance_made}
+use Rattle.batch_history.proofs.Folds.{made, made_after, remade, is_made, makes, instances_of, instances_after, instance_made}
+use Rattle.batch_history.specs.Executions.{Made, Origin, instance_begun_by, job_instances, job_execution_count, job_instance_count, makes_job_execution, restarted_origin, made_as, origin_by_call, origin_of, instance_of_execution}
+use Rattle.batch_history.specs.Operations.{makes_execution, makes_instance}
 use Rattle.batch_history.proofs.Stepping.{remade-number, AreNumbered, numbered}
-use Rattle.plain_repository.specs.Searches.{Origin, makes_execution, makes_instance, begun_by, instances_found, executions_in, instances_in, is_making, made_again, made_as, origin_given, origin_of, instance_found}
-use Rattle.plain_repository.proofs.Counting.{counted, one-more}
-use Rattle.plain_repository.proofs.Pasts.{Fits, AllFit}
+use Rattle.batch_history.proofs.Adding.{counted, one-more}
+use Rattle.batch_history.proofs.Pasts.{Fits, AllFit}
 
 -- How many there are
 
-executions-step : (older : List Entry) (who at : ℕ) (call : Call) (reply : Reply) → executions_in older ≡ length (made older)
-    → executions_in (record { who = who; call = call; at = at; reply = reply } ∷ older) ≡ length (made_after (instances_of older) at call (made older))
+executions-step : (older : List Entry) (who at : ℕ) (call : Call) (reply : Reply) → job_execution_count older ≡ length (made older)
+    → job_execution_count (record { who = who; call = call; at = at; reply = reply } ∷ older) ≡ length (made_after (instances_of older) at call (made older))
 executions-step older who at (Start job parameters) reply h =
     counted (λ (e : Entry). makes_execution e.call) (record { who = who; call = Start job parameters; at = at; reply = reply }) older refl
     ∙ (ap suc h ∙ sym (one-more (made older) (record { execution = length (made older) + 1; instance = length (instances_of older) + 1; job = job; parameters = parameters; create = at })))
@@ -34,12 +35,12 @@ executions-step older who at (Checkpoint w mark step) reply h = h
 executions-step older who at (Finish w o t step) reply h = h
 
 -- there are as many as the rows have
-pub executions-made : (past : List Entry) → executions_in past ≡ length (made past)
+pub executions-made : (past : List Entry) → job_execution_count past ≡ length (made past)
 executions-made [] = refl
 executions-made (e ∷ older) = executions-step older e.who e.at e.call e.reply (executions-made older)
 
-instances-step : (older : List Entry) (who at : ℕ) (call : Call) (reply : Reply) → instances_in older ≡ length (instances_of older)
-    → instances_in (record { who = who; call = call; at = at; reply = reply } ∷ older) ≡ length (instances_after call (instances_of older))
+instances-step : (older : List Entry) (who at : ℕ) (call : Call) (reply : Reply) → job_instance_count older ≡ length (instances_of older)
+    → job_instance_count (record { who = who; call = call; at = at; reply = reply } ∷ older) ≡ length (instances_after call (instances_of older))
 instances-step older who at (Start job parameters) reply h =
     counted (λ (e : Entry). makes_instance e.call) (record { who = who; call = Start job parameters; at = at; reply = reply }) older refl
     ∙ (ap suc h ∙ sym (one-more (instances_of older) (record { instance = length (instances_of older) + 1; job = job })))
@@ -50,11 +51,11 @@ instances-step older who at Claim reply h = h
 instances-step older who at (Checkpoint w mark step) reply h = h
 instances-step older who at (Finish w o t step) reply h = h
 
-instances-made : (past : List Entry) → instances_in past ≡ length (instances_of past)
+instances-made : (past : List Entry) → job_instance_count past ≡ length (instances_of past)
 instances-made [] = refl
 instances-made (e ∷ older) = instances-step older e.who e.at e.call e.reply (instances-made older)
 
-begun-after : (older : List Entry) (call : Call) → instances_of older ++ begun_by (instances_in older + 1) call ≡ instances_after call (instances_of older)
+begun-after : (older : List Entry) (call : Call) → instances_of older ++ instance_begun_by (job_instance_count older + 1) call ≡ instances_after call (instances_of older)
 begun-after older (Start job parameters) =
     ap (λ (n : ℕ). instances_of older ++ record { instance = n + 1; job = job } ∷ []) (instances-made older)
 begun-after older (Restart y parameters) = append-nil (instances_of older)
@@ -65,13 +66,13 @@ begun-after older (Checkpoint w mark step) = append-nil (instances_of older)
 begun-after older (Finish w o t step) = append-nil (instances_of older)
 
 -- the job instances are those that the rows have
-pub instances-law : (past : List Entry) → instances_found past ≡ instances_of past
+pub instances-law : (past : List Entry) → job_instances past ≡ instances_of past
 instances-law [] = refl
 instances-law (e ∷ older) =
-    ap (λ (rows : List JobInstance). rows ++ begun_by (instances_in older + 1) e.call) (instances-law older) ∙ begun-after older e.call
+    ap (λ (rows : List JobInstance). rows ++ instance_begun_by (job_instance_count older + 1) e.call) (instances-law older) ∙ begun-after older e.call
 
 -- which entry makes one
-pub making : (older : List Entry) (x : ℕ) (call : Call) → makes (length (made older)) x call ≡ is_making older x call
+pub making : (older : List Entry) (x : ℕ) (call : Call) → makes (length (made older)) x call ≡ makes_job_execution older x call
 making older x (Start job parameters) = ap (λ n. n + 1 == x) (sym (executions-made older))
 making older x (Restart y parameters) = ap (λ n. n + 1 == x) (sym (executions-made older))
 making older x (Stop y) = refl
@@ -97,7 +98,7 @@ made-among y k (m ∷ ms) h e =
     ]) refl e
 
 -- who was made is numbered within
-pub made-within : (older : List Entry) (y : ℕ) → is_some (find (is_made y) (made older)) ≡ true → y ≤ executions_in older
+pub made-within : (older : List Entry) (y : ℕ) → is_some (find (is_made y) (made older)) ≡ true → y ≤ job_execution_count older
 made-within older y some = omega (arith, made-among y 1 (made older) (numbered older) some, executions-made older)
 
 or-none : {X : Type 0} (o : Option X) → option_or o None ≡ o
@@ -119,17 +120,17 @@ find-more x ms m old new h number before here =
     ]) refl)
 
 remade-found : (x y at : ℕ) (parameters : List Pair) (found : Option Made) (earlier : Option Origin) → found ≡ option_map (made_as y) earlier → is_some found ≡ true
-    → Some (remade x parameters at found) ≡ option_map (made_as x) (made_again parameters at earlier)
+    → Some (remade x parameters at found) ≡ option_map (made_as x) (restarted_origin parameters at earlier)
 remade-found x y at parameters found None is some = cc
 remade-found x y at parameters found (Some o) is some = ap (λ (f : Option Made). Some (remade x parameters at f)) is
 
 origin-step : (older : List Entry) (at : ℕ) (call : Call) (reply : Reply) (x : ℕ) → Fits older call reply
     → ((y : ℕ) → find (is_made y) (made older) ≡ option_map (made_as y) (origin_of older y))
     → find (is_made x) (made_after (instances_of older) at call (made older))
-    ≡ option_map (made_as x) (cond (is_making older x call) (origin_given (instances_in older) at (origin_of older) call) (origin_of older x))
+    ≡ option_map (made_as x) (cond (makes_job_execution older x call) (origin_by_call (job_instance_count older) at (origin_of older) call) (origin_of older x))
 origin-step older at (Start job parameters) reply x fits before =
     let n : ℕ = length (made older) in
-    let new : Option Origin = Some record { instance = instances_in older + 1; job = job; parameters = parameters; create = at } in
+    let new : Option Origin = Some record { instance = job_instance_count older + 1; job = job; parameters = parameters; create = at } in
     find-more x (made older) (record { execution = n + 1; instance = length (instances_of older) + 1; job = job; parameters = parameters; create = at })
     (origin_of older x) new (numbered older) refl (before x)
     (λ is. ap (λ k. Some record { execution = k; instance = length (instances_of older) + 1; job = job; parameters = parameters; create = at }) (sym is)
@@ -138,7 +139,7 @@ origin-step older at (Start job parameters) reply x fits before =
 origin-step older at (Restart y parameters) reply x fits before =
     let n : ℕ = length (made older) in
     let found : Option Made = find (is_made y) (made older) in
-    let new : Option Origin = made_again parameters at (origin_of older y) in
+    let new : Option Origin = restarted_origin parameters at (origin_of older y) in
     find-more x (made older) (remade (n + 1) parameters at found) (origin_of older x) new (numbered older) (remade-number (n + 1) at parameters found) (before x)
     (λ is. ap (λ k. Some (remade k parameters at found)) (sym is) ∙ remade-found x y at parameters found (origin_of older y) (before y) fits.1)
     ∙ ap (λ k. option_map (made_as x) (cond (k + 1 == x) new (origin_of older x))) (sym (executions-made older))
@@ -158,6 +159,6 @@ instance-as x None = refl
 instance-as x (Some o) = refl
 
 -- its job instance is the one that the rows have
-pub instance-law : (past : List Entry) → AllFit past → (x : ℕ) → instance_made (made past) x ≡ instance_found past x
+pub instance-law : (past : List Entry) → AllFit past → (x : ℕ) → instance_made (made past) x ≡ instance_of_execution past x
 instance-law past fits x =
     ap (λ (o : Option Made). option_map (λ m. m.instance) o) (origin-law past fits x) ∙ instance-as x (origin_of past x)

@@ -1,4 +1,4 @@
--- Legal pasts: each entry has the reply that its call was due after the entries before it, and what that tells of it.
+-- What the reply of an entry that is due tells of it.
 use Rattle.std.proofs.Common.{subst, ◌≡◌, ℕ, ◌+◌, ◌<◌, ◌≤◌, Bool, true, false, cond, nat_lt, Option, None, Some, is_some, Result, Ok, Err, List, [], ◌∷◌, ◌++◌, length, map, find, reverse, refl, sym, ◌∙◌, ap, arith, append_assoc}
 use Rattle.std.specs.List.{list_any}
 use Rattle.std.proofs.lemmas.List.{reverse-reverse, append-nil}
@@ -17,11 +17,18 @@ use Rattle.batch_history.specs.declared.call.WorkKind.TheVariants.{Batchlet, Chu
 use Rattle.batch_history.specs.declared.call.Entry.{Entry}
 use Rattle.batch_history.specs.declared.rows.ExecutionRow.{ExecutionRow}
 use Rattle.batch_history.specs.declared.rows.WorkRow.{WorkRow}
-use Rattle.batch_history.specs.History.{Made, made, is_made, works_of, is_work, job_named, taken_by, is_finished}
-use Rattle.batch_history.specs.Rows.{History, Rows, rows_of, reply_by, row_status, is_running_in, entered, claimed, claim_reply, stopped, abandoned, going, marked_as, checkpointed, stopped_as, stopped_end, finished, finished_as, unheld_by, unless, stop_asked, first_ready, walk_in, has_something, is_execution, execution_row, IsLegal}
+use Rattle.batch_history.proofs.Folds.{made, is_made, works_of, folded_rows, execution_row}
+use Rattle.batch_history.specs.Executions.{Made}
+use Rattle.batch_history.specs.Legal.{IsLegal}
+use Rattle.batch_history.specs.Operations.{taken_up_by}
+use Rattle.batch_history.specs.Replies.{reply_by, row_status, is_running_in, accepted, reply_to_claim, claim_reply, reply_to_stop, reply_to_abandon, go_or_stop, reply_to_kept_checkpoint, reply_to_checkpoint, reply_to_stopped_step, reply_to_stopped_work, reply_to_finish, reply_to_end, report_refusal, unless, stop_requested_of, first_ready, walk_in_rows, has_something, is_execution}
+use Rattle.batch_history.specs.Rows.{History, Rows}
+use Rattle.batch_history.specs.Statuses.{is_finished}
+use Rattle.batch_history.specs.Walks.{job_named}
+use Rattle.batch_history.specs.Works.{is_work}
 use Rattle.batch_history.proofs.Legal.{entered-is, cut-before}
 use Rattle.batch_history.proofs.Stepping.{AreNumbered, numbered}
-use Rattle.plain_repository.proofs.Counting.{some-map}
+use Rattle.batch_history.proofs.Adding.{some-map}
 
 -- what the due reply of a claim tells, after so many work items and job executions
 abbrev pub FitsClaim : ℕ → ℕ → Reply → Type 0
@@ -35,15 +42,15 @@ FitsClaim works executions StopAsked = ⊥
 
 -- no job execution is taken up, and this one was made before
 abbrev pub IsMadeBefore : List Entry → ℕ → Reply → Type 0
-IsMadeBefore older y given = (taken_by given ≡ None) × (is_some (find (is_made y) (made older)) ≡ true)
+IsMadeBefore older y given = (taken_up_by given ≡ None) × (is_some (find (is_made y) (made older)) ≡ true)
 
 -- no job execution is taken up, and this work item was handed out before
 abbrev pub IsHandedBefore : List Entry → ℕ → Reply → Type 0
-IsHandedBefore older w given = (taken_by given ≡ None) × (is_some (find (is_work w) (works_of older)) ≡ true)
+IsHandedBefore older w given = (taken_up_by given ≡ None) × (is_some (find (is_work w) (works_of older)) ≡ true)
 
 -- what the due reply of a call tells, after an older past
 abbrev pub Fits : List Entry → Call → Reply → Type 0
-Fits older (Start job parameters) given = taken_by given ≡ None
+Fits older (Start job parameters) given = taken_up_by given ≡ None
 Fits older (Restart y parameters) given = IsMadeBefore older y given
 Fits older (Stop y) given = IsMadeBefore older y given
 Fits older (Abandon y) given = IsMadeBefore older y given
@@ -59,17 +66,17 @@ AllFit (e ∷ older) = Fits older e.call e.reply × AllFit older
 -- What a reply that is due tells
 
 -- a reply that takes nobody up, where it is entered
-entered-none : (limit count : ℕ) (reply given : Reply) → taken_by reply ≡ None → entered limit count reply ≡ Ok given → taken_by given ≡ None
-entered-none limit count reply given none e = ap taken_by (entered-is limit count reply given e) ∙ none
+entered-none : (limit count : ℕ) (reply given : Reply) → taken_up_by reply ≡ None → accepted limit count reply ≡ Ok given → taken_up_by given ≡ None
+entered-none limit count reply given none e = ap taken_up_by (entered-is limit count reply given e) ∙ none
 
 -- the same behind a test
-tested-none : (b : Bool) (refusal : Refusal) (reply : Result Reply Refusal) (given : Reply) → (reply ≡ Ok given → taken_by given ≡ None)
-    → cond b (Err refusal) reply ≡ Ok given → taken_by given ≡ None
+tested-none : (b : Bool) (refusal : Refusal) (reply : Result Reply Refusal) (given : Reply) → (reply ≡ Ok given → taken_up_by given ≡ None)
+    → cond b (Err refusal) reply ≡ Ok given → taken_up_by given ≡ None
 tested-none true refusal reply given none e = cc
 tested-none false refusal reply given none e = none e
 
-unless-none : (refusal : Option Refusal) (reply : Result Reply Refusal) (given : Reply) → (reply ≡ Ok given → taken_by given ≡ None)
-    → unless refusal reply ≡ Ok given → taken_by given ≡ None
+unless-none : (refusal : Option Refusal) (reply : Result Reply Refusal) (given : Reply) → (reply ≡ Ok given → taken_up_by given ≡ None)
+    → unless refusal reply ≡ Ok given → taken_up_by given ≡ None
 unless-none None reply given none e = none e
 unless-none (Some refusal) reply given none e = cc
 
@@ -87,60 +94,60 @@ claim-fits : (r : Rows) (executions : ℕ) (row : ExecutionRow) (ready : Option 
 claim-fits r executions row None le = le
 claim-fits r executions row (Some id) le = (refl, le)
 
-claimed-fits : (limit : ℕ) (r : Rows) (executions : ℕ) (found : Option ExecutionRow) (given : Reply) → claimed limit r found ≡ Ok given
+claimed-fits : (limit : ℕ) (r : Rows) (executions : ℕ) (found : Option ExecutionRow) (given : Reply) → reply_to_claim limit r found ≡ Ok given
     → ((row : ExecutionRow) → found ≡ Some row → row.execution ≤ executions) → FitsClaim (length r.works) executions given
 claimed-fits limit r executions None given e below = let is : Nothing ≡ given = cc in subst (FitsClaim (length r.works) executions) is tt
 claimed-fits limit r executions (Some row) given e below =
-    let reply : Reply = claim_reply r row (first_ready (walk_in r row)) in
+    let reply : Reply = claim_reply r row (first_ready (walk_in_rows r row)) in
     subst (FitsClaim (length r.works) executions) (sym (entered-is limit r.count reply given e))
-    (claim-fits r executions row (first_ready (walk_in r row)) (below row refl))
+    (claim-fits r executions row (first_ready (walk_in_rows r row)) (below row refl))
 
-stopped-fits : (limit count : ℕ) (found : Option ExecutionRow) (given : Reply) → stopped limit count found ≡ Ok given
-    → (taken_by given ≡ None) × (is_some found ≡ true)
+stopped-fits : (limit count : ℕ) (found : Option ExecutionRow) (given : Reply) → reply_to_stop limit count found ≡ Ok given
+    → (taken_up_by given ≡ None) × (is_some found ≡ true)
 stopped-fits limit count None given e = cc
 stopped-fits limit count (Some row) given e =
     (tested-none (is_finished (row_status row)) JobExecutionNotRunningException _ given (entered-none limit count Done given refl) e, refl)
 
-abandoned-fits : (limit : ℕ) (r : Rows) (found : Option ExecutionRow) (given : Reply) → abandoned limit r found ≡ Ok given
-    → (taken_by given ≡ None) × (is_some found ≡ true)
+abandoned-fits : (limit : ℕ) (r : Rows) (found : Option ExecutionRow) (given : Reply) → reply_to_abandon limit r found ≡ Ok given
+    → (taken_up_by given ≡ None) × (is_some found ≡ true)
 abandoned-fits limit r None given e = cc
 abandoned-fits limit r (Some row) given e =
     (tested-none (list_any (is_running_in row.instance) r.executions) JobExecutionIsRunningException _ given (entered-none limit r.count Done given refl) e, refl)
 
-going-none : (stop : Bool) → taken_by (going stop) ≡ None
+going-none : (stop : Bool) → taken_up_by (go_or_stop stop) ≡ None
 going-none true = refl
 going-none false = refl
 
-marked-none : (limit count : ℕ) (stop : Bool) (kind : WorkKind) (given : Reply) → marked_as limit count stop kind ≡ Ok given → taken_by given ≡ None
-marked-none limit count stop Chunk given e = entered-none limit count (going stop) given (going-none stop) e
+marked-none : (limit count : ℕ) (stop : Bool) (kind : WorkKind) (given : Reply) → reply_to_kept_checkpoint limit count stop kind ≡ Ok given → taken_up_by given ≡ None
+marked-none limit count stop Chunk given e = entered-none limit count (go_or_stop stop) given (going-none stop) e
 marked-none limit count stop Batchlet given e = cc
 marked-none limit count stop Decision given e = cc
 
-checkpointed-fits : (limit : ℕ) (r : Rows) (who : ℕ) (found : Option WorkRow) (given : Reply) → checkpointed limit r who found ≡ Ok given
-    → (taken_by given ≡ None) × (is_some found ≡ true)
+checkpointed-fits : (limit : ℕ) (r : Rows) (who : ℕ) (found : Option WorkRow) (given : Reply) → reply_to_checkpoint limit r who found ≡ Ok given
+    → (taken_up_by given ≡ None) × (is_some found ≡ true)
 checkpointed-fits limit r who None given e = cc
 checkpointed-fits limit r who (Some row) given e =
-    (unless-none (unheld_by who row.claimer row.state) _ given (marked-none limit r.count (stop_asked r row.execution) row.kind given) e, refl)
+    (unless-none (report_refusal who row.claimer row.state) _ given (marked-none limit r.count (stop_requested_of r row.execution) row.kind given) e, refl)
 
-stop-none : (limit count : ℕ) (stop : Bool) (given : Reply) → stopped_as limit count stop ≡ Ok given → taken_by given ≡ None
+stop-none : (limit count : ℕ) (stop : Bool) (given : Reply) → reply_to_stopped_step limit count stop ≡ Ok given → taken_up_by given ≡ None
 stop-none limit count true given e = entered-none limit count Done given refl e
 stop-none limit count false given e = cc
 
-ending-none : (limit count : ℕ) (stop : Bool) (kind : WorkKind) (given : Reply) → stopped_end limit count stop kind ≡ Ok given → taken_by given ≡ None
+ending-none : (limit count : ℕ) (stop : Bool) (kind : WorkKind) (given : Reply) → reply_to_stopped_work limit count stop kind ≡ Ok given → taken_up_by given ≡ None
 ending-none limit count stop Decision given e = cc
 ending-none limit count stop Batchlet given e = stop-none limit count stop given e
 ending-none limit count stop Chunk given e = stop-none limit count stop given e
 
-as-none : (limit count : ℕ) (stop : Bool) (kind : WorkKind) (o : WorkOutcome) (given : Reply) → finished_as limit count stop kind o ≡ Ok given → taken_by given ≡ None
+as-none : (limit count : ℕ) (stop : Bool) (kind : WorkKind) (o : WorkOutcome) (given : Reply) → reply_to_end limit count stop kind o ≡ Ok given → taken_up_by given ≡ None
 as-none limit count stop kind Stopped given e = ending-none limit count stop kind given e
 as-none limit count stop kind Completed given e = entered-none limit count Done given refl e
 as-none limit count stop kind Failed given e = entered-none limit count Done given refl e
 
-finished-fits : (limit : ℕ) (r : Rows) (who : ℕ) (o : WorkOutcome) (found : Option WorkRow) (given : Reply) → finished limit r who o found ≡ Ok given
-    → (taken_by given ≡ None) × (is_some found ≡ true)
+finished-fits : (limit : ℕ) (r : Rows) (who : ℕ) (o : WorkOutcome) (found : Option WorkRow) (given : Reply) → reply_to_finish limit r who o found ≡ Ok given
+    → (taken_up_by given ≡ None) × (is_some found ≡ true)
 finished-fits limit r who o None given e = cc
 finished-fits limit r who o (Some row) given e =
-    (unless-none (unheld_by who row.claimer row.state) _ given (as-none limit r.count (stop_asked r row.execution) row.kind o given) e, refl)
+    (unless-none (report_refusal who row.claimer row.state) _ given (as-none limit r.count (stop_requested_of r row.execution) row.kind o given) e, refl)
 
 -- a job execution has a row where it was made
 there : (catalogue : List JobTree) (older : List Entry) (y : ℕ)
@@ -151,20 +158,20 @@ there catalogue older y =
 
 -- an entry whose reply is due fits what is older
 pub due-fits : (limit : ℕ) (catalogue : List JobTree) (older : List Entry) (who : ℕ) (call : Call) (given : Reply)
-    → reply_by limit (rows_of catalogue older) who call ≡ Ok given → Fits older call given
+    → reply_by limit (folded_rows catalogue older) who call ≡ Ok given → Fits older call given
 due-fits limit catalogue older who (Start job parameters) given e =
-    let r : Rows = rows_of catalogue older in
+    let r : Rows = folded_rows catalogue older in
     let n : ℕ = length r.executions + 1 in
-    (elim (is_some (job_named catalogue job)) as (λ b. cond b (entered limit r.count (IsExecution n)) (Err JobStartException) ≡ Ok given → taken_by given ≡ None) [
+    (elim (is_some (job_named catalogue job)) as (λ b. cond b (accepted limit r.count (IsExecution n)) (Err JobStartException) ≡ Ok given → taken_up_by given ≡ None) [
       | true ↦ λ s. entered-none limit r.count (IsExecution n) given refl s
       | false ↦ λ s. cc
     ]) e
 due-fits limit catalogue older who (Restart y parameters) given e =
-    let r : Rows = rows_of catalogue older in
+    let r : Rows = folded_rows catalogue older in
     let n : ℕ = length r.executions + 1 in
     (elim (is_some (find (is_execution y) r.executions)) as (λ b. is_some (find (is_execution y) r.executions) ≡ b
-    → cond b (entered limit r.count (IsExecution n)) (Err NoSuchJobExecutionException) ≡ Ok given
-    → (taken_by given ≡ None) × (is_some (find (is_made y) (made older)) ≡ true)) [
+    → cond b (accepted limit r.count (IsExecution n)) (Err NoSuchJobExecutionException) ≡ Ok given
+    → (taken_up_by given ≡ None) × (is_some (find (is_made y) (made older)) ≡ true)) [
       | true ↦ λ is s. (entered-none limit r.count (IsExecution n) given refl s, sym (there catalogue older y) ∙ is)
       | false ↦ λ is s. cc
     ]) refl e
@@ -172,31 +179,17 @@ due-fits limit catalogue older who (Stop y) given e =
     let fits = stopped-fits limit (length older) (find (is_execution y) (map (execution_row catalogue older) (made older))) given e in
     (fits.0, sym (there catalogue older y) ∙ fits.1)
 due-fits limit catalogue older who (Abandon y) given e =
-    let fits = abandoned-fits limit (rows_of catalogue older) (find (is_execution y) (map (execution_row catalogue older) (made older))) given e in
+    let fits = abandoned-fits limit (folded_rows catalogue older) (find (is_execution y) (map (execution_row catalogue older) (made older))) given e in
     (fits.0, sym (there catalogue older y) ∙ fits.1)
 due-fits limit catalogue older who Claim given e =
-    let r : Rows = rows_of catalogue older in
+    let r : Rows = folded_rows catalogue older in
     claimed-fits limit r (length (made older)) (find (has_something r) r.executions) given e
     (λ row is. omega (arith, found-within (execution_row catalogue older) (has_something r) 1 (made older) row (numbered older) (λ m. refl) is))
 due-fits limit catalogue older who (Checkpoint w mark step) given e =
-    checkpointed-fits limit (rows_of catalogue older) who (find (is_work w) (works_of older)) given e
+    checkpointed-fits limit (folded_rows catalogue older) who (find (is_work w) (works_of older)) given e
 due-fits limit catalogue older who (Finish w o exit step) given e =
-    finished-fits limit (rows_of catalogue older) who o (find (is_work w) (works_of older)) given e
-
--- the entries of a legal history fit, each what is older
-pub legal-fits : (limit : ℕ) (h : History) (past rest : List Entry) → IsLegal limit h → h.log ≡ reverse past ++ rest → AllFit past
-legal-fits limit h [] rest legal is = tt
-legal-fits limit h (e ∷ older) rest legal is =
-    let cut : h.log ≡ reverse older ++ e ∷ rest = cut-before h.log older rest e is in
-    let due : reply_by limit (rows_of h.catalogue older) e.who e.call ≡ Ok e.reply =
-    subst (λ (p : List Entry). reply_by limit (rows_of h.catalogue p) e.who e.call ≡ Ok e.reply) (reverse-reverse older)
-    (legal.due (reverse older) e rest cut).0 in
-    (due-fits limit h.catalogue older e.who e.call e.reply due, legal-fits limit h older (e ∷ rest) legal cut)
+    finished-fits limit (folded_rows catalogue older) who o (find (is_work w) (works_of older)) given e
 
 -- a past is the whole history, the newest first
 pub whole-past : (log : List Entry) → log ≡ reverse (reverse log) ++ []
 whole-past log = sym (append-nil (reverse (reverse log)) ∙ reverse-reverse log)
-
--- the past of a legal history
-pub past-fits : (limit : ℕ) (h : History) → IsLegal limit h → AllFit (reverse h.log)
-past-fits limit h legal = legal-fits limit h (reverse h.log) [] legal (whole-past h.log)

@@ -1,0 +1,88 @@
+-- Rows and replies: what the searches find is what the fold has, in every legal history.
+use Rattle.std.proofs.Common.{◌≡◌, ℕ, ◌+◌, ◌≤◌, cond, Option, None, Some, List, [], ◌∷◌, length, map, find, filter_map, reverse, refl, sym, ◌∙◌, ap, arith}
+use Rattle.std.specs.List.{cons_option}
+use Rattle.std.specs.Option.{option_map}
+use Rattle.std.proofs.lemmas.Bool.{eq-eqb, ne_eqb}
+use Rattle.jsl_model.specs.Jobs.{JobTree}
+use Rattle.batch_history.specs.declared.call.Call.{Call}
+use Rattle.batch_history.specs.declared.call.Entry.{Entry}
+use Rattle.batch_history.specs.declared.rows.ExecutionRow.{ExecutionRow}
+use Rattle.batch_history.specs.declared.rows.WorkRow.{WorkRow}
+use Rattle.batch_history.specs.declared.rows.JobInstance.{JobInstance}
+use Rattle.batch_history.proofs.Folds.{made, is_made, start_of, stop_of, abandoned_of, end_of, value_after, folded_rows, execution_row}
+use Rattle.batch_history.specs.Checkpoints.{InstanceStep, checkpoint_of}
+use Rattle.batch_history.specs.Executions.{Made, Origin, origin_of, made_as}
+use Rattle.batch_history.specs.Legal.{IsLegal}
+use Rattle.batch_history.specs.Moments.{start_moment, end_moment, updated_moment}
+use Rattle.batch_history.specs.Replies.{reply, reply_by, accepted, reply_to_claim, claim_reply, work_task, runnable_of_job, first_ready, walk_in_rows, has_something}
+use Rattle.batch_history.specs.Rows.{History, Rows, execution_row_with, row_of_origin, job_execution, numbers_from, job_executions, rows_of_past}
+use Rattle.batch_history.specs.Statuses.{is_abandoned}
+use Rattle.batch_history.specs.Walks.{job_named, walk_of_execution}
+use Rattle.batch_history.specs.Works.{work_items}
+use Rattle.batch_history.proofs.Stepping.{AreNumbered, numbered}
+use Rattle.batch_history.proofs.Pasts.{AllFit}
+use Rattle.batch_history.proofs.Origins.{origin-law, executions-made, instances-law}
+use Rattle.batch_history.proofs.Items.{works-law}
+use Rattle.batch_history.proofs.Times.{stop-law, abandoned-law, start-law, updated-law, walk-law, end-law}
+use Rattle.batch_history.proofs.Standing.{marks-law}
+
+-- Job executions
+
+row-law : (catalogue : List JobTree) (past : List Entry) (x : ℕ) (o : Origin) → AllFit past → origin_of past x ≡ Some o
+    → row_of_origin catalogue past x o ≡ execution_row catalogue past (made_as x o)
+row-law catalogue past x o fits from =
+    let m : Made = made_as x o in
+    ap (λ p. execution_row_with m p (is_abandoned past x) (start_moment past x) (walk_of_execution catalogue past x) (end_moment catalogue past x) (updated_moment past x)) (stop-law past fits x)
+    ∙ (ap (λ a. execution_row_with m (stop_of past x) a (start_moment past x) (walk_of_execution catalogue past x) (end_moment catalogue past x) (updated_moment past x)) (abandoned-law past fits x)
+    ∙ (ap (λ s. execution_row_with m (stop_of past x) (abandoned_of past x) s (walk_of_execution catalogue past x) (end_moment catalogue past x) (updated_moment past x)) (start-law past fits x)
+    ∙ (ap (λ v. execution_row_with m (stop_of past x) (abandoned_of past x) (start_of past x) v (end_moment catalogue past x) (updated_moment past x)) (walk-law catalogue past x o fits from)
+    ∙ (ap (λ t. execution_row_with m (stop_of past x) (abandoned_of past x) (start_of past x) (value_after catalogue past m) t (updated_moment past x)) (end-law catalogue past x o fits from)
+    ∙ ap (λ u. execution_row_with m (stop_of past x) (abandoned_of past x) (start_of past x) (value_after catalogue past m) (end_of catalogue past m) u) (updated-law past fits x)))))
+
+row-here : (catalogue : List JobTree) (past : List Entry) (x : ℕ) (m : Made) (o : Option Origin) → AllFit past → origin_of past x ≡ o
+    → option_map (made_as x) o ≡ Some m → option_map (row_of_origin catalogue past x) o ≡ Some (execution_row catalogue past m)
+row-here catalogue past x m None fits from is = cc
+row-here catalogue past x m (Some o) fits from is =
+    let same : made_as x o ≡ m = cc in
+    ap Some (row-law catalogue past x o fits from) ∙ ap (λ n. Some (execution_row catalogue past n)) same
+
+-- those made from number k on are found under their numbers
+abbrev AreFound : List Entry → ℕ → List Made → Type 0
+AreFound past k ms = (x : ℕ) → k ≤ x → find (is_made x) ms ≡ option_map (made_as x) (origin_of past x)
+
+rest-found : (past : List Entry) (k : ℕ) (m : Made) (ms : List Made) → m.execution ≡ k → AreFound past k (m ∷ ms) → AreFound past (k + 1) ms
+rest-found past k m ms is all x le =
+    sym (ap (λ b. cond b (Some m) (find (is_made x) ms)) (ne_eqb m.execution x (λ e. omega (arith, is, e, le)))) ∙ all x (omega arith)
+
+rows-from : (catalogue : List JobTree) (past : List Entry) (k : ℕ) (ms : List Made) → AllFit past → AreNumbered k ms → AreFound past k ms
+    → filter_map (job_execution catalogue past) (numbers_from k (length ms)) ≡ map (execution_row catalogue past) ms
+rows-from catalogue past k [] fits h all = refl
+rows-from catalogue past k (m ∷ ms) fits h all =
+    let here : option_map (made_as k) (origin_of past k) ≡ Some m =
+    sym (all k (omega arith)) ∙ ap (λ b. cond b (Some m) (find (is_made k) ms)) (eq-eqb m.execution k h.0) in
+    ap (λ (o : Option ExecutionRow). cons_option o (filter_map (job_execution catalogue past) (numbers_from (k + 1) (length ms))))
+    (row-here catalogue past k m (origin_of past k) fits refl here)
+    ∙ ap (λ rows. execution_row catalogue past m ∷ rows) (rows-from catalogue past (k + 1) ms fits h.1 (rest-found past k m ms h.0 all))
+
+-- the job executions are those that the rows have
+pub executions-law : (catalogue : List JobTree) (past : List Entry) → AllFit past → job_executions catalogue past ≡ map (execution_row catalogue past) (made past)
+executions-law catalogue past fits =
+    ap (λ n. filter_map (job_execution catalogue past) (numbers_from 1 n)) (executions-made past)
+    ∙ rows-from catalogue past 1 (made past) fits (numbered past) (λ x le. origin-law past fits x)
+
+-- Rows and replies
+
+-- the rows that are found are those that the fold has
+pub rows-law : (catalogue : List JobTree) (past : List Entry) → AllFit past → rows_of_past catalogue past ≡ folded_rows catalogue past
+rows-law catalogue past fits =
+    let r : Rows = rows_of_past catalogue past in
+    let all : Rows = folded_rows catalogue past in
+    ap (λ (rows : List JobInstance). record r { instances = rows }) (instances-law past)
+    ∙ (ap (λ (rows : List ExecutionRow). record all { executions = rows; works = work_items past; checkpoint = checkpoint_of past }) (executions-law catalogue past fits)
+    ∙ (ap (λ (rows : List WorkRow). record all { works = rows; checkpoint = checkpoint_of past }) (works-law past fits)
+    ∙ ap (λ (marks : InstanceStep → Option (List ℕ)). record all { checkpoint = marks }) (sym (marks-law past fits))))
+
+-- a call is answered alike
+pub reply-law : (limit : ℕ) (catalogue : List JobTree) (past : List Entry) (who : ℕ) (call : Call) → AllFit past
+    → reply_by limit (rows_of_past catalogue past) who call ≡ reply_by limit (folded_rows catalogue past) who call
+reply-law limit catalogue past who call fits = ap (λ r. reply_by limit r who call) (rows-law catalogue past fits)
