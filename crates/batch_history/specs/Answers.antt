@@ -2,7 +2,7 @@
 use Rattle.std.specs.Prelude.{ℕ, ◌+◌, ◌==◌, ◌&&◌, Bool, true, false, Option, Some, None, Result, Ok, Err, List, [], ◌∷◌, length, map, find, filter, filter_map, reverse, take, drop, if◌then◌else◌}
 use Rattle.std.specs.Option.{option_map}
 use Rattle.std.specs.List.{list_any}
-use Rattle.batch_ids.specs.Texts.{is_text}
+use Rattle.std.specs.Str.{bytes_eq}
 use Rattle.batch_ids.specs.Statuses.{is_unfinished, outcome_status}
 use Rattle.batch_ids.specs.declared.status.BatchStatus.{BatchStatus}
 use Rattle.batch_ids.specs.declared.status.BatchStatus.TheVariants.{Starting, Started, Stopping, Stopped, Failed, Completed, Abandoned}
@@ -79,7 +79,7 @@ step_execution row = if_step row.kind (shown_step row)
 
 -- the job instances of a job
 abbrev pub instances_of_job : List ℕ → List JobInstance → List JobInstance
-instances_of_job name instances = filter (λ i. is_text i.job name) instances
+instances_of_job name instances = filter (λ i. bytes_eq i.job name) instances
 
 -- the answer about a job that has a job instance
 abbrev pub if_job_known : List JobInstance → Answer → Result Answer Refusal
@@ -92,7 +92,7 @@ page start count all = take count (drop start all)
 
 -- whether it is an unfinished job execution of this job
 abbrev pub is_running_of : List ℕ → ExecutionRow → Bool
-is_running_of name row = is_text row.job name && is_unfinished (row_status row)
+is_running_of name row = bytes_eq row.job name && is_unfinished (row_status row)
 
 abbrev pub running_executions : List ℕ → List ExecutionRow → List ℕ
 running_executions name executions = map (λ row. row.execution) (filter (is_running_of name) executions)

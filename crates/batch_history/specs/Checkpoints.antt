@@ -8,7 +8,7 @@ use Rattle.batch_history.specs.declared.call.Call.{Call}
 use Rattle.batch_history.specs.Operations.{Ending, Report, effects}
 use Rattle.batch_history.specs.declared.call.Entry.{Entry}
 use Rattle.batch_history.specs.declared.rows.WorkRow.{WorkRow}
-use Rattle.batch_ids.specs.Texts.{is_text}
+use Rattle.std.specs.Str.{bytes_eq}
 use Rattle.batch_ids.specs.declared.status.WorkOutcome.{WorkOutcome}
 use Rattle.batch_ids.specs.declared.status.WorkOutcome.TheVariants.{Completed, Failed, Stopped}
 
@@ -29,7 +29,7 @@ instance_step_of past w = instance_step_by (instance_of_execution past) (find (i
 -- whether it is this step of this job instance
 abbrev pub is_same_step : InstanceStep → Option InstanceStep → Bool
 is_same_step p None = false
-is_same_step p (Some q) = q.instance == p.instance && is_text q.step p.step
+is_same_step p (Some q) = q.instance == p.instance && bytes_eq q.step p.step
 
 -- a work item that completes leaves no checkpoint
 abbrev pub checkpoint_left : WorkOutcome → Option (List ℕ) → Option (List ℕ)

@@ -7,7 +7,7 @@ use Rattle.batch_history.specs.declared.call.Entry.{Entry}
 use Rattle.batch_history.specs.declared.rows.WorkRow.{WorkRow}
 use Rattle.batch_history.specs.declared.rows.WorkState.{WorkState}
 use Rattle.batch_history.specs.declared.rows.WorkState.TheVariants.{Busy, Over}
-use Rattle.batch_ids.specs.Texts.{is_text}
+use Rattle.std.specs.Str.{bytes_eq}
 use Rattle.job_walk.specs.Walk.{fact_of, value_of}
 use Rattle.job_walk.specs.declared.facts.Fact.{Fact}
 use Rattle.job_walk.specs.declared.facts.Fact.TheVariants.{Busy as FactBusy, Over as FactOver}
@@ -35,7 +35,7 @@ first_element (e ∷ rest) = e.id
 
 -- the job of this id in the catalogue
 abbrev pub job_named : List JobTree → List ℕ → Option JobTree
-job_named catalogue name = find (λ job. is_text job.id name) catalogue
+job_named catalogue name = find (λ job. bytes_eq job.id name) catalogue
 
 -- a walk begins at the job's first element
 abbrev pub walk_of : List Known → Option JobTree → Value

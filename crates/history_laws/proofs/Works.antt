@@ -2,7 +2,7 @@
 use Rattle.std.proofs.Common.{◌≡◌, ◌≢◌, ◌⊎◌, inl, inr, ℕ, ◌==◌, Bool, true, false, cond, Option, Some, List, [], ◌∷◌, ◌++◌, find, refl, sym, ◌∙◌, ap, subst}
 use Rattle.std.specs.Cmp.Lexicographic.{bytes_decides}
 use Rattle.std.proofs.lemmas.Bool.{eqb-true, eqb-false, eq-eqb}
-use Rattle.batch_ids.specs.Texts.{is_text}
+use Rattle.std.specs.Str.{bytes_eq}
 use Rattle.batch_ids.specs.declared.metric_step.MetricStep.{MetricStep}
 use Rattle.batch_ids.specs.declared.status.WorkOutcome.{WorkOutcome}
 use Rattle.job_walk.specs.declared.facts.Fact.TheVariants.{Nothing, Busy as FactBusy}
@@ -113,7 +113,7 @@ known-worked x [] id = inl refl
 known-worked x (r ∷ rs) id =
     let k : Known = record { id = r.element; fact = fact_of_state r.state } in
     elim (r.execution == x) as (λ b. (fact_of (cond b (k ∷ known_elements x rs) (known_elements x rs)) id ≡ Nothing) ⊎ (is_worked (fact_of (cond b (k ∷ known_elements x rs) (known_elements x rs)) id) ≡ true)) [
-      | true ↦ elim (is_text r.element id) as (λ b. (cond b (fact_of_state r.state) (fact_of (known_elements x rs) id) ≡ Nothing) ⊎ (is_worked (cond b (fact_of_state r.state) (fact_of (known_elements x rs) id)) ≡ true)) [
+      | true ↦ elim (bytes_eq r.element id) as (λ b. (cond b (fact_of_state r.state) (fact_of (known_elements x rs) id) ≡ Nothing) ⊎ (is_worked (cond b (fact_of_state r.state) (fact_of (known_elements x rs) id)) ≡ true)) [
         | true ↦ inr (from-state r.state)
         | false ↦ known-worked x rs id
       ]
@@ -130,10 +130,10 @@ unknown-away x [] id h = tt
 unknown-away x (r ∷ rs) id h =
     let k : Known = record { id = r.element; fact = fact_of_state r.state } in
     (elim (r.execution == x) as (λ b. (r.execution == x) ≡ b → fact_of (cond b (k ∷ known_elements x rs) (known_elements x rs)) id ≡ Nothing → Each (λ r. r.execution ≡ x → r.element ≢ id) (r ∷ rs)) [
-      | true ↦ λ on. (elim (is_text r.element id) as (λ b. is_text r.element id ≡ b → cond b (fact_of_state r.state) (fact_of (known_elements x rs) id) ≡ Nothing
+      | true ↦ λ on. (elim (bytes_eq r.element id) as (λ b. bytes_eq r.element id ≡ b → cond b (fact_of_state r.state) (fact_of (known_elements x rs) id) ≡ Nothing
           → Each (λ r. r.execution ≡ x → r.element ≢ id) (r ∷ rs)) [
             | true ↦ λ is s. absurd (not-nothing r.state s)
-            | false ↦ λ is s. ((λ _ same. let yes : is_text r.element id ≡ true = (bytes_decides r.element id).1 same in cc), unknown-away x rs id s)
+            | false ↦ λ is s. ((λ _ same. let yes : bytes_eq r.element id ≡ true = (bytes_decides r.element id).1 same in cc), unknown-away x rs id s)
           ]) refl
       | false ↦ λ off s. ((λ on _. eqb-false r.execution x off on), unknown-away x rs id s)
     ]) refl h
@@ -152,16 +152,16 @@ known-new x (r ∷ rs) new on =
       | false ↦ known-new x rs new on
     ]
 
-fact-other : (known : List Known) (new : Known) (id : List ℕ) → is_text new.id id ≡ false → fact_of (known ++ new ∷ []) id ≡ fact_of known id
+fact-other : (known : List Known) (new : Known) (id : List ℕ) → bytes_eq new.id id ≡ false → fact_of (known ++ new ∷ []) id ≡ fact_of known id
 fact-other [] new id off = rw off refl
-fact-other (k ∷ ks) new id off = ap (λ f. cond (is_text k.id id) k.fact f) (fact-other ks new id off)
+fact-other (k ∷ ks) new id off = ap (λ f. cond (bytes_eq k.id id) k.fact f) (fact-other ks new id off)
 
 fact-new : (x : ℕ) (works : List WorkRow) (new : Known) → Each (λ r. r.execution ≡ x → r.element ≢ new.id) works
     → fact_of (known_elements x works ++ new ∷ []) new.id ≡ new.fact
-fact-new x [] new away = let here : is_text new.id new.id ≡ true = (bytes_decides new.id new.id).1 refl in rw here refl
+fact-new x [] new away = let here : bytes_eq new.id new.id ≡ true = (bytes_decides new.id new.id).1 refl in rw here refl
 fact-new x (r ∷ rs) new away =
     (elim (r.execution == x) as (λ b. (r.execution == x) ≡ b → fact_of (cond b (known_as r ∷ known_elements x rs) (known_elements x rs) ++ new ∷ []) new.id ≡ new.fact) [
-      | true ↦ λ on. let off : is_text r.element new.id ≡ false = differing r.element new.id (away.0 (eqb-true r.execution x on)) in rw off (fact-new x rs new away.1)
+      | true ↦ λ on. let off : bytes_eq r.element new.id ≡ false = differing r.element new.id (away.0 (eqb-true r.execution x on)) in rw off (fact-new x rs new away.1)
       | false ↦ λ off. fact-new x rs new away.1
     ]) refl
 
@@ -187,14 +187,14 @@ busy-fact p (r ∷ rs) c e apart busy =
       | true ↦ λ s.
           let same : r ≡ c = cc in
           let on : (r.execution == c.execution) ≡ true = eq-eqb r.execution c.execution (ap (λ (z : WorkRow). z.execution) same) in
-          let here : is_text r.element c.element ≡ true = (bytes_decides r.element c.element).1 (ap (λ (z : WorkRow). z.element) same) in
+          let here : bytes_eq r.element c.element ≡ true = (bytes_decides r.element c.element).1 (ap (λ (z : WorkRow). z.element) same) in
           rw on (rw here (ap fact_of_state (ap (λ (z : WorkRow). z.state) same ∙ busy)))
       | false ↦ λ s.
           let from : Apart r c = each-found (Apart r) p rs c apart.0 s in
           let rest = busy-fact p rs c s apart.1 busy in
           (elim (r.execution == c.execution) as (λ b. (r.execution == c.execution) ≡ b → fact_of (cond b (known_as r ∷ known_elements c.execution rs) (known_elements c.execution rs)) c.element ≡ FactBusy) [
             | true ↦ λ on.
-                let off : is_text r.element c.element ≡ false = differing r.element c.element (λ same. from (sym (eqb-true r.execution c.execution on)) (sym same)) in
+                let off : bytes_eq r.element c.element ≡ false = differing r.element c.element (λ same. from (sym (eqb-true r.execution c.execution on)) (sym same)) in
                 rw off rest
             | false ↦ λ off. rest
           ]) refl
@@ -209,7 +209,7 @@ over-differs x p (r ∷ rs) c o t step at e i other =
     → fact_of (known_elements x (cond b (over o t step at r ∷ rs) (r ∷ change_first p (over o t step at) rs))) i ≡ fact_of (known_elements x (r ∷ rs)) i) [
       | true ↦ λ s.
           let same : r ≡ c = cc in
-          let off : is_text r.element i ≡ false = differing r.element i (λ h. other (sym h ∙ ap (λ (z : WorkRow). z.element) same)) in
+          let off : bytes_eq r.element i ≡ false = differing r.element i (λ h. other (sym h ∙ ap (λ (z : WorkRow). z.element) same)) in
           elim (r.execution == x) as (λ b. fact_of (cond b (known_as (over o t step at r) ∷ known_elements x rs) (known_elements x rs)) i ≡ fact_of (cond b (known_as r ∷ known_elements x rs) (known_elements x rs)) i) [
             | true ↦ rw off refl
             | false ↦ refl
@@ -218,7 +218,7 @@ over-differs x p (r ∷ rs) c o t step at e i other =
           let rest = over-differs x p rs c o t step at s i other in
           elim (r.execution == x) as (λ b. fact_of (cond b (known_as r ∷ known_elements x (change_first p (over o t step at) rs)) (known_elements x (change_first p (over o t step at) rs))) i
           ≡ fact_of (cond b (known_as r ∷ known_elements x rs) (known_elements x rs)) i) [
-            | true ↦ ap (λ f. cond (is_text r.element i) (fact_of_state r.state) f) rest
+            | true ↦ ap (λ f. cond (bytes_eq r.element i) (fact_of_state r.state) f) rest
             | false ↦ rest
           ]
     ]) e

@@ -7,7 +7,7 @@ use Rattle.batch_history.specs.declared.rows.ExecutionRow.{ExecutionRow}
 use Rattle.batch_history.specs.declared.rows.WorkRow.{WorkRow}
 use Rattle.batch_history.specs.declared.rows.CheckpointRow.{CheckpointRow}
 use Rattle.batch_history.specs.Checkpoints.{InstanceStep}
-use Rattle.batch_ids.specs.Texts.{is_text}
+use Rattle.std.specs.Str.{bytes_eq}
 
 -- the job instances, the job executions and the work items by their numbers, and the checkpoints by job instance and step
 pub record Maps : Type 0 where
@@ -34,7 +34,7 @@ abbrev pub is_instance : ℕ → JobInstance → Bool
 is_instance i row = row.instance == i
 
 abbrev pub is_place : InstanceStep → CheckpointRow → Bool
-is_place p row = row.instance == p.instance && is_text row.step p.step
+is_place p row = row.instance == p.instance && bytes_eq row.step p.step
 
 abbrev pub is_elsewhere : InstanceStep → CheckpointRow → Bool
 is_elsewhere p row = if is_place p row then false else true

@@ -4,7 +4,7 @@ use Rattle.std.proofs.Common.{◌≡◌, ℕ, ◌+◌, ◌==◌, ◌&&◌, Bool,
 use Rattle.std.specs.Option.{option_map}
 use Rattle.std.specs.Cmp.Lexicographic.{bytes_decides}
 use Rattle.std.proofs.lemmas.Bool.{eqb-true, and_parts}
-use Rattle.batch_ids.specs.Texts.{is_text}
+use Rattle.std.specs.Str.{bytes_eq}
 use Rattle.batch_ids.specs.declared.status.WorkOutcome.{WorkOutcome}
 use Rattle.batch_ids.specs.declared.status.WorkOutcome.TheVariants.{Completed, Failed, Stopped}
 use Rattle.batch_history.proofs.Steps.{rows_after, place_in}
@@ -22,7 +22,7 @@ use Rattle.seq_repository.specs.Kept.{Kept, rows_in}
 
 same-place : (p q : InstanceStep) → is_same_step p (Some q) ≡ true → q ≡ p
 same-place p q here =
-    let parts : ((q.instance == p.instance) ≡ true) × (is_text q.step p.step ≡ true) = and_parts _ _ here in
+    let parts : ((q.instance == p.instance) ≡ true) × (bytes_eq q.step p.step ≡ true) = and_parts _ _ here in
     let one : q.instance ≡ p.instance = eqb-true q.instance p.instance parts.0 in
     let other : q.step ≡ p.step = (bytes_decides q.step p.step).0 parts.1 in
     let make : ℕ → List ℕ → InstanceStep = λ i s. record { instance = i; step = s } in
@@ -31,10 +31,10 @@ same-place p q here =
 -- a row at a step, looked for at another
 at-place : (p q : InstanceStep) (row : CheckpointRow) → is_place q row ≡ true → is_place p row ≡ is_same_step p (Some q)
 at-place p q row is =
-    let parts : ((row.instance == q.instance) ≡ true) × (is_text row.step q.step ≡ true) = and_parts _ _ is in
+    let parts : ((row.instance == q.instance) ≡ true) × (bytes_eq row.step q.step ≡ true) = and_parts _ _ is in
     let one : row.instance ≡ q.instance = eqb-true row.instance q.instance parts.0 in
     let other : row.step ≡ q.step = (bytes_decides row.step q.step).0 parts.1 in
-    ap (λ i. (i == p.instance) && is_text row.step p.step) one ∙ ap (λ s. (q.instance == p.instance) && is_text s p.step) other
+    ap (λ i. (i == p.instance) && bytes_eq row.step p.step) one ∙ ap (λ s. (q.instance == p.instance) && bytes_eq s p.step) other
 
 -- the mark of a row, if it is at the place
 abbrev mark_if : Bool → CheckpointRow → Option (List ℕ) → Option (List ℕ)

@@ -1,22 +1,22 @@
 -- A page of the newest job instances, gathered from the last to the first.
 use Rattle.std.proofs.Common.{◌≡◌, ℕ, ◌+◌, ◌-◌, ◌<◌, ◌≤◌, Bool, true, false, cond, List, [], ◌∷◌, ◌++◌, suc, length, take, reverse, filter, get_or, refl, sym, ◌∙◌, ap, subst, arith}
 use Rattle.std.proofs.lemmas.List.{take_more, append_assoc, length-append, reverse-append}
-use Rattle.batch_ids.specs.Texts.{is_text}
+use Rattle.std.specs.Str.{bytes_eq}
 use Rattle.batch_history.specs.declared.rows.JobInstance.{JobInstance}
 use Rattle.batch_history.specs.Answers.{instances_of_job, page}
 
-named-append : (name : List ℕ) (rows : List JobInstance) (row : JobInstance) → is_text row.job name ≡ true → instances_of_job name (rows ++ row ∷ []) ≡ instances_of_job name rows ++ row ∷ []
+named-append : (name : List ℕ) (rows : List JobInstance) (row : JobInstance) → bytes_eq row.job name ≡ true → instances_of_job name (rows ++ row ∷ []) ≡ instances_of_job name rows ++ row ∷ []
 named-append name [] row is = ap (λ (b : Bool). cond b (row ∷ []) []) is
 named-append name (first ∷ rest) row is =
-    ap (λ (l : List JobInstance). cond (is_text first.job name) (first ∷ l) l) (named-append name rest row is)
-    ∙ (elim (is_text first.job name) as (λ b. cond b (first ∷ (instances_of_job name rest ++ row ∷ [])) (instances_of_job name rest ++ row ∷ []) ≡ cond b (first ∷ instances_of_job name rest) (instances_of_job name rest) ++ row ∷ []) [
+    ap (λ (l : List JobInstance). cond (bytes_eq first.job name) (first ∷ l) l) (named-append name rest row is)
+    ∙ (elim (bytes_eq first.job name) as (λ b. cond b (first ∷ (instances_of_job name rest ++ row ∷ [])) (instances_of_job name rest ++ row ∷ []) ≡ cond b (first ∷ instances_of_job name rest) (instances_of_job name rest) ++ row ∷ []) [
       | true ↦ refl
       | false ↦ refl
     ])
 
 -- the newest of those up to a place stands there
 newest-at : (name : List ℕ) (rows : List JobInstance) (place : ℕ) (row : JobInstance) → 1 ≤ place → place ≤ length rows
-    → row ≡ get_or rows (place - 1) row → is_text row.job name ≡ true
+    → row ≡ get_or rows (place - 1) row → bytes_eq row.job name ≡ true
     → reverse (instances_of_job name (take place rows)) ≡ row ∷ reverse (instances_of_job name (take (place - 1) rows))
 newest-at name rows place row first last at is =
     let back : place ≡ place - 1 + 1 = omega (arith, first) in
@@ -27,7 +27,7 @@ newest-at name rows place row first last at is =
 
 -- one more is left out
 pub left_out : (name : List ℕ) (rows found whole : List JobInstance) (start out count place : ℕ) (row : JobInstance) → 1 ≤ place → place ≤ length rows
-    → row ≡ get_or rows (place - 1) row → is_text row.job name ≡ true → out < start
+    → row ≡ get_or rows (place - 1) row → bytes_eq row.job name ≡ true → out < start
     → found ++ page (start - out) count (reverse (instances_of_job name (take place rows))) ≡ whole
     → found ++ page (start - (out + 1)) count (reverse (instances_of_job name (take (place - 1) rows))) ≡ whole
 left_out name rows found whole start out count place row first last at is lt so_far =
@@ -38,7 +38,7 @@ left_out name rows found whole start out count place row first last at is lt so_
 
 -- one more is gathered
 pub gathered : (name : List ℕ) (rows found whole : List JobInstance) (left count place : ℕ) (row : JobInstance) → 1 ≤ place → place ≤ length rows
-    → row ≡ get_or rows (place - 1) row → is_text row.job name ≡ true → left ≡ 0 → length found < count
+    → row ≡ get_or rows (place - 1) row → bytes_eq row.job name ≡ true → left ≡ 0 → length found < count
     → found ++ page left (count - length found) (reverse (instances_of_job name (take place rows))) ≡ whole
     → (found ++ row ∷ []) ++ page left (count - length (found ++ row ∷ [])) (reverse (instances_of_job name (take (place - 1) rows))) ≡ whole
 gathered name rows found whole left count place row first last at is none lt so_far =
