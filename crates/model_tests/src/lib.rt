@@ -1,17 +1,11 @@
-//! Tests of the crates below the repository: identifiers, graphs, jobs and their JSON, transition elements and walks.
+//! Tests of the crates below the repository: identifiers, graphs, members of JSON objects and transition elements.
 #![tactic(auto)]
 
 #[cfg(test)]
-mod catalogues;
-#[cfg(test)]
 mod identifiers;
-#[cfg(test)]
-mod jobs;
 #[cfg(test)]
 mod object_members;
 #[cfg(test)]
 mod patterns;
 #[cfg(test)]
 mod target_graphs;
-#[cfg(test)]
-mod walks;
