@@ -1,5 +1,5 @@
 -- Rows and replies: what the searches find is what the fold has, in every legal history.
-use Rattle.std.proofs.Common.{◌≡◌, ℕ, ◌+◌, ◌≤◌, cond, Option, None, Some, List, [], ◌∷◌, length, map, find, filter_map, reverse, refl, sym, ◌∙◌, ap, arith}
+use Rattle.std.proofs.Common.{◌≡◌, ℕ, ◌+◌, ◌≤◌, cond, Option, None, Some, List, [], ◌∷◌, length, map, find, filter_map, refl, sym, ◌∙◌, ap, arith}
 use Rattle.std.specs.List.{cons_option}
 use Rattle.std.specs.Option.{option_map}
 use Rattle.std.proofs.lemmas.Bool.{eq-eqb, ne_eqb}
@@ -12,12 +12,11 @@ use Rattle.batch_history.specs.declared.rows.JobInstance.{JobInstance}
 use Rattle.batch_history.proofs.Folds.{made, is_made, start_of, stop_of, abandoned_of, end_of, value_after, folded_rows, execution_row}
 use Rattle.batch_history.specs.Checkpoints.{InstanceStep, checkpoint_of}
 use Rattle.batch_history.specs.Executions.{Made, Origin, origin_of, made_as}
-use Rattle.batch_history.specs.Legal.{IsLegal}
 use Rattle.batch_history.specs.Moments.{start_moment, end_moment, updated_moment}
-use Rattle.batch_history.specs.Replies.{reply, reply_by, accepted, reply_to_claim, claim_reply, work_task, runnable_of_job, first_ready, walk_in_rows, has_something}
-use Rattle.batch_history.specs.Rows.{History, Rows, execution_row_with, row_of_origin, job_execution, numbers_from, job_executions, rows_of_past}
+use Rattle.batch_history.specs.Replies.{reply_by}
+use Rattle.batch_history.specs.Rows.{Rows, execution_row_with, row_of_origin, job_execution, numbers_from, job_executions, rows_of_past}
 use Rattle.batch_history.specs.Statuses.{is_abandoned}
-use Rattle.batch_history.specs.Walks.{job_named, walk_of_execution}
+use Rattle.batch_history.specs.Walks.{walk_of_execution}
 use Rattle.batch_history.specs.Works.{work_items}
 use Rattle.batch_history.proofs.Stepping.{AreNumbered, numbered}
 use Rattle.batch_history.proofs.Pasts.{AllFit}

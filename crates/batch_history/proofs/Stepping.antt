@@ -1,9 +1,9 @@
 -- The rows of a past with one operation more: what each record is after it, by what it was before.
 use mathlib.Core.Bool.{or-false}
-use Rattle.std.proofs.Common.{◌≡◌, ◌≢◌, ℕ, zero, suc, ◌+◌, ◌==◌, ◌<◌, ◌≤◌, ◌||◌, Bool, true, false, cond, Option, None, Some, List, [], ◌∷◌, ◌++◌, length, map, find, refl, sym, ◌∙◌, ap, arith, add-one}
+use Rattle.std.proofs.Common.{◌≡◌, ℕ, ◌+◌, ◌==◌, ◌<◌, ◌≤◌, ◌||◌, Bool, true, false, cond, Option, None, Some, List, [], ◌∷◌, ◌++◌, length, map, find, refl, sym, ◌∙◌, ap, arith, add-one}
 use Rattle.std.specs.Option.{option_map}
 use mathlib.Core.Path.{fun_ext}
-use Rattle.std.proofs.lemmas.List.{map-append, length-map, length-append}
+use Rattle.std.proofs.lemmas.List.{map-append, length-map}
 use Rattle.std.proofs.lemmas.Bool.{eqb-true, eqb-false, eq-eqb, ne_eqb}
 use Rattle.job_walk.proofs.Following.{find-map}
 use Rattle.job_walk.specs.declared.facts.Known.{Known}
@@ -20,7 +20,7 @@ use Rattle.batch_history.specs.declared.call.Entry.{Entry}
 use Rattle.batch_history.specs.declared.rows.ExecutionRow.{ExecutionRow}
 use Rattle.batch_history.specs.declared.rows.WorkRow.{WorkRow}
 use Rattle.batch_history.proofs.Folds.{made, remade, is_made, makes, instances_of, works_of, works_after, with_handed_out as handed_out, reported, over, start_of, was_named, stop_of, abandoned_of, updated_of, end_of, value_after, bare_of, place_of, instance_made, folded_checkpoint, execution_row, folded_rows}
-use Rattle.batch_history.proofs.Steps.{Effect, effect_on, refreshed, refreshed_by, refreshed_at, fresh_row, again_row, instance_in, place_in, rows_after, executions_after}
+use Rattle.batch_history.proofs.Steps.{refreshed_by, refreshed_at, fresh_row, again_row, instance_in, place_in, rows_after, executions_after}
 use Rattle.batch_history.specs.Checkpoints.{InstanceStep, instance_step_by, is_same_step, checkpoint_after}
 use Rattle.batch_history.specs.Executions.{Made}
 use Rattle.batch_history.specs.Lists.{change_first, is_at}
@@ -29,7 +29,8 @@ use Rattle.batch_history.specs.Operations.{taken_up, taken_up_by, stop_request, 
 use Rattle.batch_history.specs.Replies.{is_execution}
 use Rattle.batch_history.specs.Rows.{Rows, execution_row_with}
 use Rattle.batch_history.specs.Statuses.{batch_status, is_finished}
-use Rattle.batch_history.specs.Walks.{fact_of_state, known_elements, walk_of, job_named}
+use Rattle.batch_history.specs.Walks.{fact_of_state, walk_of, job_named}
+use Rattle.batch_history.proofs.Knowing.{known_elements, facts-same}
 use Rattle.batch_history.specs.Works.{execution_of_operation, is_work}
 
 -- What an operation that is not on an execution leaves of it
@@ -188,7 +189,7 @@ untouched catalogue past e m made_no off =
     begun-by past e x made_no
     ∙ (ap (λ b. first_moment (start_of past x) b e.at) (taken-touched x e.call e.reply works off) ∙ earliest-false (start_of past x) e.at) in
     let v : value_after catalogue (e ∷ past) m ≡ value_after catalogue past m =
-    ap (λ k. walk_of k (job_named catalogue m.job)) (known-same x e.who e.at e.call e.reply works off) in
+    ap (λ f. walk_of f (job_named catalogue m.job)) (facts-same x _ works (known-same x e.who e.at e.call e.reply works off)) in
     let n : end_of catalogue (e ∷ past) m ≡ end_of catalogue past m =
     ended-by catalogue past e m made_no
     ∙ (ap (λ b. first_moment (end_of catalogue past m) (is_finished b) e.at) (same_status _ _ _ _ _ _ p s v)

@@ -16,7 +16,7 @@ use Rattle.batch_history.specs.Lists.{is_at}
 use Rattle.batch_history.specs.Moments.{first_moment, start_moment, status_unless_abandoned, end_moment, updated_moment}
 use Rattle.batch_history.specs.Operations.{taken_up, taken_up_by, stop_request, abandonment, makes_execution}
 use Rattle.batch_history.specs.Statuses.{batch_status, is_finished, stop_requested, is_abandoned}
-use Rattle.batch_history.specs.Walks.{known_elements, walk_of, job_named, walk_of_execution, job_of_origin}
+use Rattle.batch_history.specs.Walks.{walk_of, job_named, walk_of_execution, job_of_origin, element_facts}
 use Rattle.batch_history.specs.Works.{execution_of_operation, work_items}
 use Rattle.batch_history.proofs.Adding.{counted}
 use Rattle.batch_history.proofs.Pasts.{Fits, FitsClaim, AllFit}
@@ -195,8 +195,8 @@ updated-law (e ∷ older) fits x =
 pub walk-law : (catalogue : List JobTree) (past : List Entry) (x : ℕ) (o : Origin) → AllFit past → origin_of past x ≡ Some o
     → walk_of_execution catalogue past x ≡ value_after catalogue past (made_as x o)
 walk-law catalogue past x o fits is =
-    ap (λ (f : Option Origin). walk_of (known_elements x (work_items past)) (job_of_origin catalogue f)) is
-    ∙ ap (λ (rows : List WorkRow). walk_of (known_elements x rows) (job_named catalogue o.job)) (works-law past fits)
+    ap (λ (f : Option Origin). walk_of (element_facts x (work_items past)) (job_of_origin catalogue f)) is
+    ∙ ap (λ (rows : List WorkRow). walk_of (element_facts x rows) (job_named catalogue o.job)) (works-law past fits)
 
 -- the status is the one that the rows have
 bare-law : (catalogue : List JobTree) (past : List Entry) (x : ℕ) (o : Origin) → AllFit past → origin_of past x ≡ Some o

@@ -1,5 +1,5 @@
 -- Legal histories: what a repository may have accepted.
-use Rattle.std.specs.Prelude.{ℕ, ◌≡◌, ◌≤◌, ◌+◌, false, Ok, List, [], ◌∷◌, ◌++◌, length, if◌then◌else◌}
+use Rattle.std.specs.Prelude.{ℕ, ◌≡◌, ◌≤◌, false, Ok, List, [], ◌∷◌, ◌++◌, length, if◌then◌else◌}
 use Rattle.batch_history.specs.Replies.{is_nothing, reply}
 use Rattle.batch_history.specs.Rows.{History}
 use Rattle.batch_history.specs.declared.call.Call.{Call}

@@ -8,5 +8,7 @@ ghost use Rattle.batch_history.specs.Rows.{History};
 ///
 /// It does nothing: its contract is the law.
 pub fn legal_histories_grow()
-    ensures { (limit : ℕ) (h : History) (e : Entry) → IsLegal limit h → reply limit h e.who e.call ≡ Ok e.reply → is_nothing e.reply ≡ false → IsLegal limit (grown h e) }
+    ensures { (limit : ℕ) (h : History) (e : Entry) → IsLegal limit h
+        → reply limit h e.who e.call ≡ Ok e.reply → is_nothing e.reply ≡ false
+        → IsLegal limit (grown h e) }
 {}

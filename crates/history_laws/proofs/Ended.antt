@@ -22,7 +22,8 @@ use Rattle.batch_history.specs.Operations.{taken_up, taken_up_by, stop_request}
 use Rattle.batch_history.specs.Replies.{row_status, first_ready, walk_in_rows, has_something_by, has_something, claim_reply, is_execution}
 use Rattle.batch_history.specs.Rows.{Rows}
 use Rattle.batch_history.specs.Statuses.{batch_status, is_finished}
-use Rattle.batch_history.specs.Walks.{known_elements, job_named, walk_of}
+use Rattle.batch_history.specs.Walks.{job_named, walk_of}
+use Rattle.batch_history.proofs.Knowing.{known_elements, facts-same}
 use Rattle.batch_history.specs.Works.{is_work, execution_of_operation, execution_of_work}
 use Rattle.batch_history.proofs.Stepping.{known-same, begun-by, named-by, ended-by, same_row, same_status, settled, earliest-false, taken-touched, asked-touched}
 use Rattle.history_laws.specs.Laws.{IsAsBefore}
@@ -45,7 +46,7 @@ row-kept catalogue past e m made_no not_asked not_taken known =
     named-by stop_request past e x made_no ∙ (ap (λ b. stop_of past x || b) not_asked ∙ or-false (stop_of past x)) in
     let s : start_of (e ∷ past) x ≡ start_of past x =
     begun-by past e x made_no ∙ (ap (λ b. first_moment (start_of past x) b e.at) not_taken ∙ earliest-false (start_of past x) e.at) in
-    let v : value_after catalogue (e ∷ past) m ≡ value_after catalogue past m = ap (λ k. walk_of k (job_named catalogue m.job)) known in
+    let v : value_after catalogue (e ∷ past) m ≡ value_after catalogue past m = ap (λ f. walk_of f (job_named catalogue m.job)) (facts-same x _ _ known) in
     let n : end_of catalogue (e ∷ past) m ≡ end_of catalogue past m =
     ended-by catalogue past e m made_no
     ∙ (ap (λ b. first_moment (end_of catalogue past m) (is_finished b) e.at) (same_status _ _ _ _ _ _ p s v) ∙ settled catalogue past m e.at) in

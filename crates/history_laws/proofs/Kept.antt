@@ -8,11 +8,10 @@ use Rattle.std.specs.Str.{bytes_eq}
 use Rattle.batch_ids.specs.declared.metric_step.MetricStep.{MetricStep}
 use Rattle.batch_ids.specs.declared.status.WorkOutcome.{WorkOutcome}
 use Rattle.jsl_model.specs.Jobs.{JobTree}
+use Rattle.job_walk.specs.declared.facts.Fact.{Fact}
 use Rattle.job_walk.specs.declared.facts.Fact.TheVariants.{Nothing as FactNothing, Busy as FactBusy}
-use Rattle.job_walk.specs.declared.facts.Known.{Known}
 use Rattle.job_walk.specs.declared.facts.Value.{Value}
 use Rattle.job_walk.specs.declared.facts.Value.TheVariants.{Open, Done as IsDone, Ended}
-use Rattle.job_walk.specs.Walk.{fact_of}
 use Rattle.batch_history.specs.declared.call.Call.{Call}
 use Rattle.batch_history.specs.declared.call.Call.TheVariants.{Start, Restart, Stop, Abandon, Claim, Checkpoint, Finish}
 use Rattle.batch_history.specs.declared.call.Reply.{Reply}
@@ -27,7 +26,8 @@ use Rattle.batch_history.specs.Moments.{first_moment}
 use Rattle.batch_history.specs.Operations.{taken_up}
 use Rattle.batch_history.specs.Replies.{first_ready, walk_in_rows, has_something, claim_reply, next_work_item}
 use Rattle.batch_history.specs.Rows.{Rows}
-use Rattle.batch_history.specs.Walks.{known_elements, job_named, walk_of, walk_value}
+use Rattle.batch_history.specs.Walks.{job_named, walk_of, walk_value, element_facts}
+use Rattle.batch_history.proofs.Knowing.{facts-same}
 use Rattle.batch_history.specs.Works.{is_work, busy_work}
 use Rattle.batch_history.proofs.Stepping.{known-append, known-change, known-reported, begun-by}
 use Rattle.history_laws.proofs.Walks.{Sight, ready_sight, busy_sight, no_sight, seen, GoesOn, Learns, walk-goes, claim-here, claim-away, report-away, worked-unready}
@@ -43,10 +43,10 @@ nothing-goes : (s t : Sight) (id exit : List ℕ) → GoesOn s t id (IsDone exit
 nothing-goes s t id exit = record { same = λ _. refl; kept = λ h. cc }
 
 -- a job execution's walk goes on as what is learnt
-pub walk_of-goes : (s t : Sight) (id : List ℕ) (known later : List Known) → Learns s t id (fact_of known) (fact_of later) → (job : Option JobTree)
-    → GoesOn s t id (walk_of known job) (walk_of later job)
-walk_of-goes s t id known later learns None = nothing-goes s t id []
-walk_of-goes s t id known later learns (Some job) = walk-goes s t id (fact_of known) (fact_of later) learns job.elements _
+pub walk_of-goes : (s t : Sight) (id : List ℕ) (facts later : List ℕ → Fact) → Learns s t id facts later → (job : Option JobTree)
+    → GoesOn s t id (walk_of facts job) (walk_of later job)
+walk_of-goes s t id facts later learns None = nothing-goes s t id []
+walk_of-goes s t id facts later learns (Some job) = walk-goes s t id facts later learns job.elements _
 
 none-seen : (id : List ℕ) (v : Value) → seen no_sight id v ≡ false
 none-seen id (Open ready busy) = refl
@@ -64,15 +64,15 @@ first-seen id (IsDone exit) h = cc
 first-seen id (Ended status exit point) h = cc
 
 -- nothing is known of what is ready
-pub ready-unknown : (x : ℕ) (works : List WorkRow) (job : Option JobTree) (id : List ℕ) → first_ready (walk_of (known_elements x works) job) ≡ Some id
-    → fact_of (known_elements x works) id ≡ FactNothing
+pub ready-unknown : (x : ℕ) (works : List WorkRow) (job : Option JobTree) (id : List ℕ) → first_ready (walk_of (element_facts x works) job) ≡ Some id
+    → element_facts x works id ≡ FactNothing
 ready-unknown x works job id h =
     elim (known-worked x works id) [
       | inl nothing ↦ nothing
       | inr worked ↦
-          let shown = (walk_of-goes ready_sight no_sight id (known_elements x works) (known_elements x works) (worked-unready id (fact_of (known_elements x works)) worked) job).kept
-          (first-seen id (walk_of (known_elements x works) job) h) in
-          let none = none-seen id (walk_of (known_elements x works) job) in
+          let shown = (walk_of-goes ready_sight no_sight id (element_facts x works) (element_facts x works) (worked-unready id (element_facts x works) worked) job).kept
+          (first-seen id (walk_of (element_facts x works) job) h) in
+          let none = none-seen id (walk_of (element_facts x works) job) in
           absurd (let no : true ≡ false = sym shown ∙ none in cc)
     ]
 
@@ -107,7 +107,7 @@ held-on catalogue older e row h goes =
 
 -- what is known stays, so does the walk
 known-goes : (catalogue : List JobTree) (older : List Entry) (e : Entry) (m : Made) (id : List ℕ)
-    → known_elements m.execution (works_of (e ∷ older)) ≡ known_elements m.execution (works_of older)
+    → element_facts m.execution (works_of (e ∷ older)) ≡ element_facts m.execution (works_of older)
     → GoesOn busy_sight busy_sight id (value_after catalogue older m) (value_after catalogue (e ∷ older) m)
 known-goes catalogue older e m id same = rw same (same-goes busy_sight id (value_after catalogue older m))
 
@@ -116,7 +116,7 @@ still-kept : (catalogue : List JobTree) (older : List Entry) (e : Entry) → wor
 still-kept catalogue older e same k =
     record {
       held = rw same (each-map (IsHeld catalogue older) (IsHeld catalogue (e ∷ older)) (works_of older)
-          (λ row h. held-on catalogue older e row h (λ m _. known-goes catalogue older e m row.element (ap (known_elements m.execution) same))) k.held);
+          (λ row h. held-on catalogue older e row h (λ m _. known-goes catalogue older e m row.element (ap (element_facts m.execution) same))) k.held);
       apart = rw same k.apart;
     }
 
@@ -131,7 +131,7 @@ checkpoint-kept catalogue older who at w mark step reply k =
       held = each-change (IsHeld catalogue (e ∷ older)) (is_work w) (reported step) rows
           (λ row h. record { one = h.one; found = h.found; under_way = h.under_way; begun = h.begun })
           (each-map (IsHeld catalogue older) (IsHeld catalogue (e ∷ older)) rows
-          (λ row h. held-on catalogue older e row h (λ m _. known-goes catalogue older e m row.element (known-reported m.execution (is_work w) step rows))) k.held);
+          (λ row h. held-on catalogue older e row h (λ m _. known-goes catalogue older e m row.element (facts-same m.execution _ rows (known-reported m.execution (is_work w) step rows)))) k.held);
       apart = apart-change (is_work w) (reported step) (λ r. refl) (λ r. refl) rows k.apart;
     }
 
@@ -155,13 +155,13 @@ over-goes catalogue older w o t step at c m id found apart busy other =
     on-or-off c.execution m.execution
     (λ on.
     let same : c.execution ≡ m.execution = eqb-true c.execution m.execution on in
-    let was : fact_of (known_elements m.execution rows) c.element ≡ FactBusy = subst (λ x. fact_of (known_elements x rows) c.element ≡ FactBusy) same (busy-fact (is_work w) rows c found apart busy) in
-    walk_of-goes busy_sight busy_sight id (known_elements m.execution rows) (known_elements m.execution new)
-    (report-away id c.element (fact_of (known_elements m.execution rows)) (fact_of (known_elements m.execution new)) (over-differs m.execution (is_work w) rows c o t step at found) was (other (sym same)))
+    let was : element_facts m.execution rows c.element ≡ FactBusy = subst (λ x. element_facts x rows c.element ≡ FactBusy) same (busy-fact (is_work w) rows c found apart busy) in
+    walk_of-goes busy_sight busy_sight id (element_facts m.execution rows) (element_facts m.execution new)
+    (report-away id c.element (element_facts m.execution rows) (element_facts m.execution new) (over-differs m.execution (is_work w) rows c o t step at found) was (other (sym same)))
     (job_named catalogue m.job))
     (λ off.
     let is : is_at m.execution (option_map (λ (row : WorkRow). row.execution) (find (is_work w) rows)) ≡ false = rw found off in
-    rw (known-change m.execution (is_work w) o t step at rows is) (same-goes busy_sight id (value_after catalogue older m)))
+    rw (facts-same m.execution _ rows (known-change m.execution (is_work w) o t step at rows is)) (same-goes busy_sight id (value_after catalogue older m)))
 
 finish-kept : (catalogue : List JobTree) (older : List Entry) (who at w : ℕ) (o : WorkOutcome) (t : Option (List ℕ)) (step : MetricStep) (reply : Reply)
     → ToldReport (works_of older) w → IsKept catalogue older
@@ -187,14 +187,14 @@ finish-kept catalogue older who at w o t step reply told k =
 -- ---- A claim
 
 new-goes : (catalogue : List JobTree) (works : List WorkRow) (new : WorkRow) (m : Made) (id : List ℕ)
-    → ((new.execution == m.execution) ≡ true → fact_of (known_elements m.execution works) new.element ≡ FactNothing)
+    → ((new.execution == m.execution) ≡ true → element_facts m.execution works new.element ≡ FactNothing)
     → GoesOn busy_sight busy_sight id (walk_value catalogue works m.execution m.job) (walk_value catalogue (works ++ new ∷ []) m.execution m.job)
 new-goes catalogue works new m id was =
     on-or-off new.execution m.execution
-    (λ on. walk_of-goes busy_sight busy_sight id (known_elements m.execution works) (known_elements m.execution (works ++ new ∷ []))
-    (claim-away id new.element (fact_of (known_elements m.execution works)) (fact_of (known_elements m.execution (works ++ new ∷ []))) (new-differs m.execution works new on) (was on))
+    (λ on. walk_of-goes busy_sight busy_sight id (element_facts m.execution works) (element_facts m.execution (works ++ new ∷ []))
+    (claim-away id new.element (element_facts m.execution works) (element_facts m.execution (works ++ new ∷ [])) (new-differs m.execution works new on) (was on))
     (job_named catalogue m.job))
-    (λ off. rw (known-append m.execution works new off) (same-goes busy_sight id (walk_value catalogue works m.execution m.job)))
+    (λ off. rw (facts-same m.execution _ works (known-append m.execution works new off)) (same-goes busy_sight id (walk_value catalogue works m.execution m.job)))
 
 begun-now : (o : Option ℕ) (at : ℕ) → is_some (first_moment o true at) ≡ true
 begun-now (Some t) at = refl
@@ -209,18 +209,18 @@ work-kept catalogue older who at m id found ready k =
     let x : ℕ = m.execution in
     let new : WorkRow = busy_work who at (next_work_item (folded_rows catalogue older) (execution_row catalogue older m) id) in
     let e : Entry = record { who = who; call = Claim; at = at; reply = Work (next_work_item (folded_rows catalogue older) (execution_row catalogue older m) id) } in
-    let was : fact_of (known_elements x works) id ≡ FactNothing = ready-unknown x works (job_named catalogue m.job) id ready in
+    let was : element_facts x works id ≡ FactNothing = ready-unknown x works (job_named catalogue m.job) id ready in
     let on : (x == x) ≡ true = eq-eqb x x refl in
-    let learns = claim-here id (fact_of (known_elements x works)) (fact_of (known_elements x (works ++ new ∷ []))) (new-differs x works new on) was (new-fact x works new on was) in
+    let learns = claim-here id (element_facts x works) (element_facts x (works ++ new ∷ [])) (new-differs x works new on) was (new-fact x works new on was) in
     record {
       held = each-append (IsHeld catalogue (e ∷ older)) works new
           (each-map (IsHeld catalogue older) (IsHeld catalogue (e ∷ older)) works
           (λ row h. held-on catalogue older e row h (λ n same. new-goes catalogue works new n row.element
-          (λ here. subst (λ y. fact_of (known_elements y works) id ≡ FactNothing) (eqb-true x n.execution here) was))) k.held)
+          (λ here. subst (λ y. element_facts y works id ≡ FactNothing) (eqb-true x n.execution here) was))) k.held)
           (record {
             one = m;
             found = found;
-            under_way = λ busy. (walk_of-goes ready_sight busy_sight id (known_elements x works) (known_elements x (works ++ new ∷ [])) learns (job_named catalogue m.job)).kept
+            under_way = λ busy. (walk_of-goes ready_sight busy_sight id (element_facts x works) (element_facts x (works ++ new ∷ [])) learns (job_named catalogue m.job)).kept
                 (first-seen id (value_after catalogue older m) ready);
             begun = ap is_some (begun-by older e x refl) ∙ (ap (λ b. is_some (first_moment (start_of older x) b at)) on ∙ begun-now (start_of older x) at);
           });

@@ -23,7 +23,7 @@ use Rattle.batch_history.specs.Legal.{grown, IsLegal}
 use Rattle.batch_history.specs.Replies.{row_status, is_execution, reply, first_ready, walk_in_rows, runnable_of_job, claim_reply, next_work_item}
 use Rattle.batch_history.specs.Rows.{History, Rows, rows}
 use Rattle.batch_history.specs.Statuses.{is_finished}
-use Rattle.batch_history.specs.Walks.{job_named, known_elements}
+use Rattle.batch_history.specs.Walks.{job_named, element_facts}
 use Rattle.batch_history.specs.Works.{is_work}
 use Rattle.batch_history.specs.declared.rows.ExecutionRow.{ExecutionRow}
 use Rattle.batch_history.specs.declared.rows.WorkRow.{WorkRow}
@@ -338,7 +338,7 @@ was-ready h item told =
             execution = ap (λ (i : WorkItem). i.execution) same;
             ready = ready ∙ ap (λ (i : WorkItem). Some i.element) (sym same);
             runs = ap (λ (i : WorkItem). is_some (runnable_of_job (job_named h.catalogue told.row.job) i.element)) same
-                ∙ walk-runs ready_sight id (known_elements told.row.execution (rows h).works) (job_named h.catalogue told.row.job) (first-seen id (walk_in_rows (rows h) told.row) ready);
+                ∙ walk-runs ready_sight id (element_facts told.row.execution (rows h).works) (job_named h.catalogue told.row.job) (first-seen id (walk_in_rows (rows h) told.row) ready);
             number = ap (λ (i : WorkItem). i.work) same;
           }
     ]) refl told.answered

@@ -21,13 +21,12 @@ use Rattle.jsl_model.specs.declared.element.Body.TheOpen.{Step, Flow, Split, Dec
 use Rattle.transitions.specs.Transitions.{matching_transition}
 use Rattle.job_walk.specs.declared.facts.Fact.{Fact}
 use Rattle.job_walk.specs.declared.facts.Fact.TheVariants.{Nothing, Carried, Busy, Over, Barred}
-use Rattle.job_walk.specs.declared.facts.Known.{Known}
 use Rattle.job_walk.specs.declared.facts.Value.{Value}
 use Rattle.job_walk.specs.declared.facts.Value.TheVariants.{Open, Done, Ended}
 use Rattle.job_walk.specs.declared.element_result.ElementResult.{ElementResult}
 use Rattle.job_walk.specs.declared.element_result.ElementResult.TheVariants.{ListValue, Outcome}
 use Rattle.job_walk.specs.declared.runnable.Runnable.{Runnable}
-use Rattle.job_walk.specs.Walk.{WalkedElement, BodyResult, IsStep, IsDecision, HasResult, step_result, decision_result, value_by_transition, value_after_outcome, value_by_result, value_at, follow, list_value, whole_value, flow_result, all_ready, all_busy, any_open, ended_as, split_result, body_result, element_result, element_with_result, flow_value, walked_element, walked_body, value_of_flow, value_of, fact_of}
+use Rattle.job_walk.specs.Walk.{WalkedElement, BodyResult, IsStep, IsDecision, HasResult, step_result, decision_result, value_by_transition, value_after_outcome, value_by_result, value_at, follow, list_value, whole_value, flow_result, all_ready, all_busy, any_open, ended_as, split_result, body_result, element_result, element_with_result, flow_value, walked_element, walked_body, value_of_flow, value_of}
 use Rattle.job_walk.specs.Runnables.{Leaf, Inside, IsRun, Holds, body_leaves, leaves_at, element_leaves, flow_leaves, leaves, leaves_of_flow, all_leaves, runnable_in}
 use Rattle.batch_history.specs.Replies.{runnable_of_job}
 use Rattle.batch_history.specs.Walks.{walk_of}
@@ -234,6 +233,6 @@ elements-run s id facts elements from h =
     has-runs (all_leaves elements) id (list-has s id (walked_element facts) leaves (element-has s id facts) elements from h)
 
 -- what a job execution's walk shows is run
-pub walk-runs : (s : Sight) (id : List ℕ) (known : List Known) (job : Option JobTree) → seen s id (walk_of known job) ≡ true → is_some (runnable_of_job job id) ≡ true
-walk-runs s id known None h = cc
-walk-runs s id known (Some job) h = elements-run s id (fact_of known) job.elements _ h
+pub walk-runs : (s : Sight) (id : List ℕ) (facts : List ℕ → Fact) (job : Option JobTree) → seen s id (walk_of facts job) ≡ true → is_some (runnable_of_job job id) ≡ true
+walk-runs s id facts None h = cc
+walk-runs s id facts (Some job) h = elements-run s id facts job.elements _ h

@@ -5,6 +5,7 @@ use Rattle.std.proofs.lemmas.Bool.{eqb-true, eqb-false, eq-eqb}
 use Rattle.std.specs.Str.{bytes_eq}
 use Rattle.batch_ids.specs.declared.metric_step.MetricStep.{MetricStep}
 use Rattle.batch_ids.specs.declared.status.WorkOutcome.{WorkOutcome}
+use Rattle.job_walk.specs.declared.facts.Fact.{Fact}
 use Rattle.job_walk.specs.declared.facts.Fact.TheVariants.{Nothing, Busy as FactBusy}
 use Rattle.job_walk.specs.declared.facts.Known.{Known}
 use Rattle.job_walk.proofs.Newest.{differing}
@@ -14,7 +15,8 @@ use Rattle.batch_history.specs.declared.rows.WorkState.{WorkState}
 use Rattle.batch_history.specs.declared.rows.WorkState.TheVariants.{Busy, Over}
 use Rattle.batch_history.proofs.Folds.{over}
 use Rattle.batch_history.specs.Lists.{change_first}
-use Rattle.batch_history.specs.Walks.{known_elements, fact_of_state}
+use Rattle.batch_history.specs.Walks.{fact_of_state, element_facts}
+use Rattle.batch_history.proofs.Knowing.{known_elements, known-fact}
 use Rattle.history_laws.proofs.Walks.{is_worked, DifferAt}
 
 -- ---- Each of a list
@@ -108,16 +110,16 @@ from-state Busy = refl
 from-state (Over outcome exit) = refl
 
 -- nothing is known of an element, or there is work of it
-pub known-worked : (x : ℕ) (works : List WorkRow) (id : List ℕ) → (fact_of (known_elements x works) id ≡ Nothing) ⊎ (is_worked (fact_of (known_elements x works) id) ≡ true)
-known-worked x [] id = inl refl
-known-worked x (r ∷ rs) id =
+known-worked-listed : (x : ℕ) (works : List WorkRow) (id : List ℕ) → (fact_of (known_elements x works) id ≡ Nothing) ⊎ (is_worked (fact_of (known_elements x works) id) ≡ true)
+known-worked-listed x [] id = inl refl
+known-worked-listed x (r ∷ rs) id =
     let k : Known = record { id = r.element; fact = fact_of_state r.state } in
     elim (r.execution == x) as (λ b. (fact_of (cond b (k ∷ known_elements x rs) (known_elements x rs)) id ≡ Nothing) ⊎ (is_worked (fact_of (cond b (k ∷ known_elements x rs) (known_elements x rs)) id) ≡ true)) [
       | true ↦ elim (bytes_eq r.element id) as (λ b. (cond b (fact_of_state r.state) (fact_of (known_elements x rs) id) ≡ Nothing) ⊎ (is_worked (cond b (fact_of_state r.state) (fact_of (known_elements x rs) id)) ≡ true)) [
         | true ↦ inr (from-state r.state)
-        | false ↦ known-worked x rs id
+        | false ↦ known-worked-listed x rs id
       ]
-      | false ↦ known-worked x rs id
+      | false ↦ known-worked-listed x rs id
     ]
 
 not-nothing : (state : WorkState) → fact_of_state state ≢ Nothing
@@ -125,17 +127,17 @@ not-nothing Busy h = cc
 not-nothing (Over outcome exit) h = cc
 
 -- where nothing is known of an element, no work item is of it
-pub unknown-away : (x : ℕ) (works : List WorkRow) (id : List ℕ) → fact_of (known_elements x works) id ≡ Nothing → Each (λ r. r.execution ≡ x → r.element ≢ id) works
-unknown-away x [] id h = tt
-unknown-away x (r ∷ rs) id h =
+unknown-away-listed : (x : ℕ) (works : List WorkRow) (id : List ℕ) → fact_of (known_elements x works) id ≡ Nothing → Each (λ r. r.execution ≡ x → r.element ≢ id) works
+unknown-away-listed x [] id h = tt
+unknown-away-listed x (r ∷ rs) id h =
     let k : Known = record { id = r.element; fact = fact_of_state r.state } in
     (elim (r.execution == x) as (λ b. (r.execution == x) ≡ b → fact_of (cond b (k ∷ known_elements x rs) (known_elements x rs)) id ≡ Nothing → Each (λ r. r.execution ≡ x → r.element ≢ id) (r ∷ rs)) [
       | true ↦ λ on. (elim (bytes_eq r.element id) as (λ b. bytes_eq r.element id ≡ b → cond b (fact_of_state r.state) (fact_of (known_elements x rs) id) ≡ Nothing
           → Each (λ r. r.execution ≡ x → r.element ≢ id) (r ∷ rs)) [
             | true ↦ λ is s. absurd (not-nothing r.state s)
-            | false ↦ λ is s. ((λ _ same. let yes : bytes_eq r.element id ≡ true = (bytes_decides r.element id).1 same in cc), unknown-away x rs id s)
+            | false ↦ λ is s. ((λ _ same. let yes : bytes_eq r.element id ≡ true = (bytes_decides r.element id).1 same in cc), unknown-away-listed x rs id s)
           ]) refl
-      | false ↦ λ off s. ((λ on _. eqb-false r.execution x off on), unknown-away x rs id s)
+      | false ↦ λ off s. ((λ on _. eqb-false r.execution x off on), unknown-away-listed x rs id s)
     ]) refl h
 
 -- ---- One work item more
@@ -166,23 +168,23 @@ fact-new x (r ∷ rs) new away =
     ]) refl
 
 -- the facts with one work item more, of an element that nothing was known of
-pub new-differs : (x : ℕ) (works : List WorkRow) (new : WorkRow) → (new.execution == x) ≡ true
+new-differs-listed : (x : ℕ) (works : List WorkRow) (new : WorkRow) → (new.execution == x) ≡ true
     → DifferAt new.element (fact_of (known_elements x works)) (fact_of (known_elements x (works ++ new ∷ [])))
-new-differs x works new on i other =
+new-differs-listed x works new on i other =
     ap (λ ks. fact_of ks i) (known-new x works new on) ∙ fact-other (known_elements x works) (known_as new) i (differing new.element i (λ e. other (sym e)))
 
-pub new-fact : (x : ℕ) (works : List WorkRow) (new : WorkRow) → (new.execution == x) ≡ true → fact_of (known_elements x works) new.element ≡ Nothing
+new-fact-listed : (x : ℕ) (works : List WorkRow) (new : WorkRow) → (new.execution == x) ≡ true → fact_of (known_elements x works) new.element ≡ Nothing
     → fact_of (known_elements x (works ++ new ∷ [])) new.element ≡ fact_of_state new.state
-new-fact x works new on was =
-    ap (λ ks. fact_of ks new.element) (known-new x works new on) ∙ fact-new x works (known_as new) (unknown-away x works new.element was)
+new-fact-listed x works new on was =
+    ap (λ ks. fact_of ks new.element) (known-new x works new on) ∙ fact-new x works (known_as new) (unknown-away-listed x works new.element was)
 
 -- ---- A work item that is over
 
 -- what was known of the element of a busy work item
-pub busy-fact : (p : WorkRow → Bool) (works : List WorkRow) (c : WorkRow) → find p works ≡ Some c → AllApart works → c.state ≡ Busy
+busy-fact-listed : (p : WorkRow → Bool) (works : List WorkRow) (c : WorkRow) → find p works ≡ Some c → AllApart works → c.state ≡ Busy
     → fact_of (known_elements c.execution works) c.element ≡ FactBusy
-busy-fact p [] c e apart busy = cc
-busy-fact p (r ∷ rs) c e apart busy =
+busy-fact-listed p [] c e apart busy = cc
+busy-fact-listed p (r ∷ rs) c e apart busy =
     (elim (p r) as (λ b. cond b (Some r) (find p rs) ≡ Some c → fact_of (known_elements c.execution (r ∷ rs)) c.element ≡ FactBusy) [
       | true ↦ λ s.
           let same : r ≡ c = cc in
@@ -191,7 +193,7 @@ busy-fact p (r ∷ rs) c e apart busy =
           rw on (rw here (ap fact_of_state (ap (λ (z : WorkRow). z.state) same ∙ busy)))
       | false ↦ λ s.
           let from : Apart r c = each-found (Apart r) p rs c apart.0 s in
-          let rest = busy-fact p rs c s apart.1 busy in
+          let rest = busy-fact-listed p rs c s apart.1 busy in
           (elim (r.execution == c.execution) as (λ b. (r.execution == c.execution) ≡ b → fact_of (cond b (known_as r ∷ known_elements c.execution rs) (known_elements c.execution rs)) c.element ≡ FactBusy) [
             | true ↦ λ on.
                 let off : bytes_eq r.element c.element ≡ false = differing r.element c.element (λ same. from (sym (eqb-true r.execution c.execution on)) (sym same)) in
@@ -201,10 +203,10 @@ busy-fact p (r ∷ rs) c e apart busy =
     ]) e
 
 -- the facts with one work item over differ at its element alone
-pub over-differs : (x : ℕ) (p : WorkRow → Bool) (works : List WorkRow) (c : WorkRow) (o : WorkOutcome) (t : Option (List ℕ)) (step : MetricStep) (at : ℕ)
+over-differs-listed : (x : ℕ) (p : WorkRow → Bool) (works : List WorkRow) (c : WorkRow) (o : WorkOutcome) (t : Option (List ℕ)) (step : MetricStep) (at : ℕ)
     → find p works ≡ Some c → DifferAt c.element (fact_of (known_elements x works)) (fact_of (known_elements x (change_first p (over o t step at) works)))
-over-differs x p [] c o t step at e i other = cc
-over-differs x p (r ∷ rs) c o t step at e i other =
+over-differs-listed x p [] c o t step at e i other = cc
+over-differs-listed x p (r ∷ rs) c o t step at e i other =
     (elim (p r) as (λ b. cond b (Some r) (find p rs) ≡ Some c
     → fact_of (known_elements x (cond b (over o t step at r ∷ rs) (r ∷ change_first p (over o t step at) rs))) i ≡ fact_of (known_elements x (r ∷ rs)) i) [
       | true ↦ λ s.
@@ -215,10 +217,42 @@ over-differs x p (r ∷ rs) c o t step at e i other =
             | false ↦ refl
           ]
       | false ↦ λ s.
-          let rest = over-differs x p rs c o t step at s i other in
+          let rest = over-differs-listed x p rs c o t step at s i other in
           elim (r.execution == x) as (λ b. fact_of (cond b (known_as r ∷ known_elements x (change_first p (over o t step at) rs)) (known_elements x (change_first p (over o t step at) rs))) i
           ≡ fact_of (cond b (known_as r ∷ known_elements x rs) (known_elements x rs)) i) [
             | true ↦ ap (λ f. cond (bytes_eq r.element i) (fact_of_state r.state) f) rest
             | false ↦ rest
           ]
     ]) e
+
+-- ---- The same of what is known of each element
+
+-- nothing is known of an element, or there is work of it
+pub known-worked : (x : ℕ) (works : List WorkRow) (id : List ℕ) → (element_facts x works id ≡ Nothing) ⊎ (is_worked (element_facts x works id) ≡ true)
+known-worked x works id = subst (λ (f : Fact). (f ≡ Nothing) ⊎ (is_worked f ≡ true)) (sym (known-fact x works id)) (known-worked-listed x works id)
+
+-- where nothing is known of an element, no work item is of it
+pub unknown-away : (x : ℕ) (works : List WorkRow) (id : List ℕ) → element_facts x works id ≡ Nothing → Each (λ r. r.execution ≡ x → r.element ≢ id) works
+unknown-away x works id h = unknown-away-listed x works id (sym (known-fact x works id) ∙ h)
+
+-- the facts with one work item more, of an element that nothing was known of
+pub new-differs : (x : ℕ) (works : List WorkRow) (new : WorkRow) → (new.execution == x) ≡ true
+    → DifferAt new.element (element_facts x works) (element_facts x (works ++ new ∷ []))
+new-differs x works new on i other =
+    known-fact x (works ++ new ∷ []) i ∙ (new-differs-listed x works new on i other ∙ sym (known-fact x works i))
+
+pub new-fact : (x : ℕ) (works : List WorkRow) (new : WorkRow) → (new.execution == x) ≡ true → element_facts x works new.element ≡ Nothing
+    → element_facts x (works ++ new ∷ []) new.element ≡ fact_of_state new.state
+new-fact x works new on was =
+    known-fact x (works ++ new ∷ []) new.element ∙ new-fact-listed x works new on (sym (known-fact x works new.element) ∙ was)
+
+-- what was known of the element of a busy work item
+pub busy-fact : (p : WorkRow → Bool) (works : List WorkRow) (c : WorkRow) → find p works ≡ Some c → AllApart works → c.state ≡ Busy
+    → element_facts c.execution works c.element ≡ FactBusy
+busy-fact p works c e apart busy = known-fact c.execution works c.element ∙ busy-fact-listed p works c e apart busy
+
+-- the facts with one work item over differ at its element alone
+pub over-differs : (x : ℕ) (p : WorkRow → Bool) (works : List WorkRow) (c : WorkRow) (o : WorkOutcome) (t : Option (List ℕ)) (step : MetricStep) (at : ℕ)
+    → find p works ≡ Some c → DifferAt c.element (element_facts x works) (element_facts x (change_first p (over o t step at) works))
+over-differs x p works c o t step at e i other =
+    known-fact x (change_first p (over o t step at) works) i ∙ (over-differs-listed x p works c o t step at e i other ∙ sym (known-fact x works i))

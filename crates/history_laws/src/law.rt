@@ -23,7 +23,10 @@ ghost use Rattle.history_laws.specs.Laws.{beginning, row_in, StaysFinished, Ende
 /// It does nothing: its contract is the law, of every legal history and each of its beginnings.
 #[tactic(auto, using(crate::proofs::Laws::finished_stays))]
 pub fn finished_job_executions_stay_finished()
-    ensures { (limit : ℕ) (h : History) → IsLegal limit h → (before after : List Entry) → h.log ≡ before ++ after → (x : ℕ) (row : ExecutionRow) → row_in (beginning h before) x ≡ Some row → is_finished (row_status row) ≡ true → StaysFinished h x row }
+    ensures { (limit : ℕ) (h : History) → IsLegal limit h → (before after : List Entry)
+        → h.log ≡ before ++ after → (x : ℕ) (row : ExecutionRow)
+        → row_in (beginning h before) x ≡ Some row → is_finished (row_status row) ≡ true
+        → StaysFinished h x row }
 {}
 
 /// A job execution has an end exactly where it is over, and the end is the moment of the operation
@@ -31,8 +34,10 @@ pub fn finished_job_executions_stay_finished()
 ///
 /// It only cites the law that it rests on: its contract is the law.
 pub fn ends_are_moments_of_operations()
-    ensures there { (limit : ℕ) (h : History) → IsLegal limit h → (x : ℕ) (row : ExecutionRow) → row_in h x ≡ Some row → is_some row.end ≡ is_finished row.bare }
-    ensures moment { (limit : ℕ) (h : History) → IsLegal limit h → (x t : ℕ) (row : ExecutionRow) → row_in h x ≡ Some row → row.end ≡ Some t → EndedAt h x t }
+    ensures there { (limit : ℕ) (h : History) → IsLegal limit h → (x : ℕ) (row : ExecutionRow)
+        → row_in h x ≡ Some row → is_some row.end ≡ is_finished row.bare }
+    ensures moment { (limit : ℕ) (h : History) → IsLegal limit h → (x t : ℕ) (row : ExecutionRow)
+        → row_in h x ≡ Some row → row.end ≡ Some t → EndedAt h x t }
 {
     finished_job_executions_stay_finished();
 }
@@ -43,8 +48,11 @@ pub fn ends_are_moments_of_operations()
 /// It does nothing: its contract is the law, of every legal history.
 #[tactic(auto, using(crate::proofs::Laws::belongs, crate::proofs::Laws::once_each))]
 pub fn work_belongs_to_unfinished_job_executions()
-    ensures belongs { (limit : ℕ) (h : History) → IsLegal limit h → (w : ℕ) (work : WorkRow) → find (is_work w) (rows h).works ≡ Some work → BelongsTo h work }
-    ensures once { (limit : ℕ) (h : History) → IsLegal limit h → (v w : ℕ) (one other : WorkRow) → find (is_work v) (rows h).works ≡ Some one → find (is_work w) (rows h).works ≡ Some other → v ≢ w → one.execution ≡ other.execution → one.element ≢ other.element }
+    ensures belongs { (limit : ℕ) (h : History) → IsLegal limit h → (w : ℕ) (work : WorkRow)
+        → find (is_work w) (rows h).works ≡ Some work → BelongsTo h work }
+    ensures once { (limit : ℕ) (h : History) → IsLegal limit h → (v w : ℕ) (one other : WorkRow)
+        → find (is_work v) (rows h).works ≡ Some one → find (is_work w) (rows h).works ≡ Some other
+        → v ≢ w → one.execution ≡ other.execution → one.element ≢ other.element }
 {}
 
 /// What is handed out was ready: a reply of work names the first ready element of the least job
@@ -53,7 +61,9 @@ pub fn work_belongs_to_unfinished_job_executions()
 /// It does nothing: its contract is the law, of every entry of a legal history.
 #[tactic(auto, using(crate::proofs::Laws::handed_ready))]
 pub fn what_is_handed_out_was_ready()
-    ensures { (limit : ℕ) (h : History) → IsLegal limit h → (before : List Entry) (e : Entry) (after : List Entry) → h.log ≡ before ++ e ∷ after → (item : WorkItem) → e.reply ≡ Work item → WasReady (beginning h before) item }
+    ensures { (limit : ℕ) (h : History) → IsLegal limit h
+        → (before : List Entry) (e : Entry) (after : List Entry) → h.log ≡ before ++ e ∷ after
+        → (item : WorkItem) → e.reply ≡ Work item → WasReady (beginning h before) item }
 {}
 
 /// Each job execution is of a job instance that was begun, and of its job.
@@ -61,7 +71,8 @@ pub fn what_is_handed_out_was_ready()
 /// It does nothing: its contract is the law, of every legal history.
 #[tactic(auto, using(crate::proofs::Laws::has_instance))]
 pub fn job_executions_have_job_instances()
-    ensures { (limit : ℕ) (h : History) → IsLegal limit h → (x : ℕ) (row : ExecutionRow) → row_in h x ≡ Some row → HasInstance h row }
+    ensures { (limit : ℕ) (h : History) → IsLegal limit h → (x : ℕ) (row : ExecutionRow)
+        → row_in h x ≡ Some row → HasInstance h row }
 {}
 
 /// The job of each job execution is in the catalogue, so that its walk is that of its job.
@@ -78,6 +89,9 @@ pub fn jobs_of_job_executions_are_in_the_catalogue()
 /// It does nothing: its contract is the law.
 #[tactic(auto, using(crate::proofs::Laws::names_once, crate::proofs::Laws::names_grow))]
 pub fn job_names_stand_once_in_order_of_first_start()
-    ensures once { (h : History) (names : List (List ℕ)) → answer h JobNames ≡ Ok (AreNames names) → has_twice names ≡ false }
-    ensures order { (h : History) (e : Entry) (names : List (List ℕ)) → answer h JobNames ≡ Ok (AreNames names) → answer (grown h e) JobNames ≡ Ok (AreNames (with_name names e.call)) }
+    ensures once { (h : History) (names : List (List ℕ)) → answer h JobNames ≡ Ok (AreNames names)
+        → has_twice names ≡ false }
+    ensures order { (h : History) (e : Entry) (names : List (List ℕ))
+        → answer h JobNames ≡ Ok (AreNames names)
+        → answer (grown h e) JobNames ≡ Ok (AreNames (with_name names e.call)) }
 {}

@@ -1,15 +1,15 @@
 -- Rows that are numbered from one on: where the row of a number stands.
-use Rattle.std.proofs.Common.{◌≡◌, ℕ, zero, suc, ◌+◌, ◌-◌, ◌==◌, ◌<◌, ◌≤◌, Bool, true, false, cond, Option, None, Some, is_some, List, [], ◌∷◌, ◌++◌, length, map, find, set, subst, refl, sym, ◌∙◌, ap, arith}
+use Rattle.std.proofs.Common.{◌≡◌, ℕ, zero, suc, ◌+◌, ◌-◌, ◌==◌, ◌<◌, ◌≤◌, Bool, true, false, cond, None, Some, is_some, List, [], ◌∷◌, ◌++◌, length, map, find, set, subst, refl, sym, ◌∙◌, ap, arith}
 use Rattle.std.specs.List.{slice_get}
-use Rattle.std.proofs.lemmas.List.{map-append, length-map}
-use Rattle.std.proofs.lemmas.Bool.{eq-eqb, ne_eqb}
+use Rattle.std.proofs.lemmas.Bool.{eqb-true, eq-eqb, ne_eqb}
 use Rattle.batch_history.specs.Lists.{change_first}
 use Rattle.batch_history.specs.Replies.{is_execution}
 use Rattle.batch_history.specs.Works.{is_work}
 use Rattle.batch_history.specs.declared.rows.JobInstance.{JobInstance}
 use Rattle.batch_history.specs.declared.rows.ExecutionRow.{ExecutionRow}
 use Rattle.batch_history.specs.declared.rows.WorkRow.{WorkRow}
-use Rattle.records.specs.Maps.{IsNumberedFrom, is_instance, at_number}
+use Rattle.batch_history.proofs.Finding.{found-passes}
+use Rattle.records.specs.Maps.{IsNumberedFrom, is_instance, at_number, MayReplaceExecution, MayReplaceWork}
 
 module _ {R : Type 0} (num : R → ℕ) where
   is_numbered : ℕ → R → Bool
@@ -92,37 +92,41 @@ execution_found rows x h = at-find (λ (row : ExecutionRow). row.execution) rows
 pub work_found : (rows : List WorkRow) (w : ℕ) → IsNumberedFrom 1 (map (λ (row : WorkRow). row.work) rows) → at_number w rows ≡ find (is_work w) rows
 work_found rows w h = at-find (λ (row : WorkRow). row.work) rows w h
 
-pub execution_within : (rows : List ExecutionRow) (x : ℕ) → IsNumberedFrom 1 (map (λ (row : ExecutionRow). row.execution) rows)
-    → is_some (find (is_execution x) rows) ≡ true → (1 ≤ x) × (x ≤ length rows)
-execution_within rows x h there = within (λ (row : ExecutionRow). row.execution) rows x h there
+pub execution_within : (rows : List ExecutionRow) (x : ℕ) (new : ExecutionRow) → IsNumberedFrom 1 (map (λ (row : ExecutionRow). row.execution) rows)
+    → MayReplaceExecution rows x new → (1 ≤ x) × (x ≤ length rows)
+execution_within rows x new h m = within (λ (row : ExecutionRow). row.execution) rows x h (ap is_some m.1)
 
 pub execution_changed : (rows : List ExecutionRow) (x : ℕ) (new : ExecutionRow) → IsNumberedFrom 1 (map (λ (row : ExecutionRow). row.execution) rows)
-    → is_some (find (is_execution x) rows) ≡ true → set rows (x - 1) new ≡ change_first (is_execution x) (λ old. new) rows
-execution_changed rows x new h there =
-    let w = execution_within rows x h there in
+    → MayReplaceExecution rows x new → set rows (x - 1) new ≡ change_first (is_execution x) (λ old. new) rows
+execution_changed rows x new h m =
+    let w = execution_within rows x new h m in
     changed (λ (row : ExecutionRow). row.execution) rows x new h w.0 w.1
 
 pub execution_kept : (rows : List ExecutionRow) (x : ℕ) (new : ExecutionRow) → IsNumberedFrom 1 (map (λ (row : ExecutionRow). row.execution) rows)
-    → is_some (find (is_execution x) rows) ≡ true → new.execution ≡ x → IsNumberedFrom 1 (map (λ (row : ExecutionRow). row.execution) (set rows (x - 1) new))
-execution_kept rows x new h there is = kept (λ (row : ExecutionRow). row.execution) rows x new h (execution_within rows x h there).0 is
+    → MayReplaceExecution rows x new → IsNumberedFrom 1 (map (λ (row : ExecutionRow). row.execution) (set rows (x - 1) new))
+execution_kept rows x new h m =
+    kept (λ (row : ExecutionRow). row.execution) rows x new h (execution_within rows x new h m).0
+    (m.2.execution ∙ eqb-true m.0.execution x (found-passes (is_execution x) rows m.0 m.1))
 
 pub execution_pushed : (rows : List ExecutionRow) (new : ExecutionRow) → IsNumberedFrom 1 (map (λ (row : ExecutionRow). row.execution) rows)
     → new.execution ≡ length rows + 1 → IsNumberedFrom 1 (map (λ (row : ExecutionRow). row.execution) (rows ++ new ∷ []))
 execution_pushed rows new h is = push-numbered (λ (row : ExecutionRow). row.execution) rows 1 new h (omega (arith, is))
 
-pub work_within : (rows : List WorkRow) (w : ℕ) → IsNumberedFrom 1 (map (λ (row : WorkRow). row.work) rows)
-    → is_some (find (is_work w) rows) ≡ true → (1 ≤ w) × (w ≤ length rows)
-work_within rows w h there = within (λ (row : WorkRow). row.work) rows w h there
+pub work_within : (rows : List WorkRow) (w : ℕ) (new : WorkRow) → IsNumberedFrom 1 (map (λ (row : WorkRow). row.work) rows)
+    → MayReplaceWork rows w new → (1 ≤ w) × (w ≤ length rows)
+work_within rows w new h m = within (λ (row : WorkRow). row.work) rows w h (ap is_some m.1)
 
 pub work_changed : (rows : List WorkRow) (w : ℕ) (new : WorkRow) → IsNumberedFrom 1 (map (λ (row : WorkRow). row.work) rows)
-    → is_some (find (is_work w) rows) ≡ true → set rows (w - 1) new ≡ change_first (is_work w) (λ old. new) rows
-work_changed rows w new h there =
-    let inside = work_within rows w h there in
+    → MayReplaceWork rows w new → set rows (w - 1) new ≡ change_first (is_work w) (λ old. new) rows
+work_changed rows w new h m =
+    let inside = work_within rows w new h m in
     changed (λ (row : WorkRow). row.work) rows w new h inside.0 inside.1
 
 pub work_kept : (rows : List WorkRow) (w : ℕ) (new : WorkRow) → IsNumberedFrom 1 (map (λ (row : WorkRow). row.work) rows)
-    → is_some (find (is_work w) rows) ≡ true → new.work ≡ w → IsNumberedFrom 1 (map (λ (row : WorkRow). row.work) (set rows (w - 1) new))
-work_kept rows w new h there is = kept (λ (row : WorkRow). row.work) rows w new h (work_within rows w h there).0 is
+    → MayReplaceWork rows w new → IsNumberedFrom 1 (map (λ (row : WorkRow). row.work) (set rows (w - 1) new))
+work_kept rows w new h m =
+    kept (λ (row : WorkRow). row.work) rows w new h (work_within rows w new h m).0
+    (m.2.work ∙ eqb-true m.0.work w (found-passes (is_work w) rows m.0 m.1))
 
 pub work_pushed : (rows : List WorkRow) (new : WorkRow) → IsNumberedFrom 1 (map (λ (row : WorkRow). row.work) rows)
     → new.work ≡ length rows + 1 → IsNumberedFrom 1 (map (λ (row : WorkRow). row.work) (rows ++ new ∷ []))

@@ -1,6 +1,5 @@
 -- What the readers of an index have left: filters of the rows.
 use Rattle.std.specs.Prelude.{ℕ, ◌==◌, List, map, filter, take, drop}
-use Rattle.std.specs.Str.{bytes_eq}
 use Rattle.jsl_model.specs.Names.{unheld, is_among}
 use Rattle.batch_history.specs.declared.rows.JobInstance.{JobInstance}
 use Rattle.batch_history.specs.declared.rows.ExecutionRow.{ExecutionRow}

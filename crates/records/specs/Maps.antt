@@ -7,6 +7,8 @@ use Rattle.batch_history.specs.declared.rows.ExecutionRow.{ExecutionRow}
 use Rattle.batch_history.specs.declared.rows.WorkRow.{WorkRow}
 use Rattle.batch_history.specs.declared.rows.CheckpointRow.{CheckpointRow}
 use Rattle.batch_history.specs.Checkpoints.{InstanceStep}
+use Rattle.batch_history.specs.Replies.{is_execution}
+use Rattle.batch_history.specs.Works.{is_work}
 use Rattle.std.specs.Str.{bytes_eq}
 
 -- the job instances, the job executions and the work items by their numbers, and the checkpoints by job instance and step
@@ -64,3 +66,28 @@ marks_with p None rows = without_mark p rows
 abbrev pub at_number : {R : Type 0} → ℕ → List R → Option R
 at_number zero rows = None
 at_number (suc place) rows = slice_get rows place
+
+-- a changed row is still that of its job execution: what a start or a restart gave it stays
+pub record KeepsExecution (before after : ExecutionRow) : Type 0 where
+  pub execution : after.execution ≡ before.execution
+  pub instance : after.instance ≡ before.instance
+  pub job : after.job ≡ before.job
+  pub parameters : after.parameters ≡ before.parameters
+  pub create : after.create ≡ before.create
+
+-- a changed row is still that of its work item: what its claim gave it stays
+pub record KeepsWork (before after : WorkRow) : Type 0 where
+  pub work : after.work ≡ before.work
+  pub execution : after.execution ≡ before.execution
+  pub element : after.element ≡ before.element
+  pub kind : after.kind ≡ before.kind
+  pub claimer : after.claimer ≡ before.claimer
+  pub start : after.start ≡ before.start
+
+-- a row may stand in place of that of job execution x, which is there
+abbrev pub MayReplaceExecution : List ExecutionRow → ℕ → ExecutionRow → Type 0
+MayReplaceExecution rows x row = (before : ExecutionRow) × (find (is_execution x) rows ≡ Some before) × KeepsExecution before row
+
+-- a row may stand in place of that of work item w, which is there
+abbrev pub MayReplaceWork : List WorkRow → ℕ → WorkRow → Type 0
+MayReplaceWork rows w row = (before : WorkRow) × (find (is_work w) rows ≡ Some before) × KeepsWork before row

@@ -4,7 +4,7 @@ ghost use Rattle.batch_history.specs.Answers.{instances_of_job};
 ghost use Rattle.batch_history.specs.Lists.{change_first};
 ghost use Rattle.batch_history.specs.Replies.{is_execution};
 ghost use Rattle.batch_history.specs.Works.{is_work};
-ghost use Rattle.records.specs.Maps.{is_place, is_elsewhere, with_mark, without_mark, mark_at};
+ghost use Rattle.records.specs.Maps.{is_place, is_elsewhere, with_mark, without_mark, mark_at, MayReplaceExecution, MayReplaceWork};
 ghost use Rattle.records.specs.Maps.{no_rows, is_instance, marks_with, at_number};
 ghost use Rattle.records.specs.Left.{job_names, names_left, instances_left, executions_of, executions_left, works_of, works_left};
 
@@ -98,7 +98,10 @@ impl Records {
     /// The checkpoint of a step of a job instance, if there is one, in time proportional to the number of
     /// checkpoints.
     pub fn checkpoint(&self, i: InstanceId, step: &T256) -> Option<&Text<65536>>
-        ensures { option_copied result ≡ mark_at self.now.checkpoints record { instance = i; step = step.now } }
+        ensures { option_copied result ≡ mark_at self.now.checkpoints record {
+          instance = i;
+          step = step.now;
+        } }
     {
         for row in self.checkpoints.as_slice() {
             if is_place(i, step, row) {
@@ -149,7 +152,11 @@ impl Records {
     ) -> Result<(), OutOfMemory>
         requires instance { instance.instance ≡ length self.old.instances + 1 }
         requires first { first.execution ≡ length self.old.executions + 1 }
-        ensures added { OnOk result (self.new ≡ record self.old { instances = self.old.instances ++ instance ∷ []; executions = self.old.executions ++ first ∷ [] }) }
+        ensures added { OnOk result (self.new ≡
+            record self.old {
+              instances = self.old.instances ++ instance ∷ [];
+              executions = self.old.executions ++ first ∷ [];
+            }) }
         ensures unchanged { OnErr result (self.new ≡ self.old) }
     {
         self.instances.reserve(1)?;
@@ -168,7 +175,8 @@ impl Records {
     #[tactic(auto, using(crate::proofs::Numbered::execution_pushed))]
     pub fn add_execution(&mut self, row: ExecutionRow) -> Result<(), OutOfMemory>
         requires { row.execution ≡ length self.old.executions + 1 }
-        ensures added { OnOk result (self.new ≡ record self.old { executions = self.old.executions ++ row ∷ [] }) }
+        ensures added { OnOk result (self.new ≡
+            record self.old { executions = self.old.executions ++ row ∷ [] }) }
         ensures unchanged { OnErr result (self.new ≡ self.old) }
     {
         self.executions.push(row)?;
@@ -183,29 +191,35 @@ impl Records {
     #[tactic(auto, using(crate::proofs::Numbered::work_pushed))]
     pub fn add_work(&mut self, row: WorkRow) -> Result<(), OutOfMemory>
         requires { row.work ≡ length self.old.works + 1 }
-        ensures added { OnOk result (self.new ≡ record self.old { works = self.old.works ++ row ∷ [] }) }
+        ensures added { OnOk result (self.new ≡
+            record self.old { works = self.old.works ++ row ∷ [] }) }
         ensures unchanged { OnErr result (self.new ≡ self.old) }
     {
         self.works.push(row)?;
         Ok(())
     }
 
-    /// Changes the row of a job execution. It takes no memory.
+    /// Changes the row of a job execution, which keeps what its start or restart gave it. It takes no
+    /// memory.
     #[tactic(auto, using(crate::proofs::Numbered::execution_within, crate::proofs::Numbered::execution_changed, crate::proofs::Numbered::execution_kept))]
     pub fn change_execution(&mut self, x: ExecutionId, row: ExecutionRow)
-        requires there { is_some (find (is_execution x) self.old.executions) ≡ true }
-        requires same { row.execution ≡ x }
-        ensures { self.new ≡ record self.old { executions = change_first (is_execution x) (λ old. row) self.old.executions } }
+        requires { MayReplaceExecution self.old.executions x row }
+        ensures { self.new ≡ record self.old {
+          executions = change_first (is_execution x)
+              (λ old. row) self.old.executions;
+        } }
     {
         self.executions[(x.value() - 1) as usize] = row;
     }
 
-    /// Changes the row of a work item. It takes no memory.
+    /// Changes the row of a work item, which keeps what its claim gave it. It takes no memory.
     #[tactic(auto, using(crate::proofs::Numbered::work_within, crate::proofs::Numbered::work_changed, crate::proofs::Numbered::work_kept))]
     pub fn change_work(&mut self, w: WorkId, row: WorkRow)
-        requires there { is_some (find (is_work w) self.old.works) ≡ true }
-        requires same { row.work ≡ w }
-        ensures { self.new ≡ record self.old { works = change_first (is_work w) (λ old. row) self.old.works } }
+        requires { MayReplaceWork self.old.works w row }
+        ensures { self.new ≡ record self.old {
+          works = change_first (is_work w)
+              (λ old. row) self.old.works;
+        } }
     {
         self.works[(w.value() - 1) as usize] = row;
     }
@@ -221,7 +235,10 @@ impl Records {
         step: T256,
         mark: Option<Text<65536>>,
     ) -> Result<(), OutOfMemory>
-        ensures set { OnOk result (self.new ≡ record self.old { checkpoints = marks_with record { instance = i; step = step } mark self.old.checkpoints }) }
+        ensures set { OnOk result (self.new ≡ record self.old {
+          checkpoints = marks_with
+              record { instance = i; step = step } mark self.old.checkpoints;
+        }) }
         ensures unchanged { OnErr result (self.new ≡ self.old) }
         ensures cleared { mark ≡ None → IsOk result }
     {
@@ -239,7 +256,10 @@ impl Records {
     }
 
     fn put_checkpoint(&mut self, row: CheckpointRow) -> Result<(), OutOfMemory>
-        ensures set { OnOk result (self.new ≡ record self.old { checkpoints = with_mark record { instance = row.instance; step = row.step } row.mark self.old.checkpoints }) }
+        ensures set { OnOk result (self.new ≡ record self.old {
+          checkpoints = with_mark
+              record { instance = row.instance; step = row.step } row.mark self.old.checkpoints;
+        }) }
         ensures unchanged { OnErr result (self.new ≡ self.old) }
     {
         match self.checkpoint_place(row.instance, &row.step) {
@@ -250,16 +270,29 @@ impl Records {
     }
 
     fn clear_checkpoint(&mut self, i: InstanceId, step: &T256)
-        ensures { self.new ≡ record self.old { checkpoints = without_mark record { instance = i; step = step.now } self.old.checkpoints } }
+        ensures { self.new ≡ record self.old {
+          checkpoints = without_mark record {
+            instance = i;
+            step = step.now;
+          } self.old.checkpoints;
+        } }
     {
         self.checkpoints.retain(|row| is_elsewhere(i, step, row));
     }
 
     fn checkpoint_place(&self, i: InstanceId, step: &T256) -> Option<usize>
         ensures held { IfSome result (λ k. (k < length self.now.checkpoints)
-            × ((mark : List ℕ) → with_mark record { instance = i; step = step.now } mark self.now.checkpoints
-            ≡ slice_set self.now.checkpoints k record { instance = i; step = step.now; mark = mark })) }
-        ensures absent { IfNone result ((mark : List ℕ) → with_mark record { instance = i; step = step.now } mark self.now.checkpoints
+            × ((mark : List ℕ) → with_mark record {
+              instance = i;
+              step = step.now;
+            } mark self.now.checkpoints
+            ≡ slice_set self.now.checkpoints k record {
+              instance = i;
+              step = step.now;
+              mark = mark;
+            })) }
+        ensures absent { IfNone result ((mark : List ℕ)
+            → with_mark record { instance = i; step = step.now } mark self.now.checkpoints
             ≡ self.now.checkpoints ++ record { instance = i; step = step.now; mark = mark } ∷ []) }
     {
         for (place, row) in self.checkpoints.iter().enumerate() {

@@ -1,5 +1,5 @@
 -- How an operation's changes, one at a time, come to what it changes in the rows.
-use Rattle.std.proofs.Common.{◌≡◌, ℕ, ◌+◌, ◌==◌, Bool, true, false, cond, Option, None, Some, is_some, List, [], ◌∷◌, ◌++◌, find, refl, sym, ◌∙◌, ap}
+use Rattle.std.proofs.Common.{◌≡◌, ℕ, ◌+◌, ◌==◌, Bool, true, false, cond, Option, None, Some, List, [], ◌∷◌, ◌++◌, find, refl, sym, ◌∙◌, ap}
 use Rattle.std.specs.Option.{option_map}
 use Rattle.std.proofs.lemmas.Bool.{eqb-true, eq-eqb}
 use Rattle.batch_ids.specs.declared.metric_step.MetricStep.{MetricStep}
@@ -14,17 +14,19 @@ use Rattle.batch_history.specs.declared.call.WorkItem.{WorkItem}
 use Rattle.batch_history.specs.declared.rows.ExecutionRow.{ExecutionRow}
 use Rattle.batch_history.specs.declared.rows.WorkRow.{WorkRow}
 use Rattle.batch_history.specs.declared.rows.CheckpointRow.{CheckpointRow}
-use Rattle.batch_history.proofs.Folds.{reported, over}
+use Rattle.batch_history.proofs.Folds.{reported, over, over_as}
 use Rattle.batch_history.proofs.Steps.{refreshed, refreshed_by, instance_in, place_in}
 use Rattle.batch_history.specs.Checkpoints.{InstanceStep, instance_step_by}
 use Rattle.batch_history.specs.Lists.{change_first, is_at}
 use Rattle.batch_history.specs.Replies.{is_execution}
-use Rattle.batch_history.specs.Walks.{known_elements, walk_value, walk_of, job_named}
+use Rattle.batch_history.specs.Walks.{walk_value, walk_of, job_named}
+use Rattle.batch_history.proofs.Knowing.{known_elements, walk_known}
+use Rattle.job_walk.specs.Walk.{fact_of}
 use Rattle.batch_history.specs.Works.{is_work, busy_work}
 use Rattle.seq_repository.specs.Entered.{put_mark, marks_left, kept_after}
 use Rattle.seq_repository.specs.Kept.{Kept, rows_in}
 use Rattle.batch_history.proofs.Finding.{found-passes}
-use Rattle.records.specs.Maps.{Maps}
+use Rattle.records.specs.Maps.{Maps, MayReplaceExecution, MayReplaceWork}
 use Rattle.seq_repository.specs.declared.rows.Change.{Change}
 use Rattle.seq_repository.specs.declared.rows.Change.TheVariants.{StopRequest, Abandonment, Claim as TakeUp, Report}
 use Rattle.seq_repository.specs.Changes.{effect_of, row_after, put_row, place_at}
@@ -192,20 +194,59 @@ found-work w rows row e = eqb-true row.work w (found-passes (is_work w) rows row
 
 -- the new row of a job execution that was found
 pub changed-row : (x : ℕ) (change : Change) (catalogue : List JobTree) (works : List WorkRow) (at : ℕ) (known : List Known) (rows : List ExecutionRow) (row new : ExecutionRow) (value : Value)
-    → find (is_execution x) rows ≡ Some row → known ≡ known_elements x works → value ≡ walk_of known (job_named catalogue row.job)
+    → find (is_execution x) rows ≡ Some row → known ≡ known_elements x works → value ≡ walk_of (fact_of known) (job_named catalogue row.job)
     → new ≡ refreshed (effect_of change) value at row
     → Some new ≡ option_map (row_after change catalogue works at) (find (is_execution x) rows)
 changed-row x change catalogue works at known rows row new value found is walk made =
     let walked : value ≡ walk_value catalogue works row.execution row.job =
-    walk ∙ ap (λ k. walk_of k (job_named catalogue row.job)) (is ∙ ap (λ y. known_elements y works) (sym (found-execution x rows row found))) in
+    walk ∙ walk_known catalogue works row.execution row.job known (is ∙ ap (λ y. known_elements y works) (sym (found-execution x rows row found))) in
     ap Some (made ∙ ap (λ v. refreshed (effect_of change) v at row) walked)
     ∙ ap (option_map (row_after change catalogue works at)) (sym found)
 
 pub changed-own : (x : ℕ) (change : Change) (at : ℕ) (rows : List ExecutionRow) (row new : ExecutionRow) (value : Value)
-    → find (is_execution x) rows ≡ Some row → new ≡ refreshed (effect_of change) value at row
-    → (is_some (find (is_execution x) rows) ≡ true) × (new.execution ≡ x)
-changed-own x change at rows row new value found made =
-    (ap (λ (o : Option ExecutionRow). is_some o) found, ap (λ (r : ExecutionRow). r.execution) made ∙ found-execution x rows row found)
+    → find (is_execution x) rows ≡ Some row → new ≡ refreshed (effect_of change) value at row → MayReplaceExecution rows x new
+changed-own x change at rows row new value found made = (
+  row,
+  found,
+  record {
+    execution = ap (λ (r : ExecutionRow). r.execution) made;
+    instance = ap (λ (r : ExecutionRow). r.instance) made;
+    job = ap (λ (r : ExecutionRow). r.job) made;
+    parameters = ap (λ (r : ExecutionRow). r.parameters) made;
+    create = ap (λ (r : ExecutionRow). r.create) made;
+  },
+)
+
+-- a work item that is reported of may stand in its place
+pub reported-own : (w : ℕ) (step : MetricStep) (rows : List WorkRow) (row new : WorkRow) → find (is_work w) rows ≡ Some row → new ≡ reported step row → MayReplaceWork rows w new
+reported-own w step rows row new found made = (
+  row,
+  found,
+  record {
+    work = ap (λ (r : WorkRow). r.work) made;
+    execution = ap (λ (r : WorkRow). r.execution) made;
+    element = ap (λ (r : WorkRow). r.element) made;
+    kind = ap (λ (r : WorkRow). r.kind) made;
+    claimer = ap (λ (r : WorkRow). r.claimer) made;
+    start = ap (λ (r : WorkRow). r.start) made;
+  },
+)
+
+-- a work item that is over may stand in its place
+pub over-own : (w : ℕ) (outcome : WorkOutcome) (exit : List ℕ) (step : MetricStep) (at : ℕ) (rows : List WorkRow) (row new : WorkRow) → find (is_work w) rows ≡ Some row
+    → new ≡ over_as outcome exit step at row → MayReplaceWork rows w new
+over-own w outcome exit step at rows row new found made = (
+  row,
+  found,
+  record {
+    work = ap (λ (r : WorkRow). r.work) made;
+    execution = ap (λ (r : WorkRow). r.execution) made;
+    element = ap (λ (r : WorkRow). r.element) made;
+    kind = ap (λ (r : WorkRow). r.kind) made;
+    claimer = ap (λ (r : WorkRow). r.claimer) made;
+    start = ap (λ (r : WorkRow). r.start) made;
+  },
+)
 
 -- The maps, changed one after the other
 

@@ -5,7 +5,8 @@ use Rattle.batch_ids.specs.declared.metric_step.MetricStep.{MetricStep}
 use Rattle.batch_history.specs.declared.rows.WorkRow.{WorkRow}
 use Rattle.batch_history.proofs.Folds.{reported}
 use Rattle.batch_history.specs.Lists.{change_first}
-use Rattle.batch_history.specs.Walks.{known_elements, fact_of_state}
+use Rattle.batch_history.specs.Walks.{fact_of_state}
+use Rattle.batch_history.proofs.Knowing.{known_elements}
 use Rattle.batch_history.specs.Works.{busy_work}
 use Rattle.batch_history.specs.declared.call.WorkItem.{WorkItem}
 use Rattle.job_walk.specs.declared.facts.Fact.TheVariants.{Busy}

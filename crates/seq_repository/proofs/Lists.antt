@@ -1,5 +1,5 @@
 -- Facts of lists that the answers need.
-use Rattle.std.proofs.Common.{◌≡◌, ◌||◌, Bool, true, false, cond, Option, Some, None, is_some, List, [], ◌∷◌, find, refl}
+use Rattle.std.proofs.Common.{◌≡◌, ◌||◌, Bool, true, false, cond, Some, is_some, List, [], ◌∷◌, find, refl}
 use Rattle.std.specs.List.{list_any}
 
 -- there is one that passes where one is found

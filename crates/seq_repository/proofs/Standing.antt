@@ -1,12 +1,12 @@
 -- What stands for a history answers for it, and stands for it after a call too.
-use Rattle.std.proofs.Common.{◌≡◌, ℕ, Bool, true, false, cond, Result, Ok, Err, IfOk, OnOk, refl, subst, sym, ◌∙◌, ap}
+use Rattle.std.proofs.Common.{◌≡◌, ℕ, true, false, cond, Result, Ok, Err, IfOk, OnOk, refl, subst, sym, ◌∙◌, ap}
 use Rattle.batch_ids.specs.declared.refusal.Refusal.{Refusal}
 use Rattle.batch_history.proofs.Legal.{legal_grown}
 use Rattle.batch_history.proofs.Legality.{rows_grown}
 use Rattle.batch_history.proofs.Steps.{rows_after}
 use Rattle.batch_history.specs.Due.{IsDue}
 use Rattle.batch_history.specs.Replies.{is_nothing, reply, reply_by}
-use Rattle.batch_history.specs.Rows.{History, Rows, rows}
+use Rattle.batch_history.specs.Rows.{History, Rows}
 use Rattle.batch_history.specs.Legal.{IsLegal, after_call, grown}
 use Rattle.batch_history.specs.declared.call.Call.{Call}
 use Rattle.batch_history.specs.declared.call.Entry.{Entry}

@@ -17,7 +17,8 @@ use std::alloc::Global;
 
 /// What a query is answered by these rows.
 pub(crate) fn answer(alloc: Global, rows: &Records, query: &Query) -> Result<Answer, Refusal>
-    ensures { (r : Rows) → r.instances ≡ rows.now.instances → r.executions ≡ rows.now.executions → r.works ≡ rows.now.works
+    ensures { (r : Rows) → r.instances ≡ rows.now.instances → r.executions ≡ rows.now.executions
+        → r.works ≡ rows.now.works
         → IsDue result (answer_by r query.now) }
 {
     match query {
@@ -52,7 +53,8 @@ pub(crate) fn answer(alloc: Global, rows: &Records, query: &Query) -> Result<Ans
 /// The row of a job execution that is there.
 fn known(rows: &Records, x: ExecutionId) -> Result<&ExecutionRow, Refusal>
     ensures there { IfOk result (λ row. find (is_execution x) rows.now.executions ≡ Some row.now) }
-    ensures none { IfErr result (λ refusal. (refusal ≡ Refusal.NoSuchJobExecutionException) × (find (is_execution x) rows.now.executions ≡ None)) }
+    ensures none { IfErr result (λ refusal. (refusal ≡ Refusal.NoSuchJobExecutionException)
+        × (find (is_execution x) rows.now.executions ≡ None)) }
 {
     match rows.execution(x) {
         Some(row) => Ok(row),
@@ -62,7 +64,9 @@ fn known(rows: &Records, x: ExecutionId) -> Result<&ExecutionRow, Refusal>
 
 /// Whether a job has a job instance.
 fn is_known(rows: &Records, job: &T256) -> bool
-    ensures { (found : Answer) → if_job_known (instances_of_job job.now rows.now.instances) found ≡ (if result then Ok found else Err Refusal.NoSuchJobException) }
+    ensures { (found : Answer)
+        → if_job_known (instances_of_job job.now rows.now.instances) found
+        ≡ (if result then Ok found else Err Refusal.NoSuchJobException) }
 {
     rows.instances_of(job.as_str()).next().is_some()
 }
@@ -78,7 +82,8 @@ fn names(alloc: Global, rows: &Records) -> Result<Listed<T256>, OutOfMemory>
 }
 
 fn instance_count(rows: &Records, job: &T256) -> Result<Answer, Refusal>
-    ensures { result ≡ if_job_known (instances_of_job job.now rows.now.instances) (Answer.JobInstanceCount (length (instances_of_job job.now rows.now.instances))) }
+    ensures { result ≡ if_job_known (instances_of_job job.now rows.now.instances)
+        (Answer.JobInstanceCount (length (instances_of_job job.now rows.now.instances))) }
 {
     if !is_known(rows, job) {
         return Err(Refusal::NoSuchJobException);
@@ -106,7 +111,9 @@ fn instances(
     start: u64,
     count: u64,
 ) -> Result<Answer, Refusal>
-    ensures { IsDue result (if_job_known (instances_of_job job.now rows.now.instances) (Answer.JobInstances (page start count (reverse (instances_of_job job.now rows.now.instances))))) }
+    ensures { IsDue result (if_job_known (instances_of_job job.now rows.now.instances)
+        (Answer.JobInstances (page start count (reverse
+        (instances_of_job job.now rows.now.instances))))) }
 {
     if !is_known(rows, job) {
         return Err(Refusal::NoSuchJobException);
@@ -123,7 +130,8 @@ fn newest(
     start: u64,
     count: u64,
 ) -> Result<Vec<JobInstance>, OutOfMemory>
-    ensures { IfOk result (λ found. found.items ≡ page start count (reverse (instances_of_job job.now rows.now))) }
+    ensures { IfOk result (λ found. found.items
+        ≡ page start count (reverse (instances_of_job job.now rows.now))) }
 {
     let mut found = Vec::new(alloc);
     let mut left_out = 0;
@@ -143,7 +151,8 @@ fn newest(
 }
 
 fn running(alloc: Global, rows: &Records, job: &T256) -> Result<Answer, Refusal>
-    ensures { IsDue result (if_job_known (instances_of_job job.now rows.now.instances) (Answer.RunningExecutions (running_executions job.now rows.now.executions))) }
+    ensures { IsDue result (if_job_known (instances_of_job job.now rows.now.instances)
+        (Answer.RunningExecutions (running_executions job.now rows.now.executions))) }
 {
     if !is_known(rows, job) {
         return Err(Refusal::NoSuchJobException);
@@ -177,7 +186,9 @@ fn is_running_of(job: &T256, row: &ExecutionRow) -> bool
 
 #[tactic(auto, using(crate::proofs::Lists::any_found))]
 fn executions(alloc: Global, rows: &Records, i: InstanceId) -> Result<Answer, Refusal>
-    ensures { IsDue result (if list_any (λ instance. instance.instance == i) rows.now.instances then Ok (Answer.JobExecutions (records_of i rows.now.executions)) else Err Refusal.NoSuchJobInstanceException) }
+    ensures { IsDue result (if list_any
+        (λ instance. instance.instance == i) rows.now.instances then Ok (Answer.JobExecutions
+        (records_of i rows.now.executions)) else Err Refusal.NoSuchJobInstanceException) }
 {
     if rows.instance(i).is_none() {
         return Err(Refusal::NoSuchJobInstanceException);

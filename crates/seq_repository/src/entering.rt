@@ -4,10 +4,11 @@ ghost use Rattle.batch_history.specs.declared.rows.WorkRow.{WorkRow as Work};
 ghost use Rattle.batch_history.specs.Due.{IsDue};
 ghost use Rattle.batch_history.specs.Lists.{change_first};
 ghost use Rattle.batch_history.specs.Replies.{is_execution, reply_by, is_nothing};
-ghost use Rattle.batch_history.specs.Walks.{known_elements};
+ghost use Rattle.batch_history.proofs.Knowing.{known_elements};
 ghost use Rattle.batch_history.specs.Works.{is_work};
 ghost use Rattle.seq_repository.specs.Entered.{put_mark, marks_left, kept_after};
 ghost use Rattle.seq_repository.specs.Kept.{rows_in};
+ghost use Rattle.records.specs.Maps.{MayReplaceExecution};
 ghost use Rattle.seq_repository.specs.Changes.{put_row, place_at, row_after};
 
 use crate::repository::Repository;
@@ -23,7 +24,7 @@ use records::Records;
 
 /// Puts a row in place of that of its job execution.
 fn put_row(records: &mut Records, x: ExecutionId, new: Option<ExecutionRow>)
-    requires { IfSome new (λ row. (is_some (find (is_execution x) records.old.executions) ≡ true) × (row.execution ≡ x)) }
+    requires { IfSome new (λ row. MayReplaceExecution records.old.executions x row) }
     ensures { records.new ≡ record records.old { executions = put_row x new records.old.executions } }
 {
     match new {
@@ -39,7 +40,11 @@ fn put_mark(
     step: T256,
     mark: Text<65536>,
 ) -> Result<(), OutOfMemory>
-    ensures rows { OnOk result (records.new ≡ record records.old { checkpoints = put_mark (place_at row.now step) mark records.old.checkpoints }) }
+    ensures rows { OnOk result (records.new ≡
+        record records.old {
+          checkpoints = put_mark
+              (place_at row.now step) mark records.old.checkpoints;
+        }) }
     ensures unchanged { OnErr result (records.new ≡ records.old) }
 {
     match row {
@@ -50,7 +55,10 @@ fn put_mark(
 
 /// Drops the checkpoint of a step that is completed.
 fn drop_mark(records: &mut Records, outcome: WorkOutcome, row: &Option<ExecutionRow>, step: T256)
-    ensures { records.new ≡ record records.old { checkpoints = marks_left outcome (place_at row.now step) records.old.checkpoints } }
+    ensures { records.new ≡ record records.old {
+      checkpoints = marks_left outcome
+          (place_at row.now step) records.old.checkpoints;
+    } }
 {
     match outcome {
         WorkOutcome::Completed => match row {
@@ -75,8 +83,11 @@ impl<const LIMIT: u64> Repository<LIMIT> {
         at: Moment,
     ) -> Result<Option<ExecutionRow>, OutOfMemory>
         ensures row { (works : List Work) → known.now ≡ known_elements x works
-            → IfOk result (λ new. new ≡ option_map (row_after change self.now.catalogue works at) (find (is_execution x) self.now.executions)) }
-        ensures own { IfOk result (λ new. IfSome new (λ row. (is_some (find (is_execution x) self.now.executions) ≡ true) × (row.execution ≡ x))) }
+            → IfOk result (λ new. new
+            ≡ option_map (row_after change self.now.catalogue works at) (find
+            (is_execution x) self.now.executions)) }
+        ensures own { IfOk result (λ new. IfSome new
+            (λ row. MayReplaceExecution self.now.executions x row)) }
     {
         match self.records.execution(x) {
             None => Ok(None),
@@ -94,7 +105,12 @@ impl<const LIMIT: u64> Repository<LIMIT> {
         at: Moment,
     ) -> Result<(), OutOfMemory>
         requires { self.old.count < LIMIT }
-        ensures rows { OnOk result (self.new ≡ kept_after self.old record { who = 0; call = Call.Start job.now parameters.now; at = at; reply = Reply.Done }) }
+        ensures rows { OnOk result (self.new ≡ kept_after self.old record {
+          who = 0;
+          call = Call.Start job.now parameters.now;
+          at = at;
+          reply = Reply.Done;
+        }) }
         ensures unchanged { OnErr result (self.new ≡ self.old) }
     {
         let first = job.try_clone()?;
@@ -120,7 +136,12 @@ impl<const LIMIT: u64> Repository<LIMIT> {
     ) -> Result<(), OutOfMemory>
         requires room { self.old.count < LIMIT }
         requires there { is_some (find (is_execution y) self.old.executions) ≡ true }
-        ensures rows { OnOk result (self.new ≡ kept_after self.old record { who = 0; call = Call.Restart y parameters.now; at = at; reply = Reply.Done }) }
+        ensures rows { OnOk result (self.new ≡ kept_after self.old record {
+          who = 0;
+          call = Call.Restart y parameters.now;
+          at = at;
+          reply = Reply.Done;
+        }) }
         ensures unchanged { OnErr result (self.new ≡ self.old) }
     {
         let Some(earlier) = self.records.execution(y) else {
@@ -144,7 +165,11 @@ impl<const LIMIT: u64> Repository<LIMIT> {
         at: Moment,
     ) -> Result<(), OutOfMemory>
         requires { self.old.count < LIMIT }
-        ensures rows { OnOk result (self.new ≡ record self.old { count = self.old.count + 1; executions = change_first (is_execution x) (row_after change self.old.catalogue self.old.works at) self.old.executions }) }
+        ensures rows { OnOk result (self.new ≡ record self.old {
+          count = self.old.count + 1;
+          executions = change_first (is_execution x)
+              (row_after change self.old.catalogue self.old.works at) self.old.executions;
+        }) }
         ensures unchanged { OnErr result (self.new ≡ self.old) }
     {
         let known = search::known_of(self.alloc, self.records.works(), x)?;
@@ -157,7 +182,12 @@ impl<const LIMIT: u64> Repository<LIMIT> {
     fn enter_work(&mut self, who: u64, at: Moment, item: &WorkItem) -> Result<(), OutOfMemory>
         requires room { self.old.count < LIMIT }
         requires number { item.now.work ≡ length self.old.works + 1 }
-        ensures rows { OnOk result (self.new ≡ kept_after self.old record { who = who; call = Call.Claim; at = at; reply = Reply.Work item.now }) }
+        ensures rows { OnOk result (self.new ≡ kept_after self.old record {
+          who = who;
+          call = Call.Claim;
+          at = at;
+          reply = Reply.Work item.now;
+        }) }
         ensures unchanged { OnErr result (self.new ≡ self.old) }
     {
         let x = item.execution;
@@ -179,7 +209,12 @@ impl<const LIMIT: u64> Repository<LIMIT> {
     ) -> Result<(), OutOfMemory>
         requires room { self.old.count < LIMIT }
         requires held { is_some (find (is_work w) self.old.works) ≡ true }
-        ensures rows { OnOk result (self.new ≡ kept_after self.old record { who = 0; call = Call.Checkpoint w mark.now step.now; at = at; reply = Reply.Done }) }
+        ensures rows { OnOk result (self.new ≡ kept_after self.old record {
+          who = 0;
+          call = Call.Checkpoint w mark.now step.now;
+          at = at;
+          reply = Reply.Done;
+        }) }
         ensures unchanged { OnErr result (self.new ≡ self.old) }
     {
         let Some(work) = self.records.work(w) else {
@@ -208,7 +243,12 @@ impl<const LIMIT: u64> Repository<LIMIT> {
     ) -> Result<(), OutOfMemory>
         requires room { self.old.count < LIMIT }
         requires held { is_some (find (is_work w) self.old.works) ≡ true }
-        ensures rows { OnOk result (self.new ≡ kept_after self.old record { who = 0; call = Call.Finish w outcome exit.now step.now; at = at; reply = Reply.Done }) }
+        ensures rows { OnOk result (self.new ≡ kept_after self.old record {
+          who = 0;
+          call = Call.Finish w outcome exit.now step.now;
+          at = at;
+          reply = Reply.Done;
+        }) }
         ensures unchanged { OnErr result (self.new ≡ self.old) }
     {
         let Some(work) = self.records.work(w) else {
@@ -239,7 +279,12 @@ impl<const LIMIT: u64> Repository<LIMIT> {
         requires room { self.old.count < LIMIT }
         requires due { reply_by LIMIT (rows_in self.old) who Call.Claim ≡ Ok reply.now }
         requires entered { is_nothing reply.now ≡ false }
-        ensures rows { OnOk result (self.new ≡ kept_after self.old record { who = who; call = Call.Claim; at = at; reply = reply.now }) }
+        ensures rows { OnOk result (self.new ≡ kept_after self.old record {
+          who = who;
+          call = Call.Claim;
+          at = at;
+          reply = reply.now;
+        }) }
         ensures unchanged { OnErr result (self.new ≡ self.old) }
     {
         match reply {
@@ -261,7 +306,12 @@ impl<const LIMIT: u64> Repository<LIMIT> {
         requires room { self.old.count < LIMIT }
         requires due { reply_by LIMIT (rows_in self.old) who call.now ≡ Ok reply.now }
         requires entered { is_nothing reply.now ≡ false }
-        ensures rows { OnOk result (self.new ≡ kept_after self.old record { who = who; call = call.now; at = at; reply = reply.now }) }
+        ensures rows { OnOk result (self.new ≡ kept_after self.old record {
+          who = who;
+          call = call.now;
+          at = at;
+          reply = reply.now;
+        }) }
         ensures unchanged { OnErr result (self.new ≡ self.old) }
     {
         match call {
@@ -294,7 +344,13 @@ impl<const LIMIT: u64> Repository<LIMIT> {
         at: Moment,
     ) -> Result<Reply, Refusal>
         ensures due { IsDue result (reply_by LIMIT (rows_in self.old) who call.now) }
-        ensures rows { IfOk result (λ reply. self.new ≡ (if is_nothing reply then self.old else kept_after self.old record { who = who; call = call.now; at = at; reply = reply })) }
+        ensures rows { IfOk result (λ reply. self.new
+            ≡ (if is_nothing reply then self.old else kept_after self.old record {
+              who = who;
+              call = call.now;
+              at = at;
+              reply = reply;
+            })) }
         ensures refused { OnErr result (self.new ≡ self.old) }
     {
         let reply = self.reply(who, call)?;

@@ -158,7 +158,8 @@ impl<const LIMIT: u64> Repository<LIMIT> {
     }
 
     fn reply_to_stop(&self, x: ExecutionId) -> Result<Reply, Refusal>
-        ensures { result ≡ reply_to_stop LIMIT self.now.count (find (is_execution x) self.now.executions) }
+        ensures { result ≡ reply_to_stop LIMIT self.now.count (find
+            (is_execution x) self.now.executions) }
     {
         match self.records.execution(x) {
             None => Err(Refusal::NoSuchJobExecutionException),
@@ -171,7 +172,8 @@ impl<const LIMIT: u64> Repository<LIMIT> {
     }
 
     fn reply_to_abandon(&self, x: ExecutionId) -> Result<Reply, Refusal>
-        ensures { result ≡ reply_to_abandon LIMIT (rows_in self.now) (find (is_execution x) self.now.executions) }
+        ensures { result ≡ reply_to_abandon LIMIT (rows_in self.now) (find
+            (is_execution x) self.now.executions) }
     {
         match self.records.execution(x) {
             None => Err(Refusal::NoSuchJobExecutionException),
@@ -189,7 +191,9 @@ impl<const LIMIT: u64> Repository<LIMIT> {
         job: &T256,
         element: &T256,
     ) -> Result<WorkTask, OutOfMemory>
-        ensures { IfOk result (λ task. task ≡ work_task (option_copied mark.entry) (runnable_of_job (job_named self.now.catalogue job.now) element.now)) }
+        ensures { IfOk result (λ task. task
+            ≡ work_task (option_copied mark.entry) (runnable_of_job
+            (job_named self.now.catalogue job.now) element.now)) }
     {
         match self.catalogue.job(job.as_str()) {
             None => task_of(self.alloc, mark, None),
@@ -217,7 +221,8 @@ impl<const LIMIT: u64> Repository<LIMIT> {
 
     /// What a claim of a job execution is answered, whose walk has this value.
     fn claim_reply(&self, row: &ExecutionRow, value: &Value) -> Result<Reply, OutOfMemory>
-        ensures { IfOk result (λ reply. reply ≡ claim_reply (rows_in self.now) row.now (first_ready value.now)) }
+        ensures { IfOk result (λ reply. reply
+            ≡ claim_reply (rows_in self.now) row.now (first_ready value.now)) }
     {
         match status::first_ready(value) {
             None => Ok(Reply::Closed(row.execution)),
@@ -249,7 +254,8 @@ impl<const LIMIT: u64> Repository<LIMIT> {
     }
 
     fn reply_to_checkpoint(&self, who: u64, w: WorkId) -> Result<Reply, Refusal>
-        ensures { result ≡ reply_to_checkpoint LIMIT (rows_in self.now) who (find (is_work w) self.now.works) }
+        ensures { result ≡ reply_to_checkpoint LIMIT (rows_in self.now) who (find
+            (is_work w) self.now.works) }
     {
         match self.records.work(w) {
             None => Err(Refusal::NoSuchWork),
@@ -265,7 +271,8 @@ impl<const LIMIT: u64> Repository<LIMIT> {
     }
 
     fn reply_to_finish(&self, who: u64, w: WorkId, outcome: WorkOutcome) -> Result<Reply, Refusal>
-        ensures { result ≡ reply_to_finish LIMIT (rows_in self.now) who outcome (find (is_work w) self.now.works) }
+        ensures { result ≡ reply_to_finish LIMIT (rows_in self.now) who outcome (find
+            (is_work w) self.now.works) }
     {
         match self.records.work(w) {
             None => Err(Refusal::NoSuchWork),

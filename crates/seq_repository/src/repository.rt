@@ -96,8 +96,10 @@ impl<const LIMIT: u64> Repository<LIMIT> {
     /// nothing.
     #[tactic(auto, using(crate::proofs::Standing::due_for, crate::proofs::Standing::stands_call))]
     pub fn apply(&mut self, who: u64, call: &Call, at: Moment) -> Result<Reply, Refusal>
-        ensures reply { (h : History) → StandsFor self.old h → IsDue result (reply LIMIT h who call.now) }
-        ensures after { (h : History) → IsLegal LIMIT h → StandsFor self.old h → IfOk result (λ reply. StandsFor self.new (after_call h who call.now at reply)) }
+        ensures reply { (h : History) → StandsFor self.old h
+            → IsDue result (reply LIMIT h who call.now) }
+        ensures after { (h : History) → IsLegal LIMIT h → StandsFor self.old h
+            → IfOk result (λ reply. StandsFor self.new (after_call h who call.now at reply)) }
         ensures refused { OnErr result (self.new ≡ self.old) }
     {
         self.decide_and_enter(who, call, at)

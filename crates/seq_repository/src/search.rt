@@ -5,7 +5,9 @@ ghost use Rattle.batch_ids.specs.declared.metric_step.MetricStep.{MetricStep as 
 ghost use Rattle.batch_history.proofs.Folds.{over_as};
 ghost use Rattle.batch_history.specs.Lists.{change_first};
 ghost use Rattle.batch_history.specs.Replies.{is_running_in};
-ghost use Rattle.batch_history.specs.Walks.{fact_of_state, known_elements, walk_of, walk_value, job_named};
+ghost use Rattle.batch_history.specs.Walks.{fact_of_state, walk_of, walk_value, job_named};
+ghost use Rattle.batch_history.proofs.Knowing.{known_elements};
+ghost use Rattle.job_walk.specs.Walk.{fact_of};
 ghost use Rattle.batch_history.specs.Works.{is_work, busy_work};
 ghost use Rattle.seq_repository.specs.Searches.{has_ready};
 
@@ -73,7 +75,8 @@ pub(crate) fn known_once_claimed(
     works: &[WorkRow],
     item: &WorkItem,
 ) -> Result<Vec<Known>, OutOfMemory>
-    ensures { (who at : ℕ) → IfOk result (λ known. known.items ≡ known_elements item.now.execution (works.now ++ busy_work who at item.now ∷ [])) }
+    ensures { (who at : ℕ) → IfOk result (λ known. known.items
+        ≡ known_elements item.now.execution (works.now ++ busy_work who at item.now ∷ [])) }
 {
     let mut known = known_of(alloc, works, item.execution)?;
     known.push(Known {
@@ -92,7 +95,10 @@ pub(crate) fn known_once_finished(
     outcome: WorkOutcome,
     exit: &T256,
 ) -> Result<Vec<Known>, OutOfMemory>
-    ensures { (step : Step) (at : ℕ) → IfOk result (λ known. known.items ≡ known_elements x (change_first (is_work w) (over_as outcome exit.now step at) works.now)) }
+    ensures { (step : Step) (at : ℕ)
+        → IfOk result (λ known. known.items
+        ≡ known_elements x (change_first (is_work w)
+        (over_as outcome exit.now step at) works.now)) }
 {
     let mut known = Vec::new(alloc);
     let mut met = false;
@@ -123,7 +129,8 @@ pub(crate) fn walk_of(
     known: &[Known],
     job: &T256,
 ) -> Result<Value, OutOfMemory>
-    ensures { IfOk result (λ value. value ≡ walk_of known.now (job_named catalogue.now job.now)) }
+    ensures { IfOk result (λ value. value
+        ≡ walk_of (fact_of known.now) (job_named catalogue.now job.now)) }
 {
     let Some(job) = catalogue.job(job.as_str()) else {
         return Ok(Value::Done {
@@ -141,13 +148,15 @@ pub(crate) fn walk_of(
 }
 
 /// The value of the walk of a job execution.
+#[tactic(auto, using(batch_history::proofs::Knowing::walk_known))]
 pub(crate) fn walk_value(
     alloc: Global,
     catalogue: &Catalogue,
     works: &[WorkRow],
     row: &ExecutionRow,
 ) -> Result<Value, OutOfMemory>
-    ensures { IfOk result (λ value. value ≡ walk_value catalogue.now works.now row.now.execution row.now.job) }
+    ensures { IfOk result (λ value. value
+        ≡ walk_value catalogue.now works.now row.now.execution row.now.job) }
 {
     let known = known_of(alloc, works, row.execution)?;
     walk_of(alloc, catalogue, known.as_slice(), &row.job)
@@ -160,8 +169,10 @@ fn claimable_value(
     works: &[WorkRow],
     row: &ExecutionRow,
 ) -> Result<Option<Value>, OutOfMemory>
-    ensures some { IfOk result (λ found. is_some found ≡ has_ready catalogue.now works.now row.now) }
-    ensures value { IfOk result (λ found. IfSome found (λ value. value ≡ walk_value catalogue.now works.now row.now.execution row.now.job)) }
+    ensures some { IfOk result (λ found. is_some found
+        ≡ has_ready catalogue.now works.now row.now) }
+    ensures value { IfOk result (λ found. IfSome found (λ value. value
+        ≡ walk_value catalogue.now works.now row.now.execution row.now.job)) }
 {
     match row.status() {
         BatchStatus::Starting => Ok(Some(walk_value(alloc, catalogue, works, row)?)),
@@ -195,8 +206,10 @@ pub(crate) fn find_claimable<'a>(
     works: &[WorkRow],
     rows: &'a [ExecutionRow],
 ) -> Result<Option<Claimable<'a>>, OutOfMemory>
-    ensures first { IfOk result (λ found. option_map (λ c. c.row.now) found ≡ find (has_ready catalogue.now works.now) rows.now) }
-    ensures value { IfOk result (λ found. IfSome found (λ c. c.value ≡ walk_value catalogue.now works.now c.row.now.execution c.row.now.job)) }
+    ensures first { IfOk result (λ found. option_map (λ c. c.row.now) found
+        ≡ find (has_ready catalogue.now works.now) rows.now) }
+    ensures value { IfOk result (λ found. IfSome found (λ c. c.value
+        ≡ walk_value catalogue.now works.now c.row.now.execution c.row.now.job)) }
 {
     for row in rows {
         if let Some(value) = claimable_value(alloc, catalogue, works, row)? {

@@ -2,7 +2,7 @@ use Rattle.std.proofs.Common.{ℕ, ◌≡◌, ◌++◌, drop, cond}
 use Rattle.batch_ids.specs.declared.metric_step.MetricStep.{MetricStep}
 use Rattle.batch_history.proofs.Folds.{over_as}
 use Rattle.batch_history.specs.Lists.{change_first}
-use Rattle.batch_history.specs.Walks.{known_elements}
+use Rattle.batch_history.proofs.Knowing.{known_elements}
 use Rattle.batch_history.specs.Works.{is_work}
 use Rattle.seq_repository.proofs.search.known_once_finished.Given as goal
 

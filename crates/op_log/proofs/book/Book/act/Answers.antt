@@ -1,6 +1,6 @@
 use Rattle.std.proofs.Common.{◌≡◌, false, Ok, sym, ◌∙◌, ap, arith, List, [], ◌∷◌, ◌++◌}
 use Rattle.op_log.proofs.Growing.{log_grown, next_of}
-use Rattle.batch_history.specs.Replies.{reply, is_nothing}
+use Rattle.batch_history.specs.Replies.{is_nothing}
 use Rattle.batch_history.specs.Rows.{History}
 use Rattle.batch_history.specs.declared.call.Entry.{Entry}
 use Rattle.op_log.proofs.book.Book.act.Goals as goal

@@ -2,7 +2,7 @@ use Rattle.std.proofs.Common.{◌≡◌, ◌∙◌, sym, ap, find, subst, arith}
 use Rattle.std.specs.Option.{option_map}
 use Rattle.batch_history.specs.Replies.{is_execution}
 use Rattle.seq_repository.specs.Kept.{Kept}
-use Rattle.batch_history.specs.Walks.{known_elements}
+use Rattle.batch_history.proofs.Knowing.{known_elements}
 use Rattle.seq_repository.specs.Changes.{row_after}
 use Rattle.seq_repository.proofs.Entries.{change-entered}
 use Rattle.seq_repository.proofs.Metering.{within_more}

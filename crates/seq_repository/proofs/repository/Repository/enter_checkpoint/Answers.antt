@@ -6,12 +6,12 @@ use Rattle.batch_history.proofs.Folds.{reported}
 use Rattle.batch_history.specs.Lists.{change_first}
 use Rattle.batch_history.specs.Replies.{is_execution}
 use Rattle.seq_repository.specs.Kept.{Kept}
-use Rattle.batch_history.specs.Walks.{known_elements}
+use Rattle.batch_history.proofs.Knowing.{known_elements}
 use Rattle.batch_history.specs.Works.{is_work}
 use Rattle.std.specs.Option.{option_map}
 use Rattle.seq_repository.specs.declared.rows.Change.TheVariants.{Report}
 use Rattle.seq_repository.specs.Changes.{row_after}
-use Rattle.seq_repository.proofs.Entries.{found-work, checkpoint-entered}
+use Rattle.seq_repository.proofs.Entries.{reported-own, checkpoint-entered}
 use Rattle.seq_repository.proofs.Knowing.{known_reported}
 use Rattle.seq_repository.proofs.Metering.{within_found, within_put}
 use Rattle.seq_repository.proofs.repository.Repository.enter_checkpoint.Goals as goal
@@ -22,9 +22,10 @@ report_counts-requires g c =
     within_found g.row.LIMIT c.self.inside.count (is_work c.args.w) c.self.inside.records.works c.in-Some.work.now
     c.self.invariant.0 c.self.invariant.1 found c.self.invariant.2
 
-pub change_work-requires-clause-same : goal.change_work-requires-clause-same
-change_work-requires-clause-same g c =
-    ap (λ (row : WorkRow). row.work) c.in_ok-work.ensures.new ∙ found-work c.args.w _ c.in-Some.work.now (sym c.in-Some.ensures)
+pub change_work-requires : goal.change_work-requires
+change_work-requires g c =
+    rw c.in_ok-put_mark.ensures.rows
+    (reported-own c.args.w c.args.step.now c.self.inside.records.works c.in-Some.work.now c.in_ok-work.work (sym c.in-Some.ensures) c.in_ok-work.ensures.new)
 
 pub invariant_of-self-2 : goal.invariant_of-self-2
 invariant_of-self-2 g c =

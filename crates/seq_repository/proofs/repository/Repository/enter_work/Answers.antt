@@ -2,7 +2,7 @@ use Rattle.std.proofs.Common.{◌≡◌, ◌∙◌, ◌++◌, ◌∷◌, [], sym
 use Rattle.std.specs.Option.{option_map}
 use Rattle.batch_history.specs.Replies.{is_execution}
 use Rattle.seq_repository.specs.Kept.{Kept}
-use Rattle.batch_history.specs.Walks.{known_elements}
+use Rattle.batch_history.proofs.Knowing.{known_elements}
 use Rattle.batch_history.specs.Works.{busy_work}
 use Rattle.batch_history.specs.declared.rows.WorkRow.{WorkRow}
 use Rattle.seq_repository.specs.declared.rows.Change.TheVariants.{Claim as TakeUp}
