@@ -1,9 +1,16 @@
--- Where the checkpoint of a place stands.
-use Rattle.std.proofs.Common.{◌≡◌, ℕ, zero, suc, ◌+◌, ◌<◌, Bool, true, false, cond, List, [], ◌∷◌, ◌++◌, length, take, drop, set, get_or, refl, sym, ◌∙◌, ap, arith, add-one}
+-- The checkpoint of each step, where the checkpoints stand in a list and one is set or cleared.
+use Rattle.std.proofs.Common.{◌≡◌, ◌≢◌, ℕ, zero, suc, ◌+◌, ◌==◌, ◌&&◌, ◌<◌, Bool, true, false, cond, Option, None, Some, List, [], ◌∷◌, ◌++◌, length, take, drop, set, get_or, find, filter, refl, sym, ◌∙◌, ap, arith, add-one}
+use Rattle.std.specs.Option.{option_map}
+use Rattle.std.specs.Cmp.Lexicographic.{bytes_decides}
+use Rattle.std.specs.Str.{bytes_eq}
+use Rattle.std.proofs.lemmas.Bool.{eqb-true, eq-eqb, and_parts}
 use Rattle.std.proofs.lemmas.List.{take_more, drop_more, append_assoc}
 use Rattle.batch_history.specs.declared.rows.CheckpointRow.{CheckpointRow}
-use Rattle.batch_history.specs.Checkpoints.{InstanceStep}
-use Rattle.records.specs.Maps.{is_place, marked, with_mark}
+use Rattle.batch_history.specs.Checkpoints.{InstanceStep, is_same_step}
+use Rattle.records.specs.Placed.{is_elsewhere, marked, with_mark, without_mark}
+use Rattle.records.specs.Maps.{Maps, step_of, is_place, mark_at, AreApart, SetsCheckpoint}
+
+-- Where the checkpoint of a place stands
 
 set-at : {A : Type 0} (xs : List A) (i : ℕ) (y : A) → i < length xs → set xs i y ≡ take i xs ++ y ∷ drop (i + 1) xs
 set-at [] i y lt = absurd (omega (arith, lt))
@@ -33,3 +40,181 @@ behind_at p mark rows i d lt is so_far =
     ∙ (ap (λ (b : Bool). take i rows ++ cond b (marked p mark ∷ drop (i + 1) rows) (get_or rows i d ∷ with_mark p mark (drop (i + 1) rows))) is
     ∙ (sym (append_assoc (take i rows) (get_or rows i d ∷ []) (with_mark p mark (drop (i + 1) rows)))
     ∙ ap (λ (l : List CheckpointRow). l ++ with_mark p mark (drop (i + 1) rows)) (sym (take_more rows i d lt)))))
+
+-- Steps that are the same
+
+same-place : (p q : InstanceStep) → is_same_step p (Some q) ≡ true → q ≡ p
+same-place p q here =
+    let parts : ((q.instance == p.instance) ≡ true) × (bytes_eq q.step p.step ≡ true) = and_parts _ _ here in
+    let one : q.instance ≡ p.instance = eqb-true q.instance p.instance parts.0 in
+    let other : q.step ≡ p.step = (bytes_decides q.step p.step).0 parts.1 in
+    let make : ℕ → List ℕ → InstanceStep = λ i s. record { instance = i; step = s } in
+    ap (λ i. make i q.step) one ∙ ap (make p.instance) other
+
+own-place : (p : InstanceStep) → is_same_step p (Some p) ≡ true
+own-place p =
+    ap (λ b. b && bytes_eq p.step p.step) (eq-eqb p.instance p.instance refl)
+    ∙ (bytes_decides p.step p.step).1 refl
+
+other-place : (p q : InstanceStep) → is_same_step q (Some p) ≡ false → q ≢ p
+other-place p q off same =
+    let on : is_same_step q (Some p) ≡ true = ap (λ (r : InstanceStep). is_same_step r (Some p)) same ∙ own-place p in
+    cc
+
+apart-place : (p q : InstanceStep) → q ≢ p → is_same_step q (Some p) ≡ false
+apart-place p q apart =
+    (elim (is_same_step q (Some p)) as (λ b. is_same_step q (Some p) ≡ b → is_same_step q (Some p) ≡ false) [
+      | true ↦ λ here. absurd (apart (sym (same-place q p here)))
+      | false ↦ λ off. off
+    ]) refl
+
+-- a row at a step, looked for at another
+at-place : (p q : InstanceStep) (row : CheckpointRow) → is_place q row ≡ true → is_place p row ≡ is_same_step p (Some q)
+at-place p q row is =
+    ap (λ (r : InstanceStep). is_same_step p (Some r)) (same-place q (step_of row) is)
+
+-- the mark of a row, if it is at the place
+abbrev mark_if : Bool → CheckpointRow → Option (List ℕ) → Option (List ℕ)
+mark_if b row rest = cond b (Some row.mark) rest
+
+mark-head : (row : CheckpointRow) (rows : List CheckpointRow) (p : InstanceStep) → mark_at (row ∷ rows) p ≡ mark_if (is_place p row) row (mark_at rows p)
+mark-head row rows p =
+    elim (is_place p row) as (λ b. option_map (λ (r : CheckpointRow). r.mark) (cond b (Some row) (find (is_place p) rows)) ≡ mark_if b row (mark_at rows p)) [
+      | true ↦ refl
+      | false ↦ refl
+    ]
+
+-- a row at another step than the one that is changed
+other-row : (q p : InstanceStep) (row : CheckpointRow) (new rest : Option (List ℕ)) → is_place q row ≡ false
+    → mark_if (is_place p row) row (cond (is_same_step p (Some q)) new rest) ≡ cond (is_same_step p (Some q)) new (mark_if (is_place p row) row rest)
+other-row q p row new rest off =
+    (elim (is_same_step p (Some q)) as (λ b. is_same_step p (Some q) ≡ b
+    → mark_if (is_place p row) row (cond b new rest) ≡ cond b new (mark_if (is_place p row) row rest)) [
+      | true ↦ λ here. ap (λ b. mark_if b row new) (ap (λ (r : InstanceStep). is_place r row) (sym (same-place p q here)) ∙ off)
+      | false ↦ λ here. refl
+    ]) refl
+
+-- no checkpoint
+abbrev unmarked : Option (List ℕ)
+unmarked = None
+
+nothing : (b : Bool) → cond b unmarked unmarked ≡ unmarked
+nothing true = refl
+nothing false = refl
+
+-- A checkpoint more
+
+with-mark : (q : InstanceStep) (mark : List ℕ) (p : InstanceStep) (rows : List CheckpointRow)
+    → mark_at (with_mark q mark rows) p ≡ cond (is_same_step p (Some q)) (Some mark) (mark_at rows p)
+with-mark q mark p [] = mark-head (marked q mark) [] p
+with-mark q mark p (row ∷ rest) =
+    let here : Bool = is_same_step p (Some q) in
+    (elim (is_place q row) as (λ b. is_place q row ≡ b
+    → mark_at (cond b (marked q mark ∷ rest) (row ∷ with_mark q mark rest)) p ≡ cond here (Some mark) (mark_at (row ∷ rest) p)) [
+      | true ↦ λ is. mark-head (marked q mark) rest p
+          ∙ (elim here as (λ b. cond b (Some mark) (mark_at rest p) ≡ cond b (Some mark) (mark_if b row (mark_at rest p))) [
+            | true ↦ refl
+            | false ↦ refl
+          ]
+          ∙ (ap (λ b. cond here (Some mark) (mark_if b row (mark_at rest p))) (sym (at-place p q row is))
+          ∙ ap (cond here (Some mark)) (sym (mark-head row rest p))))
+      | false ↦ λ is. mark-head row (with_mark q mark rest) p
+          ∙ (ap (mark_if (is_place p row) row) (with-mark q mark p rest)
+          ∙ (other-row q p row (Some mark) (mark_at rest p) is
+          ∙ ap (cond here (Some mark)) (sym (mark-head row rest p))))
+    ]) refl
+
+-- A checkpoint less
+
+without-mark : (q p : InstanceStep) (rows : List CheckpointRow)
+    → mark_at (without_mark q rows) p ≡ cond (is_same_step p (Some q)) None (mark_at rows p)
+without-mark q p [] = sym (nothing (is_same_step p (Some q)))
+without-mark q p (row ∷ rest) =
+    let here : Bool = is_same_step p (Some q) in
+    (elim (is_place q row) as (λ b. is_place q row ≡ b
+    → mark_at (cond (cond b false true) (row ∷ without_mark q rest) (without_mark q rest)) p ≡ cond here None (mark_at (row ∷ rest) p)) [
+      | true ↦ λ is. without-mark q p rest
+          ∙ (elim here as (λ b. cond b None (mark_at rest p) ≡ cond b None (mark_if b row (mark_at rest p))) [
+            | true ↦ refl
+            | false ↦ refl
+          ]
+          ∙ (ap (λ b. cond here None (mark_if b row (mark_at rest p))) (sym (at-place p q row is))
+          ∙ ap (cond here None) (sym (mark-head row rest p))))
+      | false ↦ λ is. mark-head row (without_mark q rest) p
+          ∙ (ap (mark_if (is_place p row) row) (without-mark q p rest)
+          ∙ (other-row q p row None (mark_at rest p) is
+          ∙ ap (cond here None) (sym (mark-head row rest p))))
+    ]) refl
+
+-- One checkpoint at most for a step
+
+own-row : (row : CheckpointRow) → is_place (step_of row) row ≡ true
+own-row row = own-place (step_of row)
+
+-- a row at another place than the one that is changed keeps its own
+other-own : (p : InstanceStep) (row : CheckpointRow) → is_place p row ≡ false → is_same_step (step_of row) (Some p) ≡ false
+other-own p row off =
+    (elim (is_same_step (step_of row) (Some p)) as (λ b. is_same_step (step_of row) (Some p) ≡ b → is_same_step (step_of row) (Some p) ≡ false) [
+      | true ↦ λ here.
+          let same : is_place p row ≡ true = ap (λ (r : InstanceStep). is_place r row) (same-place (step_of row) p here) ∙ own-row row in
+          cc
+      | false ↦ λ none. none
+    ]) refl
+
+pub apart_with : (p : InstanceStep) (mark : List ℕ) (rows : List CheckpointRow) → AreApart rows → AreApart (with_mark p mark rows)
+apart_with p mark [] apart = (refl, tt)
+apart_with p mark (row ∷ rest) apart =
+    (elim (is_place p row) as (λ b. is_place p row ≡ b → AreApart (cond b (marked p mark ∷ rest) (row ∷ with_mark p mark rest))) [
+      | true ↦ λ is. (ap (mark_at rest) (sym (same-place p (step_of row) is)) ∙ apart.0, apart.1)
+      | false ↦ λ is. (
+          with-mark p mark (step_of row) rest
+          ∙ (ap (λ b. cond b (Some mark) (mark_at rest (step_of row))) (other-own p row is) ∙ apart.0),
+          apart_with p mark rest apart.1,
+        )
+    ]) refl
+
+pub apart_without : (p : InstanceStep) (rows : List CheckpointRow) → AreApart rows → AreApart (without_mark p rows)
+apart_without p [] apart = tt
+apart_without p (row ∷ rest) apart =
+    elim (is_place p row) as (λ b. AreApart (cond (cond b false true) (row ∷ without_mark p rest) (without_mark p rest))) [
+      | true ↦ apart_without p rest apart.1
+      | false ↦ (
+        without-mark p (step_of row) rest
+        ∙ (ap (cond (is_same_step (step_of row) (Some p)) None) apart.0 ∙ nothing (is_same_step (step_of row) (Some p))),
+        apart_without p rest apart.1,
+      )
+    ]
+
+-- What is set
+
+-- the checkpoint at a step is set, and no other
+set-one : (before after : Maps) (p : InstanceStep) (mark : Option (List ℕ)) (rows : List CheckpointRow)
+    → ((q : InstanceStep) → mark_at rows q ≡ cond (is_same_step q (Some p)) mark (mark_at before.checkpoints q))
+    → after ≡ record before { checkpoints = rows } → SetsCheckpoint before after p mark
+set-one before after p mark rows at is =
+    record {
+      here = ap (λ (m : Maps). mark_at m.checkpoints p) is ∙ (at p ∙ ap (λ b. cond b mark (mark_at before.checkpoints p)) (own-place p));
+      others = λ q apart. ap (λ (m : Maps). mark_at m.checkpoints q) is ∙ (at q ∙ ap (λ b. cond b mark (mark_at before.checkpoints q)) (apart-place p q apart));
+      instances = ap (λ (m : Maps). m.instances) is;
+      executions = ap (λ (m : Maps). m.executions) is;
+      works = ap (λ (m : Maps). m.works) is;
+    }
+
+pub set_with : (before after : Maps) (p : InstanceStep) (mark : List ℕ) → after ≡ record before { checkpoints = with_mark p mark before.checkpoints }
+    → SetsCheckpoint before after p (Some mark)
+set_with before after p mark is =
+    set-one before after p (Some mark) (with_mark p mark before.checkpoints) (λ q. with-mark p mark q before.checkpoints) is
+
+pub set_without : (before after : Maps) (p : InstanceStep) → after ≡ record before { checkpoints = without_mark p before.checkpoints }
+    → SetsCheckpoint before after p None
+set_without before after p is =
+    set-one before after p None (without_mark p before.checkpoints) (λ q. without-mark p q before.checkpoints) is
+
+-- the checkpoint of each step, once that of one is set
+pub marks_set : (before after : Maps) (p : InstanceStep) (mark : Option (List ℕ)) → SetsCheckpoint before after p mark
+    → (q : InstanceStep) → mark_at after.checkpoints q ≡ cond (is_same_step q (Some p)) mark (mark_at before.checkpoints q)
+marks_set before after p mark sets q =
+    (elim (is_same_step q (Some p)) as (λ b. is_same_step q (Some p) ≡ b → mark_at after.checkpoints q ≡ cond b mark (mark_at before.checkpoints q)) [
+      | true ↦ λ here. ap (mark_at after.checkpoints) (sym (same-place q p here)) ∙ sets.here
+      | false ↦ λ off. sets.others q (other-place p q off)
+    ]) refl

@@ -1,5 +1,5 @@
 -- Rows that are numbered from one on: where the row of a number stands.
-use Rattle.std.proofs.Common.{◌≡◌, ℕ, zero, suc, ◌+◌, ◌-◌, ◌==◌, ◌<◌, ◌≤◌, Bool, true, false, cond, None, Some, is_some, List, [], ◌∷◌, ◌++◌, length, map, find, set, subst, refl, sym, ◌∙◌, ap, arith}
+use Rattle.std.proofs.Common.{◌≡◌, ℕ, zero, suc, ◌+◌, ◌-◌, ◌==◌, ◌<◌, ◌≤◌, Bool, true, false, cond, None, Some, is_some, List, [], ◌∷◌, ◌++◌, length, map, find, set, drop, subst, refl, sym, ◌∙◌, ap, arith, add-one}
 use Rattle.std.specs.List.{slice_get}
 use Rattle.std.proofs.lemmas.Bool.{eqb-true, eq-eqb, ne_eqb}
 use Rattle.batch_history.specs.Lists.{change_first}
@@ -81,7 +81,39 @@ module _ {R : Type 0} (num : R → ℕ) where
       let back : place ≡ suc place - 1 = omega arith in
       subst (λ (k : ℕ). IsNumberedFrom 1 (map num (set rows k new))) back (set-numbered rows 1 place new h (omega (arith, is)))
 
+  get-some : (rows : List R) (k : ℕ) (row : R) → slice_get rows k ≡ Some row → drop k rows ≡ row ∷ drop (suc k) rows
+  get-some [] k row e = cc
+  get-some (r ∷ rest) zero row e = let same : r ≡ row = cc in ap (λ (x : R). x ∷ rest) same
+  get-some (r ∷ rest) (suc k) row e = get-some rest k row e
+
+  get-none : (rows : List R) (k : ℕ) → slice_get rows k ≡ None → drop k rows ≡ drop (suc k) rows
+  get-none [] zero e = refl
+  get-none [] (suc k) e = refl
+  get-none (r ∷ rest) zero e = cc
+  get-none (r ∷ rest) (suc k) e = get-none rest k e
+
+  some-next : (rows : List R) (place : ℕ) (row : R) → IsNumberedFrom 1 (map num rows) → find (λ row. num row == place + 1) rows ≡ Some row
+      → drop place rows ≡ row ∷ drop (place + 1) rows
+  some-next rows place row h e =
+      get-some rows place row (sym (find-from rows 1 place (place + 1) h (omega arith)) ∙ e)
+      ∙ ap (λ (k : ℕ). row ∷ drop k rows) (sym (add-one place))
+
+  none-next : (rows : List R) (place : ℕ) → IsNumberedFrom 1 (map num rows) → find (λ row. num row == place + 1) rows ≡ None
+      → drop place rows ≡ drop (place + 1) rows
+  none-next rows place h e =
+      get-none rows place (sym (find-from rows 1 place (place + 1) h (omega arith)) ∙ e)
+      ∙ ap (λ (k : ℕ). drop k rows) (sym (add-one place))
+
 -- The row of each kind
+
+-- the job executions from a place on begin with the one of the next number
+pub execution_next : (rows : List ExecutionRow) (place : ℕ) (row : ExecutionRow) → IsNumberedFrom 1 (map (λ (row : ExecutionRow). row.execution) rows)
+    → find (is_execution (place + 1)) rows ≡ Some row → drop place rows ≡ row ∷ drop (place + 1) rows
+execution_next rows place row h e = some-next (λ (row : ExecutionRow). row.execution) rows place row h e
+
+pub no_execution_next : (rows : List ExecutionRow) (place : ℕ) → IsNumberedFrom 1 (map (λ (row : ExecutionRow). row.execution) rows)
+    → find (is_execution (place + 1)) rows ≡ None → drop place rows ≡ drop (place + 1) rows
+no_execution_next rows place h e = none-next (λ (row : ExecutionRow). row.execution) rows place h e
 
 pub instance_found : (rows : List JobInstance) (i : ℕ) → IsNumberedFrom 1 (map (λ (row : JobInstance). row.instance) rows) → at_number i rows ≡ find (is_instance i) rows
 instance_found rows i h = at-find (λ (row : JobInstance). row.instance) rows i h

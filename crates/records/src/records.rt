@@ -4,8 +4,8 @@ ghost use Rattle.batch_history.specs.Answers.{instances_of_job};
 ghost use Rattle.batch_history.specs.Lists.{change_first};
 ghost use Rattle.batch_history.specs.Replies.{is_execution};
 ghost use Rattle.batch_history.specs.Works.{is_work};
-ghost use Rattle.records.specs.Maps.{is_place, is_elsewhere, with_mark, without_mark, mark_at, MayReplaceExecution, MayReplaceWork};
-ghost use Rattle.records.specs.Maps.{no_rows, is_instance, marks_with, at_number};
+ghost use Rattle.records.specs.Maps.{no_rows, is_instance, is_place, mark_at, at_number, AreKeyed, SetsCheckpoint, MayReplaceExecution, MayReplaceWork};
+ghost use Rattle.records.specs.Placed.{is_elsewhere, with_mark, without_mark};
 ghost use Rattle.records.specs.Left.{job_names, names_left, instances_left, executions_of, executions_left, works_of, works_left};
 
 use crate::readers::{ExecutionsOf, InstancesOf, Names, WorksOf};
@@ -18,7 +18,8 @@ use std::marker::Model;
 /// execution and work item, by its number, and one for each step of a job instance that has a
 /// checkpoint.
 ///
-/// Job instances, job executions and work items are each numbered from 1 upwards, without gaps.
+/// Job instances, job executions and work items are each numbered from 1 upwards, without gaps, and a
+/// step of a job instance has one checkpoint at most.
 #[derive(Debug, Drop)]
 pub struct Records {
     instances: Vec<JobInstance>,
@@ -28,13 +29,13 @@ pub struct Records {
 }
 
 impl Model for Records {
-    ghost use Rattle.records.specs.Maps.{Maps, AreNumbered};
+    ghost use Rattle.records.specs.Maps.{Maps, AreKeyed};
 
     ghost Value = { Maps };
 
     ghost view = { λ r. record { instances = r.instances.items; executions = r.executions.items; works = r.works.items; checkpoints = r.checkpoints.items } };
 
-    ghost invariant = { λ r. AreNumbered record { instances = r.instances.items; executions = r.executions.items; works = r.works.items; checkpoints = r.checkpoints.items } };
+    ghost invariant = { λ r. AreKeyed record { instances = r.instances.items; executions = r.executions.items; works = r.works.items; checkpoints = r.checkpoints.items } };
 }
 
 impl Records {
@@ -50,27 +51,6 @@ impl Records {
         }
     }
 
-    /// The job instances, by rising number.
-    pub fn instances(&self) -> &[JobInstance]
-        ensures { result.now ≡ self.now.instances }
-    {
-        self.instances.as_slice()
-    }
-
-    /// The job executions, by rising number.
-    pub fn executions(&self) -> &[ExecutionRow]
-        ensures { result.now ≡ self.now.executions }
-    {
-        self.executions.as_slice()
-    }
-
-    /// The work items, by rising number.
-    pub fn works(&self) -> &[WorkRow]
-        ensures { result.now ≡ self.now.works }
-    {
-        self.works.as_slice()
-    }
-
     /// The job instance of this number, if there is one, in constant time.
     #[tactic(auto, using(crate::proofs::Numbered::instance_found))]
     pub fn instance(&self, i: InstanceId) -> Option<&JobInstance>
@@ -82,7 +62,8 @@ impl Records {
     /// The job execution of this number, if there is one, in constant time.
     #[tactic(auto, using(crate::proofs::Numbered::execution_found))]
     pub fn execution(&self, x: ExecutionId) -> Option<&ExecutionRow>
-        ensures { option_copied result ≡ find (is_execution x) self.now.executions }
+        ensures found { option_copied result ≡ find (is_execution x) self.now.executions }
+        ensures keyed { AreKeyed self.now }
     {
         at_number(self.executions.as_slice(), x.value())
     }
@@ -229,16 +210,15 @@ impl Records {
     /// # Errors
     ///
     /// `OutOfMemory` alone, where a mark is set, and then nothing has changed. Clearing takes no memory.
+    #[tactic(auto, using(crate::proofs::Marks::set_with))]
     pub fn set_checkpoint(
         &mut self,
         i: InstanceId,
         step: T256,
         mark: Option<Text<65536>>,
     ) -> Result<(), OutOfMemory>
-        ensures set { OnOk result (self.new ≡ record self.old {
-          checkpoints = marks_with
-              record { instance = i; step = step } mark self.old.checkpoints;
-        }) }
+        ensures set { OnOk result (SetsCheckpoint self.old self.new
+            record { instance = i; step = step } mark) }
         ensures unchanged { OnErr result (self.new ≡ self.old) }
         ensures cleared { mark ≡ None → IsOk result }
     {

@@ -1,7 +1,8 @@
 use Rattle.std.proofs.Common.{◌≡◌, List, length, set, sym, ◌∙◌, ap, subst, arith}
 use Rattle.batch_history.specs.declared.rows.CheckpointRow.{CheckpointRow}
 use Rattle.batch_history.specs.Checkpoints.{InstanceStep}
-use Rattle.records.specs.Maps.{is_place, marked, with_mark}
+use Rattle.records.specs.Maps.{is_place}
+use Rattle.records.specs.Placed.{marked, with_mark}
 use Rattle.records.proofs.Marks.{held_at}
 use Rattle.records.proofs.records.Records.checkpoint_place.Goals as goal
 

@@ -1,5 +1,5 @@
 use Rattle.std.proofs.Common.{◌≡◌, ◌++◌, ℕ, List, take, drop}
-use Rattle.records.specs.Maps.{with_mark}
+use Rattle.records.specs.Placed.{with_mark}
 use Rattle.records.proofs.records.Records.checkpoint_place.Given as goal
 
 abbrev pub invariant-loop-place : goal.invariant-loop-place

@@ -1,0 +1,20 @@
+-- The checkpoints as they stand in a list, with one set or cleared.
+use Rattle.std.specs.Prelude.{ℕ, Bool, true, false, List, [], ◌∷◌, filter, if◌then◌else◌}
+use Rattle.batch_history.specs.declared.rows.CheckpointRow.{CheckpointRow}
+use Rattle.batch_history.specs.Checkpoints.{InstanceStep}
+use Rattle.records.specs.Maps.{is_place}
+
+abbrev pub is_elsewhere : InstanceStep → CheckpointRow → Bool
+is_elsewhere p row = if is_place p row then false else true
+
+abbrev pub marked : InstanceStep → List ℕ → CheckpointRow
+marked p mark = record { instance = p.instance; step = p.step; mark = mark }
+
+-- the checkpoints with this one at its place
+abbrev pub with_mark : InstanceStep → List ℕ → List CheckpointRow → List CheckpointRow
+with_mark p mark [] = marked p mark ∷ []
+with_mark p mark (row ∷ rest) = if is_place p row then marked p mark ∷ rest else row ∷ with_mark p mark rest
+
+-- the checkpoints without those at this place
+abbrev pub without_mark : InstanceStep → List CheckpointRow → List CheckpointRow
+without_mark p rows = filter (is_elsewhere p) rows
