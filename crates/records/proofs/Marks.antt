@@ -1,5 +1,5 @@
 -- The checkpoint of each step, where the checkpoints stand in a list and one is set or cleared.
-use Rattle.std.proofs.Common.{◌≡◌, ◌≢◌, ℕ, zero, suc, ◌+◌, ◌==◌, ◌&&◌, ◌<◌, Bool, true, false, cond, Option, None, Some, List, [], ◌∷◌, ◌++◌, length, take, drop, set, get_or, find, filter, refl, sym, ◌∙◌, ap, arith, add-one}
+use Rattle.std.proofs.Common.{◌≡◌, ◌≢◌, ℕ, zero, suc, ◌+◌, ◌==◌, ◌&&◌, ◌<◌, Bool, true, false, cond, Option, None, Some, List, [], ◌∷◌, ◌++◌, length, take, drop, set, get_or, find, refl, sym, ◌∙◌, ap, arith, add-one}
 use Rattle.std.specs.Option.{option_map}
 use Rattle.std.specs.Cmp.Lexicographic.{bytes_decides}
 use Rattle.std.specs.Str.{bytes_eq}
@@ -7,7 +7,7 @@ use Rattle.std.proofs.lemmas.Bool.{eqb-true, eq-eqb, and_parts}
 use Rattle.std.proofs.lemmas.List.{take_more, drop_more, append_assoc}
 use Rattle.batch_history.specs.declared.rows.CheckpointRow.{CheckpointRow}
 use Rattle.batch_history.specs.Checkpoints.{InstanceStep, is_same_step}
-use Rattle.records.specs.Placed.{is_elsewhere, marked, with_mark, without_mark}
+use Rattle.records.specs.Placed.{marked, with_mark, without_mark}
 use Rattle.records.specs.Maps.{Maps, step_of, is_place, mark_at, AreApart, SetsCheckpoint}
 
 -- Where the checkpoint of a place stands
@@ -167,10 +167,10 @@ apart_with p mark (row ∷ rest) apart =
     (elim (is_place p row) as (λ b. is_place p row ≡ b → AreApart (cond b (marked p mark ∷ rest) (row ∷ with_mark p mark rest))) [
       | true ↦ λ is. (ap (mark_at rest) (sym (same-place p (step_of row) is)) ∙ apart.0, apart.1)
       | false ↦ λ is. (
-          with-mark p mark (step_of row) rest
-          ∙ (ap (λ b. cond b (Some mark) (mark_at rest (step_of row))) (other-own p row is) ∙ apart.0),
-          apart_with p mark rest apart.1,
-        )
+        with-mark p mark (step_of row) rest
+            ∙ (ap (λ b. cond b (Some mark) (mark_at rest (step_of row))) (other-own p row is) ∙ apart.0),
+        apart_with p mark rest apart.1,
+      )
     ]) refl
 
 pub apart_without : (p : InstanceStep) (rows : List CheckpointRow) → AreApart rows → AreApart (without_mark p rows)
@@ -180,7 +180,7 @@ apart_without p (row ∷ rest) apart =
       | true ↦ apart_without p rest apart.1
       | false ↦ (
         without-mark p (step_of row) rest
-        ∙ (ap (cond (is_same_step (step_of row) (Some p)) None) apart.0 ∙ nothing (is_same_step (step_of row) (Some p))),
+            ∙ (ap (cond (is_same_step (step_of row) (Some p)) None) apart.0 ∙ nothing (is_same_step (step_of row) (Some p))),
         apart_without p rest apart.1,
       )
     ]

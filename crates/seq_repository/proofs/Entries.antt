@@ -1,35 +1,41 @@
 -- How an operation's changes, one at a time, come to what it changes in the rows.
-use Rattle.std.proofs.Common.{◌≡◌, ℕ, ◌+◌, ◌==◌, Bool, true, false, cond, Option, None, Some, List, [], ◌∷◌, ◌++◌, find, refl, sym, ◌∙◌, ap}
+use mathlib.Core.Path.{fun_ext}
+use Rattle.std.proofs.Common.{◌≡◌, ℕ, ◌+◌, ◌==◌, ◌||◌, Bool, true, false, cond, Option, None, Some, List, [], ◌∷◌, ◌++◌, length, find, IfSome, refl, sym, ◌∙◌, ap}
 use Rattle.std.specs.Option.{option_map}
 use Rattle.std.proofs.lemmas.Bool.{eqb-true, eq-eqb}
+use Rattle.batch_ids.specs.Parameters.{Pair}
 use Rattle.batch_ids.specs.declared.metric_step.MetricStep.{MetricStep}
 use Rattle.batch_ids.specs.declared.status.WorkOutcome.{WorkOutcome}
 use Rattle.job_walk.specs.declared.facts.Known.{Known}
 use Rattle.job_walk.specs.declared.facts.Value.{Value}
 use Rattle.jsl_model.specs.Jobs.{JobTree}
-use Rattle.batch_history.specs.declared.call.Call.TheVariants.{Stop, Abandon, Claim, Checkpoint, Finish}
+use Rattle.batch_history.specs.declared.call.Call.TheVariants.{Start, Restart, Stop, Abandon, Claim, Checkpoint, Finish}
 use Rattle.batch_history.specs.declared.call.Reply.{Reply}
 use Rattle.batch_history.specs.declared.call.Reply.TheVariants.{Work, Closed}
 use Rattle.batch_history.specs.declared.call.WorkItem.{WorkItem}
-use Rattle.batch_history.specs.declared.rows.ExecutionRow.{ExecutionRow}
-use Rattle.batch_history.specs.declared.rows.WorkRow.{WorkRow}
 use Rattle.batch_history.specs.declared.rows.CheckpointRow.{CheckpointRow}
+use Rattle.batch_history.specs.declared.rows.ExecutionRow.{ExecutionRow}
+use Rattle.batch_history.specs.declared.rows.JobInstance.{JobInstance}
+use Rattle.batch_history.specs.declared.rows.WorkRow.{WorkRow}
 use Rattle.batch_history.proofs.Folds.{reported, over, over_as}
-use Rattle.batch_history.proofs.Steps.{refreshed, refreshed_by, instance_in, place_in}
-use Rattle.batch_history.specs.Checkpoints.{InstanceStep, instance_step_by}
+use Rattle.batch_history.proofs.Steps.{fresh_row, again_row, refreshed, refreshed_by, instance_in, place_in, rows_after}
+use Rattle.batch_history.specs.Checkpoints.{InstanceStep, instance_step_by, is_same_step, checkpoint_left}
 use Rattle.batch_history.specs.Lists.{change_first, is_at}
+use Rattle.batch_history.specs.Moments.{first_moment}
 use Rattle.batch_history.specs.Replies.{is_execution}
+use Rattle.batch_history.specs.Rows.{Rows}
 use Rattle.batch_history.specs.Walks.{walk_value, walk_of, job_named}
 use Rattle.batch_history.proofs.Knowing.{known_elements, walk_known}
 use Rattle.job_walk.specs.Walk.{fact_of}
 use Rattle.batch_history.specs.Works.{is_work, busy_work}
-use Rattle.seq_repository.specs.Entered.{put_mark, marks_left, kept_after}
-use Rattle.seq_repository.specs.Kept.{Kept, rows_in}
+use Rattle.seq_repository.specs.Kept.{Kept, AreLast, rows_over, rows_in}
+use Rattle.seq_repository.specs.declared.last_numbers.LastNumbers.{LastNumbers}
 use Rattle.batch_history.proofs.Finding.{found-passes}
-use Rattle.records.specs.Maps.{Maps, MayReplaceExecution, MayReplaceWork}
+use Rattle.records.specs.Maps.{Maps, mark_at, is_over, MayReplaceExecution, MayReplaceWork}
 use Rattle.seq_repository.specs.declared.rows.Change.{Change}
 use Rattle.seq_repository.specs.declared.rows.Change.TheVariants.{StopRequest, Abandonment, Claim as TakeUp, Report}
-use Rattle.seq_repository.specs.Changes.{effect_of, row_after, put_row, place_at}
+use Rattle.seq_repository.specs.Changes.{effect_of, row_after, put_row, place_at, SetsMark, LeavesMark}
+use Rattle.seq_repository.proofs.Marks.{mark-set, mark-left, set-alone, left-alone}
 
 -- Changing the first that passes a test
 
@@ -99,41 +105,44 @@ changed-work catalogue works at item rows =
 -- The rows after an operation
 
 -- a stop
-pub stop_rows : (r : Kept) (who at x : ℕ) (reply : Reply)
-    → record r { count = r.count + 1; executions = change_first (is_execution x) (row_after StopRequest r.catalogue r.works at) r.executions }
-    ≡ kept_after r record { who = who; call = Stop x; at = at; reply = reply }
-stop_rows r who at x reply =
-    ap (λ (xs : List ExecutionRow). record r { count = r.count + 1; executions = xs }) (changed_stop r.catalogue r.works at x reply r.executions)
+pub stop_rows : (kept new : Kept) (who at x : ℕ) (reply : Reply)
+    → rows_in new ≡ record (rows_in kept) { count = kept.count + 1; executions = change_first (is_execution x) (row_after StopRequest kept.catalogue kept.records.works at) kept.records.executions }
+    → rows_in new ≡ rows_after (rows_in kept) record { who = who; call = Stop x; at = at; reply = reply }
+stop_rows kept new who at x reply is =
+    is
+    ∙ ap (λ (xs : List ExecutionRow). record (rows_in kept) { count = kept.count + 1; executions = xs }) (changed_stop kept.catalogue kept.records.works at x reply kept.records.executions)
 
 -- an abandonment
-pub abandon_rows : (r : Kept) (who at x : ℕ) (reply : Reply)
-    → record r { count = r.count + 1; executions = change_first (is_execution x) (row_after Abandonment r.catalogue r.works at) r.executions }
-    ≡ kept_after r record { who = who; call = Abandon x; at = at; reply = reply }
-abandon_rows r who at x reply =
-    ap (λ (xs : List ExecutionRow). record r { count = r.count + 1; executions = xs }) (changed_abandon r.catalogue r.works at x reply r.executions)
+pub abandon_rows : (kept new : Kept) (who at x : ℕ) (reply : Reply)
+    → rows_in new ≡ record (rows_in kept) { count = kept.count + 1; executions = change_first (is_execution x) (row_after Abandonment kept.catalogue kept.records.works at) kept.records.executions }
+    → rows_in new ≡ rows_after (rows_in kept) record { who = who; call = Abandon x; at = at; reply = reply }
+abandon_rows kept new who at x reply is =
+    is
+    ∙ ap (λ (xs : List ExecutionRow). record (rows_in kept) { count = kept.count + 1; executions = xs }) (changed_abandon kept.catalogue kept.records.works at x reply kept.records.executions)
 
 -- a claim that closes
-pub closed_rows : (r : Kept) (who at x : ℕ)
-    → record r { count = r.count + 1; executions = change_first (is_execution x) (row_after TakeUp r.catalogue r.works at) r.executions }
-    ≡ kept_after r record { who = who; call = Claim; at = at; reply = Closed x }
-closed_rows r who at x =
-    ap (λ (xs : List ExecutionRow). record r { count = r.count + 1; executions = xs }) (changed_closed r.catalogue r.works at x r.executions)
+pub closed_rows : (kept new : Kept) (who at x : ℕ)
+    → rows_in new ≡ record (rows_in kept) { count = kept.count + 1; executions = change_first (is_execution x) (row_after TakeUp kept.catalogue kept.records.works at) kept.records.executions }
+    → rows_in new ≡ rows_after (rows_in kept) record { who = who; call = Claim; at = at; reply = Closed x }
+closed_rows kept new who at x is =
+    is
+    ∙ ap (λ (xs : List ExecutionRow). record (rows_in kept) { count = kept.count + 1; executions = xs }) (changed_closed kept.catalogue kept.records.works at x kept.records.executions)
 
 -- a claim that hands out a work item
-pub work_rows : (r : Kept) (who at : ℕ) (item : WorkItem) (new : Option ExecutionRow)
+work_rows : (r : Rows) (who at : ℕ) (item : WorkItem) (new : Option ExecutionRow)
     → new ≡ option_map (row_after TakeUp r.catalogue (r.works ++ busy_work who at item ∷ []) at) (find (is_execution item.execution) r.executions)
     → record r { count = r.count + 1; executions = put_row item.execution new r.executions; works = r.works ++ busy_work who at item ∷ [] }
-    ≡ kept_after r record { who = who; call = Claim; at = at; reply = Work item }
+    ≡ rows_after r record { who = who; call = Claim; at = at; reply = Work item }
 work_rows r who at item new is =
     let works : List WorkRow = r.works ++ busy_work who at item ∷ [] in
     ap (λ (xs : List ExecutionRow). record r { count = r.count + 1; executions = xs; works = works })
     (put_found item.execution (row_after TakeUp r.catalogue works at) r.executions new is ∙ changed-work r.catalogue works at item r.executions)
 
 -- the step of a work item in its job instance, by the new row of its job execution
-place-at : (r : Kept) (w : ℕ) (row : WorkRow) (change : Change) (works : List WorkRow) (at : ℕ) (new : Option ExecutionRow)
+place-at : (r : Rows) (w : ℕ) (row : WorkRow) (change : Change) (works : List WorkRow) (at : ℕ) (new : Option ExecutionRow)
     → find (is_work w) r.works ≡ Some row
     → new ≡ option_map (row_after change r.catalogue works at) (find (is_execution row.execution) r.executions)
-    → place_at new row.element ≡ place_in (rows_in r) w
+    → place_at new row.element ≡ place_in r w
 place-at r w row change works at new found is =
     ap (λ (o : Option ExecutionRow). place_at o row.element) is
     ∙ ((elim (find (is_execution row.execution) r.executions) as (λ o. place_at (option_map (row_after change r.catalogue works at) o) row.element
@@ -143,45 +152,50 @@ place-at r w row change works at new found is =
     ]) ∙ ap (instance_step_by (instance_in r.executions)) (sym found))
 
 -- a checkpoint
-pub checkpoint_rows : (r : Kept) (who at w : ℕ) (mark : List ℕ) (step : MetricStep) (reply : Reply) (row : WorkRow) (new : Option ExecutionRow)
+checkpoint_rows : (r : Rows) (who at w : ℕ) (mark : List ℕ) (step : MetricStep) (reply : Reply) (row : WorkRow) (new : Option ExecutionRow) (marks : InstanceStep → Option (List ℕ))
     → find (is_work w) r.works ≡ Some row
     → new ≡ option_map (row_after Report r.catalogue (change_first (is_work w) (reported step) r.works) at) (find (is_execution row.execution) r.executions)
+    → ((p : InstanceStep) → marks p ≡ cond (is_same_step p (place_at new row.element)) (Some mark) (r.checkpoint p))
     → record r {
       count = r.count + 1;
       executions = put_row row.execution new r.executions;
       works = change_first (is_work w) (λ old. reported step row) r.works;
-      checkpoints = put_mark (place_at new row.element) mark r.checkpoints;
-    } ≡ kept_after r record { who = who; call = Checkpoint w mark step; at = at; reply = reply }
-checkpoint_rows r who at w mark step reply row new found is =
+      checkpoint = marks;
+    } ≡ rows_after r record { who = who; call = Checkpoint w mark step; at = at; reply = reply }
+checkpoint_rows r who at w mark step reply row new marks found is marked =
     let works : List WorkRow = change_first (is_work w) (reported step) r.works in
-    let placed : List CheckpointRow = put_mark (place_at new row.element) mark r.checkpoints in
-    ap (λ (xs : List ExecutionRow). record r { count = r.count + 1; executions = xs; works = change_first (is_work w) (λ old. reported step row) r.works; checkpoints = placed })
+    let changed : List ExecutionRow = change_first (is_execution row.execution) (row_after Report r.catalogue works at) r.executions in
+    let marks_at : Option InstanceStep → InstanceStep → Option (List ℕ) = λ o p. cond (is_same_step p o) (Some mark) (r.checkpoint p) in
+    ap (λ (xs : List ExecutionRow). record r { count = r.count + 1; executions = xs; works = change_first (is_work w) (λ old. reported step row) r.works; checkpoint = marks })
     (put_found row.execution (row_after Report r.catalogue works at) r.executions new is)
-    ∙ (ap (λ (ws : List WorkRow). record r { count = r.count + 1; executions = change_first (is_execution row.execution) (row_after Report r.catalogue works at) r.executions; works = ws; checkpoints = placed })
+    ∙ (ap (λ (ws : List WorkRow). record r { count = r.count + 1; executions = changed; works = ws; checkpoint = marks })
     (change-found (is_work w) (reported step) r.works row found)
-    ∙ (ap (λ (p : Option InstanceStep). record r { count = r.count + 1; executions = change_first (is_execution row.execution) (row_after Report r.catalogue works at) r.executions; works = works; checkpoints = put_mark p mark r.checkpoints })
-    (place-at r w row Report works at new found is)
+    ∙ (ap (λ (cs : InstanceStep → Option (List ℕ)). record r { count = r.count + 1; executions = changed; works = works; checkpoint = cs })
+    (fun_ext marked ∙ ap marks_at (place-at r w row Report works at new found is))
     ∙ rw found refl))
 
 -- the end of a work item
-pub finish_rows : (r : Kept) (who at w : ℕ) (outcome : WorkOutcome) (exit : Option (List ℕ)) (step : MetricStep) (reply : Reply) (row : WorkRow) (new : Option ExecutionRow)
+finish_rows : (r : Rows) (who at w : ℕ) (outcome : WorkOutcome) (exit : Option (List ℕ)) (step : MetricStep) (reply : Reply) (row : WorkRow) (new : Option ExecutionRow)
+    (marks : InstanceStep → Option (List ℕ))
     → find (is_work w) r.works ≡ Some row
     → new ≡ option_map (row_after Report r.catalogue (change_first (is_work w) (over outcome exit step at) r.works) at) (find (is_execution row.execution) r.executions)
+    → ((p : InstanceStep) → marks p ≡ cond (is_same_step p (place_at new row.element)) (checkpoint_left outcome (r.checkpoint p)) (r.checkpoint p))
     → record r {
       count = r.count + 1;
       executions = put_row row.execution new r.executions;
       works = change_first (is_work w) (λ old. over outcome exit step at row) r.works;
-      checkpoints = marks_left outcome (place_at new row.element) r.checkpoints;
-    } ≡ kept_after r record { who = who; call = Finish w outcome exit step; at = at; reply = reply }
-finish_rows r who at w outcome exit step reply row new found is =
+      checkpoint = marks;
+    } ≡ rows_after r record { who = who; call = Finish w outcome exit step; at = at; reply = reply }
+finish_rows r who at w outcome exit step reply row new marks found is left =
     let works : List WorkRow = change_first (is_work w) (over outcome exit step at) r.works in
-    let left : List CheckpointRow = marks_left outcome (place_at new row.element) r.checkpoints in
-    ap (λ (xs : List ExecutionRow). record r { count = r.count + 1; executions = xs; works = change_first (is_work w) (λ old. over outcome exit step at row) r.works; checkpoints = left })
+    let changed : List ExecutionRow = change_first (is_execution row.execution) (row_after Report r.catalogue works at) r.executions in
+    let marks_at : Option InstanceStep → InstanceStep → Option (List ℕ) = λ o p. cond (is_same_step p o) (checkpoint_left outcome (r.checkpoint p)) (r.checkpoint p) in
+    ap (λ (xs : List ExecutionRow). record r { count = r.count + 1; executions = xs; works = change_first (is_work w) (λ old. over outcome exit step at row) r.works; checkpoint = marks })
     (put_found row.execution (row_after Report r.catalogue works at) r.executions new is)
-    ∙ (ap (λ (ws : List WorkRow). record r { count = r.count + 1; executions = change_first (is_execution row.execution) (row_after Report r.catalogue works at) r.executions; works = ws; checkpoints = left })
+    ∙ (ap (λ (ws : List WorkRow). record r { count = r.count + 1; executions = changed; works = ws; checkpoint = marks })
     (change-found (is_work w) (over outcome exit step at) r.works row found)
-    ∙ (ap (λ (p : Option InstanceStep). record r { count = r.count + 1; executions = change_first (is_execution row.execution) (row_after Report r.catalogue works at) r.executions; works = works; checkpoints = marks_left outcome p r.checkpoints })
-    (place-at r w row Report works at new found is)
+    ∙ (ap (λ (cs : InstanceStep → Option (List ℕ)). record r { count = r.count + 1; executions = changed; works = works; checkpoint = cs })
+    (fun_ext left ∙ ap marks_at (place-at r w row Report works at new found is))
     ∙ rw found refl))
 
 -- What is found
@@ -203,6 +217,11 @@ changed-row x change catalogue works at known rows row new value found is walk m
     ap Some (made ∙ ap (λ v. refreshed (effect_of change) v at row) walked)
     ∙ ap (option_map (row_after change catalogue works at)) (sym found)
 
+-- a moment that is there stays
+moment-stays : (earlier : Option ℕ) (counts : Bool) (at : ℕ) (now : Option ℕ) → now ≡ first_moment earlier counts at → IfSome earlier (λ t. now ≡ Some t)
+moment-stays None counts at now is = tt
+moment-stays (Some t) counts at now is = is
+
 pub changed-own : (x : ℕ) (change : Change) (at : ℕ) (rows : List ExecutionRow) (row new : ExecutionRow) (value : Value)
     → find (is_execution x) rows ≡ Some row → new ≡ refreshed (effect_of change) value at row → MayReplaceExecution rows x new
 changed-own x change at rows row new value found made = (
@@ -214,6 +233,10 @@ changed-own x change at rows row new value found made = (
     job = ap (λ (r : ExecutionRow). r.job) made;
     parameters = ap (λ (r : ExecutionRow). r.parameters) made;
     create = ap (λ (r : ExecutionRow). r.create) made;
+    stop = λ on. ap (λ (r : ExecutionRow). r.stop) made ∙ ap (λ b. b || (effect_of change).asks) on;
+    abandoned = λ on. ap (λ (r : ExecutionRow). r.abandoned) made ∙ ap (λ b. b || (effect_of change).gives_up) on;
+    start = moment-stays row.start (effect_of change).takes at new.start (ap (λ (r : ExecutionRow). r.start) made);
+    end = moment-stays row.end _ at new.end (ap (λ (r : ExecutionRow). r.end) made);
   },
 )
 
@@ -229,13 +252,14 @@ reported-own w step rows row new found made = (
     kind = ap (λ (r : WorkRow). r.kind) made;
     claimer = ap (λ (r : WorkRow). r.claimer) made;
     start = ap (λ (r : WorkRow). r.start) made;
+    over = λ over. (ap (λ (r : WorkRow). r.state) made, ap (λ (r : WorkRow). r.end) made);
   },
 )
 
--- a work item that is over may stand in its place
+-- a work item that ends may stand in its place
 pub over-own : (w : ℕ) (outcome : WorkOutcome) (exit : List ℕ) (step : MetricStep) (at : ℕ) (rows : List WorkRow) (row new : WorkRow) → find (is_work w) rows ≡ Some row
-    → new ≡ over_as outcome exit step at row → MayReplaceWork rows w new
-over-own w outcome exit step at rows row new found made = (
+    → is_over row.state ≡ false → new ≡ over_as outcome exit step at row → MayReplaceWork rows w new
+over-own w outcome exit step at rows row new found busy made = (
   row,
   found,
   record {
@@ -245,24 +269,13 @@ over-own w outcome exit step at rows row new found made = (
     kind = ap (λ (r : WorkRow). r.kind) made;
     claimer = ap (λ (r : WorkRow). r.claimer) made;
     start = ap (λ (r : WorkRow). r.start) made;
+    over = λ over. cc;
   },
 )
 
 -- The maps, changed one after the other
 
--- the rows over these maps
-abbrev pub rows_with : List JobTree → ℕ → Maps → Kept
-rows_with catalogue count maps =
-    record {
-      catalogue = catalogue;
-      count = count;
-      instances = maps.instances;
-      executions = maps.executions;
-      works = maps.works;
-      checkpoints = maps.checkpoints;
-    }
-
-maps-changed : (old m1 m2 m3 : Maps) (cs : List CheckpointRow) (f : List WorkRow → List WorkRow) (h : List ExecutionRow → List ExecutionRow)
+pub maps-changed : (old m1 m2 m3 : Maps) (cs : List CheckpointRow) (f : List WorkRow → List WorkRow) (h : List ExecutionRow → List ExecutionRow)
     → m1 ≡ record old { checkpoints = cs } → m2 ≡ record m1 { works = f m1.works } → m3 ≡ record m2 { executions = h m2.executions }
     → m3 ≡ record { instances = old.instances; executions = h old.executions; works = f old.works; checkpoints = cs }
 maps-changed old m1 m2 m3 cs f h e1 e2 e3 =
@@ -272,36 +285,45 @@ pub checkpoint-entered : (catalogue : List JobTree) (count : ℕ) (old m1 m2 m3 
     (row kept : WorkRow) (new : Option ExecutionRow) (element marked : List ℕ)
     → find (is_work w) old.works ≡ Some row → kept ≡ reported step row → element ≡ row.element → marked ≡ mark
     → new ≡ option_map (row_after Report catalogue (change_first (is_work w) (reported step) old.works) at) (find (is_execution row.execution) old.executions)
-    → m1 ≡ record old { checkpoints = put_mark (place_at new element) marked old.checkpoints }
+    → SetsMark (place_at new element) (Some marked) old m1
     → m2 ≡ record m1 { works = change_first (is_work w) (λ gone. kept) m1.works }
     → m3 ≡ record m2 { executions = put_row row.execution new m2.executions }
-    → rows_with catalogue (count + 1) m3 ≡ kept_after (rows_with catalogue count old) record { who = who; call = Checkpoint w mark step; at = at; reply = reply }
+    → rows_over catalogue (count + 1) m3 ≡ rows_after (rows_over catalogue count old) record { who = who; call = Checkpoint w mark step; at = at; reply = reply }
 checkpoint-entered catalogue count old m1 m2 m3 who at w mark step reply row kept new element marked found is id same made e1 e2 e3 =
-    ap (rows_with catalogue (count + 1))
-    (maps-changed old m1 m2 m3 _ (change_first (is_work w) (λ gone. kept)) (put_row row.execution new) e1 e2 e3)
-    ∙ (rw is (rw id (rw same (checkpoint_rows (rows_with catalogue count old) who at w mark step reply row new found made))))
+    let marks : (p : InstanceStep) → mark_at m1.checkpoints p ≡ cond (is_same_step p (place_at new row.element)) (Some mark) (mark_at old.checkpoints p) =
+    λ p. mark-set (place_at new element) (Some marked) old m1 e1 p
+    ∙ (ap (λ (i : List ℕ). cond (is_same_step p (place_at new i)) (Some marked) (mark_at old.checkpoints p)) id
+    ∙ ap (λ (m : List ℕ). cond (is_same_step p (place_at new row.element)) (Some m) (mark_at old.checkpoints p)) same) in
+    ap (rows_over catalogue (count + 1))
+    (maps-changed old m1 m2 m3 m1.checkpoints (change_first (is_work w) (λ gone. kept)) (put_row row.execution new) (set-alone (place_at new element) (Some marked) old m1 e1) e2 e3)
+    ∙ (ap (λ (k : WorkRow). rows_over catalogue (count + 1) record { instances = old.instances; executions = put_row row.execution new old.executions; works = change_first (is_work w) (λ gone. k) old.works; checkpoints = m1.checkpoints }) is
+    ∙ checkpoint_rows (rows_over catalogue count old) who at w mark step reply row new (mark_at m1.checkpoints) found made marks)
 
 pub finish-entered : (catalogue : List JobTree) (count : ℕ) (old m1 m2 m3 : Maps) (who at w : ℕ) (outcome : WorkOutcome) (exit : Option (List ℕ)) (step : MetricStep) (reply : Reply)
     (row kept : WorkRow) (new : Option ExecutionRow) (element : List ℕ)
     → find (is_work w) old.works ≡ Some row → kept ≡ over outcome exit step at row → element ≡ row.element
     → new ≡ option_map (row_after Report catalogue (change_first (is_work w) (over outcome exit step at) old.works) at) (find (is_execution row.execution) old.executions)
-    → m1 ≡ record old { checkpoints = marks_left outcome (place_at new element) old.checkpoints }
+    → LeavesMark outcome (place_at new element) old m1
     → m2 ≡ record m1 { works = change_first (is_work w) (λ gone. kept) m1.works }
     → m3 ≡ record m2 { executions = put_row row.execution new m2.executions }
-    → rows_with catalogue (count + 1) m3 ≡ kept_after (rows_with catalogue count old) record { who = who; call = Finish w outcome exit step; at = at; reply = reply }
+    → rows_over catalogue (count + 1) m3 ≡ rows_after (rows_over catalogue count old) record { who = who; call = Finish w outcome exit step; at = at; reply = reply }
 finish-entered catalogue count old m1 m2 m3 who at w outcome exit step reply row kept new element found is id made e1 e2 e3 =
-    ap (rows_with catalogue (count + 1))
-    (maps-changed old m1 m2 m3 _ (change_first (is_work w) (λ gone. kept)) (put_row row.execution new) e1 e2 e3)
-    ∙ (rw is (rw id (finish_rows (rows_with catalogue count old) who at w outcome exit step reply row new found made)))
+    let marks : (p : InstanceStep) → mark_at m1.checkpoints p ≡ cond (is_same_step p (place_at new row.element)) (checkpoint_left outcome (mark_at old.checkpoints p)) (mark_at old.checkpoints p) =
+    λ p. mark-left outcome (place_at new element) old m1 e1 p
+    ∙ ap (λ (i : List ℕ). cond (is_same_step p (place_at new i)) (checkpoint_left outcome (mark_at old.checkpoints p)) (mark_at old.checkpoints p)) id in
+    ap (rows_over catalogue (count + 1))
+    (maps-changed old m1 m2 m3 m1.checkpoints (change_first (is_work w) (λ gone. kept)) (put_row row.execution new) (left-alone outcome (place_at new element) old m1 e1) e2 e3)
+    ∙ (ap (λ (k : WorkRow). rows_over catalogue (count + 1) record { instances = old.instances; executions = put_row row.execution new old.executions; works = change_first (is_work w) (λ gone. k) old.works; checkpoints = m1.checkpoints }) is
+    ∙ finish_rows (rows_over catalogue count old) who at w outcome exit step reply row new (mark_at m1.checkpoints) found made marks)
 
 pub change-entered : (catalogue : List JobTree) (count : ℕ) (old m : Maps) (at x : ℕ) (change : Change) (new : Option ExecutionRow)
     → new ≡ option_map (row_after change catalogue old.works at) (find (is_execution x) old.executions)
     → m ≡ record old { executions = put_row x new old.executions }
-    → rows_with catalogue (count + 1) m
-    ≡ record (rows_with catalogue count old) { count = count + 1; executions = change_first (is_execution x) (row_after change catalogue old.works at) old.executions }
+    → rows_over catalogue (count + 1) m
+    ≡ record (rows_over catalogue count old) { count = count + 1; executions = change_first (is_execution x) (row_after change catalogue old.works at) old.executions }
 change-entered catalogue count old m at x change new made e =
-    ap (rows_with catalogue (count + 1)) e
-    ∙ ap (λ (xs : List ExecutionRow). rows_with catalogue (count + 1) (record old { executions = xs }))
+    ap (rows_over catalogue (count + 1)) e
+    ∙ ap (λ (xs : List ExecutionRow). rows_over catalogue (count + 1) (record old { executions = xs }))
     (put_found x (row_after change catalogue old.works at) old.executions new made)
 
 pub work-entered : (catalogue : List JobTree) (count : ℕ) (old m1 m2 : Maps) (who at : ℕ) (item : WorkItem) (kept : WorkRow) (new : Option ExecutionRow)
@@ -309,7 +331,34 @@ pub work-entered : (catalogue : List JobTree) (count : ℕ) (old m1 m2 : Maps) (
     → new ≡ option_map (row_after TakeUp catalogue (old.works ++ busy_work who at item ∷ []) at) (find (is_execution item.execution) old.executions)
     → m1 ≡ record old { works = old.works ++ kept ∷ [] }
     → m2 ≡ record m1 { executions = put_row item.execution new m1.executions }
-    → rows_with catalogue (count + 1) m2 ≡ kept_after (rows_with catalogue count old) record { who = who; call = Claim; at = at; reply = Work item }
+    → rows_over catalogue (count + 1) m2 ≡ rows_after (rows_over catalogue count old) record { who = who; call = Claim; at = at; reply = Work item }
 work-entered catalogue count old m1 m2 who at item kept new is made e1 e2 =
-    ap (rows_with catalogue (count + 1)) (e2 ∙ ap (λ (m : Maps). record m { executions = put_row item.execution new m.executions }) e1)
-    ∙ (rw is (work_rows (rows_with catalogue count old) who at item new made))
+    ap (rows_over catalogue (count + 1)) (e2 ∙ ap (λ (m : Maps). record m { executions = put_row item.execution new m.executions }) e1)
+    ∙ (ap (λ (k : WorkRow). rows_over catalogue (count + 1) (record old { executions = put_row item.execution new old.executions; works = old.works ++ k ∷ [] })) is
+    ∙ work_rows (rows_over catalogue count old) who at item new made)
+
+pub start-entered : (catalogue : List JobTree) (count : ℕ) (last : LastNumbers) (old m : Maps) (who at : ℕ) (job : List ℕ) (parameters : List Pair) (reply : Reply)
+    (made : JobInstance) (row : ExecutionRow) → AreLast last old
+    → made ≡ record { instance = last.instance + 1; job = job } → row ≡ fresh_row (last.execution + 1) (last.instance + 1) at job parameters
+    → m ≡ record old { instances = old.instances ++ made ∷ []; executions = old.executions ++ row ∷ [] }
+    → rows_over catalogue (count + 1) m ≡ rows_after (rows_over catalogue count old) record { who = who; call = Start job parameters; at = at; reply = reply }
+start-entered catalogue count last old m who at job parameters reply made row lasts begun is e =
+    let rows : JobInstance → ExecutionRow → Rows = λ i r. rows_over catalogue (count + 1) (record old { instances = old.instances ++ i ∷ []; executions = old.executions ++ r ∷ [] }) in
+    let numbered : ℕ → ℕ → Rows = λ i x. rows record { instance = i + 1; job = job } (fresh_row (x + 1) (i + 1) at job parameters) in
+    ap (rows_over catalogue (count + 1)) e
+    ∙ (ap (λ (i : JobInstance). rows i row) begun
+    ∙ (ap (λ (r : ExecutionRow). rows record { instance = last.instance + 1; job = job } r) is
+    ∙ (ap (λ (i : ℕ). numbered i last.execution) lasts.instance
+    ∙ ap (λ (x : ℕ). numbered (length old.instances) x) lasts.execution)))
+
+pub restart-entered : (catalogue : List JobTree) (count : ℕ) (last : LastNumbers) (old m : Maps) (who at y : ℕ) (parameters : List Pair) (reply : Reply)
+    (earlier row : ExecutionRow) → AreLast last old → find (is_execution y) old.executions ≡ Some earlier
+    → row ≡ fresh_row (last.execution + 1) earlier.instance at earlier.job parameters
+    → m ≡ record old { executions = old.executions ++ row ∷ [] }
+    → rows_over catalogue (count + 1) m ≡ rows_after (rows_over catalogue count old) record { who = who; call = Restart y parameters; at = at; reply = reply }
+restart-entered catalogue count last old m who at y parameters reply earlier row lasts found is e =
+    let rows : ExecutionRow → Rows = λ r. rows_over catalogue (count + 1) (record old { executions = old.executions ++ r ∷ [] }) in
+    ap (rows_over catalogue (count + 1)) e
+    ∙ (ap rows is
+    ∙ (ap (λ (x : ℕ). rows (fresh_row (x + 1) earlier.instance at earlier.job parameters)) lasts.execution
+    ∙ ap (λ (o : Option ExecutionRow). rows (again_row (length old.executions + 1) at parameters o)) (sym found)))

@@ -3,7 +3,9 @@ pub mod Knowing
 pub mod Lists
 pub mod Metering
 pub mod Pages
+pub mod Readers
 pub mod Replying
+pub mod Sound
 pub mod Tallies
 pub mod Marks
 pub mod Standing

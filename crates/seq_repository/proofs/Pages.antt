@@ -1,52 +1,89 @@
--- A page of the newest job instances, gathered from the last to the first.
-use Rattle.std.proofs.Common.{◌≡◌, ℕ, ◌+◌, ◌-◌, ◌<◌, ◌≤◌, Bool, true, false, cond, List, [], ◌∷◌, ◌++◌, suc, length, take, reverse, get_or, refl, sym, ◌∙◌, ap, arith}
-use Rattle.std.proofs.lemmas.List.{take_more, append_assoc, length-append, reverse-append}
-use Rattle.std.specs.Str.{bytes_eq}
+-- A page of the newest job instances, gathered from the oldest on.
+use Rattle.std.proofs.Common.{◌≡◌, ℕ, zero, suc, ◌-◌, ◌<◌, ◌≤◌, Bool, true, false, cond, nat_lt, List, [], ◌∷◌, ◌++◌, length, take, drop, reverse, refl, sym, ◌∙◌, ap, arith}
+use Rattle.std.proofs.lemmas.Bool.{ltb-true, ltb-false}
+use Rattle.std.proofs.lemmas.List.{append-nil, take-append-le, drop-append-le, length-append, length-drop, length-reverse, reverse-append}
 use Rattle.batch_history.specs.declared.rows.JobInstance.{JobInstance}
-use Rattle.batch_history.specs.Answers.{instances_of_job, page}
+use Rattle.batch_history.specs.Answers.{page}
+use Rattle.seq_repository.specs.Searches.{is_on_page}
 
-named-append : (name : List ℕ) (rows : List JobInstance) (row : JobInstance) → bytes_eq row.job name ≡ true → instances_of_job name (rows ++ row ∷ []) ≡ instances_of_job name rows ++ row ∷ []
-named-append name [] row is = ap (λ (b : Bool). cond b (row ∷ []) []) is
-named-append name (first ∷ rest) row is =
-    ap (λ (l : List JobInstance). cond (bytes_eq first.job name) (first ∷ l) l) (named-append name rest row is)
-    ∙ (elim (bytes_eq first.job name) as (λ b. cond b (first ∷ (instances_of_job name rest ++ row ∷ [])) (instances_of_job name rest ++ row ∷ []) ≡ cond b (first ∷ instances_of_job name rest) (instances_of_job name rest) ++ row ∷ []) [
-      | true ↦ refl
-      | false ↦ refl
-    ])
+-- those that the page shows, the oldest first
+abbrev pub on_page : ℕ → ℕ → List JobInstance → List JobInstance
+on_page start count [] = []
+on_page start count (row ∷ rest) = cond (is_on_page start count (length rest)) (row ∷ on_page start count rest) (on_page start count rest)
 
--- the newest of those up to a place stands there
-newest-at : (name : List ℕ) (rows : List JobInstance) (place : ℕ) (row : JobInstance) → 1 ≤ place → place ≤ length rows
-    → row ≡ get_or rows (place - 1) row → bytes_eq row.job name ≡ true
-    → reverse (instances_of_job name (take place rows)) ≡ row ∷ reverse (instances_of_job name (take (place - 1) rows))
-newest-at name rows place row first last at is =
-    let back : place ≡ place - 1 + 1 = omega (arith, first) in
-    ap (λ k. reverse (instances_of_job name (take k rows))) back
-    ∙ (ap (λ (l : List JobInstance). reverse (instances_of_job name l)) (take_more rows (place - 1) row (omega (arith, first, last)) ∙ ap (λ (r : JobInstance). take (place - 1) rows ++ r ∷ []) (sym at))
-    ∙ (ap reverse (named-append name (take (place - 1) rows) row is)
-    ∙ reverse-append (instances_of_job name (take (place - 1) rows)) (row ∷ [])))
+take-nothing : {A : Type 0} (n : ℕ) → take {A = A} n [] ≡ []
+take-nothing zero = refl
+take-nothing (suc n) = refl
 
--- one more is left out
-pub left_out : (name : List ℕ) (rows found whole : List JobInstance) (start out count place : ℕ) (row : JobInstance) → 1 ≤ place → place ≤ length rows
-    → row ≡ get_or rows (place - 1) row → bytes_eq row.job name ≡ true → out < start
-    → found ++ page (start - out) count (reverse (instances_of_job name (take place rows))) ≡ whole
-    → found ++ page (start - (out + 1)) count (reverse (instances_of_job name (take (place - 1) rows))) ≡ whole
-left_out name rows found whole start out count place row first last at is lt so_far =
-    let more : start - out ≡ suc (start - (out + 1)) = omega (arith, lt) in
-    sym (ap (λ (n : ℕ). found ++ page n count (reverse (instances_of_job name (take place rows)))) more
-    ∙ ap (λ (l : List JobInstance). found ++ page (suc (start - (out + 1))) count l) (newest-at name rows place row first last at is))
-    ∙ so_far
+drop-nothing : {A : Type 0} (n : ℕ) → drop {A = A} n [] ≡ []
+drop-nothing zero = refl
+drop-nothing (suc n) = refl
 
--- one more is gathered
-pub gathered : (name : List ℕ) (rows found whole : List JobInstance) (left count place : ℕ) (row : JobInstance) → 1 ≤ place → place ≤ length rows
-    → row ≡ get_or rows (place - 1) row → bytes_eq row.job name ≡ true → left ≡ 0 → length found < count
-    → found ++ page left (count - length found) (reverse (instances_of_job name (take place rows))) ≡ whole
-    → (found ++ row ∷ []) ++ page left (count - length (found ++ row ∷ [])) (reverse (instances_of_job name (take (place - 1) rows))) ≡ whole
-gathered name rows found whole left count place row first last at is none lt so_far =
-    let rest : List JobInstance = reverse (instances_of_job name (take (place - 1) rows)) in
-    let more : count - length found ≡ suc (count - length (found ++ row ∷ [])) = omega (arith, lt, length-append found (row ∷ [])) in
-    append_assoc found (row ∷ []) (page left (count - length (found ++ row ∷ [])) rest)
-    ∙ (ap (λ (n : ℕ). found ++ row ∷ page n (count - length (found ++ row ∷ [])) rest) none
-    ∙ (sym (ap (λ (n : ℕ). found ++ page n (count - length found) (reverse (instances_of_job name (take place rows)))) none
-    ∙ (ap (λ (n : ℕ). found ++ page 0 n (reverse (instances_of_job name (take place rows)))) more
-    ∙ ap (λ (l : List JobInstance). found ++ page 0 (suc (count - length (found ++ row ∷ []))) l) (newest-at name rows place row first last at is)))
-    ∙ so_far))
+take-whole : {A : Type 0} (n : ℕ) (xs : List A) → length xs ≤ n → take n xs ≡ xs
+take-whole n [] le = take-nothing n
+take-whole zero (x ∷ xs) le = absurd (omega (arith, le))
+take-whole (suc n) (x ∷ xs) le = ap (λ l. x ∷ l) (take-whole n xs (omega (arith, le)))
+
+drop-whole : {A : Type 0} (n : ℕ) (xs : List A) → length xs ≤ n → drop n xs ≡ []
+drop-whole n [] le = drop-nothing n
+drop-whole zero (x ∷ xs) le = absurd (omega (arith, le))
+drop-whole (suc n) (x ∷ xs) le = drop-whole n xs (omega (arith, le))
+
+-- a page of so many and one that is older than they
+older-left : (start count n : ℕ) (ys : List JobInstance) (x : JobInstance) → n ≡ length ys → nat_lt n start ≡ true → page start count (ys ++ x ∷ []) ≡ page start count ys ++ []
+older-left start count n ys x is lt =
+    let few : n < start = ltb-true n start lt in
+    ap (take count) (drop-whole start (ys ++ x ∷ []) (omega (arith, few, is, length-append ys (x ∷ []))))
+    ∙ (ap (take count) (sym (drop-whole start ys (omega (arith, few, is)))) ∙ sym (append-nil (page start count ys)))
+
+older-shown : (start count n : ℕ) (ys : List JobInstance) (x : JobInstance) → n ≡ length ys → nat_lt n start ≡ false → nat_lt (n - start) count ≡ true
+    → page start count (ys ++ x ∷ []) ≡ page start count ys ++ x ∷ []
+older-shown start count n ys x is ge lt =
+    let enough : start ≤ n = ltb-false n start ge in
+    let room : n - start < count = ltb-true (n - start) count lt in
+    let kept : List JobInstance = drop start ys in
+    let short : length kept ≡ n - start = length-drop start ys ∙ ap (λ k. k - start) (sym is) in
+    ap (take count) (drop-append-le start ys (x ∷ []) (omega (arith, enough, is)))
+    ∙ (take-whole count (kept ++ x ∷ []) (omega (arith, room, short, length-append kept (x ∷ [])))
+    ∙ ap (λ (l : List JobInstance). l ++ x ∷ []) (sym (take-whole count kept (omega (arith, room, short)))))
+
+older-behind : (start count n : ℕ) (ys : List JobInstance) (x : JobInstance) → n ≡ length ys → nat_lt n start ≡ false → nat_lt (n - start) count ≡ false
+    → page start count (ys ++ x ∷ []) ≡ page start count ys ++ []
+older-behind start count n ys x is ge full =
+    let enough : start ≤ n = ltb-false n start ge in
+    let most : count ≤ n - start = ltb-false (n - start) count full in
+    let kept : List JobInstance = drop start ys in
+    let long : length kept ≡ n - start = length-drop start ys ∙ ap (λ k. k - start) (sym is) in
+    ap (take count) (drop-append-le start ys (x ∷ []) (omega (arith, enough, is)))
+    ∙ (take-append-le count kept (x ∷ []) (omega (arith, most, long)) ∙ sym (append-nil (page start count ys)))
+
+-- whether one that so many are newer than is shown
+abbrev shown-if : Bool → JobInstance → List JobInstance
+shown-if true x = x ∷ []
+shown-if false x = []
+
+older-one : (start count n : ℕ) (ys : List JobInstance) (x : JobInstance) → n ≡ length ys
+    → page start count (ys ++ x ∷ []) ≡ page start count ys ++ shown-if (is_on_page start count n) x
+older-one start count n ys x is =
+    (elim (nat_lt n start) as (λ b. nat_lt n start ≡ b
+    → page start count (ys ++ x ∷ []) ≡ page start count ys ++ shown-if (cond b false (nat_lt (n - start) count)) x) [
+      | true ↦ λ lt. older-left start count n ys x is lt
+      | false ↦ λ ge.
+          (elim (nat_lt (n - start) count) as (λ b. nat_lt (n - start) count ≡ b → page start count (ys ++ x ∷ []) ≡ page start count ys ++ shown-if b x) [
+            | true ↦ λ lt. older-shown start count n ys x is ge lt
+            | false ↦ λ full. older-behind start count n ys x is ge full
+          ]) refl
+    ]) refl
+
+shown-turned : (b : Bool) (x : JobInstance) (xs : List JobInstance) → reverse (cond b (x ∷ xs) xs) ≡ reverse xs ++ shown-if b x
+shown-turned true x xs = reverse-append (x ∷ []) xs
+shown-turned false x xs = sym (append-nil (reverse xs))
+
+-- the page, the newest first
+pub page_turned : (start count : ℕ) (rows : List JobInstance) → reverse (on_page start count rows) ≡ page start count (reverse rows)
+page_turned start count [] = sym (ap (take count) (drop-nothing start) ∙ take-nothing count)
+page_turned start count (row ∷ rest) =
+    shown-turned (is_on_page start count (length rest)) row (on_page start count rest)
+    ∙ (ap (λ (l : List JobInstance). l ++ shown-if (is_on_page start count (length rest)) row) (page_turned start count rest)
+    ∙ (sym (older-one start count (length rest) (reverse rest) row (sym (length-reverse rest)))
+    ∙ ap (page start count) (sym (reverse-append (row ∷ []) rest))))

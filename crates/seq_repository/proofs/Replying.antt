@@ -1,5 +1,5 @@
 -- What an accepted reply says.
-use Rattle.std.proofs.Common.{◌≡◌, ℕ, ◌+◌, ◌<◌, true, false, cond, Option, None, Some, Result, Ok, Err, is_some, List, [], find, length, refl, sym, ◌∙◌, ap}
+use Rattle.std.proofs.Common.{◌≡◌, ℕ, ◌+◌, ◌<◌, true, false, cond, Option, None, Some, Result, Ok, Err, IfSome, is_some, List, [], find, length, refl, sym, ◌∙◌, ap}
 use Rattle.batch_ids.specs.Parameters.{Pair}
 use Rattle.batch_ids.specs.declared.refusal.Refusal.{Refusal}
 use Rattle.batch_ids.specs.declared.refusal.Refusal.TheVariants.{NoSuchJobExecutionException}
@@ -11,8 +11,11 @@ use Rattle.batch_history.specs.declared.call.Entry.{Entry}
 use Rattle.batch_history.specs.declared.call.WorkItem.{WorkItem}
 use Rattle.batch_history.specs.declared.rows.ExecutionRow.{ExecutionRow}
 use Rattle.batch_history.specs.declared.rows.WorkRow.{WorkRow}
+use Rattle.batch_history.specs.declared.rows.WorkState.{WorkState}
+use Rattle.batch_history.specs.declared.rows.WorkState.TheVariants.{Busy, Over}
+use Rattle.records.specs.Maps.{is_over}
 use Rattle.batch_history.specs.Due.{IsDue}
-use Rattle.batch_history.specs.Replies.{reply_by, accepted, is_execution, reply_to_claim, claim_reply, reply_to_checkpoint, reply_to_finish, first_ready, walk_in_rows, has_something, is_nothing}
+use Rattle.batch_history.specs.Replies.{reply_by, accepted, is_execution, reply_to_claim, claim_reply, reply_to_checkpoint, reply_to_finish, first_ready, walk_in_rows, has_something, is_nothing, report_refusal, reply_to_end, stop_requested_of, unless}
 use Rattle.batch_history.specs.Rows.{History, Rows}
 use Rattle.seq_repository.specs.Kept.{Kept, rows_in, IsNext}
 use Rattle.batch_history.specs.declared.call.Call.{Call}
@@ -47,6 +50,17 @@ checkpointed_there limit r who (Some row) given e = refl
 pub finished_there : (limit : ℕ) (r : Rows) (who : ℕ) (outcome : WorkOutcome) (found : Option WorkRow) (given : Reply) → reply_to_finish limit r who outcome found ≡ Ok given → is_some found ≡ true
 finished_there limit r who outcome None given e = cc
 finished_there limit r who outcome (Some row) given e = refl
+
+-- what is finished is not over yet
+refused-over : (limit : ℕ) (r : Rows) (who : ℕ) (outcome : WorkOutcome) (row : WorkRow) (state : WorkState) (given : Reply)
+    → unless (report_refusal who row.claimer state) (reply_to_end limit r.count (stop_requested_of r row.execution) row.kind outcome) ≡ Ok given → is_over state ≡ false
+refused-over limit r who outcome row Busy given e = refl
+refused-over limit r who outcome row (Over ended exit) given e = cc
+
+pub finished_busy : (limit : ℕ) (r : Rows) (who : ℕ) (outcome : WorkOutcome) (found : Option WorkRow) (given : Reply) → reply_to_finish limit r who outcome found ≡ Ok given
+    → IfSome found (λ row. is_over row.state ≡ false)
+finished_busy limit r who outcome None given e = tt
+finished_busy limit r who outcome (Some row) given e = refused-over limit r who outcome row row.state given e
 
 -- there is room for what is accepted
 pub accepted_room : (limit : ℕ) (kept : Kept) (who : ℕ) (call : Call) (given : Reply) → reply_by limit (rows_in kept) who call ≡ Ok given → is_nothing given ≡ false

@@ -1,9 +1,11 @@
 -- Counts by batch status, one job execution more at a time.
-use Rattle.std.proofs.Common.{◌≡◌, ℕ, ◌+◌, ap, arith}
+use Rattle.std.proofs.Common.{◌≡◌, ℕ, ◌+◌, List, ◌∷◌, sym, ◌∙◌, ap, arith}
 use Rattle.batch_ids.specs.declared.status.BatchStatus.{BatchStatus}
 use Rattle.batch_ids.specs.declared.status.BatchStatus.TheVariants.{Starting, Started, Stopping, Stopped, Failed, Completed, Abandoned}
 use Rattle.batch_history.specs.declared.query.CountsByStatus.{CountsByStatus}
-use Rattle.batch_history.specs.Answers.{no_counts, with_one_more, total}
+use Rattle.batch_history.specs.declared.rows.ExecutionRow.{ExecutionRow}
+use Rattle.batch_history.specs.Answers.{no_counts, with_one_more, counts_of, total}
+use Rattle.batch_history.specs.Replies.{row_status}
 
 -- the counts of two lists together
 abbrev pub both : CountsByStatus → CountsByStatus → CountsByStatus
@@ -45,3 +47,11 @@ total_counted Stopped a = omega arith
 total_counted Failed a = omega arith
 total_counted Completed a = omega arith
 total_counted Abandoned a = omega arith
+
+-- the next job execution is counted
+pub counted_next : (counts new : CountsByStatus) (status : BatchStatus) (row : ExecutionRow) (rows left rest : List ExecutionRow) → left ≡ row ∷ rest
+    → both counts (counts_of left) ≡ counts_of rows → new ≡ with_one_more status counts → status ≡ row_status row → both new (counts_of rest) ≡ counts_of rows
+counted_next counts new status row rows left rest is so_far more same =
+    ap (λ n. both n (counts_of rest)) (more ∙ ap (λ s. with_one_more s counts) same)
+    ∙ (both_counted (row_status row) counts (counts_of rest)
+    ∙ (ap (λ (l : List ExecutionRow). both counts (counts_of l)) (sym is) ∙ so_far))

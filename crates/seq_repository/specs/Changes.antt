@@ -1,6 +1,8 @@
 -- What an operation does to the job execution that it is on.
-use Rattle.std.specs.Prelude.{ℕ, true, false, Option, None, Some, List}
+use Rattle.std.specs.Prelude.{ℕ, ◌≡◌, true, false, Option, None, Some, List}
 use Rattle.std.specs.Option.{option_map}
+use Rattle.batch_ids.specs.declared.status.WorkOutcome.{WorkOutcome}
+use Rattle.batch_ids.specs.declared.status.WorkOutcome.TheVariants.{Completed, Failed, Stopped}
 use Rattle.jsl_model.specs.Jobs.{JobTree}
 use Rattle.batch_history.specs.declared.rows.ExecutionRow.{ExecutionRow}
 use Rattle.batch_history.specs.declared.rows.WorkRow.{WorkRow}
@@ -9,6 +11,7 @@ use Rattle.batch_history.specs.Checkpoints.{InstanceStep}
 use Rattle.batch_history.specs.Lists.{change_first}
 use Rattle.batch_history.specs.Replies.{is_execution}
 use Rattle.batch_history.specs.Walks.{walk_value}
+use Rattle.records.specs.Maps.{Maps, SetsCheckpoint}
 use Rattle.seq_repository.specs.declared.rows.Change.{Change}
 use Rattle.seq_repository.specs.declared.rows.Change.TheVariants.{StopRequest, Abandonment, Claim as TakeUp, Report}
 
@@ -32,3 +35,14 @@ put_row x (Some row) rows = change_first (is_execution x) (λ old. row) rows
 -- the step of the job instance of this job execution, if there is one
 abbrev pub place_at : Option ExecutionRow → List ℕ → Option InstanceStep
 place_at row step = option_map (λ r. record { instance = r.instance; step = step }) row
+
+-- the checkpoint of this step, if there is one, is set to this mark or cleared, and no other row changes
+abbrev pub SetsMark : Option InstanceStep → Option (List ℕ) → Maps → Maps → Type 0
+SetsMark None mark before after = after ≡ before
+SetsMark (Some p) mark before after = SetsCheckpoint before after p mark
+
+-- a step that is completed keeps no checkpoint
+abbrev pub LeavesMark : WorkOutcome → Option InstanceStep → Maps → Maps → Type 0
+LeavesMark Completed p before after = SetsMark p None before after
+LeavesMark Failed p before after = after ≡ before
+LeavesMark Stopped p before after = after ≡ before

@@ -1,36 +1,54 @@
 -- What a repository keeps, and the histories that it stands for.
-use Rattle.std.specs.Prelude.{ℕ, ◌≡◌, List}
+use Rattle.std.specs.Prelude.{ℕ, ◌≡◌, ◌≤◌, List, length}
+use Rattle.batch_ids.specs.Metrics.{most_after}
 use Rattle.jsl_model.specs.Jobs.{JobTree}
 use Rattle.batch_history.specs.Legal.{IsLegal, grown}
 use Rattle.batch_history.specs.Rows.{History, Rows, rows}
 use Rattle.batch_history.specs.declared.call.Entry.{Entry}
-use Rattle.batch_history.specs.declared.rows.CheckpointRow.{CheckpointRow}
-use Rattle.batch_history.specs.declared.rows.ExecutionRow.{ExecutionRow}
-use Rattle.batch_history.specs.declared.rows.JobInstance.{JobInstance}
-use Rattle.batch_history.specs.declared.rows.WorkRow.{WorkRow}
-use Rattle.records.specs.Maps.{mark_at}
+use Rattle.records.specs.Maps.{Maps, mark_at}
+use Rattle.seq_repository.specs.Metered.{AreWithin}
+use Rattle.seq_repository.specs.declared.last_numbers.LastNumbers.{LastNumbers}
 
--- what a repository keeps: a catalogue, how many operations were accepted, a row for each job instance, job execution and
--- work item, by rising number, and one for each step of a job instance that has a checkpoint, in any order
+-- what a repository keeps: a catalogue, how many operations were accepted, the last number that was given to a job
+-- instance, a job execution and a work item, and the rows
 pub record Kept : Type 0 where
   pub catalogue : List JobTree
   pub count : ℕ
-  pub instances : List JobInstance
-  pub executions : List ExecutionRow
-  pub works : List WorkRow
-  pub checkpoints : List CheckpointRow
+  pub last : LastNumbers
+  pub records : Maps
+
+-- what these rows say, over a catalogue and after so many operations
+abbrev pub rows_over : List JobTree → ℕ → Maps → Rows
+rows_over catalogue count maps =
+    record {
+      catalogue = catalogue;
+      count = count;
+      instances = maps.instances;
+      executions = maps.executions;
+      works = maps.works;
+      checkpoint = mark_at maps.checkpoints;
+    }
 
 -- what it says
 abbrev pub rows_in : Kept → Rows
-rows_in kept =
-    record {
-      catalogue = kept.catalogue;
-      count = kept.count;
-      instances = kept.instances;
-      executions = kept.executions;
-      works = kept.works;
-      checkpoint = mark_at kept.checkpoints;
-    }
+rows_in kept = rows_over kept.catalogue kept.count kept.records
+
+-- each row is kept, so that the last number given is how many rows there are
+pub record AreLast (last : LastNumbers) (maps : Maps) : Type 0 where
+  pub instance : last.instance ≡ length maps.instances
+  pub execution : last.execution ≡ length maps.executions
+  pub work : last.work ≡ length maps.works
+
+-- what a repository of at most so many operations keeps to: an operation gives one number of each kind at most, and the
+-- counts of work items fit
+pub record IsSound (limit : ℕ) (kept : Kept) : Type 0 where
+  pub few : limit ≤ 1000000
+  pub room : kept.count ≤ limit
+  pub last : AreLast kept.last kept.records
+  pub instance : kept.last.instance ≤ kept.count
+  pub execution : kept.last.execution ≤ kept.count
+  pub work : kept.last.work ≤ kept.count
+  pub metrics : AreWithin (most_after kept.count) kept.records.works
 
 -- a repository stands for a history if it says what the history says
 abbrev pub StandsFor : Kept → History → Type 0

@@ -1,4 +1,4 @@
-ghost use Rattle.std.specs.Prelude.{◌≡◌, ◌==◌, Ok, Err, Some, None, IfErr, length, find, reverse, IfOk, if◌then◌else◌};
+ghost use Rattle.std.specs.Prelude.{◌≡◌, ◌≤◌, ◌==◌, Ok, Err, Some, None, IfErr, length, find, reverse, IfOk, if◌then◌else◌};
 ghost use Rattle.std.specs.List.{list_any};
 ghost use Rattle.jsl_model.specs.Names.{distinct};
 ghost use Rattle.batch_history.specs.declared.query.Answer.{Answer};
@@ -7,7 +7,10 @@ ghost use Rattle.batch_history.specs.Due.{IsDue};
 ghost use Rattle.batch_history.specs.Replies.{is_execution};
 ghost use Rattle.batch_history.specs.Rows.{Rows};
 ghost use Rattle.records.specs.Left.{job_names};
+ghost use Rattle.seq_repository.specs.Kept.{AreLast};
+ghost use Rattle.seq_repository.specs.Searches.{is_on_page};
 
+use crate::last_numbers::LastNumbers;
 use batch_history::{
     Answer, CountsByStatus, ExecutionRow, JobExecution, JobInstance, Query, StepExecution,
 };
@@ -15,19 +18,27 @@ use batch_ids::{ExecutionId, InstanceId, Listed, OutOfMemory, Refusal, T256};
 use records::Records;
 use std::alloc::Global;
 
-/// What a query is answered by these rows.
-pub(crate) fn answer(alloc: Global, rows: &Records, query: &Query) -> Result<Answer, Refusal>
+/// What a query is answered by these rows, given the last numbers of them.
+pub(crate) fn answer(
+    alloc: Global,
+    rows: &Records,
+    last: LastNumbers,
+    query: &Query,
+) -> Result<Answer, Refusal>
+    requires { AreLast last rows.now }
     ensures { (r : Rows) → r.instances ≡ rows.now.instances → r.executions ≡ rows.now.executions
         → r.works ≡ rows.now.works
         → IsDue result (answer_by r query.now) }
 {
     match query {
         Query::JobNames => Ok(Answer::JobNames(names(alloc, rows)?)),
-        Query::JobInstanceCount { job } => instance_count(rows, job),
-        Query::JobInstances { job, start, count } => instances(alloc, rows, job, *start, *count),
-        Query::RunningExecutions { job } => running(alloc, rows, job),
+        Query::JobInstanceCount { job } => instance_count(rows, last.instance, job),
+        Query::JobInstances { job, start, count } => {
+            instances(alloc, rows, last.instance, job, *start, *count)
+        }
+        Query::RunningExecutions { job } => running(alloc, rows, last.execution, job),
         Query::JobExecutions { instance } => executions(alloc, rows, *instance),
-        Query::StatusCounts => Ok(Answer::StatusCounts(counts(rows.executions()))),
+        Query::StatusCounts => Ok(Answer::StatusCounts(counts(rows, last.execution))),
         Query::Parameters { execution } => {
             let row = known(rows, *execution)?;
             Ok(Answer::Parameters(row.parameters.try_clone()?))
@@ -81,25 +92,26 @@ fn names(alloc: Global, rows: &Records) -> Result<Listed<T256>, OutOfMemory>
     Ok(Listed::from_vec(names))
 }
 
-fn instance_count(rows: &Records, job: &T256) -> Result<Answer, Refusal>
+fn instance_count(rows: &Records, last: u64, job: &T256) -> Result<Answer, Refusal>
+    requires { last ≡ length rows.now.instances }
     ensures { result ≡ if_job_known (instances_of_job job.now rows.now.instances)
         (Answer.JobInstanceCount (length (instances_of_job job.now rows.now.instances))) }
 {
     if !is_known(rows, job) {
         return Err(Refusal::NoSuchJobException);
     }
-    Ok(Answer::JobInstanceCount(count_named(rows.instances(), job)))
+    Ok(Answer::JobInstanceCount(count_named(rows, last, job)))
 }
 
-/// How many of these job instances a job has.
-fn count_named(rows: &[JobInstance], job: &T256) -> u64
-    ensures { result ≡ length (instances_of_job job.now rows.now) }
+/// How many job instances a job has, `last` being the last number of one.
+#[tactic(auto, using(crate::proofs::Readers::instances_few))]
+fn count_named(rows: &Records, last: u64, job: &T256) -> u64
+    requires { last ≡ length rows.now.instances }
+    ensures { result ≡ length (instances_of_job job.now rows.now.instances) }
 {
     let mut count = 0;
-    for row in rows {
-        if row.job.as_str() == job.as_str() {
-            count += 1;
-        }
+    for _instance in rows.instances_of(job.as_str()) {
+        count += 1;
     }
     count
 }
@@ -107,10 +119,12 @@ fn count_named(rows: &[JobInstance], job: &T256) -> u64
 fn instances(
     alloc: Global,
     rows: &Records,
+    last: u64,
     job: &T256,
     start: u64,
     count: u64,
 ) -> Result<Answer, Refusal>
+    requires { last ≡ length rows.now.instances }
     ensures { IsDue result (if_job_known (instances_of_job job.now rows.now.instances)
         (Answer.JobInstances (page start count (reverse
         (instances_of_job job.now rows.now.instances))))) }
@@ -118,61 +132,78 @@ fn instances(
     if !is_known(rows, job) {
         return Err(Refusal::NoSuchJobException);
     }
-    let page = newest(alloc, rows.instances(), job, start, count)?;
+    let all = count_named(rows, last, job);
+    let page = newest(alloc, rows, all, job, start, count)?;
     Ok(Answer::JobInstances(Listed::from_vec(page)))
 }
 
-/// At most `count` job instances of a job, the newest first, without the `start` newest.
+/// Whether a page of at most `count`, without the `start` newest, shows one that so many are newer
+/// than.
+fn is_on_page(start: u64, count: u64, newer: u64) -> bool
+    ensures { result ≡ is_on_page start count newer }
+{
+    if newer < start {
+        false
+    } else {
+        newer - start < count
+    }
+}
+
+/// At most `count` of all job instances of a job, the newest first, without the `start` newest.
 fn newest(
     alloc: Global,
-    rows: &[JobInstance],
+    rows: &Records,
+    all: u64,
     job: &T256,
     start: u64,
     count: u64,
 ) -> Result<Vec<JobInstance>, OutOfMemory>
+    requires { all ≡ length (instances_of_job job.now rows.now.instances) }
     ensures { IfOk result (λ found. found.items
-        ≡ page start count (reverse (instances_of_job job.now rows.now))) }
+        ≡ page start count (reverse (instances_of_job job.now rows.now.instances))) }
 {
     let mut found = Vec::new(alloc);
-    let mut left_out = 0;
-    let mut place = rows.len();
-    while place > 0 && (found.len() as u64) < count {
-        place -= 1;
-        let row = &rows[place];
-        if row.job.as_str() == job.as_str() {
-            if left_out < start {
-                left_out += 1;
-            } else {
-                found.push(row.try_clone()?)?;
-            }
+    let mut newer = all;
+    for row in rows.instances_of(job.as_str()) {
+        newer -= 1;
+        if is_on_page(start, count, newer) {
+            found.push(row.try_clone()?)?;
         }
     }
+    found.reverse();
     Ok(found)
 }
 
-fn running(alloc: Global, rows: &Records, job: &T256) -> Result<Answer, Refusal>
+fn running(alloc: Global, rows: &Records, last: u64, job: &T256) -> Result<Answer, Refusal>
+    requires { last ≡ length rows.now.executions }
     ensures { IsDue result (if_job_known (instances_of_job job.now rows.now.instances)
         (Answer.RunningExecutions (running_executions job.now rows.now.executions))) }
 {
     if !is_known(rows, job) {
         return Err(Refusal::NoSuchJobException);
     }
-    let running = unfinished(alloc, rows.executions(), job)?;
+    let running = unfinished(alloc, rows, last, job)?;
     Ok(Answer::RunningExecutions(Listed::from_vec(running)))
 }
 
-/// The numbers of the unfinished job executions of a job, rising.
+/// The numbers of the unfinished job executions of a job, rising, `last` being the last number of
+/// one.
 fn unfinished(
     alloc: Global,
-    rows: &[ExecutionRow],
+    rows: &Records,
+    last: u64,
     job: &T256,
 ) -> Result<Vec<ExecutionId>, OutOfMemory>
-    ensures { IfOk result (λ found. found.items ≡ running_executions job.now rows.now) }
+    requires { last ≡ length rows.now.executions }
+    ensures { IfOk result (λ found. found.items
+        ≡ running_executions job.now rows.now.executions) }
 {
     let mut found = Vec::new(alloc);
-    for row in rows {
-        if is_running_of(job, row) {
-            found.push(row.execution)?;
+    for place in 0..last {
+        if let Some(row) = rows.execution(ExecutionId::new(place + 1)) {
+            if is_running_of(job, row) {
+                found.push(row.execution)?;
+            }
         }
     }
     Ok(found)
@@ -193,27 +224,23 @@ fn executions(alloc: Global, rows: &Records, i: InstanceId) -> Result<Answer, Re
     if rows.instance(i).is_none() {
         return Err(Refusal::NoSuchJobInstanceException);
     }
-    let records = records_of(alloc, rows.executions(), i)?;
+    let records = records_of(alloc, rows, i)?;
     Ok(Answer::JobExecutions(Listed::from_vec(records)))
 }
 
 /// The records of the job executions of a job instance, the newest first.
 fn records_of(
     alloc: Global,
-    rows: &[ExecutionRow],
+    rows: &Records,
     i: InstanceId,
 ) -> Result<Vec<JobExecution>, OutOfMemory>
-    ensures { IfOk result (λ found. found.items ≡ records_of i rows.now) }
+    ensures { IfOk result (λ found. found.items ≡ records_of i rows.now.executions) }
 {
     let mut found = Vec::new(alloc);
-    let mut place = rows.len();
-    while place > 0 {
-        place -= 1;
-        let row = &rows[place];
-        if row.instance == i {
-            found.push(row.record()?)?;
-        }
+    for row in rows.executions_of(i) {
+        found.push(row.record()?)?;
     }
+    found.reverse();
     Ok(found)
 }
 
@@ -234,14 +261,17 @@ fn steps(
     Ok(Listed::from_vec(found))
 }
 
-/// How many of these job executions have each status.
+/// How many job executions have each status, `last` being the last number of one.
 #[tactic(auto, using(crate::proofs::Tallies::both_counted, crate::proofs::Tallies::none_before, crate::proofs::Tallies::none_after, crate::proofs::Tallies::total_counted))]
-fn counts(rows: &[ExecutionRow]) -> CountsByStatus
-    ensures { result ≡ counts_of rows.now }
+fn counts(rows: &Records, last: u64) -> CountsByStatus
+    requires { last ≡ length rows.now.executions }
+    ensures { result ≡ counts_of rows.now.executions }
 {
     let mut counts = CountsByStatus::zero();
-    for row in rows {
-        counts.add(row.status());
+    for place in 0..last {
+        if let Some(row) = rows.execution(ExecutionId::new(place + 1)) {
+            counts.add(row.status());
+        }
     }
     counts
 }

@@ -6,10 +6,10 @@ ghost use Rattle.batch_history.specs.Lists.{change_first};
 ghost use Rattle.batch_history.specs.Replies.{is_execution, reply_by, is_nothing};
 ghost use Rattle.batch_history.proofs.Knowing.{known_elements};
 ghost use Rattle.batch_history.specs.Works.{is_work};
-ghost use Rattle.seq_repository.specs.Entered.{put_mark, marks_left, kept_after};
+ghost use Rattle.batch_history.proofs.Steps.{rows_after};
 ghost use Rattle.seq_repository.specs.Kept.{rows_in};
-ghost use Rattle.records.specs.Maps.{MayReplaceExecution};
-ghost use Rattle.seq_repository.specs.Changes.{put_row, place_at, row_after};
+ghost use Rattle.records.specs.Maps.{MayReplaceExecution, is_over};
+ghost use Rattle.seq_repository.specs.Changes.{put_row, place_at, row_after, SetsMark, LeavesMark};
 
 use crate::repository::Repository;
 use crate::rows::Change;
@@ -40,11 +40,8 @@ fn put_mark(
     step: T256,
     mark: Text<65536>,
 ) -> Result<(), OutOfMemory>
-    ensures rows { OnOk result (records.new ≡
-        record records.old {
-          checkpoints = put_mark
-              (place_at row.now step) mark records.old.checkpoints;
-        }) }
+    ensures rows { OnOk result (SetsMark (place_at row.now step) (Some mark)
+        records.old records.new) }
     ensures unchanged { OnErr result (records.new ≡ records.old) }
 {
     match row {
@@ -55,10 +52,7 @@ fn put_mark(
 
 /// Drops the checkpoint of a step that is completed.
 fn drop_mark(records: &mut Records, outcome: WorkOutcome, row: &Option<ExecutionRow>, step: T256)
-    ensures { records.new ≡ record records.old {
-      checkpoints = marks_left outcome
-          (place_at row.now step) records.old.checkpoints;
-    } }
+    ensures { LeavesMark outcome (place_at row.now step) records.old records.new }
 {
     match outcome {
         WorkOutcome::Completed => match row {
@@ -85,9 +79,9 @@ impl<const LIMIT: u64> Repository<LIMIT> {
         ensures row { (works : List Work) → known.now ≡ known_elements x works
             → IfOk result (λ new. new
             ≡ option_map (row_after change self.now.catalogue works at) (find
-            (is_execution x) self.now.executions)) }
+            (is_execution x) self.now.records.executions)) }
         ensures own { IfOk result (λ new. IfSome new
-            (λ row. MayReplaceExecution self.now.executions x row)) }
+            (λ row. MayReplaceExecution self.now.records.executions x row)) }
     {
         match self.records.execution(x) {
             None => Ok(None),
@@ -105,7 +99,7 @@ impl<const LIMIT: u64> Repository<LIMIT> {
         at: Moment,
     ) -> Result<(), OutOfMemory>
         requires { self.old.count < LIMIT }
-        ensures rows { OnOk result (self.new ≡ kept_after self.old record {
+        ensures rows { OnOk result (rows_in self.new ≡ rows_after (rows_in self.old) record {
           who = 0;
           call = Call.Start job.now parameters.now;
           at = at;
@@ -116,14 +110,16 @@ impl<const LIMIT: u64> Repository<LIMIT> {
         let first = job.try_clone()?;
         let second = job.try_clone()?;
         let parameters = parameters.try_clone()?;
-        let instance = InstanceId::new(self.records.instances().len() as u64 + 1);
-        let x = self.records.executions().len() as u64 + 1;
+        let instance = InstanceId::new(self.last.instance + 1);
+        let x = self.last.execution + 1;
         let row = rows::new_execution(x, instance, at, second, parameters);
         let made = JobInstance {
             instance,
             job: first,
         };
         self.records.add_instance(made, row)?;
+        self.last.instance += 1;
+        self.last.execution += 1;
         self.count += 1;
         Ok(())
     }
@@ -135,8 +131,8 @@ impl<const LIMIT: u64> Repository<LIMIT> {
         at: Moment,
     ) -> Result<(), OutOfMemory>
         requires room { self.old.count < LIMIT }
-        requires there { is_some (find (is_execution y) self.old.executions) ≡ true }
-        ensures rows { OnOk result (self.new ≡ kept_after self.old record {
+        requires there { is_some (find (is_execution y) self.old.records.executions) ≡ true }
+        ensures rows { OnOk result (rows_in self.new ≡ rows_after (rows_in self.old) record {
           who = 0;
           call = Call.Restart y parameters.now;
           at = at;
@@ -150,9 +146,10 @@ impl<const LIMIT: u64> Repository<LIMIT> {
         let instance = earlier.instance;
         let job = earlier.job.try_clone()?;
         let parameters = parameters.try_clone()?;
-        let x = self.records.executions().len() as u64 + 1;
+        let x = self.last.execution + 1;
         let row = rows::new_execution(x, instance, at, job, parameters);
         self.records.add_execution(row)?;
+        self.last.execution += 1;
         self.count += 1;
         Ok(())
     }
@@ -165,14 +162,15 @@ impl<const LIMIT: u64> Repository<LIMIT> {
         at: Moment,
     ) -> Result<(), OutOfMemory>
         requires { self.old.count < LIMIT }
-        ensures rows { OnOk result (self.new ≡ record self.old {
+        ensures rows { OnOk result (rows_in self.new ≡ record (rows_in self.old) {
           count = self.old.count + 1;
           executions = change_first (is_execution x)
-              (row_after change self.old.catalogue self.old.works at) self.old.executions;
+              (row_after change self.old.catalogue self.old.records.works at)
+              self.old.records.executions;
         }) }
         ensures unchanged { OnErr result (self.new ≡ self.old) }
     {
-        let known = search::known_of(self.alloc, self.records.works(), x)?;
+        let known = search::known_of(self.alloc, &self.records, x)?;
         let row = self.execution_after(x, change, known.as_slice(), at)?;
         put_row(&mut self.records, x, row);
         self.count += 1;
@@ -181,8 +179,8 @@ impl<const LIMIT: u64> Repository<LIMIT> {
 
     fn enter_work(&mut self, who: u64, at: Moment, item: &WorkItem) -> Result<(), OutOfMemory>
         requires room { self.old.count < LIMIT }
-        requires number { item.now.work ≡ length self.old.works + 1 }
-        ensures rows { OnOk result (self.new ≡ kept_after self.old record {
+        requires number { item.now.work ≡ length self.old.records.works + 1 }
+        ensures rows { OnOk result (rows_in self.new ≡ rows_after (rows_in self.old) record {
           who = who;
           call = Call.Claim;
           at = at;
@@ -191,10 +189,11 @@ impl<const LIMIT: u64> Repository<LIMIT> {
         ensures unchanged { OnErr result (self.new ≡ self.old) }
     {
         let x = item.execution;
-        let known = search::known_once_claimed(self.alloc, self.records.works(), item)?;
+        let known = search::known_once_claimed(self.alloc, &self.records, item)?;
         let row = self.execution_after(x, Change::Claim, known.as_slice(), at)?;
         let work = rows::new_work(who, at, item)?;
         self.records.add_work(work)?;
+        self.last.work += 1;
         put_row(&mut self.records, x, row);
         self.count += 1;
         Ok(())
@@ -208,8 +207,8 @@ impl<const LIMIT: u64> Repository<LIMIT> {
         step: &MetricStep,
     ) -> Result<(), OutOfMemory>
         requires room { self.old.count < LIMIT }
-        requires held { is_some (find (is_work w) self.old.works) ≡ true }
-        ensures rows { OnOk result (self.new ≡ kept_after self.old record {
+        requires held { is_some (find (is_work w) self.old.records.works) ≡ true }
+        ensures rows { OnOk result (rows_in self.new ≡ rows_after (rows_in self.old) record {
           who = 0;
           call = Call.Checkpoint w mark.now step.now;
           at = at;
@@ -224,7 +223,7 @@ impl<const LIMIT: u64> Repository<LIMIT> {
         let element = work.element.try_clone()?;
         let mark = mark.try_clone()?;
         let work = rows::report_counts(*step, work)?;
-        let known = search::known_of(self.alloc, self.records.works(), x)?;
+        let known = search::known_of(self.alloc, &self.records, x)?;
         let row = self.execution_after(x, Change::Report, known.as_slice(), at)?;
         put_mark(&mut self.records, &row, element, mark)?;
         self.records.change_work(w, work);
@@ -242,8 +241,10 @@ impl<const LIMIT: u64> Repository<LIMIT> {
         step: &MetricStep,
     ) -> Result<(), OutOfMemory>
         requires room { self.old.count < LIMIT }
-        requires held { is_some (find (is_work w) self.old.works) ≡ true }
-        ensures rows { OnOk result (self.new ≡ kept_after self.old record {
+        requires held { is_some (find (is_work w) self.old.records.works) ≡ true }
+        requires busy { IfSome (find (is_work w) self.old.records.works)
+            (λ row. is_over row.state ≡ false) }
+        ensures rows { OnOk result (rows_in self.new ≡ rows_after (rows_in self.old) record {
           who = 0;
           call = Call.Finish w outcome exit.now step.now;
           at = at;
@@ -257,14 +258,7 @@ impl<const LIMIT: u64> Repository<LIMIT> {
         let x = work.execution;
         let element = work.element.try_clone()?;
         let exit = status::exit_or_name(self.alloc, outcome, exit)?;
-        let known = search::known_once_finished(
-            self.alloc,
-            self.records.works(),
-            x,
-            w,
-            outcome,
-            &exit,
-        )?;
+        let known = search::known_once_finished(self.alloc, &self.records, x, w, outcome, &exit)?;
         let row = self.execution_after(x, Change::Report, known.as_slice(), at)?;
         let work = rows::end_work(outcome, exit, *step, at, work)?;
         drop_mark(&mut self.records, outcome, &row, element);
@@ -279,7 +273,7 @@ impl<const LIMIT: u64> Repository<LIMIT> {
         requires room { self.old.count < LIMIT }
         requires due { reply_by LIMIT (rows_in self.old) who Call.Claim ≡ Ok reply.now }
         requires entered { is_nothing reply.now ≡ false }
-        ensures rows { OnOk result (self.new ≡ kept_after self.old record {
+        ensures rows { OnOk result (rows_in self.new ≡ rows_after (rows_in self.old) record {
           who = who;
           call = Call.Claim;
           at = at;
@@ -295,7 +289,7 @@ impl<const LIMIT: u64> Repository<LIMIT> {
     }
 
     /// Enters a call with the reply that it is due.
-    #[tactic(auto, using(crate::proofs::Replying::restarted_there, crate::proofs::Replying::checkpointed_there, crate::proofs::Replying::finished_there, crate::proofs::Entries::stop_rows, crate::proofs::Entries::abandon_rows))]
+    #[tactic(auto, using(crate::proofs::Replying::restarted_there, crate::proofs::Replying::checkpointed_there, crate::proofs::Replying::finished_there, crate::proofs::Replying::finished_busy, crate::proofs::Entries::stop_rows, crate::proofs::Entries::abandon_rows))]
     pub(crate) fn enter_call(
         &mut self,
         who: u64,
@@ -306,7 +300,7 @@ impl<const LIMIT: u64> Repository<LIMIT> {
         requires room { self.old.count < LIMIT }
         requires due { reply_by LIMIT (rows_in self.old) who call.now ≡ Ok reply.now }
         requires entered { is_nothing reply.now ≡ false }
-        ensures rows { OnOk result (self.new ≡ kept_after self.old record {
+        ensures rows { OnOk result (rows_in self.new ≡ rows_after (rows_in self.old) record {
           who = who;
           call = call.now;
           at = at;
@@ -344,8 +338,8 @@ impl<const LIMIT: u64> Repository<LIMIT> {
         at: Moment,
     ) -> Result<Reply, Refusal>
         ensures due { IsDue result (reply_by LIMIT (rows_in self.old) who call.now) }
-        ensures rows { IfOk result (λ reply. self.new
-            ≡ (if is_nothing reply then self.old else kept_after self.old record {
+        ensures rows { IfOk result (λ reply. rows_in self.new
+            ≡ (if is_nothing reply then rows_in self.old else rows_after (rows_in self.old) record {
               who = who;
               call = call.now;
               at = at;

@@ -4,6 +4,7 @@
 
 mod answers;
 mod entering;
+mod last_numbers;
 mod replies;
 mod repository;
 mod rows;

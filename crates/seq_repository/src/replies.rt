@@ -143,7 +143,7 @@ impl<const LIMIT: u64> Repository<LIMIT> {
         if self.catalogue.job(job.as_str()).is_none() {
             return Err(Refusal::JobStartException);
         }
-        let x = ExecutionId::new(self.records.executions().len() as u64 + 1);
+        let x = ExecutionId::new(self.last.execution + 1);
         accept::<LIMIT>(self.count, Reply::Execution(x))
     }
 
@@ -153,13 +153,13 @@ impl<const LIMIT: u64> Repository<LIMIT> {
         if self.records.execution(x).is_none() {
             return Err(Refusal::NoSuchJobExecutionException);
         }
-        let x = ExecutionId::new(self.records.executions().len() as u64 + 1);
+        let x = ExecutionId::new(self.last.execution + 1);
         accept::<LIMIT>(self.count, Reply::Execution(x))
     }
 
     fn reply_to_stop(&self, x: ExecutionId) -> Result<Reply, Refusal>
         ensures { result ≡ reply_to_stop LIMIT self.now.count (find
-            (is_execution x) self.now.executions) }
+            (is_execution x) self.now.records.executions) }
     {
         match self.records.execution(x) {
             None => Err(Refusal::NoSuchJobExecutionException),
@@ -173,11 +173,11 @@ impl<const LIMIT: u64> Repository<LIMIT> {
 
     fn reply_to_abandon(&self, x: ExecutionId) -> Result<Reply, Refusal>
         ensures { result ≡ reply_to_abandon LIMIT (rows_in self.now) (find
-            (is_execution x) self.now.executions) }
+            (is_execution x) self.now.records.executions) }
     {
         match self.records.execution(x) {
             None => Err(Refusal::NoSuchJobExecutionException),
-            Some(row) => if search::is_running(self.records.executions(), row.instance) {
+            Some(row) => if search::is_running(&self.records, row.instance) {
                 Err(Refusal::JobExecutionIsRunningException)
             } else {
                 accept::<LIMIT>(self.count, Reply::Done)
@@ -210,7 +210,7 @@ impl<const LIMIT: u64> Repository<LIMIT> {
         let mark = self.records.checkpoint(row.instance, id);
         let task = self.task_in(mark, &row.job, id)?;
         let element = id.try_clone()?;
-        let work = WorkId::new(self.records.works().len() as u64 + 1);
+        let work = WorkId::new(self.last.work + 1);
         Ok(WorkItem {
             work,
             execution: row.execution,
@@ -233,9 +233,8 @@ impl<const LIMIT: u64> Repository<LIMIT> {
     fn reply_to_claim(&self) -> Result<Reply, Refusal>
         ensures { IsDue result (reply_by LIMIT (rows_in self.now) 0 Call.Claim) }
     {
-        let works = self.records.works();
-        let rows = self.records.executions();
-        match search::find_claimable(self.alloc, &self.catalogue, works, rows)? {
+        let last = self.last.execution;
+        match search::find_claimable(self.alloc, &self.catalogue, &self.records, last)? {
             None => Ok(Reply::Nothing),
             Some(Claimable { row, value }) => {
                 let reply = self.claim_reply(row, &value)?;
@@ -255,7 +254,7 @@ impl<const LIMIT: u64> Repository<LIMIT> {
 
     fn reply_to_checkpoint(&self, who: u64, w: WorkId) -> Result<Reply, Refusal>
         ensures { result ≡ reply_to_checkpoint LIMIT (rows_in self.now) who (find
-            (is_work w) self.now.works) }
+            (is_work w) self.now.records.works) }
     {
         match self.records.work(w) {
             None => Err(Refusal::NoSuchWork),
@@ -272,7 +271,7 @@ impl<const LIMIT: u64> Repository<LIMIT> {
 
     fn reply_to_finish(&self, who: u64, w: WorkId, outcome: WorkOutcome) -> Result<Reply, Refusal>
         ensures { result ≡ reply_to_finish LIMIT (rows_in self.now) who outcome (find
-            (is_work w) self.now.works) }
+            (is_work w) self.now.records.works) }
     {
         match self.records.work(w) {
             None => Err(Refusal::NoSuchWork),

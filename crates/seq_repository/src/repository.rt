@@ -7,6 +7,7 @@ ghost use Rattle.batch_history.specs.Rows.{History};
 ghost use Rattle.seq_repository.specs.Kept.{IsNext, StandsFor};
 
 use crate::answers;
+use crate::last_numbers::LastNumbers;
 use batch_history::{Answer, Call, Entry, Query, Reply};
 use batch_ids::{Moment, OutOfMemory, Refusal};
 use jsl_model::Catalogue;
@@ -24,24 +25,22 @@ pub struct Repository<const LIMIT: u64> {
     pub(crate) alloc: Global,
     pub(crate) catalogue: Catalogue,
     pub(crate) count: u64,
+    pub(crate) last: LastNumbers,
     pub(crate) records: Records,
 }
 
 impl<const LIMIT: u64> Model for Repository<LIMIT> {
-    ghost use Rattle.std.specs.Prelude.{◌≤◌};
-    ghost use Rattle.seq_repository.specs.Kept.{Kept};
+    ghost use Rattle.seq_repository.specs.Kept.{Kept, IsSound};
     ghost use Rattle.jsl_model.specs.contracts.element.Body as body;
     ghost use Rattle.std.specs.Coded.{codes};
-    ghost use Rattle.batch_ids.specs.Metrics.{most_after};
-    ghost use Rattle.seq_repository.specs.Metered.{AreWithin};
 
     ghost Value = { Kept };
 
     ghost coded = { Prim.hlevel (codes, body.the_row.coded) };
 
-    ghost view = { λ r. record { catalogue = r.catalogue; count = r.count; instances = r.records.instances; executions = r.records.executions; works = r.records.works; checkpoints = r.records.checkpoints } };
+    ghost view = { λ r. record { catalogue = r.catalogue; count = r.count; last = r.last; records = r.records } };
 
-    ghost invariant = { λ r. (LIMIT ≤ 1000000) × (r.count ≤ LIMIT) × AreWithin (most_after r.count) r.records.works };
+    ghost invariant = { λ r. IsSound LIMIT record { catalogue = r.catalogue; count = r.count; last = r.last; records = r.records } };
 }
 
 impl<const LIMIT: u64> Repository<LIMIT> {
@@ -62,6 +61,11 @@ impl<const LIMIT: u64> Repository<LIMIT> {
             alloc,
             catalogue,
             count: 0,
+            last: LastNumbers {
+                instance: 0,
+                execution: 0,
+                work: 0,
+            },
             records: Records::new(alloc),
         })
     }
@@ -129,6 +133,6 @@ impl<const LIMIT: u64> Repository<LIMIT> {
     pub fn ask(&self, query: &Query) -> Result<Answer, Refusal>
         ensures { (h : History) → StandsFor self.now h → IsDue result (answer h query.now) }
     {
-        answers::answer(self.alloc, &self.records, query)
+        answers::answer(self.alloc, &self.records, self.last, query)
     }
 }

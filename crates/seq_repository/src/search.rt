@@ -1,4 +1,4 @@
-ghost use Rattle.std.specs.Prelude.{ℕ, ◌≡◌, ◌++◌, ◌∷◌, [], IfOk, IfSome, find, is_some};
+ghost use Rattle.std.specs.Prelude.{ℕ, ◌≡◌, ◌++◌, ◌∷◌, [], IfOk, IfSome, find, length, is_some};
 ghost use Rattle.std.specs.List.{list_any};
 ghost use Rattle.std.specs.Option.{option_map};
 ghost use Rattle.batch_ids.specs.declared.metric_step.MetricStep.{MetricStep as Step};
@@ -12,28 +12,20 @@ ghost use Rattle.batch_history.specs.Works.{is_work, busy_work};
 ghost use Rattle.seq_repository.specs.Searches.{has_ready};
 
 use crate::status::first_ready;
-use batch_history::{ExecutionRow, WorkItem, WorkRow, WorkState};
+use batch_history::{ExecutionRow, WorkItem, WorkState};
 use batch_ids::{BatchStatus, ExecutionId, InstanceId, OutOfMemory, T256, WorkId, WorkOutcome};
 use job_walk::{Fact, Known, Value};
 use jsl_model::Catalogue;
+use records::Records;
 use std::alloc::Global;
 
-fn is_running_in(i: InstanceId, row: &ExecutionRow) -> bool
-    ensures { result ≡ is_running_in i row.now }
-{
-    if row.instance == i {
-        row.status().is_unfinished()
-    } else {
-        false
-    }
-}
-
 /// Whether a job execution of this job instance is unfinished.
-pub(crate) fn is_running(rows: &[ExecutionRow], i: InstanceId) -> bool
-    ensures { result ≡ list_any (is_running_in i) rows.now }
+#[tactic(auto, using(crate::proofs::Readers::any_open))]
+pub(crate) fn is_running(records: &Records, i: InstanceId) -> bool
+    ensures { result ≡ list_any (is_running_in i) records.now.executions }
 {
-    for row in rows {
-        if is_running_in(i, row) {
+    for row in records.executions_of(i) {
+        if row.status().is_unfinished() {
             return true;
         }
     }
@@ -50,21 +42,20 @@ fn fact_from(state: &WorkState) -> Result<Fact, OutOfMemory>
 }
 
 /// What is known of the elements of a job execution.
+#[tactic(auto, using(crate::proofs::Readers::known_read))]
 pub(crate) fn known_of(
     alloc: Global,
-    works: &[WorkRow],
+    records: &Records,
     x: ExecutionId,
 ) -> Result<Vec<Known>, OutOfMemory>
-    ensures { IfOk result (λ known. known.items ≡ known_elements x works.now) }
+    ensures { IfOk result (λ known. known.items ≡ known_elements x records.now.works) }
 {
     let mut known = Vec::new(alloc);
-    for row in works {
-        if row.execution == x {
-            known.push(Known {
-                id: row.element.try_clone()?,
-                fact: fact_from(&row.state)?,
-            })?;
-        }
+    for row in records.works_of(x) {
+        known.push(Known {
+            id: row.element.try_clone()?,
+            fact: fact_from(&row.state)?,
+        })?;
     }
     Ok(known)
 }
@@ -72,13 +63,13 @@ pub(crate) fn known_of(
 /// What is known of the elements of the job execution of a work item, once it is handed out.
 pub(crate) fn known_once_claimed(
     alloc: Global,
-    works: &[WorkRow],
+    records: &Records,
     item: &WorkItem,
 ) -> Result<Vec<Known>, OutOfMemory>
     ensures { (who at : ℕ) → IfOk result (λ known. known.items
-        ≡ known_elements item.now.execution (works.now ++ busy_work who at item.now ∷ [])) }
+        ≡ known_elements item.now.execution (records.now.works ++ busy_work who at item.now ∷ [])) }
 {
-    let mut known = known_of(alloc, works, item.execution)?;
+    let mut known = known_of(alloc, records, item.execution)?;
     known.push(Known {
         id: item.element.try_clone()?,
         fact: Fact::Busy,
@@ -86,35 +77,34 @@ pub(crate) fn known_once_claimed(
     Ok(known)
 }
 
-/// What is known of the elements of a job execution once a work item is over.
+/// What is known of the elements of a job execution once a work item of it is over.
 pub(crate) fn known_once_finished(
     alloc: Global,
-    works: &[WorkRow],
+    records: &Records,
     x: ExecutionId,
     w: WorkId,
     outcome: WorkOutcome,
     exit: &T256,
 ) -> Result<Vec<Known>, OutOfMemory>
+    requires { IfSome (find (is_work w) records.now.works) (λ row. row.execution ≡ x) }
     ensures { (step : Step) (at : ℕ)
         → IfOk result (λ known. known.items
         ≡ known_elements x (change_first (is_work w)
-        (over_as outcome exit.now step at) works.now)) }
+        (over_as outcome exit.now step at) records.now.works)) }
 {
     let mut known = Vec::new(alloc);
     let mut met = false;
-    for row in works {
+    for row in records.works_of(x) {
         let here = !met && row.work == w;
-        if row.execution == x {
-            let fact = if here {
-                Fact::Over(outcome, exit.try_clone()?)
-            } else {
-                fact_from(&row.state)?
-            };
-            known.push(Known {
-                id: row.element.try_clone()?,
-                fact,
-            })?;
-        }
+        let fact = if here {
+            Fact::Over(outcome, exit.try_clone()?)
+        } else {
+            fact_from(&row.state)?
+        };
+        known.push(Known {
+            id: row.element.try_clone()?,
+            fact,
+        })?;
         if here {
             met = true;
         }
@@ -152,13 +142,13 @@ pub(crate) fn walk_of(
 pub(crate) fn walk_value(
     alloc: Global,
     catalogue: &Catalogue,
-    works: &[WorkRow],
+    records: &Records,
     row: &ExecutionRow,
 ) -> Result<Value, OutOfMemory>
     ensures { IfOk result (λ value. value
-        ≡ walk_value catalogue.now works.now row.now.execution row.now.job) }
+        ≡ walk_value catalogue.now records.now.works row.now.execution row.now.job) }
 {
-    let known = known_of(alloc, works, row.execution)?;
+    let known = known_of(alloc, records, row.execution)?;
     walk_of(alloc, catalogue, known.as_slice(), &row.job)
 }
 
@@ -166,18 +156,18 @@ pub(crate) fn walk_value(
 fn claimable_value(
     alloc: Global,
     catalogue: &Catalogue,
-    works: &[WorkRow],
+    records: &Records,
     row: &ExecutionRow,
 ) -> Result<Option<Value>, OutOfMemory>
     ensures some { IfOk result (λ found. is_some found
-        ≡ has_ready catalogue.now works.now row.now) }
+        ≡ has_ready catalogue.now records.now.works row.now) }
     ensures value { IfOk result (λ found. IfSome found (λ value. value
-        ≡ walk_value catalogue.now works.now row.now.execution row.now.job)) }
+        ≡ walk_value catalogue.now records.now.works row.now.execution row.now.job)) }
 {
     match row.status() {
-        BatchStatus::Starting => Ok(Some(walk_value(alloc, catalogue, works, row)?)),
+        BatchStatus::Starting => Ok(Some(walk_value(alloc, catalogue, records, row)?)),
         BatchStatus::Started => {
-            let value = walk_value(alloc, catalogue, works, row)?;
+            let value = walk_value(alloc, catalogue, records, row)?;
             if first_ready(&value).is_some() {
                 Ok(Some(value))
             } else {
@@ -199,21 +189,24 @@ pub(crate) struct Claimable<'a> {
     pub(crate) value: Value,
 }
 
-/// The first job execution that has something to do.
+/// The first job execution that has something to do, `last` being the last number of one.
 pub(crate) fn find_claimable<'a>(
     alloc: Global,
     catalogue: &Catalogue,
-    works: &[WorkRow],
-    rows: &'a [ExecutionRow],
+    records: &'a Records,
+    last: u64,
 ) -> Result<Option<Claimable<'a>>, OutOfMemory>
+    requires { last ≡ length records.now.executions }
     ensures first { IfOk result (λ found. option_map (λ c. c.row.now) found
-        ≡ find (has_ready catalogue.now works.now) rows.now) }
+        ≡ find (has_ready catalogue.now records.now.works) records.now.executions) }
     ensures value { IfOk result (λ found. IfSome found (λ c. c.value
-        ≡ walk_value catalogue.now works.now c.row.now.execution c.row.now.job)) }
+        ≡ walk_value catalogue.now records.now.works c.row.now.execution c.row.now.job)) }
 {
-    for row in rows {
-        if let Some(value) = claimable_value(alloc, catalogue, works, row)? {
-            return Ok(Some(Claimable { row, value }));
+    for place in 0..last {
+        if let Some(row) = records.execution(ExecutionId::new(place + 1)) {
+            if let Some(value) = claimable_value(alloc, catalogue, records, row)? {
+                return Ok(Some(Claimable { row, value }));
+            }
         }
     }
     Ok(None)

@@ -1,6 +1,7 @@
-use Rattle.std.proofs.Common.{◌≡◌, ◌+◌, ◌≤◌, length, drop}
+use Rattle.std.proofs.Common.{◌≡◌, ◌+◌, length}
 use Rattle.batch_history.specs.Answers.{instances_of_job}
+use Rattle.records.specs.Left.{instances_left}
 use Rattle.seq_repository.proofs.answers.count_named.Given as goal
 
-abbrev pub invariant-loop-row : goal.invariant-loop-row
-invariant-loop-row l = (l.count + length (instances_of_job l.job (drop l.row-index l.rows)) ≡ length (instances_of_job l.job l.rows)) × (l.count ≤ l.row-index)
+abbrev pub invariant-loop-instance : goal.invariant-loop-instance
+invariant-loop-instance l = l.count + length (instances_left l._instance-iterator) ≡ length (instances_of_job l.fn.job l.rows.instances)

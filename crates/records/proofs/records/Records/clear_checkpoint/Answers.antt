@@ -1,4 +1,4 @@
-use Rattle.std.proofs.Common.{◌≡◌, rules, List, sym, ◌∙◌, ap, subst}
+use Rattle.std.proofs.Common.{rules, List, sym, ◌∙◌, ap, subst}
 use Rattle.std.proofs.lemmas.Fn.{filter_same}
 use Rattle.batch_history.specs.declared.rows.CheckpointRow.{CheckpointRow}
 use Rattle.batch_history.specs.Checkpoints.{InstanceStep}

@@ -5,13 +5,13 @@ use Rattle.seq_repository.proofs.repository.Repository.execution_after.Goals as 
 
 pub returns-in_ok-change_row-in-Some-clause-row : goal.returns-in_ok-change_row-in-Some-clause-row
 returns-in_ok-change_row-in-Some-clause-row g c = λ works is.
-    let found : find (is_execution c.args.x) c.args.self.now.executions ≡ Some c.in-Some.row.now =
-    rw (← c.self.view_is) (sym c.in-Some.ensures) in
+    let found : find (is_execution c.args.x) c.args.self.now.records.executions ≡ Some c.in-Some.row.now =
+    rw (← c.self.view_is) (sym c.in-Some.ensures.found) in
     changed-row c.args.x c.args.change c.args.self.now.catalogue works c.args.at c.args.known.now _ c.in-Some.row.now _ _ found is
     (rw (← c.self.view_is) c.in_ok-value-in-Some.ensures) c.in_ok-change_row-in-Some.ensures
 
 pub returns-in_ok-change_row-in-Some-clause-own : goal.returns-in_ok-change_row-in-Some-clause-own
 returns-in_ok-change_row-in-Some-clause-own g c =
-    let found : find (is_execution c.args.x) c.args.self.now.executions ≡ Some c.in-Some.row.now =
-    rw (← c.self.view_is) (sym c.in-Some.ensures) in
+    let found : find (is_execution c.args.x) c.args.self.now.records.executions ≡ Some c.in-Some.row.now =
+    rw (← c.self.view_is) (sym c.in-Some.ensures.found) in
     changed-own c.args.x c.args.change c.args.at _ c.in-Some.row.now _ _ found c.in_ok-change_row-in-Some.ensures

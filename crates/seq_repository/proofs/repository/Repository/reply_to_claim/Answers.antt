@@ -1,12 +1,10 @@
-use Rattle.std.proofs.Common.{◌≡◌, Option, Some, List, find, IfSome, sym, ◌∙◌, ap, subst}
+use Rattle.std.proofs.Common.{◌≡◌, Option, Some, find, IfSome, sym, ◌∙◌, ap, subst}
 use Rattle.std.specs.Option.{option_map}
-use Rattle.batch_history.specs.declared.rows.WorkRow.{WorkRow}
 use Rattle.batch_history.specs.Replies.{accepted, has_something, walk_in_rows}
 use Rattle.batch_history.specs.Rows.{Rows}
 use Rattle.batch_history.specs.Walks.{walk_value}
 use Rattle.seq_repository.specs.declared.search.Claimable.{Claimable}
 use Rattle.seq_repository.specs.Kept.{Kept, rows_in}
-use Rattle.seq_repository.specs.Searches.{has_ready}
 use Rattle.seq_repository.proofs.Replying.{claim_due}
 use Rattle.seq_repository.proofs.repository.Repository.reply_to_claim.Goals as goal
 
@@ -14,15 +12,11 @@ pub returns-in_ok-reply-in-Some : goal.returns-in_ok-reply-in-Some
 returns-in_ok-reply-in-Some g c =
     let r : Rows = rows_in c.args.self.now in
     let q : Claimable = c.in-Some.field-0 in
-    let works : List WorkRow = c.works-works.result.now in
     let found : Some q.row.now ≡ find (has_something r) r.executions =
     sym (ap (option_map (λ (x : Claimable). x.row.now)) c.in-Some.is) ∙ (c.in_ok-find_claimable.ensures.first
-    ∙ (ap (find (has_ready c.self.inside.catalogue works)) c.executions-rows.ensures
-    ∙ (ap (λ (ws : List WorkRow). find (has_ready c.self.inside.catalogue ws) c.self.inside.records.executions) c.works-works.ensures
-    ∙ ap (λ (v : Kept). find (has_something (rows_in v)) v.executions) c.self.view_is))) in
+    ∙ ap (λ (v : Kept). find (has_something (rows_in v)) v.records.executions) c.self.view_is) in
     let walked : q.value ≡ walk_in_rows r q.row.now =
-    subst (λ (o : Option Claimable). IfSome o (λ x. x.value ≡ walk_value c.self.inside.catalogue works x.row.now.execution x.row.now.job)) c.in-Some.is c.in_ok-find_claimable.ensures.value
-    ∙ (ap (λ (ws : List WorkRow). walk_value c.self.inside.catalogue ws q.row.now.execution q.row.now.job) c.works-works.ensures
-    ∙ ap (λ (v : Kept). walk_in_rows (rows_in v) q.row.now) c.self.view_is) in
+    subst (λ (o : Option Claimable). IfSome o (λ x. x.value ≡ walk_value c.self.inside.catalogue c.self.inside.records.works x.row.now.execution x.row.now.job)) c.in-Some.is c.in_ok-find_claimable.ensures.value
+    ∙ ap (λ (v : Kept). walk_in_rows (rows_in v) q.row.now) c.self.view_is in
     claim_due g.row.LIMIT r q.row.now q.value c.in_ok-reply-in-Some.reply c.accept.result found walked c.in_ok-reply-in-Some.ensures
     (c.accept.ensures ∙ ap (λ (v : Kept). accepted g.row.LIMIT v.count c.in_ok-reply-in-Some.reply) c.self.view_is)
