@@ -1,4 +1,4 @@
-ghost use Rattle.std.specs.Prelude.{◌≡◌, ◌+◌, ◌-◌, ◌<◌, ◌≤◌, ◌++◌, ◌∷◌, [], ℕ, List, None, true, length, find, slice_set, is_some, option_copied, IsOk, IfSome, IfNone, OnOk, OnErr};
+ghost use Rattle.std.specs.Prelude.{◌≡◌, ◌+◌, ◌-◌, ◌^◌, ◌<◌, ◌≤◌, ◌++◌, ◌∷◌, [], ℕ, List, None, true, length, find, slice_set, is_some, option_copied, IsOk, IfSome, IfNone, OnOk, OnErr};
 ghost use Rattle.jsl_model.specs.Names.{distinct};
 ghost use Rattle.batch_history.specs.Answers.{instances_of_job};
 ghost use Rattle.batch_history.specs.Lists.{change_first};
@@ -99,9 +99,11 @@ impl Records {
         Names::new(self.instances.as_slice())
     }
 
-    /// The job instances of this name, by rising number. It takes no memory.
+    /// The job instances of this name, by rising number, fewer than 2^64. It takes no memory.
+    #[tactic(auto, using(crate::proofs::Naming::instances_few))]
     pub fn instances_of<'r>(&'r self, name: &'r str) -> InstancesOf<'r>
-        ensures { instances_left result ≡ instances_of_job name.now self.now.instances }
+        ensures named { instances_left result ≡ instances_of_job name.now self.now.instances }
+        ensures few { length (instances_of_job name.now self.now.instances) < 2 ^ 64 }
     {
         InstancesOf::new(self.instances.as_slice(), name)
     }

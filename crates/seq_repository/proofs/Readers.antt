@@ -1,16 +1,14 @@
 -- What is read by an index of the rows is what is read from all of them.
-use Rattle.std.proofs.Common.{◌≡◌, ℕ, ◌+◌, ◌==◌, ◌&&◌, ◌≤◌, ◌||◌, Bool, true, false, cond, None, Some, IfSome, List, [], ◌∷◌, ◌++◌, length, map, find, filter, reverse, drop, refl, sym, ◌∙◌, ap, arith}
+use Rattle.std.proofs.Common.{◌≡◌, ℕ, ◌+◌, ◌==◌, ◌&&◌, ◌||◌, Bool, true, false, cond, None, Some, IfSome, List, [], ◌∷◌, ◌++◌, map, find, filter, reverse, drop, refl, sym, ◌∙◌, ap}
 use Rattle.std.specs.List.{list_any}
-use Rattle.std.specs.Str.{bytes_eq}
 use Rattle.std.proofs.lemmas.Bool.{eq-eqb}
 use Rattle.std.proofs.lemmas.List.{append_assoc, append-nil, reverse-append}
 use Rattle.job_walk.specs.declared.facts.Known.{Known}
-use Rattle.batch_history.specs.Answers.{instances_of_job, is_running_of, record_of, records_of, running_executions}
+use Rattle.batch_history.specs.Answers.{is_running_of, record_of, records_of, running_executions}
 use Rattle.batch_history.specs.Lists.{change_first}
 use Rattle.batch_history.specs.Replies.{is_execution, is_running_in}
 use Rattle.batch_history.specs.Walks.{fact_of_state}
 use Rattle.batch_history.specs.declared.rows.ExecutionRow.{ExecutionRow}
-use Rattle.batch_history.specs.declared.rows.JobInstance.{JobInstance}
 use Rattle.batch_history.specs.declared.rows.WorkRow.{WorkRow}
 use Rattle.batch_history.proofs.Knowing.{known_elements}
 use Rattle.records.specs.Left.{executions_of, works_of}
@@ -64,16 +62,6 @@ pub known_changed : (x : ℕ) (p : WorkRow → Bool) (f : WorkRow → WorkRow) (
     → IfSome (find p works) (λ row. row.execution ≡ x) → map known_by (change_first p f (works_of x works)) ≡ known_elements x (change_first p f works)
 known_changed x p f works same own =
     ap (map known_by) (sym (works-changed x p f works same own)) ∙ known_read x (change_first p f works)
-
--- there are no more job instances of a job than job instances
-pub instances_few : (name : List ℕ) (rows : List JobInstance) → length (instances_of_job name rows) ≤ length rows
-instances_few name [] = omega arith
-instances_few name (row ∷ rest) =
-    let few : length (instances_of_job name rest) ≤ length rest = instances_few name rest in
-    elim (bytes_eq row.job name) as (λ b. length (cond b (row ∷ instances_of_job name rest) (instances_of_job name rest)) ≤ length (row ∷ rest)) [
-      | true ↦ omega (arith, few)
-      | false ↦ omega (arith, few)
-    ]
 
 map-end : {A B : Type 0} (f : A → B) (xs : List A) (x : A) → map f (xs ++ x ∷ []) ≡ map f xs ++ f x ∷ []
 map-end f [] x = refl

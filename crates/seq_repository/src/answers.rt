@@ -7,10 +7,8 @@ ghost use Rattle.batch_history.specs.Due.{IsDue};
 ghost use Rattle.batch_history.specs.Replies.{is_execution};
 ghost use Rattle.batch_history.specs.Rows.{Rows};
 ghost use Rattle.records.specs.Left.{job_names};
-ghost use Rattle.seq_repository.specs.Kept.{AreLast};
 ghost use Rattle.seq_repository.specs.Searches.{is_on_page};
 
-use crate::last_numbers::LastNumbers;
 use batch_history::{
     Answer, CountsByStatus, ExecutionRow, JobExecution, JobInstance, Query, StepExecution,
 };
@@ -18,27 +16,25 @@ use batch_ids::{ExecutionId, InstanceId, Listed, OutOfMemory, Refusal, T256};
 use records::Records;
 use std::alloc::Global;
 
-/// What a query is answered by these rows, given the last numbers of them.
+/// What a query is answered by these rows, `last` being the last number of a job execution.
 pub(crate) fn answer(
     alloc: Global,
     rows: &Records,
-    last: LastNumbers,
+    last: u64,
     query: &Query,
 ) -> Result<Answer, Refusal>
-    requires { AreLast last rows.now }
+    requires { last ≡ length rows.now.executions }
     ensures { (r : Rows) → r.instances ≡ rows.now.instances → r.executions ≡ rows.now.executions
         → r.works ≡ rows.now.works
         → IsDue result (answer_by r query.now) }
 {
     match query {
         Query::JobNames => Ok(Answer::JobNames(names(alloc, rows)?)),
-        Query::JobInstanceCount { job } => instance_count(rows, last.instance, job),
-        Query::JobInstances { job, start, count } => {
-            instances(alloc, rows, last.instance, job, *start, *count)
-        }
-        Query::RunningExecutions { job } => running(alloc, rows, last.execution, job),
+        Query::JobInstanceCount { job } => instance_count(rows, job),
+        Query::JobInstances { job, start, count } => instances(alloc, rows, job, *start, *count),
+        Query::RunningExecutions { job } => running(alloc, rows, last, job),
         Query::JobExecutions { instance } => executions(alloc, rows, *instance),
-        Query::StatusCounts => Ok(Answer::StatusCounts(counts(rows, last.execution))),
+        Query::StatusCounts => Ok(Answer::StatusCounts(counts(rows, last))),
         Query::Parameters { execution } => {
             let row = known(rows, *execution)?;
             Ok(Answer::Parameters(row.parameters.try_clone()?))
@@ -92,21 +88,18 @@ fn names(alloc: Global, rows: &Records) -> Result<Listed<T256>, OutOfMemory>
     Ok(Listed::from_vec(names))
 }
 
-fn instance_count(rows: &Records, last: u64, job: &T256) -> Result<Answer, Refusal>
-    requires { last ≡ length rows.now.instances }
+fn instance_count(rows: &Records, job: &T256) -> Result<Answer, Refusal>
     ensures { result ≡ if_job_known (instances_of_job job.now rows.now.instances)
         (Answer.JobInstanceCount (length (instances_of_job job.now rows.now.instances))) }
 {
     if !is_known(rows, job) {
         return Err(Refusal::NoSuchJobException);
     }
-    Ok(Answer::JobInstanceCount(count_named(rows, last, job)))
+    Ok(Answer::JobInstanceCount(count_named(rows, job)))
 }
 
-/// How many job instances a job has, `last` being the last number of one.
-#[tactic(auto, using(crate::proofs::Readers::instances_few))]
-fn count_named(rows: &Records, last: u64, job: &T256) -> u64
-    requires { last ≡ length rows.now.instances }
+/// How many job instances a job has.
+fn count_named(rows: &Records, job: &T256) -> u64
     ensures { result ≡ length (instances_of_job job.now rows.now.instances) }
 {
     let mut count = 0;
@@ -119,12 +112,10 @@ fn count_named(rows: &Records, last: u64, job: &T256) -> u64
 fn instances(
     alloc: Global,
     rows: &Records,
-    last: u64,
     job: &T256,
     start: u64,
     count: u64,
 ) -> Result<Answer, Refusal>
-    requires { last ≡ length rows.now.instances }
     ensures { IsDue result (if_job_known (instances_of_job job.now rows.now.instances)
         (Answer.JobInstances (page start count (reverse
         (instances_of_job job.now rows.now.instances))))) }
@@ -132,7 +123,7 @@ fn instances(
     if !is_known(rows, job) {
         return Err(Refusal::NoSuchJobException);
     }
-    let all = count_named(rows, last, job);
+    let all = count_named(rows, job);
     let page = newest(alloc, rows, all, job, start, count)?;
     Ok(Answer::JobInstances(Listed::from_vec(page)))
 }

@@ -133,6 +133,6 @@ impl<const LIMIT: u64> Repository<LIMIT> {
     pub fn ask(&self, query: &Query) -> Result<Answer, Refusal>
         ensures { (h : History) → StandsFor self.now h → IsDue result (answer h query.now) }
     {
-        answers::answer(self.alloc, &self.records, self.last, query)
+        answers::answer(self.alloc, &self.records, self.last.execution, query)
     }
 }
