@@ -1,3 +1,4 @@
 pub mod Following
 pub mod Leaves
 pub mod Newest
+pub mod Points

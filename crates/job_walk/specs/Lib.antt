@@ -1,3 +1,4 @@
 pub mod Cursors
+pub mod Lists
 pub mod Runnables
 pub mod Walk
