@@ -1,4 +1,6 @@
 pub mod Following
 pub mod Leaves
 pub mod Newest
+pub mod Ordered
 pub mod Points
+pub mod Ranks

@@ -63,7 +63,7 @@ abbrev pub ValuesPass : (List ℕ → Bool) → List Value → Type 0
 ValuesPass test [] = Unit {0}
 ValuesPass test (value ∷ values) = PointPasses test value × ValuesPass test values
 
-both-true : (a b : Bool) → (a && b) ≡ true → (a ≡ true) × (b ≡ true)
+pub both-true : (a b : Bool) → (a && b) ≡ true → (a ≡ true) × (b ≡ true)
 both-true true b h = (refl, h)
 both-true false b h = cc
 
@@ -291,7 +291,7 @@ walk-passes test facts elements from h = whole-passes test (map (walked_element 
 
 -- ---- A job's own list
 
-among-own : (elements : List Element) (id : List ℕ) → is_among (ids (outline elements)) id ≡ has_element elements id
+pub among-own : (elements : List Element) (id : List ℕ) → is_among (ids (outline elements)) id ≡ has_element elements id
 among-own [] id = refl
 among-own (e ∷ es) id =
     let first : bytes_eq id e.id ≡ bytes_eq e.id id = bytes_eq-sym id e.id in
@@ -305,7 +305,7 @@ own-point job own facts from status exit point is =
     sym (among-own job.elements point)
     ∙ subst (PointPasses (is_among (ids (outline job.elements)))) is (walk-passes (is_among (ids (outline job.elements))) facts job.elements from own)
 
-no-fault : (b : Bool) (fault : JobFault) (rest : Option JobFault) → cond b (Some fault) rest ≡ None → rest ≡ None
+pub no-fault : (b : Bool) (fault : JobFault) (rest : Option JobFault) → cond b (Some fault) rest ≡ None → rest ≡ None
 no-fault true fault rest h = cc
 no-fault false fault rest h = h
 

@@ -1,9 +1,35 @@
 -- The lists of a job, as a walk goes over them.
-use Rattle.std.specs.Prelude.{ℕ, Bool, List}
+use Rattle.std.specs.Prelude.{◌≡◌, ℕ, Bool, false, List, Contains}
 use Rattle.std.specs.List.{list_any}
 use Rattle.std.specs.Str.{bytes_eq}
 use Rattle.jsl_model.specs.declared.element.Element.{Element}
+use Rattle.jsl_model.specs.declared.element.SplitFlow.{SplitFlow, out-SplitFlow}
+use Rattle.jsl_model.specs.declared.element.Body.TheVariants.{Flow, Split}
+use Rattle.jsl_model.specs.Targets.{Item, lacks_target, HasRanks}
+use Rattle.job_walk.specs.declared.facts.Fact.{Fact}
+use Rattle.job_walk.specs.declared.facts.Value.{Value}
+use Rattle.job_walk.specs.Walk.{walked_element, value_by_result, value_of}
 
 -- whether this is the id of an element of the list
 abbrev pub has_element : List Element → List ℕ → Bool
 has_element elements id = list_any (λ element. bytes_eq element.id id) elements
+
+-- what each list of a checked job keeps: what `next` and `to` name in it is there, and numbers below its length rise
+-- from each element to what it names
+pub record IsOrdered (items : List Item) : Type 0 where
+  pub complete : lacks_target items ≡ false
+  pub ranked : HasRanks items
+
+-- a list stands in another: it is that list itself, or it stands in the list of a flow there, or of a flow of a split
+pub data StandsIn (list : List Element) : List Element → Type 0 where
+  Itself : StandsIn list list
+  InFlow : (elements inner : List Element) (element : Element) → Contains elements element → element.body ≡ Flow inner
+      → StandsIn list inner → StandsIn list elements
+  InSplit : (elements : List Element) (element : Element) (flows : List SplitFlow) (flow : SplitFlow) → Contains elements element
+      → element.body ≡ Split flows → Contains flows flow → StandsIn list (out-SplitFlow flow).elements → StandsIn list elements
+
+-- where a list goes from an element of it: what the element comes to by itself, and then the list's value from the
+-- element to which that leads
+abbrev pub value_from : (List ℕ → Fact) → List Element → Element → Value
+value_from facts elements element =
+    value_by_result (value_of facts elements) (walked_element facts element) (walked_element facts element).own_result

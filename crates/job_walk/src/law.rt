@@ -1,13 +1,16 @@
-ghost use Rattle.std.specs.Prelude.{ℕ, List, true, Some, ◌≡◌, ◌≢◌};
+ghost use Rattle.std.specs.Prelude.{ℕ, List, Contains, true, find, Some, ◌≡◌, ◌≢◌};
+ghost use Rattle.std.specs.Str.{bytes_eq};
 ghost use Rattle.batch_ids.specs.declared.status.BatchStatus.{BatchStatus};
 ghost use Rattle.jsl_model.specs.Jobs.{JobTree};
 ghost use Rattle.jsl_model.specs.Faults.{IsChecked};
+ghost use Rattle.jsl_model.specs.Targets.{named_in};
 ghost use Rattle.job_walk.specs.declared.facts.Fact.{Fact};
 ghost use Rattle.job_walk.specs.Cursors.{CursorState, with_fact};
-ghost use Rattle.job_walk.specs.Lists.{has_element};
+ghost use Rattle.job_walk.specs.Lists.{has_element, value_from, StandsIn};
 ghost use Rattle.job_walk.specs.Walk.{fact_of, value_of};
 
 use crate::facts::Value;
+use jsl_model::Element;
 
 /// What a walk learns of a step or decision is what is known of it from then on, and what is known
 /// of any other one stays.
@@ -30,4 +33,23 @@ pub fn a_restart_begins_at_a_job_level_element()
         (status : BatchStatus) (exit point : List ℕ)
         → value_of facts job.elements from ≡ Value.Ended status exit (Some point)
         → has_element job.elements point ≡ true }
+{}
+
+/// A list goes on from element to element: its value from an element of it is what the element came
+/// to by itself, carried on by the list's value from the element to which that leads, and that
+/// element is in the list. So no walk over a list of a checked job, at any depth, runs out of
+/// elements or leaves the list.
+///
+/// It does nothing: its contract is the law. See Jakarta Batch 2.1, "Job Specification Language".
+pub fn a_list_goes_on_from_element_to_element()
+    ensures value { (job : JobTree) → IsChecked job
+        → (list : List Element) → StandsIn list job.elements
+        → (facts : List ℕ → Fact) (id : List ℕ) (element : Element)
+        → find (λ (e : Element). bytes_eq e.id id) list ≡ Some element
+        → value_of facts list id ≡ value_from facts list element }
+    ensures targets { (job : JobTree) → IsChecked job
+        → (list : List Element) → StandsIn list job.elements
+        → (element : Element) → Contains list element
+        → (to : List ℕ) → Contains (named_in element.next element.transitions) to
+        → has_element list to ≡ true }
 {}

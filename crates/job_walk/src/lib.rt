@@ -15,7 +15,10 @@ mod walk;
 pub use cursor::Cursor;
 pub use element_result::ElementResult;
 pub use facts::{Fact, Known, Value};
-pub use law::{a_restart_begins_at_a_job_level_element, the_newest_fact_counts};
+pub use law::{
+    a_list_goes_on_from_element_to_element, a_restart_begins_at_a_job_level_element,
+    the_newest_fact_counts,
+};
 pub use plan::Plan;
 pub use runnable::{Runnable, find_runnable};
 pub use walk::walk_value;
