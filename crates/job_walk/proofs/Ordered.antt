@@ -24,14 +24,14 @@ use Rattle.job_walk.proofs.Ranks.{ranked-ids, ranked-walked, list-on}
 
 -- ---- What holds of all lists of a job
 
-All-tail : {X : Type 0} (P : X → Type 0) (x : X) (xs : List X) → All P (x ∷ xs) → All P xs
+pub All-tail : {X : Type 0} (P : X → Type 0) (x : X) (xs : List X) → All P (x ∷ xs) → All P xs
 All-tail P x xs h k d lt = h (suc k) d (omega arith)
 
-All-left : {X : Type 0} (P : X → Type 0) (xs ys : List X) → All P (xs ++ ys) → All P xs
+pub All-left : {X : Type 0} (P : X → Type 0) (xs ys : List X) → All P (xs ++ ys) → All P xs
 All-left P [] ys h = All-nil P
 All-left P (x ∷ xs) ys h = All-cons P x xs (All-head P x (xs ++ ys) h) (All-left P xs ys (All-tail P x (xs ++ ys) h))
 
-All-right : {X : Type 0} (P : X → Type 0) (xs ys : List X) → All P (xs ++ ys) → All P ys
+pub All-right : {X : Type 0} (P : X → Type 0) (xs ys : List X) → All P (xs ++ ys) → All P ys
 All-right P [] ys h = h
 All-right P (x ∷ xs) ys h = All-right P xs ys (All-tail P x (xs ++ ys) h)
 

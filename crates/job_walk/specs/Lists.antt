@@ -1,5 +1,5 @@
 -- The lists of a job, as a walk goes over them.
-use Rattle.std.specs.Prelude.{◌≡◌, ℕ, Bool, false, List, Contains}
+use Rattle.std.specs.Prelude.{◌≡◌, ℕ, Bool, false, List, map, All, Contains}
 use Rattle.std.specs.List.{list_any}
 use Rattle.std.specs.Str.{bytes_eq}
 use Rattle.jsl_model.specs.declared.element.Element.{Element}
@@ -8,6 +8,7 @@ use Rattle.jsl_model.specs.declared.element.Body.TheVariants.{Flow, Split}
 use Rattle.jsl_model.specs.Targets.{Item, lacks_target, HasRanks}
 use Rattle.job_walk.specs.declared.facts.Fact.{Fact}
 use Rattle.job_walk.specs.declared.facts.Value.{Value}
+use Rattle.job_walk.specs.Runnables.{Leaf}
 use Rattle.job_walk.specs.Walk.{walked_element, value_by_result, value_of}
 
 -- whether this is the id of an element of the list
@@ -33,3 +34,11 @@ pub data StandsIn (list : List Element) : List Element → Type 0 where
 abbrev pub value_from : (List ℕ → Fact) → List Element → Element → Value
 value_from facts elements element =
     value_by_result (value_of facts elements) (walked_element facts element) (walked_element facts element).own_result
+
+-- the ids of these steps and decisions
+abbrev pub ids_of : List Leaf → List (List ℕ)
+ids_of leaves = map (λ leaf. leaf.id) leaves
+
+-- the same is known of these steps and decisions
+abbrev pub Agree : (List ℕ → Fact) → (List ℕ → Fact) → List Leaf → Type 0
+Agree facts later leaves = All (λ leaf. facts leaf.id ≡ later leaf.id) leaves

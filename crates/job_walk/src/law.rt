@@ -5,9 +5,11 @@ ghost use Rattle.jsl_model.specs.Jobs.{JobTree};
 ghost use Rattle.jsl_model.specs.Faults.{IsChecked};
 ghost use Rattle.jsl_model.specs.Targets.{named_in};
 ghost use Rattle.job_walk.specs.declared.facts.Fact.{Fact};
-ghost use Rattle.job_walk.specs.Cursors.{CursorState, with_fact};
-ghost use Rattle.job_walk.specs.Lists.{has_element, value_from, StandsIn};
-ghost use Rattle.job_walk.specs.Walk.{fact_of, value_of};
+ghost use Rattle.jsl_model.specs.Names.{is_among};
+ghost use Rattle.job_walk.specs.Cursors.{CursorState, with_fact, ready_of, busy_of};
+ghost use Rattle.job_walk.specs.Lists.{has_element, value_from, ids_of, Agree, StandsIn};
+ghost use Rattle.job_walk.specs.Runnables.{leaves, all_leaves};
+ghost use Rattle.job_walk.specs.Walk.{fact_of, value_of, walked_element};
 
 use crate::facts::Value;
 use jsl_model::Element;
@@ -52,4 +54,30 @@ pub fn a_list_goes_on_from_element_to_element()
         → (element : Element) → Contains list element
         → (to : List ℕ) → Contains (named_in element.next element.transitions) to
         → has_element list to ≡ true }
+{}
+
+/// A walk depends on what is known of the job's steps and decisions alone: where the same is known
+/// of those of a list, the list comes to the same value, and where the same is known of those in an
+/// element, the element comes to the same by itself.
+///
+/// It does nothing: its contract is the law.
+pub fn steps_and_decisions_decide_a_walk()
+    ensures value { (facts later : List ℕ → Fact) (elements : List Element)
+        → Agree facts later (all_leaves elements)
+        → (from : List ℕ) → value_of facts elements from ≡ value_of later elements from }
+    ensures element { (facts later : List ℕ → Fact) (element : Element)
+        → Agree facts later (leaves element)
+        → walked_element facts element ≡ walked_element later element }
+{}
+
+/// What a walk shows as ready or busy is a step or a decision of its list, at any depth.
+///
+/// It does nothing: its contract is the law.
+pub fn what_is_shown_is_a_step_or_decision()
+    ensures ready { (facts : List ℕ → Fact) (elements : List Element) (from id : List ℕ)
+        → is_among (ready_of (value_of facts elements from)) id ≡ true
+        → is_among (ids_of (all_leaves elements)) id ≡ true }
+    ensures busy { (facts : List ℕ → Fact) (elements : List Element) (from id : List ℕ)
+        → is_among (busy_of (value_of facts elements from)) id ≡ true
+        → is_among (ids_of (all_leaves elements)) id ≡ true }
 {}
