@@ -1,5 +1,7 @@
 pub mod Agreeing
+pub mod Beginning
 pub mod Following
+pub mod Learning
 pub mod Leaves
 pub mod Newest
 pub mod Ordered

@@ -1,5 +1,6 @@
-ghost use Rattle.std.specs.Prelude.{◌≡◌, ◌∷◌, [], IfOk, None, MatchOption};
+ghost use Rattle.std.specs.Prelude.{◌≡◌, ◌∷◌, ◌++◌, [], List, IfOk, None, MatchOption};
 ghost use Rattle.batch_ids.specs.Statuses.{status_name};
+ghost use Rattle.job_walk.specs.declared.facts.Known.{Known};
 ghost use Rattle.job_walk.specs.Walk.{fact_of, step_result, decision_result, ready_result, busy_result};
 
 use crate::facts::{Fact, Known, Value};
@@ -59,9 +60,13 @@ pub(crate) fn ended_value(alloc: Global, status: BatchStatus) -> Result<Value, O
     })
 }
 
-fn find_known<'a>(known: &'a [Known], id: &T256) -> Option<&'a Known>
-    ensures { MatchOption result (fact_of known.now id.now ≡ Fact.Nothing)
+/// The first that is known of an element; what is known further on counts only without one.
+pub(crate) fn find_known<'a>(known: &'a [Known], id: &T256) -> Option<&'a Known>
+    ensures fact { MatchOption result (fact_of known.now id.now ≡ Fact.Nothing)
         (λ one. fact_of known.now id.now ≡ one.now.fact) }
+    ensures first { MatchOption result
+        ((rest : List Known) → fact_of (known.now ++ rest) id.now ≡ fact_of rest id.now)
+        (λ one. (rest : List Known) → fact_of (known.now ++ rest) id.now ≡ one.now.fact) }
 {
     for one in known {
         if one.id == *id {

@@ -1,12 +1,14 @@
-ghost use Rattle.std.specs.Prelude.{ℕ, List, Contains, true, find, Some, ◌≡◌, ◌≢◌};
+ghost use Rattle.std.specs.Prelude.{ℕ, List, All, Contains, true, find, Some, ◌≡◌, ◌≢◌};
 ghost use Rattle.std.specs.Str.{bytes_eq};
 ghost use Rattle.batch_ids.specs.declared.status.BatchStatus.{BatchStatus};
 ghost use Rattle.jsl_model.specs.Jobs.{JobTree};
 ghost use Rattle.jsl_model.specs.Faults.{IsChecked};
 ghost use Rattle.jsl_model.specs.Targets.{named_in};
 ghost use Rattle.job_walk.specs.declared.facts.Fact.{Fact};
+ghost use Rattle.job_walk.specs.declared.facts.Known.{Known};
+ghost use Rattle.job_walk.specs.declared.plan.Plan.{Plan};
 ghost use Rattle.jsl_model.specs.Names.{is_among};
-ghost use Rattle.job_walk.specs.Cursors.{CursorState, with_fact, ready_of, busy_of};
+ghost use Rattle.job_walk.specs.Cursors.{CursorState, known_ids, fact_at_first, resumed, value_in, with_fact, ready_of, busy_of};
 ghost use Rattle.job_walk.specs.Lists.{has_element, value_from, ids_of, Agree, StandsIn};
 ghost use Rattle.job_walk.specs.Runnables.{leaves, all_leaves};
 ghost use Rattle.job_walk.specs.Walk.{fact_of, value_of, walked_element};
@@ -21,6 +23,7 @@ use jsl_model::Element;
 /// is over, whatever was known of it before.
 pub fn the_newest_fact_counts()
     ensures one { (cursor : CursorState) (id : List ℕ) (fact : Fact)
+        → is_among (known_ids cursor.known) id ≡ true
         → fact_of (with_fact cursor id fact).known id ≡ fact }
     ensures others { (cursor : CursorState) (id : List ℕ) (fact : Fact) (other : List ℕ) → id ≢ other
         → fact_of (with_fact cursor id fact).known other ≡ fact_of cursor.known other }
@@ -80,4 +83,15 @@ pub fn what_is_shown_is_a_step_or_decision()
     ensures busy { (facts : List ℕ → Fact) (elements : List Element) (from id : List ℕ)
         → is_among (busy_of (value_of facts elements from)) id ≡ true
         → is_among (ids_of (all_leaves elements)) id ≡ true }
+{}
+
+/// What is known at first decides a walk: where facts say of each step and decision of the job what
+/// is known of it at first, the walk comes to what the job comes to by these facts.
+///
+/// It does nothing: its contract is the law.
+pub fn what_is_known_at_first_decides_a_walk()
+    ensures { (job : JobTree) (plan : Plan) (known : List Known) (facts : List ℕ → Fact)
+        → All (λ leaf. facts leaf.id ≡ fact_at_first plan known leaf.id leaf.runs)
+        (all_leaves job.elements)
+        → value_in (resumed job plan known) ≡ value_of facts job.elements plan.from }
 {}

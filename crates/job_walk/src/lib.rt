@@ -6,6 +6,7 @@ mod copies;
 mod cursor;
 mod element_result;
 mod facts;
+mod first_facts;
 mod law;
 mod plan;
 mod runnable;
@@ -17,7 +18,8 @@ pub use element_result::ElementResult;
 pub use facts::{Fact, Known, Value};
 pub use law::{
     a_list_goes_on_from_element_to_element, a_restart_begins_at_a_job_level_element,
-    steps_and_decisions_decide_a_walk, the_newest_fact_counts, what_is_shown_is_a_step_or_decision,
+    steps_and_decisions_decide_a_walk, the_newest_fact_counts,
+    what_is_known_at_first_decides_a_walk, what_is_shown_is_a_step_or_decision,
 };
 pub use plan::Plan;
 pub use runnable::{Runnable, find_runnable};
