@@ -7,7 +7,7 @@ use Rattle.job_walk.specs.declared.facts.Fact.{Fact}
 use Rattle.job_walk.specs.declared.facts.Known.{Known}
 use Rattle.job_walk.specs.declared.facts.Value.{Value}
 use Rattle.job_walk.specs.declared.plan.Plan.{Plan}
-use Rattle.job_walk.specs.Cursors.{CursorState, IsWalked, known_ids, known_at_first, value_in, ready_of, busy_of, is_shown, put_fact}
+use Rattle.job_walk.specs.Cursors.{CursorState, IsCursor, IsWalked, known_ids, known_at_first, value_in, ready_of, busy_of, is_shown, put_fact}
 use Rattle.job_walk.specs.Lists.{has_element, ids_of}
 use Rattle.job_walk.specs.Runnables.{all_leaves}
 use Rattle.job_walk.specs.Walk.{fact_of, value_of}
@@ -20,9 +20,9 @@ either true b c f g h = f refl
 either false b c f g h = g h
 
 -- something is known of all that is shown
-pub shown-known : (cursor : CursorState) (value : Value) (id : List ℕ) → IsWalked value cursor → is_shown (value_in cursor) id ≡ true
+pub shown-known : (cursor : CursorState) → IsCursor cursor → (id : List ℕ) → is_shown (value_in cursor) id ≡ true
     → is_among (known_ids cursor.known) id ≡ true
-shown-known cursor value id walked shown =
+shown-known cursor walked id shown =
     ap (λ ids. is_among ids id) walked.each
     ∙ either (is_among (ready_of (value_in cursor)) id) (is_among (busy_of (value_in cursor)) id) _
     (ready-leaf (fact_of cursor.known) cursor.job.elements cursor.from id) (busy-leaf (fact_of cursor.known) cursor.job.elements cursor.from id) shown
@@ -38,8 +38,7 @@ pub still-walked : (cursor : CursorState) (old value : Value) (id : List ℕ) (f
     → IsWalked value record { job = cursor.job; from = cursor.from; known = new }
 still-walked cursor old value id fact new known elements walked put same those is = record {
   same = is ∙ (ap (λ ks. value_of (fact_of ks) elements cursor.from) same ∙ ap (λ es. value_of (fact_of new) es cursor.from) those);
-  begins = walked.begins;
-  each = (ap known_ids put ∙ put-ids cursor.known id fact) ∙ walked.each;
+  state = record { begins = walked.state.begins; each = (ap known_ids put ∙ put-ids cursor.known id fact) ∙ walked.state.each };
 }
 
 -- a walk that begins
@@ -49,6 +48,5 @@ pub walked-first : (plan : Plan) (told : List Known) (job : JobTree) (from : Lis
     → IsWalked value record { job = job; from = from; known = new }
 walked-first plan told job from known new others elements value these made same those is begins = record {
   same = is ∙ (ap (λ ks. value_of (fact_of ks) elements from) same ∙ ap (λ es. value_of (fact_of new) es from) those);
-  begins = begins;
-  each = ap known_ids made ∙ (first-ids plan told (all_leaves others) ∙ ap (λ es. ids_of (all_leaves es)) these);
+  state = record { begins = begins; each = ap known_ids made ∙ (first-ids plan told (all_leaves others) ∙ ap (λ es. ids_of (all_leaves es)) these) };
 }

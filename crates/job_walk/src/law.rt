@@ -8,7 +8,7 @@ ghost use Rattle.job_walk.specs.declared.facts.Fact.{Fact};
 ghost use Rattle.job_walk.specs.declared.facts.Known.{Known};
 ghost use Rattle.job_walk.specs.declared.plan.Plan.{Plan};
 ghost use Rattle.jsl_model.specs.Names.{is_among};
-ghost use Rattle.job_walk.specs.Cursors.{CursorState, known_ids, fact_at_first, resumed, value_in, with_fact, ready_of, busy_of};
+ghost use Rattle.job_walk.specs.Cursors.{CursorState, known_ids, fact_at_first, resumed, value_in, with_fact, ready_of, busy_of, is_shown, IsCursor};
 ghost use Rattle.job_walk.specs.Lists.{has_element, value_from, ids_of, Agree, StandsIn};
 ghost use Rattle.job_walk.specs.Runnables.{leaves, all_leaves};
 ghost use Rattle.job_walk.specs.Walk.{fact_of, value_of, walked_element};
@@ -19,13 +19,16 @@ use jsl_model::Element;
 /// What a walk learns of a step or decision is what is known of it from then on, and what is known
 /// of any other one stays.
 ///
-/// It does nothing: its contract is the law. So after `take` a step is busy, and after `report` it
-/// is over, whatever was known of it before.
+/// It does nothing: its contract is the law. Since something is known of all that is ready or busy,
+/// a step is busy after `take` and over after `report`, whatever was known of it before.
 pub fn the_newest_fact_counts()
+    ensures known { (cursor : CursorState) → IsCursor cursor → (id : List ℕ)
+        → is_shown (value_in cursor) id ≡ true → is_among (known_ids cursor.known) id ≡ true }
     ensures one { (cursor : CursorState) (id : List ℕ) (fact : Fact)
         → is_among (known_ids cursor.known) id ≡ true
         → fact_of (with_fact cursor id fact).known id ≡ fact }
-    ensures others { (cursor : CursorState) (id : List ℕ) (fact : Fact) (other : List ℕ) → id ≢ other
+    ensures others { (cursor : CursorState) (id : List ℕ) (fact : Fact) (other : List ℕ)
+        → id ≢ other
         → fact_of (with_fact cursor id fact).known other ≡ fact_of cursor.known other }
 {}
 

@@ -24,12 +24,12 @@ invariant_of-self-in-Ok-3 c =
 pub put_fact-before-requires : goal.put_fact-before-requires
 put_fact-before-requires c =
     let cursor : CursorState = record { job = c.self.inside.job; from = c.self.inside.from; known = c.self.inside.known.items } in
-    record { known = shown-known cursor c.self.inside.value c.args.id.now c.self.invariant (ap (λ (s : CursorState). is_shown (value_in s) c.args.id.now) c.self.view_is ∙ c.requires.shown) }
+    record { known = shown-known cursor c.self.invariant.state c.args.id.now (ap (λ (s : CursorState). is_shown (value_in s) c.args.id.now) c.self.view_is ∙ c.requires.shown) }
 
 pub put_fact-requires : goal.put_fact-requires
 put_fact-requires c =
     let cursor : CursorState = record { job = c.self.inside.job; from = c.self.inside.from; known = c.self.inside.known.items } in
     record {
       known = still-known c.self.inside.known.items c.put_fact-before.new.known.items c.args.id.now c.args.id.now c.args.fact c.put_fact-before.ensures.put
-          (shown-known cursor c.self.inside.value c.args.id.now c.self.invariant (ap (λ (s : CursorState). is_shown (value_in s) c.args.id.now) c.self.view_is ∙ c.requires.shown));
+          (shown-known cursor c.self.invariant.state c.args.id.now (ap (λ (s : CursorState). is_shown (value_in s) c.args.id.now) c.self.view_is ∙ c.requires.shown));
     }
