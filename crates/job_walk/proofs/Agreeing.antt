@@ -11,7 +11,7 @@ use Rattle.job_walk.specs.declared.element_result.ElementResult.{ElementResult}
 use Rattle.job_walk.specs.Walk.{WalkedElement, BodyResult, HasResult, list_value, whole_value, flow_result, split_result, body_result, element_result, element_with_result, flow_value, walked_element, walked_body, value_of_flow, value_of}
 use Rattle.job_walk.specs.Runnables.{Leaf, Inside, IsRun, Holds, body_leaves, leaves_at, element_leaves, flow_leaves, leaves, leaves_of_flow, all_leaves}
 use Rattle.job_walk.specs.Lists.{Agree}
-use Rattle.job_walk.proofs.Ordered.{All-left, All-right}
+use Rattle.job_walk.proofs.Alls.{All-left, All-right}
 
 -- what a body comes to, by both: a step or a decision the same, and what holds others the same where they agree
 abbrev BodyPair : (List ℕ → Fact) → (List ℕ → Fact) → Inside → BodyResult → BodyResult → Type 0

@@ -14,7 +14,7 @@ use Rattle.job_walk.specs.Lists.{ids_of}
 use Rattle.job_walk.specs.Runnables.{Leaf, all_leaves}
 use Rattle.job_walk.specs.Walk.{fact_of, value_of}
 use Rattle.job_walk.proofs.Agreeing.{value-same}
-use Rattle.job_walk.proofs.Ordered.{All-tail}
+use Rattle.job_walk.proofs.Alls.{All-tail}
 
 -- one fact for each step and decision
 pub first-ids : (plan : Plan) (known : List Known) (all : List Leaf) → known_ids (map (known_at_first plan known) all) ≡ ids_of all

@@ -1,10 +1,12 @@
 pub mod Agreeing
+pub mod Alls
 pub mod Beginning
 pub mod Following
 pub mod Learning
 pub mod Leaves
 pub mod Newest
 pub mod Ordered
+pub mod Passing
 pub mod Points
 pub mod Ranks
 pub mod Shown

@@ -1,5 +1,5 @@
 -- The lists of a checked job are ordered, and so the value of each goes on from element to element.
-use Rattle.std.proofs.Common.{◌≡◌, ℕ, zero, suc, Bool, true, false, cond, not, Option, None, Some, List, [], ◌∷◌, ◌++◌, map, find, refl, sym, ◌∙◌, ap, subst, arith}
+use Rattle.std.proofs.Common.{◌≡◌, ℕ, zero, suc, Bool, true, false, cond, not, Option, None, Some, List, [], ◌∷◌, map, find, refl, sym, ◌∙◌, ap, subst, arith}
 use Rattle.std.specs.List.{All, Contains, list_any, list_all, flat_map}
 use Rattle.std.specs.Str.{bytes_eq}
 use Rattle.std.specs.Option.{option_map}
@@ -18,28 +18,13 @@ use Rattle.jsl_model.proofs.InnerLists.{inside-flow, inside-split, flow-lists}
 use Rattle.job_walk.specs.declared.facts.Fact.{Fact}
 use Rattle.job_walk.specs.Walk.{WalkedElement, walked_element, value_of}
 use Rattle.job_walk.specs.Lists.{has_element, IsOrdered, StandsIn, Itself, InFlow, InSplit, value_from}
+use Rattle.job_walk.proofs.Alls.{All-tail, All-held}
 use Rattle.job_walk.proofs.Following.{find-walked}
-use Rattle.job_walk.proofs.Points.{no-fault, both-true, among-own}
+use Rattle.job_walk.proofs.Passing.{both-true}
+use Rattle.job_walk.proofs.Points.{no-fault, among-own}
 use Rattle.job_walk.proofs.Ranks.{ranked-ids, ranked-walked, list-on}
 
 -- ---- What holds of all lists of a job
-
-pub All-tail : {X : Type 0} (P : X → Type 0) (x : X) (xs : List X) → All P (x ∷ xs) → All P xs
-All-tail P x xs h k d lt = h (suc k) d (omega arith)
-
-pub All-left : {X : Type 0} (P : X → Type 0) (xs ys : List X) → All P (xs ++ ys) → All P xs
-All-left P [] ys h = All-nil P
-All-left P (x ∷ xs) ys h = All-cons P x xs (All-head P x (xs ++ ys) h) (All-left P xs ys (All-tail P x (xs ++ ys) h))
-
-pub All-right : {X : Type 0} (P : X → Type 0) (xs ys : List X) → All P (xs ++ ys) → All P ys
-All-right P [] ys h = h
-All-right P (x ∷ xs) ys h = All-right P xs ys (All-tail P x (xs ++ ys) h)
-
--- what holds of all that some elements hold, holds of all that one of them holds
-All-held : {X Y : Type 0} (P : Y → Type 0) (held : X → List Y) (xs : List X) (x : X) → All P (flat_map held xs) → Contains xs x → All P (held x)
-All-held P held [] x h (k, lt, e) = absurd (omega (arith, lt))
-All-held P held (y ∷ ys) x h (zero, lt, e) = subst (λ z. All P (held z)) e (All-left P (held y) (flat_map held ys) h)
-All-held P held (y ∷ ys) x h (suc k, lt, e) = All-held P held ys x (All-right P (held y) (flat_map held ys) h) (k, omega (arith, lt), e)
 
 -- what holds of all lists of a job, holds of each that stands in it
 pub All-standing : (P : List Item → Type 0) (list elements : List Element) → StandsIn list elements → All P (lists_of elements) → P (outline list)
