@@ -1,4 +1,4 @@
--- The lists of a job, as a walk goes over them.
+-- The lists of a job, as a walk goes over them, and what is known of their steps and decisions.
 use Rattle.std.specs.Prelude.{◌≡◌, ℕ, Bool, false, List, map, All, Contains}
 use Rattle.std.specs.List.{list_any}
 use Rattle.std.specs.Str.{bytes_eq}
@@ -10,6 +10,8 @@ use Rattle.job_walk.specs.declared.facts.Fact.{Fact}
 use Rattle.job_walk.specs.declared.facts.Value.{Value}
 use Rattle.job_walk.specs.Runnables.{Leaf}
 use Rattle.job_walk.specs.Walk.{walked_element, value_by_result, value_of}
+
+-- ---- Lists
 
 -- whether this is the id of an element of the list
 abbrev pub has_element : List Element → List ℕ → Bool
@@ -34,6 +36,8 @@ pub data StandsIn (list : List Element) : List Element → Type 0 where
 abbrev pub value_from : (List ℕ → Fact) → List Element → Element → Value
 value_from facts elements element =
     value_by_result (value_of facts elements) (walked_element facts element) (walked_element facts element).own_result
+
+-- ---- Steps and decisions
 
 -- the ids of these steps and decisions
 abbrev pub ids_of : List Leaf → List (List ℕ)

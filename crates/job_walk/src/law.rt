@@ -23,13 +23,13 @@ use jsl_model::Element;
 /// a step is busy after `take` and over after `report`, whatever was known of it before.
 pub fn the_newest_fact_counts()
     ensures known { (cursor : CursorState) → IsCursor cursor → (id : List ℕ)
-        → is_shown (value_in cursor) id ≡ true → is_among (known_ids cursor.known) id ≡ true }
+        → is_shown (value_in cursor) id ≡ true → is_among (known_ids cursor.facts) id ≡ true }
     ensures one { (cursor : CursorState) (id : List ℕ) (fact : Fact)
-        → is_among (known_ids cursor.known) id ≡ true
-        → fact_of (with_fact cursor id fact).known id ≡ fact }
+        → is_among (known_ids cursor.facts) id ≡ true
+        → fact_of (with_fact cursor id fact).facts id ≡ fact }
     ensures others { (cursor : CursorState) (id : List ℕ) (fact : Fact) (other : List ℕ)
         → id ≢ other
-        → fact_of (with_fact cursor id fact).known other ≡ fact_of cursor.known other }
+        → fact_of (with_fact cursor id fact).facts other ≡ fact_of cursor.facts other }
 {}
 
 /// A restart begins at an element of the job's own list: the restart point with which the walk of a
