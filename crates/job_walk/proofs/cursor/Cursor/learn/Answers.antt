@@ -9,18 +9,6 @@ invariant_of-self c =
     still-walked cursor c.self.inside.value c.in-Ok.value c.args.id.now c.args.fact c.put_fact-before.new.known.items c.as_slice.result.now c.elements.result.now
     c.self.invariant c.put_fact-before.ensures.put c.as_slice.ensures.value c.elements.ensures.same c.in-Ok.ensures
 
-pub invariant_of-self-in-Ok-2 : goal.invariant_of-self-in-Ok-2
-invariant_of-self-in-Ok-2 c =
-    let cursor : CursorState = record { job = c.self.inside.job; from = c.self.inside.from; facts = c.self.inside.known.items } in
-    still-walked cursor c.self.inside.value c.in-Ok.value c.args.id.now c.args.fact c.put_fact-before.new.known.items c.as_slice.result.now c.elements.result.now
-    c.self.invariant c.put_fact-before.ensures.put c.as_slice.ensures.value c.elements.ensures.same c.in-Ok.ensures
-
-pub invariant_of-self-in-Ok-3 : goal.invariant_of-self-in-Ok-3
-invariant_of-self-in-Ok-3 c =
-    let cursor : CursorState = record { job = c.self.inside.job; from = c.self.inside.from; facts = c.self.inside.known.items } in
-    still-walked cursor c.self.inside.value c.in-Ok.value c.args.id.now c.args.fact c.put_fact-before.new.known.items c.as_slice.result.now c.elements.result.now
-    c.self.invariant c.put_fact-before.ensures.put c.as_slice.ensures.value c.elements.ensures.same c.in-Ok.ensures
-
 pub put_fact-before-requires : goal.put_fact-before-requires
 put_fact-before-requires c =
     let cursor : CursorState = record { job = c.self.inside.job; from = c.self.inside.from; facts = c.self.inside.known.items } in
