@@ -1,16 +1,17 @@
 //! Runs scripts, and says of each whether its replies are those of a file, and where they begin to differ.
 //!
-//! The scripts, the replies and the list of both lie in `data/`.
+//! The scripts, the replies and the list of both lie in `data/`. A file whose name ends in `.scripts` holds many
+//! scripts, each parted from the next by an empty line, and their replies are parted so too.
 #![tactic(auto)]
 
 ghost use Rattle.std.specs.Prelude.{◌≡◌, ◌↔◌, IsNone};
 
-use script_engine::{Counted, EngineFault, Summary, run_script};
+use script_engine::{EngineFault, Summary, answer_script};
 use std::rt::Files;
 use std::{fs, io};
 
-/// Names in each line a script and the file of the replies that it wants. The last line names the replies of another
-/// script, so that a comparison which finds all alike shows.
+/// Names in each line a script, or a file of scripts, and the file of the replies that it wants. The last two lines name the
+/// replies of others, so that a comparison which finds all alike shows.
 const CASES: &str = "cases";
 
 /// The line, counted from 1, in which two texts begin to differ, if they do.
@@ -32,6 +33,20 @@ fn first_difference(written: &[u8], wanted: &[u8]) -> Option<usize>
     Some(line)
 }
 
+/// Says whether replies are the wanted ones.
+fn print_comparison(
+    rt: &impl Print,
+    names: (&str, &str),
+    written: &[u8],
+    wanted: &[u8],
+) -> io::Result<()> {
+    let (script, replies) = names;
+    match first_difference(written, wanted) {
+        None => print!(rt; "{script}: as {replies} has it: "),
+        Some(line) => print!(rt; "{script}: differs from {replies} in line {line}: "),
+    }
+}
+
 /// Says how a script ended.
 fn print_ending(rt: &impl Print, outcome: &Result<Summary, EngineFault>) -> io::Result<()> {
     match outcome {
@@ -51,24 +66,47 @@ fn run_case(
 ) -> io::Result<()> {
     let lines = fs::read(rt, script)?;
     let wanted = fs::read(rt, replies)?;
-    let mut written = Vec::new(rt.alloc());
-    let outcome = {
-        let mut source = Counted::new(lines.as_slice());
-        let mut sink = Counted::new(&mut written);
-        run_script(rt.alloc(), &mut source, &mut sink)
-    };
-    match first_difference(written.as_slice(), wanted.as_slice()) {
-        None => print!(rt; "{script}: as {replies} has it: ")?,
-        Some(line) => print!(rt; "{script}: differs from {replies} in line {line}: ")?,
-    }
+    let (written, outcome) = answer_script(rt.alloc(), lines.as_slice());
+    print_comparison(rt, (script, replies), written.as_slice(), wanted.as_slice())?;
     print_ending(rt, &outcome)
+}
+
+/// Runs many scripts, and says how many there are and whether their replies are the wanted ones.
+fn run_cases(
+    rt: &(impl Files + Print + AllocGlobal),
+    scripts: &str,
+    replies: &str,
+) -> io::Result<()> {
+    let lines = fs::read_to_string(rt, scripts)?;
+    let wanted = fs::read(rt, replies)?;
+    let mut written = Vec::new(rt.alloc());
+    let mut count: usize = 0;
+    for script in lines.as_str().split("\n\n") {
+        if count > 0 {
+            written.push(b'\n')?;
+        }
+        let (text, _outcome) = answer_script(rt.alloc(), script.as_bytes());
+        written.extend_from_slice(text.as_slice())?;
+        count = count.saturating_add(1);
+    }
+    print_comparison(
+        rt,
+        (scripts, replies),
+        written.as_slice(),
+        wanted.as_slice(),
+    )?;
+    println!(rt; "{count} scripts")
 }
 
 fn main(rt: HostRuntime) -> io::Result<()> {
     let cases = fs::read_to_string(&rt, CASES)?;
     for case in cases.as_str().lines() {
         if let Some((script, replies)) = case.split_once(' ') {
-            run_case(&rt, script, replies)?;
+            if script.ends_with(".scripts") {
+                run_cases(&rt, script, replies)?;
+            } else {
+                run_case(&rt, script, replies)?;
+            }
         }
     }
     Ok(())
