@@ -9,3 +9,5 @@ mod object_members;
 mod patterns;
 #[cfg(test)]
 mod target_graphs;
+#[cfg(test)]
+mod walks;

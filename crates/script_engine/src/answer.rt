@@ -8,7 +8,7 @@ ghost use Rattle.script_engine.specs.Summaries.{line_kind, kind_for};
 ghost use Rattle.script_engine.specs.declared.summary.Kind.TheVariants.{Refused, Bad};
 
 use crate::summary::Kind;
-use batch_ids::{Moment, Refusal};
+use batch_ids::{Moment, OutOfMemory, Refusal};
 use op_log::{Book, Call, Query};
 use script_lines::Line;
 use script_text::{Command, answer_text, bad_line_text, read_command, reply_text};
@@ -32,7 +32,7 @@ pub(crate) fn answer(
     alloc: Global,
     book: &mut Book<LIMIT>,
     line: &Line,
-) -> Result<Answered, AllocError>
+) -> Result<Answered, OutOfMemory>
     ensures text { IfOk result (λ answered. (bytes : List ℕ) → Shows line.now bytes → answered.text.items ≡ line_text book.old bytes) }
     ensures kind { IfOk result (λ answered. (bytes : List ℕ) → Shows line.now bytes → answered.kind ≡ line_kind book.old bytes) }
     ensures after { OnOk result ((bytes : List ℕ) → Shows line.now bytes → book.new ≡ line_after book.old bytes) }
@@ -46,28 +46,32 @@ pub(crate) fn answer(
                 });
             }
             let command = read_command(alloc, bytes)?;
-            obey(alloc, book, command)
+            answer_command(alloc, book, command)
         }
-        Line::TooLong => bad(alloc),
+        Line::TooLong => reply_bad_line(alloc),
     }
 }
 
 /// Answers a command.
-fn obey(alloc: Global, book: &mut Book<LIMIT>, command: Command) -> Result<Answered, AllocError>
+fn answer_command(
+    alloc: Global,
+    book: &mut Book<LIMIT>,
+    command: Command,
+) -> Result<Answered, OutOfMemory>
     ensures text { IfOk result (λ answered. answered.text.items ≡ text_for book.old command) }
     ensures kind { IfOk result (λ answered. answered.kind ≡ kind_for book.old command) }
     ensures after { OnOk result (book.new ≡ history_for book.old command) }
 {
     match command {
-        Command::BadLine => bad(alloc),
-        Command::TextTooLong => refused(alloc, Refusal::TextTooLong),
+        Command::BadLine => reply_bad_line(alloc),
+        Command::TextTooLong => reply_refusal(alloc, Refusal::TextTooLong),
         Command::Act { by, at, call } => act(alloc, book, by, at, call),
         Command::Ask(query) => ask(alloc, book, &query),
     }
 }
 
-/// Answers what is no command.
-fn bad(alloc: Global) -> Result<Answered, AllocError>
+/// The reply to what is no command.
+fn reply_bad_line(alloc: Global) -> Result<Answered, OutOfMemory>
     ensures { IfOk result (λ answered. (answered.text.items ≡ bad_line_text) × (answered.kind ≡ Bad)) }
 {
     Ok(Answered {
@@ -76,8 +80,8 @@ fn bad(alloc: Global) -> Result<Answered, AllocError>
     })
 }
 
-/// Answers a call or a query that is refused.
-fn refused(alloc: Global, refusal: Refusal) -> Result<Answered, AllocError>
+/// The reply to a call that is refused.
+fn reply_refusal(alloc: Global, refusal: Refusal) -> Result<Answered, OutOfMemory>
     ensures { IfOk result (λ answered. (answered.text.items ≡ reply_text (Err refusal)) × (answered.kind ≡ Refused)) }
 {
     Ok(Answered {
@@ -93,7 +97,7 @@ fn act(
     by: u64,
     at: Moment,
     call: Call,
-) -> Result<Answered, AllocError>
+) -> Result<Answered, OutOfMemory>
     ensures text { IfOk result (λ answered. answered.text.items ≡ text_for book.old (Act by at call)) }
     ensures kind { IfOk result (λ answered. answered.kind ≡ kind_for book.old (Act by at call)) }
     ensures after { OnOk result (book.new ≡ history_for book.old (Act by at call)) }
@@ -107,13 +111,13 @@ fn act(
             if is_out_of_memory(refusal) {
                 return Err(AllocError);
             }
-            refused(alloc, refusal)
+            reply_refusal(alloc, refusal)
         }
     }
 }
 
 /// Answers a query.
-fn ask(alloc: Global, book: &Book<LIMIT>, query: &Query) -> Result<Answered, AllocError>
+fn ask(alloc: Global, book: &Book<LIMIT>, query: &Query) -> Result<Answered, OutOfMemory>
     ensures text { IfOk result (λ answered. answered.text.items ≡ text_for book.now (Ask query.now)) }
     ensures kind { IfOk result (λ answered. answered.kind ≡ kind_for book.now (Ask query.now)) }
 {

@@ -4,8 +4,8 @@ use Rattle.std.specs.Option.{option_or}
 use Rattle.serde_json.specs.Data.{Data}
 use Rattle.json_members.specs.Members.{data_of, text_at, number_at}
 use Rattle.json_members.specs.Chains.{◌>>=◌}
-use Rattle.script_text.specs.CallRows.{call_named}
-use Rattle.script_text.specs.QueryRows.{query_named}
+use Rattle.script_text.specs.Calls.{call_named}
+use Rattle.script_text.specs.Queries.{query_named}
 use Rattle.script_text.specs.Bounds.{call_within, query_within}
 use Rattle.script_text.specs.declared.command.Command.{Command}
 use Rattle.script_text.specs.declared.command.Command.TheVariants.{BadLine, TextTooLong, Act, Ask}
@@ -15,8 +15,8 @@ abbrev pub session_at : Data → Option ℕ
 session_at d = number_at (codes "by") d >>= λ by. if by == 0 then None else Some by
 
 -- a call, the session that makes it, and its moment; its texts may be of any length
-unfoldable pub act_of : Data → Option Command
-act_of d = do
+unfoldable pub call_of : Data → Option Command
+call_of d = do
   word ← text_at (codes "do") d
   call ← call_named word d
   by ← session_at d
@@ -24,15 +24,15 @@ act_of d = do
   Some (Act by at call)
 
 -- a query; its texts may be of any length
-unfoldable pub question_of : Data → Option Command
-question_of d = do
+unfoldable pub query_of : Data → Option Command
+query_of d = do
   word ← text_at (codes "ask") d
   query ← query_named word d
   Some (Ask query)
 
 -- the command that a value is, its texts of any length, if it is one of the table
-unfoldable pub row_of : Data → Option Command
-row_of d = option_or (act_of d) (question_of d)
+unfoldable pub raw_command_of : Data → Option Command
+raw_command_of d = option_or (call_of d) (query_of d)
 
 -- a command whose texts are within their bounds, else TextTooLong
 abbrev pub within_bounds : Command → Command
@@ -43,7 +43,7 @@ within_bounds BadLine = BadLine
 
 -- the command that a value is
 unfoldable pub command_of_data : Data → Command
-command_of_data d = unwrap_or (option_map within_bounds (row_of d)) BadLine
+command_of_data d = unwrap_or (option_map within_bounds (raw_command_of d)) BadLine
 
 -- the command that a line is: BadLine where it is none of the table, whatever its texts; then TextTooLong where one is above its bound
 unfoldable pub command_of : List ℕ → Command

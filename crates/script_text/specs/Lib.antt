@@ -1,9 +1,9 @@
 pub mod Written
 pub mod Parameters
 pub mod Metrics
-pub mod CallRows
-pub mod QueryRows
-pub mod Shapes
+pub mod Calls
+pub mod Queries
+pub mod RawCommands
 pub mod Bounds
 pub mod Commands
 pub mod Replies

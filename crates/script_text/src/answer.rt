@@ -7,9 +7,9 @@ use crate::parameters::parameters_value;
 use crate::records::{execution_value, instance_value, status_counts_value};
 use crate::written::{line_of, one, refused};
 use batch_history::Answer;
-use batch_ids::Refusal;
+use batch_ids::{OutOfMemory, Refusal};
 use serde_json::Value;
-use std::alloc::{AllocError, Global};
+use std::alloc::Global;
 
 /// The line that answers a query, with its line feed: compact JSON, the members of each object in
 /// rising order of their names, null for none.
@@ -34,14 +34,14 @@ use std::alloc::{AllocError, Global};
 ///
 /// `OutOfMemory` where memory is refused.
 #[tactic(auto, using(crate::proofs::Floats::answer_has_no_float))]
-pub fn answer_text(alloc: Global, answer: &Result<Answer, Refusal>) -> Result<Vec<u8>, AllocError>
+pub fn answer_text(alloc: Global, answer: &Result<Answer, Refusal>) -> Result<Vec<u8>, OutOfMemory>
     ensures { IfOk result (λ text. text.items ≡ answer_text answer.now) }
 {
     let value = answer_value(alloc, answer)?;
     line_of(alloc, &value)
 }
 
-fn answer_value(alloc: Global, answer: &Result<Answer, Refusal>) -> Result<Value, AllocError>
+fn answer_value(alloc: Global, answer: &Result<Answer, Refusal>) -> Result<Value, OutOfMemory>
     ensures { IfOk result (λ value. view value ≡ answer_data answer.now) }
 {
     match answer {

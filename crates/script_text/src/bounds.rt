@@ -3,36 +3,36 @@ ghost use Rattle.std.specs.Prelude.{◌≡◌, IfOk, option_map};
 ghost use Rattle.batch_history.specs.declared.call.Call.TheVariants.{Start, Restart, Checkpoint, Finish};
 ghost use Rattle.batch_history.specs.declared.query.Query.TheVariants.{JobInstances};
 ghost use Rattle.script_text.specs.Bounds.{text_within, exit_within, call_within, query_within};
-ghost use Rattle.script_text.specs.Shapes.{call_in, query_in, pairs_in};
+ghost use Rattle.script_text.specs.RawCommands.{call_in, query_in, pairs_in};
 
 use crate::parameters::parameters_within;
-use crate::shape::{CallShape, QueryShape};
+use crate::raw::{RawCall, RawQuery};
 use batch_history::{Call, Query};
-use batch_ids::{ExecutionId, InstanceId, MetricStep, T256, Text, WorkId, WorkOutcome};
+use batch_ids::{
+    ExecutionId, InstanceId, MetricStep, OutOfMemory, T256, Text, WorkId, WorkOutcome,
+};
 use serde_json::Value;
-use std::alloc::{AllocError, Global};
+use std::alloc::Global;
 
-/// The call of a shape, with copies of its texts; `None` where one is above its bound.
-pub fn call_within(alloc: Global, call: &CallShape<'_>) -> Result<Option<Call>, AllocError>
+/// The call that a raw call spells, with copies of its texts; `None` where one is above its bound.
+pub fn call_within(alloc: Global, call: &RawCall<'_>) -> Result<Option<Call>, OutOfMemory>
     ensures { IfOk result (λ made. made ≡ call_within (call_in call.now)) }
 {
     match call {
-        CallShape::Start { job, parameters } => start_within(alloc, job, *parameters),
-        CallShape::Restart {
+        RawCall::Start { job, parameters } => start_within(alloc, job, *parameters),
+        RawCall::Restart {
             execution,
             parameters,
         } => restart_within(alloc, *execution, *parameters),
-        CallShape::Stop { execution } => Ok(Some(Call::Stop {
+        RawCall::Stop { execution } => Ok(Some(Call::Stop {
             execution: ExecutionId::new(*execution),
         })),
-        CallShape::Abandon { execution } => Ok(Some(Call::Abandon {
+        RawCall::Abandon { execution } => Ok(Some(Call::Abandon {
             execution: ExecutionId::new(*execution),
         })),
-        CallShape::Claim => Ok(Some(Call::Claim)),
-        CallShape::Checkpoint { work, mark, step } => {
-            checkpoint_within(alloc, *work, mark, *step)
-        }
-        CallShape::Finish {
+        RawCall::Claim => Ok(Some(Call::Claim)),
+        RawCall::Checkpoint { work, mark, step } => { checkpoint_within(alloc, *work, mark, *step) }
+        RawCall::Finish {
             work,
             outcome,
             exit,
@@ -45,7 +45,7 @@ fn start_within(
     alloc: Global,
     job: &str,
     parameters: Option<&Value>,
-) -> Result<Option<Call>, AllocError>
+) -> Result<Option<Call>, OutOfMemory>
     ensures { IfOk result (λ made. made ≡ call_within (Start job.now (pairs_in parameters.entry))) }
 {
     let Some(job) = text_within(alloc, job)? else {
@@ -61,7 +61,7 @@ fn restart_within(
     alloc: Global,
     execution: u64,
     parameters: Option<&Value>,
-) -> Result<Option<Call>, AllocError>
+) -> Result<Option<Call>, OutOfMemory>
     ensures { IfOk result (λ made. made ≡ call_within (Restart execution (pairs_in parameters.entry))) }
 {
     let Some(parameters) = parameters_within(alloc, parameters)? else {
@@ -78,7 +78,7 @@ fn checkpoint_within(
     work: u64,
     mark: &str,
     step: MetricStep,
-) -> Result<Option<Call>, AllocError>
+) -> Result<Option<Call>, OutOfMemory>
     ensures { IfOk result (λ made. made ≡ call_within (Checkpoint work mark.now step)) }
 {
     let Some(mark) = text_within(alloc, mark)? else {
@@ -97,7 +97,7 @@ fn finish_within(
     outcome: WorkOutcome,
     exit: Option<&str>,
     step: MetricStep,
-) -> Result<Option<Call>, AllocError>
+) -> Result<Option<Call>, OutOfMemory>
     ensures { IfOk result (λ made. made ≡ call_within (Finish work outcome (option_map (λ text. text.now) exit.entry) step)) }
 {
     let Some(exit) = exit_within(alloc, exit)? else {
@@ -111,39 +111,39 @@ fn finish_within(
     }))
 }
 
-/// The query of a shape, with a copy of its text; `None` where that is above its bound.
-pub fn query_within(alloc: Global, query: &QueryShape<'_>) -> Result<Option<Query>, AllocError>
+/// The query that a raw query spells, with a copy of its text; `None` where that is above its bound.
+pub fn query_within(alloc: Global, query: &RawQuery<'_>) -> Result<Option<Query>, OutOfMemory>
     ensures { IfOk result (λ made. made ≡ query_within (query_in query.now)) }
 {
     match query {
-        QueryShape::JobNames => Ok(Some(Query::JobNames)),
-        QueryShape::JobInstanceCount { job } => {
+        RawQuery::JobNames => Ok(Some(Query::JobNames)),
+        RawQuery::JobInstanceCount { job } => {
             let job = text_within(alloc, job)?;
             Ok(job.map(|job| Query::JobInstanceCount { job }))
         }
-        QueryShape::JobInstances { job, start, count } => {
+        RawQuery::JobInstances { job, start, count } => {
             instances_within(alloc, job, *start, *count)
         }
-        QueryShape::RunningExecutions { job } => {
+        RawQuery::RunningExecutions { job } => {
             let job = text_within(alloc, job)?;
             Ok(job.map(|job| Query::RunningExecutions { job }))
         }
-        QueryShape::Parameters { execution } => Ok(Some(Query::Parameters {
+        RawQuery::Parameters { execution } => Ok(Some(Query::Parameters {
             execution: ExecutionId::new(*execution),
         })),
-        QueryShape::JobInstance { execution } => Ok(Some(Query::JobInstance {
+        RawQuery::JobInstance { execution } => Ok(Some(Query::JobInstance {
             execution: ExecutionId::new(*execution),
         })),
-        QueryShape::JobExecutions { instance } => Ok(Some(Query::JobExecutions {
+        RawQuery::JobExecutions { instance } => Ok(Some(Query::JobExecutions {
             instance: InstanceId::new(*instance),
         })),
-        QueryShape::JobExecution { execution } => Ok(Some(Query::JobExecution {
+        RawQuery::JobExecution { execution } => Ok(Some(Query::JobExecution {
             execution: ExecutionId::new(*execution),
         })),
-        QueryShape::StepExecutions { execution } => Ok(Some(Query::StepExecutions {
+        RawQuery::StepExecutions { execution } => Ok(Some(Query::StepExecutions {
             execution: ExecutionId::new(*execution),
         })),
-        QueryShape::StatusCounts => Ok(Some(Query::StatusCounts)),
+        RawQuery::StatusCounts => Ok(Some(Query::StatusCounts)),
     }
 }
 
@@ -152,7 +152,7 @@ fn instances_within(
     job: &str,
     start: u64,
     count: u64,
-) -> Result<Option<Query>, AllocError>
+) -> Result<Option<Query>, OutOfMemory>
     ensures { IfOk result (λ made. made ≡ query_within (JobInstances job.now start count)) }
 {
     let Some(job) = text_within(alloc, job)? else {
@@ -162,7 +162,10 @@ fn instances_within(
 }
 
 /// A text of at most `MAX` bytes, copied; `None` where it has more.
-fn text_within<const MAX: usize>(alloc: Global, text: &str) -> Result<Option<Text<MAX>>, AllocError>
+fn text_within<const MAX: usize>(
+    alloc: Global,
+    text: &str,
+) -> Result<Option<Text<MAX>>, OutOfMemory>
     ensures { IfOk result (λ made. made ≡ text_within MAX text.now) }
 {
     if text.len() > MAX {
@@ -172,7 +175,7 @@ fn text_within<const MAX: usize>(alloc: Global, text: &str) -> Result<Option<Tex
 }
 
 /// An exit status that may be left out, copied; `None` where it is above its bound.
-fn exit_within(alloc: Global, exit: Option<&str>) -> Result<Option<Option<T256>>, AllocError>
+fn exit_within(alloc: Global, exit: Option<&str>) -> Result<Option<Option<T256>>, OutOfMemory>
     ensures { IfOk result (λ made. made ≡ exit_within (option_map (λ text. text.now) exit.entry)) }
 {
     match exit {

@@ -1,15 +1,15 @@
 ghost use Rattle.std.specs.Prelude.{◌≡◌, IfOk};
 ghost use Rattle.serde_json.specs.View.{view};
 ghost use Rattle.script_text.specs.Commands.{command_of, command_of_data, within_bounds};
-ghost use Rattle.script_text.specs.Shapes.{command_in};
+ghost use Rattle.script_text.specs.RawCommands.{command_in};
 
 use crate::bounds::{call_within, query_within};
-use crate::shape::{Shape, shape_of};
+use crate::raw::{RawCommand, raw_command_of};
 use batch_history::{Call, Query};
-use batch_ids::Moment;
+use batch_ids::{Moment, OutOfMemory};
 use json_members::read_value;
 use serde_json::Value;
-use std::alloc::{AllocError, Global};
+use std::alloc::Global;
 
 /// What a line of a script is.
 #[derive(Debug, PartialEq, Eq, Drop)]
@@ -66,7 +66,7 @@ pub enum Command {
 ///
 /// `OutOfMemory` where memory is refused.
 #[tactic(auto, unfolding(crate::specs::Commands::command_of))]
-pub fn read_command(alloc: Global, line: &[u8]) -> Result<Command, AllocError>
+pub fn read_command(alloc: Global, line: &[u8]) -> Result<Command, OutOfMemory>
     ensures { IfOk result (λ command. command ≡ command_of line.now) }
 {
     let value = read_value(alloc, line)?;
@@ -77,20 +77,20 @@ pub fn read_command(alloc: Global, line: &[u8]) -> Result<Command, AllocError>
 }
 
 #[tactic(auto, unfolding(crate::specs::Commands::command_of_data))]
-fn command_of_value(alloc: Global, value: &Value) -> Result<Command, AllocError>
+fn command_of_value(alloc: Global, value: &Value) -> Result<Command, OutOfMemory>
     ensures { IfOk result (λ command. command ≡ command_of_data (view value.now)) }
 {
-    match shape_of(value) {
-        Some(shape) => command_within(alloc, &shape),
+    match raw_command_of(value) {
+        Some(raw) => command_within(alloc, &raw),
         None => Ok(Command::BadLine),
     }
 }
 
-fn command_within(alloc: Global, shape: &Shape<'_>) -> Result<Command, AllocError>
-    ensures { IfOk result (λ command. command ≡ within_bounds (command_in shape.now)) }
+fn command_within(alloc: Global, raw: &RawCommand<'_>) -> Result<Command, OutOfMemory>
+    ensures { IfOk result (λ command. command ≡ within_bounds (command_in raw.now)) }
 {
-    match shape {
-        Shape::Act { by, at, call } => match call_within(alloc, call)? {
+    match raw {
+        RawCommand::Act { by, at, call } => match call_within(alloc, call)? {
             Some(call) => Ok(Command::Act {
                 by: *by,
                 at: *at,
@@ -98,7 +98,7 @@ fn command_within(alloc: Global, shape: &Shape<'_>) -> Result<Command, AllocErro
             }),
             None => Ok(Command::TextTooLong),
         },
-        Shape::Ask(query) => match query_within(alloc, query)? {
+        RawCommand::Ask(query) => match query_within(alloc, query)? {
             Some(query) => Ok(Command::Ask(query)),
             None => Ok(Command::TextTooLong),
         },

@@ -4,9 +4,10 @@ ghost use Rattle.jsl_json.specs.Catalogues.{is_out_of_memory};
 ghost use Rattle.script_text.specs.Faults.{fault_data, fault_text};
 
 use crate::written::{count_or_null, line_of};
+use batch_ids::OutOfMemory;
 use jsl_json::ReadFault;
 use serde_json::{Value, json};
-use std::alloc::{AllocError, Global};
+use std::alloc::Global;
 
 /// The line of a fault that is not `OutOfMemory`, with its line feed: `{"fault":NAME}` for a line
 /// that is no catalogue, `{"element":N,"fault":"BadElement","job":N}` (null for no element), and
@@ -16,7 +17,7 @@ use std::alloc::{AllocError, Global};
 ///
 /// `OutOfMemory` where memory is refused.
 #[tactic(auto, using(crate::proofs::Floats::fault_has_no_float))]
-pub fn fault_text(alloc: Global, fault: &ReadFault) -> Result<Vec<u8>, AllocError>
+pub fn fault_text(alloc: Global, fault: &ReadFault) -> Result<Vec<u8>, OutOfMemory>
     requires { is_out_of_memory fault.now ≡ false }
     ensures { IfOk result (λ text. text.items ≡ fault_text fault.now) }
 {
@@ -24,7 +25,7 @@ pub fn fault_text(alloc: Global, fault: &ReadFault) -> Result<Vec<u8>, AllocErro
     line_of(alloc, &value)
 }
 
-fn fault_value(alloc: Global, fault: &ReadFault) -> Result<Value, AllocError>
+fn fault_value(alloc: Global, fault: &ReadFault) -> Result<Value, OutOfMemory>
     requires { is_out_of_memory fault.now ≡ false }
     ensures { IfOk result (λ value. view value ≡ fault_data fault.now) }
 {

@@ -3,16 +3,16 @@
 
 mod answer;
 mod bounds;
-mod call_rows;
+mod calls;
 mod command;
 mod fault;
 mod lists;
 mod metrics;
 mod parameters;
-mod query_rows;
+mod queries;
+mod raw;
 mod records;
 mod reply;
-mod shape;
 mod written;
 
 pub use answer::answer_text;

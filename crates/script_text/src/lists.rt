@@ -7,12 +7,12 @@ ghost use Rattle.script_text.specs.Answers.{instance_data, execution_data, step_
 
 use crate::records::{execution_value, instance_value, step_value};
 use batch_history::{JobExecution, JobInstance, StepExecution};
-use batch_ids::{ExecutionId, Listed, T256};
+use batch_ids::{ExecutionId, Listed, OutOfMemory, T256};
 use serde_json::Value;
-use std::alloc::{AllocError, Global};
+use std::alloc::Global;
 
 /// A list of names.
-pub fn names_value(alloc: Global, names: &Listed<T256>) -> Result<Value, AllocError>
+pub fn names_value(alloc: Global, names: &Listed<T256>) -> Result<Value, OutOfMemory>
     ensures { IfOk result (λ value. view value ≡ list_of (map string names.now)) }
 {
     let mut values = Vec::new(alloc);
@@ -23,7 +23,7 @@ pub fn names_value(alloc: Global, names: &Listed<T256>) -> Result<Value, AllocEr
 }
 
 /// A list of numbers of job executions.
-pub fn numbers_value(alloc: Global, executions: &Listed<ExecutionId>) -> Result<Value, AllocError>
+pub fn numbers_value(alloc: Global, executions: &Listed<ExecutionId>) -> Result<Value, OutOfMemory>
     ensures { IfOk result (λ value. view value ≡ list_of (map count executions.now)) }
 {
     let mut values = Vec::new(alloc);
@@ -34,7 +34,7 @@ pub fn numbers_value(alloc: Global, executions: &Listed<ExecutionId>) -> Result<
 }
 
 /// A list of job instances.
-pub fn instances_value(alloc: Global, instances: &Listed<JobInstance>) -> Result<Value, AllocError>
+pub fn instances_value(alloc: Global, instances: &Listed<JobInstance>) -> Result<Value, OutOfMemory>
     ensures { IfOk result (λ value. view value ≡ list_of (map instance_data instances.now)) }
 {
     let mut values = Vec::new(alloc);
@@ -48,7 +48,7 @@ pub fn instances_value(alloc: Global, instances: &Listed<JobInstance>) -> Result
 pub fn executions_value(
     alloc: Global,
     executions: &Listed<JobExecution>,
-) -> Result<Value, AllocError>
+) -> Result<Value, OutOfMemory>
     ensures { IfOk result (λ value. view value ≡ list_of (map execution_data executions.now)) }
 {
     let mut values = Vec::new(alloc);
@@ -59,7 +59,7 @@ pub fn executions_value(
 }
 
 /// A list of the records of step executions.
-pub fn steps_value(alloc: Global, steps: &Listed<StepExecution>) -> Result<Value, AllocError>
+pub fn steps_value(alloc: Global, steps: &Listed<StepExecution>) -> Result<Value, OutOfMemory>
     ensures { IfOk result (λ value. view value ≡ list_of (map step_data steps.now)) }
 {
     let mut values = Vec::new(alloc);

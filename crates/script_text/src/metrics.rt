@@ -4,10 +4,10 @@ ghost use Rattle.serde_json.specs.View.{view};
 ghost use Rattle.script_text.specs.Metrics.{metric_at, metric_names, step_of, metrics_at, metrics_data};
 
 use crate::written::counts_value;
-use batch_ids::{Metric, MetricStep, Metrics};
+use batch_ids::{Metric, MetricStep, Metrics, OutOfMemory};
 use json_members::{has_only, optional_number, optional_object};
 use serde_json::Value;
-use std::alloc::{AllocError, Global};
+use std::alloc::Global;
 
 /// The step that the member `metrics` is, which may be left out; `None` where it is there and no
 /// object of counts.
@@ -71,7 +71,7 @@ fn metric_at(metric: Metric, object: &Value) -> Option<u32>
 /// # Errors
 ///
 /// `OutOfMemory` where memory is refused.
-pub fn metrics_value(alloc: Global, metrics: &Metrics) -> Result<Value, AllocError>
+pub fn metrics_value(alloc: Global, metrics: &Metrics) -> Result<Value, OutOfMemory>
     ensures { IfOk result (λ value. view value ≡ metrics_data metrics.now) }
 {
     let counts = [

@@ -6,9 +6,9 @@ ghost use Rattle.serde_json.specs.Find.{as_str};
 ghost use Rattle.serde_json.specs.View.{view, members_view};
 ghost use Rattle.batch_ids.specs.Parameters.{pairs_of};
 ghost use Rattle.script_text.specs.Parameters.{parameters_at, parameters_within, parameters_data, has_texts, text_pairs};
-ghost use Rattle.script_text.specs.Shapes.{pairs_in};
+ghost use Rattle.script_text.specs.RawCommands.{pairs_in};
 
-use batch_ids::{Parameters, Refusal};
+use batch_ids::{OutOfMemory, Parameters, Refusal};
 use json_members::optional_object;
 use serde_json::{Map, Value, put};
 use std::alloc::{AllocError, Global};
@@ -51,7 +51,7 @@ fn are_texts(members: &Map<String, Value>) -> bool
 pub fn parameters_within(
     alloc: Global,
     object: Option<&Value>,
-) -> Result<Option<Parameters>, AllocError>
+) -> Result<Option<Parameters>, OutOfMemory>
     ensures { IfOk result (λ made. made ≡ parameters_within (pairs_in object.entry)) }
 {
     let given = match object.and_then(Value::as_object) {
@@ -69,7 +69,7 @@ pub fn parameters_within(
 fn text_pairs(
     alloc: Global,
     members: &Map<String, Value>,
-) -> Result<Vec<(String, String)>, AllocError>
+) -> Result<Vec<(String, String)>, OutOfMemory>
     ensures { IfOk result (λ pairs. pairs_of pairs.items ≡ text_pairs (members_view members.now.entries)) }
 {
     let mut pairs = Vec::new(alloc);
@@ -82,7 +82,7 @@ fn text_pairs(
 }
 
 /// Parameters as they are written: an object of texts, by rising keys.
-pub fn parameters_value(alloc: Global, parameters: &Parameters) -> Result<Value, AllocError>
+pub fn parameters_value(alloc: Global, parameters: &Parameters) -> Result<Value, OutOfMemory>
     ensures { IfOk result (λ value. view value ≡ parameters_data parameters.now) }
 {
     let mut members = Map::new(alloc);

@@ -7,12 +7,12 @@ ghost use Rattle.script_text.specs.Answers.{instance_data, execution_data, step_
 use crate::metrics::metrics_value;
 use crate::written::{count_or_null, counts_value, text_or_null};
 use batch_history::{CountsByStatus, JobExecution, JobInstance, StepExecution};
-use batch_ids::BatchStatus;
+use batch_ids::{BatchStatus, OutOfMemory};
 use serde_json::{Value, json};
-use std::alloc::{AllocError, Global};
+use std::alloc::Global;
 
 /// A job instance.
-pub fn instance_value(alloc: Global, instance: &JobInstance) -> Result<Value, AllocError>
+pub fn instance_value(alloc: Global, instance: &JobInstance) -> Result<Value, OutOfMemory>
     ensures { IfOk result (λ value. view value ≡ instance_data instance.now) }
 {
     json!(in alloc; {
@@ -22,7 +22,7 @@ pub fn instance_value(alloc: Global, instance: &JobInstance) -> Result<Value, Al
 }
 
 /// The record of a job execution.
-pub fn execution_value(alloc: Global, execution: &JobExecution) -> Result<Value, AllocError>
+pub fn execution_value(alloc: Global, execution: &JobExecution) -> Result<Value, OutOfMemory>
     ensures { IfOk result (λ value. view value ≡ execution_data execution.now) }
 {
     let exit = text_or_null(alloc, &execution.exit)?;
@@ -40,7 +40,7 @@ pub fn execution_value(alloc: Global, execution: &JobExecution) -> Result<Value,
 }
 
 /// The record of a step execution.
-pub fn step_value(alloc: Global, step: &StepExecution) -> Result<Value, AllocError>
+pub fn step_value(alloc: Global, step: &StepExecution) -> Result<Value, OutOfMemory>
     ensures { IfOk result (λ value. view value ≡ step_data step.now) }
 {
     let exit = text_or_null(alloc, &step.exit)?;
@@ -58,7 +58,7 @@ pub fn step_value(alloc: Global, step: &StepExecution) -> Result<Value, AllocErr
 }
 
 /// How many job executions have each batch status.
-pub fn status_counts_value(alloc: Global, counts: &CountsByStatus) -> Result<Value, AllocError>
+pub fn status_counts_value(alloc: Global, counts: &CountsByStatus) -> Result<Value, OutOfMemory>
     ensures { IfOk result (λ value. view value ≡ counts_data (status_counts counts.now)) }
 {
     let named = [

@@ -4,9 +4,9 @@ ghost use Rattle.script_text.specs.Replies.{item_data, single_data, reply_data, 
 
 use crate::written::{line_of, one, refused, text_or_null};
 use batch_history::{Reply, WorkItem, WorkTask};
-use batch_ids::{Refusal, T256, Text};
+use batch_ids::{OutOfMemory, Refusal, T256, Text};
 use serde_json::{Value, json};
-use std::alloc::{AllocError, Global};
+use std::alloc::Global;
 
 /// The line that replies to a call, with its line feed: compact JSON, the members of each object in
 /// rising order of their names.
@@ -20,7 +20,7 @@ use std::alloc::{AllocError, Global};
 ///
 /// `OutOfMemory` where memory is refused.
 #[tactic(auto, using(crate::proofs::Floats::reply_has_no_float))]
-pub fn reply_text(alloc: Global, reply: &Result<Reply, Refusal>) -> Result<Vec<u8>, AllocError>
+pub fn reply_text(alloc: Global, reply: &Result<Reply, Refusal>) -> Result<Vec<u8>, OutOfMemory>
     ensures { IfOk result (λ text. text.items ≡ reply_text reply.now) }
 {
     let value = reply_value(alloc, reply)?;
@@ -32,14 +32,14 @@ pub fn reply_text(alloc: Global, reply: &Result<Reply, Refusal>) -> Result<Vec<u
 /// # Errors
 ///
 /// `OutOfMemory` where memory is refused.
-pub fn bad_line_text(alloc: Global) -> Result<Vec<u8>, AllocError>
+pub fn bad_line_text(alloc: Global) -> Result<Vec<u8>, OutOfMemory>
     ensures { IfOk result (λ text. text.items ≡ bad_line_text) }
 {
     let value = refused(alloc, "BadLine")?;
     line_of(alloc, &value)
 }
 
-fn reply_value(alloc: Global, reply: &Result<Reply, Refusal>) -> Result<Value, AllocError>
+fn reply_value(alloc: Global, reply: &Result<Reply, Refusal>) -> Result<Value, OutOfMemory>
     ensures { IfOk result (λ value. view value ≡ reply_data reply.now) }
 {
     match reply {
@@ -54,7 +54,7 @@ fn reply_value(alloc: Global, reply: &Result<Reply, Refusal>) -> Result<Value, A
     }
 }
 
-fn item_value(alloc: Global, item: &WorkItem) -> Result<Value, AllocError>
+fn item_value(alloc: Global, item: &WorkItem) -> Result<Value, OutOfMemory>
     ensures { IfOk result (λ value. view value ≡ item_data item.now.task item.now) }
 {
     match &item.task {
@@ -89,7 +89,7 @@ fn single_value(
     kind: &str,
     artifact: &T256,
     item: &WorkItem,
-) -> Result<Value, AllocError>
+) -> Result<Value, OutOfMemory>
     ensures { IfOk result (λ value. view value ≡ single_data kind.now artifact.now item.now) }
 {
     json!(in alloc; {

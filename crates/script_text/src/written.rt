@@ -3,13 +3,13 @@ ghost use Rattle.serde_json.specs.View.{view};
 ghost use Rattle.serde_json.specs.Written.{has_float};
 ghost use Rattle.script_text.specs.Written.{line_of, one, text_or_null, count_or_null, counts_data, refused};
 
-use batch_ids::Text;
+use batch_ids::{OutOfMemory, Text};
 use serde_json::{Map, Value, json, put};
-use std::alloc::{AllocError, Global};
+use std::alloc::Global;
 
 /// The line of a value, with its line feed.
 #[tactic(auto, unfolding(crate::specs::Written::line_of))]
-pub fn line_of(alloc: Global, value: &Value) -> Result<Vec<u8>, AllocError>
+pub fn line_of(alloc: Global, value: &Value) -> Result<Vec<u8>, OutOfMemory>
     requires { has_float (view value.now) ≡ false }
     ensures { IfOk result (λ text. text.items ≡ line_of (view value.now)) }
 {
@@ -19,7 +19,7 @@ pub fn line_of(alloc: Global, value: &Value) -> Result<Vec<u8>, AllocError>
 }
 
 /// An object of one member.
-pub fn one(alloc: Global, name: &str, value: Value) -> Result<Value, AllocError>
+pub fn one(alloc: Global, name: &str, value: Value) -> Result<Value, OutOfMemory>
     ensures { IfOk result (λ made. view made ≡ one name.now (view value)) }
 {
     json!(in alloc; {name: value})
@@ -29,7 +29,7 @@ pub fn one(alloc: Global, name: &str, value: Value) -> Result<Value, AllocError>
 pub fn text_or_null<const MAX: usize>(
     alloc: Global,
     text: &Option<Text<MAX>>,
-) -> Result<Value, AllocError>
+) -> Result<Value, OutOfMemory>
     ensures { IfOk result (λ value. view value ≡ text_or_null text.now) }
 {
     match text {
@@ -49,14 +49,14 @@ pub fn count_or_null(count: Option<u64>) -> Value
 }
 
 /// A refusal by its name.
-pub fn refused(alloc: Global, name: &str) -> Result<Value, AllocError>
+pub fn refused(alloc: Global, name: &str) -> Result<Value, OutOfMemory>
     ensures { IfOk result (λ value. view value ≡ refused name.now) }
 {
     json!(in alloc; {"refused": name})
 }
 
 /// An object of counts by their names; a count of 0 is left out.
-pub fn counts_value(alloc: Global, counts: &[(&str, u64)]) -> Result<Value, AllocError>
+pub fn counts_value(alloc: Global, counts: &[(&str, u64)]) -> Result<Value, OutOfMemory>
     ensures { IfOk result (λ value. view value ≡ counts_data (map (λ named. (named.0.now, named.1)) counts.now)) }
 {
     let mut members = Map::new(alloc);

@@ -13,12 +13,12 @@ const CATALOGUE: &[u8] =
     br#"{"jobs":[{"id":"a","elements":[{"kind":"step","id":"s","batchlet":{"ref":"ok"}}]}]}"#;
 
 // The catalogue of one job of one step.
-fn catalogue(alloc: Global) -> Result<Catalogue, Fail> {
+pub(crate) fn catalogue(alloc: Global) -> Result<Catalogue, Fail> {
     Ok(read_catalogue(alloc, CATALOGUE)?)
 }
 
 // The calls of a job that is started, handed out and finished.
-fn calls(alloc: Global) -> Result<Vec<Call>, Fail> {
+pub(crate) fn calls(alloc: Global) -> Result<Vec<Call>, Fail> {
     let mut calls = Vec::new(alloc);
     calls.push(Call::Start {
         job: T256::new(alloc, "a")?,
@@ -101,6 +101,30 @@ fn replies_are_copied(rt: HostRuntime) -> Result<(), Fail> {
         Reply::StopAsked,
     ] {
         assert_eq!(rt; reply.try_clone()?, reply);
+    }
+    Ok(())
+}
+
+// The other tasks, with all that they may hold.
+#[test]
+fn work_items_are_copied(rt: HostRuntime) -> Result<(), Fail> {
+    let alloc = rt.alloc();
+    let chunk = WorkTask::Chunk {
+        reader: T256::new(alloc, "r")?,
+        processor: Some(T256::new(alloc, "p")?),
+        writer: T256::new(alloc, "w")?,
+        item_count: 2,
+        checkpoint: Some(Text::new(alloc, "4")?),
+    };
+    let artifact = T256::new(alloc, "d")?;
+    for task in [chunk, WorkTask::Decision { artifact }] {
+        let item = Reply::Work(WorkItem {
+            work: WorkId::new(2),
+            execution: ExecutionId::new(3),
+            element: T256::new(alloc, "s")?,
+            task,
+        });
+        assert_eq!(rt; item.try_clone()?, item);
     }
     Ok(())
 }

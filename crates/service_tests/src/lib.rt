@@ -1,12 +1,12 @@
-//! Tests of the service: copies of calls, replies, jobs and catalogues, rules whose replies were worked out by hand, and
-//! rare sizes.
+//! Tests of the service that no script in a file can show: copies, a full log, lines at their bound, scripts that are cut
+//! off, readers and writers that fail.
 #![tactic(auto)]
 
 #[cfg(test)]
+mod books;
+#[cfg(test)]
+mod bounds;
+#[cfg(test)]
 mod copies;
 #[cfg(test)]
-mod rules;
-#[cfg(test)]
-mod script;
-#[cfg(test)]
-mod sizes;
+mod devices;

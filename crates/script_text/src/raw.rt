@@ -1,28 +1,28 @@
 ghost use Rattle.std.specs.Prelude.{◌≡◌, option_map};
 ghost use Rattle.serde_json.specs.View.{view};
-ghost use Rattle.script_text.specs.Commands.{session_at, act_of, question_of, row_of};
-ghost use Rattle.script_text.specs.Shapes.{command_in};
+ghost use Rattle.script_text.specs.Commands.{session_at, call_of, query_of, raw_command_of};
+ghost use Rattle.script_text.specs.RawCommands.{command_in};
 
-use crate::call_rows::call_named;
-use crate::query_rows::query_named;
+use crate::calls::call_named;
+use crate::queries::query_named;
 use batch_ids::{MetricStep, Moment, WorkOutcome};
 use json_members::{number_at, text_at};
 use serde_json::Value;
 
 /// A command as its line spells it. Its texts are those of the line, and may be of any length.
 #[derive(Clone, Copy)]
-pub enum Shape<'a> {
+pub enum RawCommand<'a> {
     Act {
         by: u64,
         at: Moment,
-        call: CallShape<'a>,
+        call: RawCall<'a>,
     },
-    Ask(QueryShape<'a>),
+    Ask(RawQuery<'a>),
 }
 
 /// A call as its line spells it. Its parameters are an object of texts.
 #[derive(Clone, Copy)]
-pub enum CallShape<'a> {
+pub enum RawCall<'a> {
     Start {
         job: &'a str,
         parameters: Option<&'a Value>,
@@ -53,7 +53,7 @@ pub enum CallShape<'a> {
 
 /// A query as its line spells it.
 #[derive(Clone, Copy)]
-pub enum QueryShape<'a> {
+pub enum RawQuery<'a> {
     JobNames,
     JobInstanceCount {
         job: &'a str,
@@ -85,34 +85,34 @@ pub enum QueryShape<'a> {
 }
 
 /// The command that a value is, if it is one of the table.
-#[tactic(auto, unfolding(crate::specs::Commands::row_of))]
-pub fn shape_of(value: &Value) -> Option<Shape<'_>>
-    ensures { option_map command_in result ≡ row_of (view value.now) }
+#[tactic(auto, unfolding(crate::specs::Commands::raw_command_of))]
+pub fn raw_command_of(value: &Value) -> Option<RawCommand<'_>>
+    ensures { option_map command_in result ≡ raw_command_of (view value.now) }
 {
-    match act_of(value) {
+    match call_of(value) {
         Some(act) => Some(act),
-        None => question_of(value),
+        None => query_of(value),
     }
 }
 
-#[tactic(auto, unfolding(crate::specs::Commands::act_of))]
-fn act_of(value: &Value) -> Option<Shape<'_>>
-    ensures { option_map command_in result ≡ act_of (view value.now) }
+#[tactic(auto, unfolding(crate::specs::Commands::call_of))]
+fn call_of(value: &Value) -> Option<RawCommand<'_>>
+    ensures { option_map command_in result ≡ call_of (view value.now) }
 {
     let word = text_at(value, "do")?;
     let call = call_named(word, value)?;
     let by = session_at(value)?;
     let at = number_at(value, "at")?;
-    Some(Shape::Act { by, at, call })
+    Some(RawCommand::Act { by, at, call })
 }
 
-#[tactic(auto, unfolding(crate::specs::Commands::question_of))]
-fn question_of(value: &Value) -> Option<Shape<'_>>
-    ensures { option_map command_in result ≡ question_of (view value.now) }
+#[tactic(auto, unfolding(crate::specs::Commands::query_of))]
+fn query_of(value: &Value) -> Option<RawCommand<'_>>
+    ensures { option_map command_in result ≡ query_of (view value.now) }
 {
     let word = text_at(value, "ask")?;
     let query = query_named(word, value)?;
-    Some(Shape::Ask(query))
+    Some(RawCommand::Ask(query))
 }
 
 /// The session that gives a command: a number from 1.

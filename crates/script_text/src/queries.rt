@@ -1,56 +1,56 @@
 // The queries of a script, a row of the table each.
 ghost use Rattle.std.specs.Prelude.{◌≡◌, Some, None, option_map, if◌then◌else◌};
 ghost use Rattle.serde_json.specs.View.{view};
-ghost use Rattle.script_text.specs.QueryRows.{is_alone, job_asked, execution_asked, instance_asked, job_instances_of, query_named};
-ghost use Rattle.script_text.specs.Shapes.{query_in};
+ghost use Rattle.script_text.specs.Queries.{is_alone, job_asked, execution_asked, instance_asked, job_instances_of, query_named};
+ghost use Rattle.script_text.specs.RawCommands.{query_in};
 
-use crate::shape::QueryShape;
+use crate::raw::RawQuery;
 use json_members::{has_only, number_at, text_at};
 use serde_json::Value;
 
 /// The query of a line whose `ask` is this word.
-#[tactic(auto, unfolding(crate::specs::QueryRows::query_named))]
-pub fn query_named<'v>(word: &str, value: &'v Value) -> Option<QueryShape<'v>>
+#[tactic(auto, unfolding(crate::specs::Queries::query_named))]
+pub fn query_named<'v>(word: &str, value: &'v Value) -> Option<RawQuery<'v>>
     ensures { option_map query_in result ≡ query_named word.now (view value.now) }
 {
     match word {
-        "job_names" => alone(value, QueryShape::JobNames),
-        "job_instance_count" => Some(QueryShape::JobInstanceCount {
+        "job_names" => alone(value, RawQuery::JobNames),
+        "job_instance_count" => Some(RawQuery::JobInstanceCount {
             job: job_asked(value)?,
         }),
         "job_instances" => job_instances_of(value),
-        "running_executions" => Some(QueryShape::RunningExecutions {
+        "running_executions" => Some(RawQuery::RunningExecutions {
             job: job_asked(value)?,
         }),
-        "parameters" => Some(QueryShape::Parameters {
+        "parameters" => Some(RawQuery::Parameters {
             execution: execution_asked(value)?,
         }),
-        "job_instance" => Some(QueryShape::JobInstance {
+        "job_instance" => Some(RawQuery::JobInstance {
             execution: execution_asked(value)?,
         }),
-        "job_executions" => Some(QueryShape::JobExecutions {
+        "job_executions" => Some(RawQuery::JobExecutions {
             instance: instance_asked(value)?,
         }),
-        "job_execution" => Some(QueryShape::JobExecution {
+        "job_execution" => Some(RawQuery::JobExecution {
             execution: execution_asked(value)?,
         }),
-        "step_executions" => Some(QueryShape::StepExecutions {
+        "step_executions" => Some(RawQuery::StepExecutions {
             execution: execution_asked(value)?,
         }),
-        "status_counts" => alone(value, QueryShape::StatusCounts),
+        "status_counts" => alone(value, RawQuery::StatusCounts),
         _ => None,
     }
 }
 
 /// A query that has nothing more.
-fn alone<'v>(value: &Value, query: QueryShape<'v>) -> Option<QueryShape<'v>>
+fn alone<'v>(value: &Value, query: RawQuery<'v>) -> Option<RawQuery<'v>>
     ensures { option_map query_in result ≡ (if is_alone (view value.now) then Some (query_in query.entry) else None) }
 {
     if is_alone(value) { Some(query) } else { None }
 }
 
-#[tactic(auto, unfolding(crate::specs::QueryRows::job_instances_of))]
-fn job_instances_of(value: &Value) -> Option<QueryShape<'_>>
+#[tactic(auto, unfolding(crate::specs::Queries::job_instances_of))]
+fn job_instances_of(value: &Value) -> Option<RawQuery<'_>>
     ensures { option_map query_in result ≡ job_instances_of (view value.now) }
 {
     if !has_only(value, &["ask", "job", "start", "count"]) {
@@ -59,7 +59,7 @@ fn job_instances_of(value: &Value) -> Option<QueryShape<'_>>
     let job = text_at(value, "job")?;
     let start = number_at(value, "start")?;
     let count = number_at(value, "count")?;
-    Some(QueryShape::JobInstances { job, start, count })
+    Some(RawQuery::JobInstances { job, start, count })
 }
 
 /// Whether a query has nothing more.

@@ -1,19 +1,20 @@
 // The calls of a script, a row of the table each.
 ghost use Rattle.std.specs.Prelude.{◌≡◌, option_map};
 ghost use Rattle.serde_json.specs.View.{view};
-ghost use Rattle.script_text.specs.CallRows.{outcome_named, start_of, restart_of, stop_of, abandon_of, claim_of, checkpoint_of, finish_of, call_named};
-ghost use Rattle.script_text.specs.Shapes.{call_in};
+ghost use Rattle.batch_ids.specs.Statuses.{outcome_named};
+ghost use Rattle.script_text.specs.Calls.{start_of, restart_of, stop_of, abandon_of, claim_of, checkpoint_of, finish_of, call_named};
+ghost use Rattle.script_text.specs.RawCommands.{call_in};
 
 use crate::metrics::metrics_at;
 use crate::parameters::parameters_at;
-use crate::shape::CallShape;
+use crate::raw::RawCall;
 use batch_ids::WorkOutcome;
 use json_members::{has_only, number_at, optional_text, text_at};
 use serde_json::Value;
 
 /// The call of a line whose `do` is this word.
-#[tactic(auto, unfolding(crate::specs::CallRows::call_named))]
-pub fn call_named<'v>(word: &str, value: &'v Value) -> Option<CallShape<'v>>
+#[tactic(auto, unfolding(crate::specs::Calls::call_named))]
+pub fn call_named<'v>(word: &str, value: &'v Value) -> Option<RawCall<'v>>
     ensures { option_map call_in result ≡ call_named word.now (view value.now) }
 {
     if word == "start" {
@@ -40,8 +41,8 @@ pub fn call_named<'v>(word: &str, value: &'v Value) -> Option<CallShape<'v>>
     None
 }
 
-#[tactic(auto, unfolding(crate::specs::CallRows::start_of))]
-fn start_of(value: &Value) -> Option<CallShape<'_>>
+#[tactic(auto, unfolding(crate::specs::Calls::start_of))]
+fn start_of(value: &Value) -> Option<RawCall<'_>>
     ensures { option_map call_in result ≡ start_of (view value.now) }
 {
     if !has_only(value, &["do", "by", "at", "job", "parameters"]) {
@@ -49,11 +50,11 @@ fn start_of(value: &Value) -> Option<CallShape<'_>>
     }
     let job = text_at(value, "job")?;
     let parameters = parameters_at(value)?;
-    Some(CallShape::Start { job, parameters })
+    Some(RawCall::Start { job, parameters })
 }
 
-#[tactic(auto, unfolding(crate::specs::CallRows::restart_of))]
-fn restart_of(value: &Value) -> Option<CallShape<'_>>
+#[tactic(auto, unfolding(crate::specs::Calls::restart_of))]
+fn restart_of(value: &Value) -> Option<RawCall<'_>>
     ensures { option_map call_in result ≡ restart_of (view value.now) }
 {
     if !has_only(value, &["do", "by", "at", "execution", "parameters"]) {
@@ -61,46 +62,46 @@ fn restart_of(value: &Value) -> Option<CallShape<'_>>
     }
     let execution = number_at(value, "execution")?;
     let parameters = parameters_at(value)?;
-    Some(CallShape::Restart {
+    Some(RawCall::Restart {
         execution,
         parameters,
     })
 }
 
-#[tactic(auto, unfolding(crate::specs::CallRows::stop_of))]
-fn stop_of(value: &Value) -> Option<CallShape<'_>>
+#[tactic(auto, unfolding(crate::specs::Calls::stop_of))]
+fn stop_of(value: &Value) -> Option<RawCall<'_>>
     ensures { option_map call_in result ≡ stop_of (view value.now) }
 {
     if !has_only(value, &["do", "by", "at", "execution"]) {
         return None;
     }
     let execution = number_at(value, "execution")?;
-    Some(CallShape::Stop { execution })
+    Some(RawCall::Stop { execution })
 }
 
-#[tactic(auto, unfolding(crate::specs::CallRows::abandon_of))]
-fn abandon_of(value: &Value) -> Option<CallShape<'_>>
+#[tactic(auto, unfolding(crate::specs::Calls::abandon_of))]
+fn abandon_of(value: &Value) -> Option<RawCall<'_>>
     ensures { option_map call_in result ≡ abandon_of (view value.now) }
 {
     if !has_only(value, &["do", "by", "at", "execution"]) {
         return None;
     }
     let execution = number_at(value, "execution")?;
-    Some(CallShape::Abandon { execution })
+    Some(RawCall::Abandon { execution })
 }
 
-#[tactic(auto, unfolding(crate::specs::CallRows::claim_of))]
-fn claim_of(value: &Value) -> Option<CallShape<'_>>
+#[tactic(auto, unfolding(crate::specs::Calls::claim_of))]
+fn claim_of(value: &Value) -> Option<RawCall<'_>>
     ensures { option_map call_in result ≡ claim_of (view value.now) }
 {
     if !has_only(value, &["do", "by", "at"]) {
         return None;
     }
-    Some(CallShape::Claim)
+    Some(RawCall::Claim)
 }
 
-#[tactic(auto, unfolding(crate::specs::CallRows::checkpoint_of))]
-fn checkpoint_of(value: &Value) -> Option<CallShape<'_>>
+#[tactic(auto, unfolding(crate::specs::Calls::checkpoint_of))]
+fn checkpoint_of(value: &Value) -> Option<RawCall<'_>>
     ensures { option_map call_in result ≡ checkpoint_of (view value.now) }
 {
     if !has_only(value, &["do", "by", "at", "work", "data", "metrics"]) {
@@ -109,11 +110,11 @@ fn checkpoint_of(value: &Value) -> Option<CallShape<'_>>
     let work = number_at(value, "work")?;
     let mark = text_at(value, "data")?;
     let step = metrics_at(value)?;
-    Some(CallShape::Checkpoint { work, mark, step })
+    Some(RawCall::Checkpoint { work, mark, step })
 }
 
-#[tactic(auto, unfolding(crate::specs::CallRows::finish_of))]
-fn finish_of(value: &Value) -> Option<CallShape<'_>>
+#[tactic(auto, unfolding(crate::specs::Calls::finish_of))]
+fn finish_of(value: &Value) -> Option<RawCall<'_>>
     ensures { option_map call_in result ≡ finish_of (view value.now) }
 {
     let names = ["do", "by", "at", "work", "outcome", "exit", "metrics"];
@@ -125,7 +126,7 @@ fn finish_of(value: &Value) -> Option<CallShape<'_>>
     let outcome = outcome_named(name)?;
     let exit = optional_text(value, "exit")?;
     let step = metrics_at(value)?;
-    Some(CallShape::Finish {
+    Some(RawCall::Finish {
         work,
         outcome,
         exit,
@@ -133,17 +134,9 @@ fn finish_of(value: &Value) -> Option<CallShape<'_>>
     })
 }
 
+/// The outcome that a text is the name of.
 fn outcome_named(name: &str) -> Option<WorkOutcome>
     ensures { result ≡ outcome_named name.now }
 {
-    if name == "COMPLETED" {
-        return Some(WorkOutcome::Completed);
-    }
-    if name == "FAILED" {
-        return Some(WorkOutcome::Failed);
-    }
-    if name == "STOPPED" {
-        return Some(WorkOutcome::Stopped);
-    }
-    None
+    name.parse().ok()
 }

@@ -2,20 +2,12 @@
 use Rattle.std.specs.Prelude.{ℕ, List, [], ◌∷◌, bytes_eq, codes, Option, Some, None, option_map, if◌then◌else◌}
 use Rattle.serde_json.specs.Data.{Data}
 use Rattle.json_members.specs.Members.{has_only, text_at, number_at, optional_text}
-use Rattle.batch_ids.specs.declared.status.WorkOutcome.{WorkOutcome}
-use Rattle.batch_ids.specs.declared.status.WorkOutcome.TheVariants.{Completed, Failed, Stopped}
+use Rattle.batch_ids.specs.Statuses.{outcome_named}
 use Rattle.batch_history.specs.declared.call.Call.{Call}
 use Rattle.batch_history.specs.declared.call.Call.TheVariants.{Start, Restart, Stop, Abandon, Claim, Checkpoint, Finish}
 use Rattle.json_members.specs.Chains.{◌>>=◌}
 use Rattle.script_text.specs.Parameters.{parameters_at}
 use Rattle.script_text.specs.Metrics.{metrics_at}
-
--- the outcome of a work item by its name
-abbrev pub outcome_named : List ℕ → Option WorkOutcome
-outcome_named name =
-    if bytes_eq name (codes "COMPLETED") then Some Completed
-    else (if bytes_eq name (codes "FAILED") then Some Failed
-    else (if bytes_eq name (codes "STOPPED") then Some Stopped else None))
 
 -- start: the name of a job, and parameters, which may be left out
 unfoldable pub start_of : Data → Option Call

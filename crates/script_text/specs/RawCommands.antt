@@ -1,0 +1,52 @@
+-- What a raw command, call or query stands for: one as its line spells it, whose texts are borrowed from the line.
+use Rattle.std.specs.Prelude.{List, [], Option, Some, None, option_map}
+use Rattle.std.specs.Borrow.{Bor}
+use Rattle.serde_json.specs.View.{view}
+use Rattle.serde_json.specs.declared.value.Value.{Value}
+use Rattle.batch_ids.specs.Parameters.{Pair}
+use Rattle.batch_history.specs.declared.call.Call.{Call}
+use Rattle.batch_history.specs.declared.call.Call.TheVariants.{Start, Restart, Stop, Abandon, Claim, Checkpoint, Finish}
+use Rattle.batch_history.specs.declared.query.Query.{Query}
+use Rattle.batch_history.specs.declared.query.Query.TheVariants.{JobNames, JobInstanceCount, JobInstances, RunningExecutions, Parameters, JobInstance, JobExecutions, JobExecution, StepExecutions, StatusCounts}
+use Rattle.script_text.specs.Parameters.{given_pairs}
+use Rattle.script_text.specs.declared.command.Command.{Command}
+use Rattle.script_text.specs.declared.command.Command.TheVariants.{Act, Ask}
+use Rattle.script_text.specs.declared.raw.RawCall.{RawCall}
+use Rattle.script_text.specs.declared.raw.RawCall.TheVariants as raw_calls
+use Rattle.script_text.specs.declared.raw.RawQuery.{RawQuery}
+use Rattle.script_text.specs.declared.raw.RawQuery.TheVariants as raw_queries
+use Rattle.script_text.specs.declared.raw.RawCommand.{RawCommand}
+use Rattle.script_text.specs.declared.raw.RawCommand.TheVariants as raw_commands
+
+-- the keys and values that an object of texts gives, if there is one
+abbrev pub pairs_in : Option (Bor Value) → List Pair
+pairs_in None = []
+pairs_in (Some value) = given_pairs (view value.now)
+
+-- the call that a raw call spells
+abbrev pub call_in : RawCall → Call
+call_in (raw_calls.Start job parameters) = Start job.now (pairs_in parameters)
+call_in (raw_calls.Restart execution parameters) = Restart execution (pairs_in parameters)
+call_in (raw_calls.Stop execution) = Stop execution
+call_in (raw_calls.Abandon execution) = Abandon execution
+call_in raw_calls.Claim = Claim
+call_in (raw_calls.Checkpoint work mark step) = Checkpoint work mark.now step
+call_in (raw_calls.Finish work outcome exit step) = Finish work outcome (option_map (λ text. text.now) exit) step
+
+-- the query that a raw query spells
+abbrev pub query_in : RawQuery → Query
+query_in raw_queries.JobNames = JobNames
+query_in (raw_queries.JobInstanceCount job) = JobInstanceCount job.now
+query_in (raw_queries.JobInstances job start count) = JobInstances job.now start count
+query_in (raw_queries.RunningExecutions job) = RunningExecutions job.now
+query_in (raw_queries.Parameters execution) = Parameters execution
+query_in (raw_queries.JobInstance execution) = JobInstance execution
+query_in (raw_queries.JobExecutions instance) = JobExecutions instance
+query_in (raw_queries.JobExecution execution) = JobExecution execution
+query_in (raw_queries.StepExecutions execution) = StepExecutions execution
+query_in raw_queries.StatusCounts = StatusCounts
+
+-- the command that a raw command spells
+abbrev pub command_in : RawCommand → Command
+command_in (raw_commands.Act by at call) = Act by at (call_in call)
+command_in (raw_commands.Ask query) = Ask (query_in query)

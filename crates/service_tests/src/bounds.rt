@@ -1,0 +1,68 @@
+//! Lines and checkpoints of the most bytes that they may have.
+use script_engine::answer_script;
+use std::alloc::{AllocError, Global};
+use std::test::Fail;
+
+const MOST_OF_A_LINE: usize = 16_777_216;
+
+const CATALOGUE: &str = "{\"jobs\":[]}";
+
+const QUERY: &str = "{\"ask\":\"job_names\"}";
+
+/// A line of so many bytes: a JSON text, and spaces behind it.
+fn padded(alloc: Global, text: &str, length: usize) -> Result<String, AllocError> {
+    let spaces = " ".repeat(alloc, length.saturating_sub(text.len()))?;
+    format!(in alloc; "{text}{spaces}\n")
+}
+
+#[test]
+fn a_catalogue_line_has_at_most_16_777_216_bytes(rt: HostRuntime) -> Result<(), Fail> {
+    let alloc = rt.alloc();
+    for (length, wanted) in [
+        (MOST_OF_A_LINE, "{\"names\":[]}\n"),
+        (MOST_OF_A_LINE + 1, "{\"fault\":\"NotACatalogue\"}\n"),
+    ] {
+        let mut script = padded(alloc, CATALOGUE, length)?;
+        script.push_str(QUERY)?;
+        let (replies, _outcome) = answer_script(alloc, script.as_bytes());
+        assert_eq!(rt; replies.as_slice(), wanted.as_bytes());
+    }
+    Ok(())
+}
+
+// The rest of a longer line is passed over.
+#[test]
+fn a_later_line_has_at_most_16_777_216_bytes(rt: HostRuntime) -> Result<(), Fail> {
+    let alloc = rt.alloc();
+    let mut script = padded(alloc, CATALOGUE, 0)?;
+    for length in [MOST_OF_A_LINE, MOST_OF_A_LINE + 1, 0] {
+        script.push_str(padded(alloc, QUERY, length)?.as_str())?;
+    }
+    let (replies, _outcome) = answer_script(alloc, script.as_bytes());
+    let wanted = "{\"names\":[]}\n{\"refused\":\"BadLine\"}\n{\"names\":[]}\n";
+    assert_eq!(rt; replies.as_slice(), wanted.as_bytes());
+    Ok(())
+}
+
+const CHUNK: &str =
+    r#"{"jobs":[{"id":"a","elements":[{"kind":"step","id":"s","chunk":{"reader":{"ref":"r"},"writer":{"ref":"w"}}}]}]}
+{"do":"start","by":1,"at":0,"job":"a"}
+{"do":"claim","by":1,"at":0}
+"#;
+
+#[test]
+fn a_checkpoint_has_at_most_65_536_bytes(rt: HostRuntime) -> Result<(), Fail> {
+    let alloc = rt.alloc();
+    let mut script = String::from_str(alloc, CHUNK)?;
+    for length in [65_537, 65_536] {
+        let data = "m".repeat(alloc, length)?;
+        writeln!(
+            script,
+            r#"{{"do":"checkpoint","by":1,"at":0,"work":1,"data":"{data}"}}"#
+        )?;
+    }
+    let (replies, _outcome) = answer_script(alloc, script.as_bytes());
+    let wanted = b"{\"refused\":\"TextTooLong\"}\n{\"go\":true}\n";
+    assert!(rt; replies.ends_with(wanted));
+    Ok(())
+}
