@@ -40,10 +40,10 @@ fn a_script_may_end_at_each_byte(rt: HostRuntime) -> Result<(), Fail> {
     let alloc = rt.alloc();
     let mut before: usize = 0;
     for (count, line) in SCRIPT.split_inclusive('\n').enumerate() {
-        for length in 1..line.len() {
+        for length in 1..=line.len() {
             let cut = before.saturating_add(length);
             let script = SCRIPT.as_bytes().get(..cut).unwrap_or(b"");
-            let wanted = match (count, length + 1 == line.len()) {
+            let wanted = match (count, length.saturating_add(1) >= line.len()) {
                 (0, false) => replies_and(alloc, 0, "{\"fault\":\"NotJson\"}\n")?,
                 (_, false) => replies_and(alloc, count - 1, "{\"refused\":\"BadLine\"}\n")?,
                 (_, true) => replies_and(alloc, count, "")?,
