@@ -4,6 +4,8 @@
 #[cfg(test)]
 mod identifiers;
 #[cfg(test)]
+mod jobs;
+#[cfg(test)]
 mod object_members;
 #[cfg(test)]
 mod patterns;

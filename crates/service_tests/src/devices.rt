@@ -28,30 +28,42 @@ fn replies_and(alloc: Global, count: usize, last: &str) -> Result<String, AllocE
     Ok(text)
 }
 
-/// The replies to the whole lines of the script's first so many bytes.
-fn replies_to_whole_lines(alloc: Global, bytes: &[u8]) -> Result<String, AllocError> {
-    let lines = bytes.iter().filter(|byte| **byte == b'\n').count();
-    replies_and(alloc, lines.saturating_sub(1), "")
+/// How many lines of these bytes have a reply: all that are whole but for the catalogue.
+fn replies_due(bytes: &[u8]) -> usize {
+    let feeds = bytes.iter().filter(|byte| **byte == b'\n').count();
+    feeds.saturating_sub(1)
 }
 
-// A last line without a line feed is read like any other: it is whole where the next byte is one.
+/// What the script is answered that ends behind so many bytes. A last line is whole where a line feed comes next.
+fn replies_to_cut(alloc: Global, cut: usize) -> Result<String, AllocError> {
+    let (script, rest) = SCRIPT
+        .as_bytes()
+        .split_at_checked(cut)
+        .unwrap_or((b"", b""));
+    let due = replies_due(script);
+    if script.ends_with(b"\n") {
+        replies_and(alloc, due, "")
+    } else if rest.starts_with(b"\n") {
+        replies_and(
+            alloc,
+            replies_due(SCRIPT.as_bytes().get(..=cut).unwrap_or(b"")),
+            "",
+        )
+    } else if script.contains(&b'\n') {
+        replies_and(alloc, due, "{\"refused\":\"BadLine\"}\n")
+    } else {
+        replies_and(alloc, 0, "{\"fault\":\"NotJson\"}\n")
+    }
+}
+
 #[test]
 fn a_script_may_end_at_each_byte(rt: HostRuntime) -> Result<(), Fail> {
     let alloc = rt.alloc();
-    let mut before: usize = 0;
-    for (count, line) in SCRIPT.split_inclusive('\n').enumerate() {
-        for length in 1..=line.len() {
-            let cut = before.saturating_add(length);
-            let script = SCRIPT.as_bytes().get(..cut).unwrap_or(b"");
-            let wanted = match (count, length.saturating_add(1) >= line.len()) {
-                (0, false) => replies_and(alloc, 0, "{\"fault\":\"NotJson\"}\n")?,
-                (_, false) => replies_and(alloc, count - 1, "{\"refused\":\"BadLine\"}\n")?,
-                (_, true) => replies_and(alloc, count, "")?,
-            };
-            let (replies, _outcome) = answer_script(alloc, script);
-            assert_eq!(rt; replies.as_slice(), wanted.as_bytes());
-        }
-        before = before.saturating_add(line.len());
+    for cut in 0..SCRIPT.len() {
+        let script = SCRIPT.as_bytes().get(..cut).unwrap_or(b"");
+        let (replies, _outcome) = answer_script(alloc, script);
+        let wanted = replies_to_cut(alloc, cut)?;
+        assert_eq!(rt; replies.as_slice(), wanted.as_bytes(), "cut at {cut}");
     }
     Ok(())
 }
@@ -84,7 +96,7 @@ fn each_read_may_fail(rt: HostRuntime) -> Result<(), Fail> {
         let mut writer = Counted::new(Vec::new(alloc));
         let outcome = run_script(alloc, &mut reader, &mut writer);
         assert_eq!(rt; outcome, Err(EngineFault::Read));
-        let wanted = replies_to_whole_lines(alloc, rest)?;
+        let wanted = replies_and(alloc, replies_due(rest), "")?;
         assert_eq!(rt; writer.into_inner().as_slice(), wanted.as_bytes());
     }
     Ok(())
