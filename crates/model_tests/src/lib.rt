@@ -1,4 +1,5 @@
-//! Tests of the crates below the repository: identifiers, graphs, members of JSON objects and transition elements.
+//! Tests of the crates below the repository: identifiers, jobs, graphs, members of JSON objects, transition elements and
+//! walks.
 #![tactic(auto)]
 
 #[cfg(test)]
