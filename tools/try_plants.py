@@ -13,7 +13,8 @@ check. A plant is
 - `no Rust` where the edited code does not compile.
 
 Where the check names only what the function calls, which may hold another plant, or nothing of the function at all,
-the plant is tried again by itself, and the whole crate decides.
+the plant is tried again by itself, and the whole crate decides. So it is where an answer no longer fits because its goal
+became trivial: a plant against which nothing else is said counts as proved.
 
 The copy takes over what earlier checks left in `out/` of the crate and of those below it, which saves the first
 check. Verdicts are kept in `plants/verdicts.json`, and all of them are printed as a table in the end. Must-fail edits are the telling plants, and the gate tries them;
@@ -37,6 +38,8 @@ from pathlib import Path
 from repository import ROOT, with_libraries
 
 VERDICTS = ROOT / "plants" / "verdicts.json"
+# What the check says of an answer to a goal that the plant has made trivial: without the answer it would be proved.
+FELL_AWAY = "the two types are `Unit {0}` (expected)"
 CHECK = ["timeout", "1500", "rt", "check"]
 
 
@@ -145,6 +148,8 @@ def verdict(said: str, crate: str, function: tuple[str, str, str]) -> str:
     goal = rf"(?:did not prove|error:) `(?:invariant-)?{name}-"
     without = [line for line in lines if ": no proof" in line]
     own = [line for line in without if ": no proof: it calls" not in line]
+    if not own and fell_away(re.findall(rf"^{folder}\S*: error.*$", said, re.M)):
+        return "unclear"
     if own or re.search(rf"^{folder}\S*: error|{goal}", said, re.M):
         return "refused"
     if not without and any(re.match(path + ": proved", line) for line in lines):
@@ -152,9 +157,16 @@ def verdict(said: str, crate: str, function: tuple[str, str, str]) -> str:
     return "unclear"
 
 
+def fell_away(errors: list[str]) -> bool:
+    """Whether all that is said against a plant is that answers no longer fit, since their goals became trivial."""
+    return bool(errors) and all(FELL_AWAY in error for error in errors)
+
+
 def verdict_of_crate(said: str) -> str:
     """What the check says of a plant that is alone in its crate."""
-    return "PROVED" if "\nlogic=proved" in said else "refused"
+    without = re.search(r": no proof(?!: it calls)", said)
+    trivial = not without and fell_away(re.findall(r"^\./proofs/\S+: error.*$", said, re.M))
+    return "PROVED" if "\nlogic=proved" in said or trivial else "refused"
 
 
 def compiles(said: str) -> bool:
