@@ -9,41 +9,37 @@ use Rattle.batch_history.specs.declared.call.Entry.{Entry}
 use Rattle.batch_history.specs.declared.rows.ExecutionRow.{ExecutionRow}
 use Rattle.batch_history.specs.declared.rows.WorkRow.{WorkRow}
 use Rattle.batch_history.specs.declared.rows.JobInstance.{JobInstance}
-use Rattle.batch_history.proofs.Folds.{made, is_made, start_of, stop_of, abandoned_of, end_of, value_after, folded_rows, execution_row}
+use Rattle.batch_history.proofs.Folds.{made, is_made, folded_rows, execution_row}
 use Rattle.batch_history.specs.Checkpoints.{InstanceStep, checkpoint_of}
 use Rattle.batch_history.specs.Executions.{Made, Origin, origin_of, made_as}
-use Rattle.batch_history.specs.Moments.{start_moment, end_moment, updated_moment}
 use Rattle.batch_history.specs.Replies.{reply_by}
-use Rattle.batch_history.specs.Rows.{Rows, execution_row_with, row_of_origin, job_execution, numbers_from, job_executions, rows_of_past}
-use Rattle.batch_history.specs.Statuses.{is_abandoned}
-use Rattle.batch_history.specs.Walks.{walk_of_execution}
+use Rattle.batch_history.specs.Rows.{Rows, row_of_origin, job_execution, numbers_from, job_executions, rows_of_past}
 use Rattle.batch_history.specs.Works.{work_items}
-use Rattle.batch_history.proofs.Stepping.{AreNumbered, numbered}
+use Rattle.batch_history.proofs.Ends.{planned-law, walk-law, end-law}
+use Rattle.batch_history.proofs.Plans.{due-all-fit}
+use Rattle.batch_history.proofs.Stepping.{AreNumbered, numbered, same_row}
+use Rattle.batch_history.proofs.Told.{AllDue}
 use Rattle.batch_history.proofs.Pasts.{AllFit}
 use Rattle.batch_history.proofs.Origins.{origin-law, executions-made, instances-law}
 use Rattle.batch_history.proofs.Items.{works-law}
-use Rattle.batch_history.proofs.Times.{stop-law, abandoned-law, start-law, updated-law, walk-law, end-law}
+use Rattle.batch_history.proofs.Times.{stop-law, abandoned-law, start-law, updated-law}
 use Rattle.batch_history.proofs.Standing.{marks-law}
 
 -- Job executions
 
-row-law : (catalogue : List JobTree) (past : List Entry) (x : ℕ) (o : Origin) → AllFit past → origin_of past x ≡ Some o
+row-law : (limit : ℕ) (catalogue : List JobTree) (past : List Entry) (x : ℕ) (o : Origin) → AllDue limit catalogue past → origin_of past x ≡ Some o
     → row_of_origin catalogue past x o ≡ execution_row catalogue past (made_as x o)
-row-law catalogue past x o fits from =
-    let m : Made = made_as x o in
-    ap (λ p. execution_row_with m p (is_abandoned past x) (start_moment past x) (walk_of_execution catalogue past x) (end_moment catalogue past x) (updated_moment past x)) (stop-law past fits x)
-    ∙ (ap (λ a. execution_row_with m (stop_of past x) a (start_moment past x) (walk_of_execution catalogue past x) (end_moment catalogue past x) (updated_moment past x)) (abandoned-law past fits x)
-    ∙ (ap (λ s. execution_row_with m (stop_of past x) (abandoned_of past x) s (walk_of_execution catalogue past x) (end_moment catalogue past x) (updated_moment past x)) (start-law past fits x)
-    ∙ (ap (λ v. execution_row_with m (stop_of past x) (abandoned_of past x) (start_of past x) v (end_moment catalogue past x) (updated_moment past x)) (walk-law catalogue past x o fits from)
-    ∙ (ap (λ t. execution_row_with m (stop_of past x) (abandoned_of past x) (start_of past x) (value_after catalogue past m) t (updated_moment past x)) (end-law catalogue past x o fits from)
-    ∙ ap (λ u. execution_row_with m (stop_of past x) (abandoned_of past x) (start_of past x) (value_after catalogue past m) (end_of catalogue past m) u) (updated-law past fits x)))))
+row-law limit catalogue past x o due from =
+    let fits : AllFit past = due-all-fit limit catalogue past due in
+    same_row (made_as x o) _ _ _ _ _ _ _ _ _ _ _ _ _ _ (planned-law limit catalogue past x o due from) (stop-law past fits x) (abandoned-law past fits x) (start-law past fits x)
+    (walk-law limit catalogue past x o due from) (end-law limit catalogue past x o due from) (updated-law past fits x)
 
-row-here : (catalogue : List JobTree) (past : List Entry) (x : ℕ) (m : Made) (o : Option Origin) → AllFit past → origin_of past x ≡ o
+row-here : (limit : ℕ) (catalogue : List JobTree) (past : List Entry) (x : ℕ) (m : Made) (o : Option Origin) → AllDue limit catalogue past → origin_of past x ≡ o
     → option_map (made_as x) o ≡ Some m → option_map (row_of_origin catalogue past x) o ≡ Some (execution_row catalogue past m)
-row-here catalogue past x m None fits from is = cc
-row-here catalogue past x m (Some o) fits from is =
+row-here limit catalogue past x m None due from is = cc
+row-here limit catalogue past x m (Some o) due from is =
     let same : made_as x o ≡ m = cc in
-    ap Some (row-law catalogue past x o fits from) ∙ ap (λ n. Some (execution_row catalogue past n)) same
+    ap Some (row-law limit catalogue past x o due from) ∙ ap (λ n. Some (execution_row catalogue past n)) same
 
 -- those made from number k on are found under their numbers
 abbrev AreFound : List Entry → ℕ → List Made → Type 0
@@ -53,35 +49,37 @@ rest-found : (past : List Entry) (k : ℕ) (m : Made) (ms : List Made) → m.exe
 rest-found past k m ms is all x le =
     sym (ap (λ b. cond b (Some m) (find (is_made x) ms)) (ne_eqb m.execution x (λ e. omega (arith, is, e, le)))) ∙ all x (omega arith)
 
-rows-from : (catalogue : List JobTree) (past : List Entry) (k : ℕ) (ms : List Made) → AllFit past → AreNumbered k ms → AreFound past k ms
+rows-from : (limit : ℕ) (catalogue : List JobTree) (past : List Entry) (k : ℕ) (ms : List Made) → AllDue limit catalogue past → AreNumbered k ms → AreFound past k ms
     → filter_map (job_execution catalogue past) (numbers_from k (length ms)) ≡ map (execution_row catalogue past) ms
-rows-from catalogue past k [] fits h all = refl
-rows-from catalogue past k (m ∷ ms) fits h all =
+rows-from limit catalogue past k [] due h all = refl
+rows-from limit catalogue past k (m ∷ ms) due h all =
     let here : option_map (made_as k) (origin_of past k) ≡ Some m =
     sym (all k (omega arith)) ∙ ap (λ b. cond b (Some m) (find (is_made k) ms)) (eq-eqb m.execution k h.0) in
     ap (λ (o : Option ExecutionRow). cons_option o (filter_map (job_execution catalogue past) (numbers_from (k + 1) (length ms))))
-    (row-here catalogue past k m (origin_of past k) fits refl here)
-    ∙ ap (λ rows. execution_row catalogue past m ∷ rows) (rows-from catalogue past (k + 1) ms fits h.1 (rest-found past k m ms h.0 all))
+    (row-here limit catalogue past k m (origin_of past k) due refl here)
+    ∙ ap (λ rows. execution_row catalogue past m ∷ rows) (rows-from limit catalogue past (k + 1) ms due h.1 (rest-found past k m ms h.0 all))
 
 -- the job executions are those that the rows have
-pub executions-law : (catalogue : List JobTree) (past : List Entry) → AllFit past → job_executions catalogue past ≡ map (execution_row catalogue past) (made past)
-executions-law catalogue past fits =
+pub executions-law : (limit : ℕ) (catalogue : List JobTree) (past : List Entry) → AllDue limit catalogue past
+    → job_executions catalogue past ≡ map (execution_row catalogue past) (made past)
+executions-law limit catalogue past due =
     ap (λ n. filter_map (job_execution catalogue past) (numbers_from 1 n)) (executions-made past)
-    ∙ rows-from catalogue past 1 (made past) fits (numbered past) (λ x le. origin-law past fits x)
+    ∙ rows-from limit catalogue past 1 (made past) due (numbered past) (λ x le. origin-law past (due-all-fit limit catalogue past due) x)
 
 -- Rows and replies
 
 -- the rows that are found are those that the fold has
-pub rows-law : (catalogue : List JobTree) (past : List Entry) → AllFit past → rows_of_past catalogue past ≡ folded_rows catalogue past
-rows-law catalogue past fits =
+pub rows-law : (limit : ℕ) (catalogue : List JobTree) (past : List Entry) → AllDue limit catalogue past → rows_of_past catalogue past ≡ folded_rows catalogue past
+rows-law limit catalogue past due =
+    let fits : AllFit past = due-all-fit limit catalogue past due in
     let r : Rows = rows_of_past catalogue past in
     let all : Rows = folded_rows catalogue past in
     ap (λ (rows : List JobInstance). record r { instances = rows }) (instances-law past)
-    ∙ (ap (λ (rows : List ExecutionRow). record all { executions = rows; works = work_items past; checkpoint = checkpoint_of past }) (executions-law catalogue past fits)
+    ∙ (ap (λ (rows : List ExecutionRow). record all { executions = rows; works = work_items past; checkpoint = checkpoint_of past }) (executions-law limit catalogue past due)
     ∙ (ap (λ (rows : List WorkRow). record all { works = rows; checkpoint = checkpoint_of past }) (works-law past fits)
     ∙ ap (λ (marks : InstanceStep → Option (List ℕ)). record all { checkpoint = marks }) (sym (marks-law past fits))))
 
 -- a call is answered alike
-pub reply-law : (limit : ℕ) (catalogue : List JobTree) (past : List Entry) (who : ℕ) (call : Call) → AllFit past
+pub reply-law : (limit : ℕ) (catalogue : List JobTree) (past : List Entry) (who : ℕ) (call : Call) → AllDue limit catalogue past
     → reply_by limit (rows_of_past catalogue past) who call ≡ reply_by limit (folded_rows catalogue past) who call
-reply-law limit catalogue past who call fits = ap (λ r. reply_by limit r who call) (rows-law catalogue past fits)
+reply-law limit catalogue past who call due = ap (λ r. reply_by limit r who call) (rows-law limit catalogue past due)

@@ -1,6 +1,6 @@
 -- A device of proofs: the rows of a past, folded along it. In every legal history they are what the searches find.
 use Rattle.std.specs.Option.{option_map}
-use Rattle.std.specs.Prelude.{ℕ, ◌+◌, ◌==◌, ◌||◌, Bool, false, Option, Some, None, List, [], ◌∷◌, ◌++◌, length, find, if◌then◌else◌, map}
+use Rattle.std.specs.Prelude.{ℕ, ◌+◌, ◌==◌, ◌||◌, Bool, false, Option, Some, None, is_some, List, [], ◌∷◌, ◌++◌, length, find, filter, if◌then◌else◌, map}
 use Rattle.batch_history.specs.Checkpoints.{InstanceStep, instance_step_by, is_same_step, checkpoint_after}
 use Rattle.batch_history.specs.Executions.{Made}
 use Rattle.batch_history.specs.Lists.{change_first, is_at}
@@ -8,10 +8,11 @@ use Rattle.batch_history.specs.Moments.{first_moment}
 use Rattle.batch_history.specs.Operations.{taken_up, stop_request, abandonment}
 use Rattle.batch_history.specs.Rows.{Rows, execution_row_with}
 use Rattle.batch_history.specs.Statuses.{batch_status, is_finished}
-use Rattle.batch_history.specs.Walks.{walk_value}
+use Rattle.batch_history.specs.Restarts.{first_plan, plan_by, restart_point}
+use Rattle.batch_history.specs.Walks.{job_named, walk_value}
 use Rattle.batch_history.specs.Works.{is_work, busy_work, exit_or_name, execution_of_operation}
 use Rattle.batch_history.specs.declared.call.Call.{Call}
-use Rattle.batch_history.specs.declared.call.Call.TheVariants.{Start, Restart, Stop, Abandon, Claim, Checkpoint, Finish}
+use Rattle.batch_history.specs.declared.call.Call.TheVariants.{Start, Restart, Stop, Abandon, Claim, Checkpoint, Finish, Lose}
 use Rattle.batch_history.specs.declared.call.Entry.{Entry}
 use Rattle.batch_history.specs.declared.call.Reply.{Reply}
 use Rattle.batch_history.specs.declared.call.Reply.TheVariants.{Execution, Work, Closed, Nothing, Done, Go, StopAsked}
@@ -19,12 +20,14 @@ use Rattle.batch_history.specs.declared.rows.ExecutionRow.{ExecutionRow}
 use Rattle.batch_history.specs.declared.rows.JobInstance.{JobInstance}
 use Rattle.batch_history.specs.declared.rows.WorkRow.{WorkRow}
 use Rattle.batch_history.specs.declared.rows.WorkState.TheVariants.{Over}
-use Rattle.batch_ids.specs.Metrics.{added}
+use Rattle.batch_ids.specs.Metrics.{added, zero_step}
 use Rattle.batch_ids.specs.Parameters.{Pair}
 use Rattle.batch_ids.specs.declared.metric_step.MetricStep.{MetricStep}
 use Rattle.batch_ids.specs.declared.status.BatchStatus.{BatchStatus}
 use Rattle.batch_ids.specs.declared.status.WorkOutcome.{WorkOutcome}
+use Rattle.batch_ids.specs.declared.status.WorkOutcome.TheVariants.{Failed}
 use Rattle.job_walk.specs.declared.facts.Value.{Value}
+use Rattle.job_walk.specs.declared.plan.Plan.{Plan}
 use Rattle.jsl_model.specs.Jobs.{JobTree}
 
 abbrev pub instances_after : Call → List JobInstance → List JobInstance
@@ -35,6 +38,7 @@ instances_after (Abandon y) rows = rows
 instances_after Claim rows = rows
 instances_after (Checkpoint w mark step) rows = rows
 instances_after (Finish w outcome exit step) rows = rows
+instances_after (Lose w) rows = rows
 
 -- the job instances of a past
 abbrev pub instances_of : List Entry → List JobInstance
@@ -58,6 +62,7 @@ made_after instances at (Abandon y) all = all
 made_after instances at Claim all = all
 made_after instances at (Checkpoint w mark step) all = all
 made_after instances at (Finish w outcome exit step) all = all
+made_after instances at (Lose w) all = all
 
 -- the job executions of a past, as they were made
 abbrev pub made : List Entry → List Made
@@ -73,6 +78,7 @@ makes count x (Abandon y) = false
 makes count x Claim = false
 makes count x (Checkpoint w mark step) = false
 makes count x (Finish w outcome exit step) = false
+makes count x (Lose w) = false
 
 -- a work item with these counts added to its metrics
 abbrev pub reported : MetricStep → WorkRow → WorkRow
@@ -102,6 +108,7 @@ works_after who at (Abandon y) reply rows = rows
 works_after who at Claim reply rows = with_handed_out who at reply rows
 works_after who at (Checkpoint w mark step) reply rows = change_first (is_work w) (reported step) rows
 works_after who at (Finish w outcome exit step) reply rows = change_first (is_work w) (over outcome exit step at) rows
+works_after who at (Lose w) reply rows = change_first (is_work w) (over Failed None zero_step at) rows
 
 -- the work items of a past
 abbrev pub works_of : List Entry → List WorkRow
@@ -147,9 +154,38 @@ stop_of past x = was_named stop_request past x
 abbrev pub abandoned_of : List Entry → ℕ → Bool
 abandoned_of past x = was_named abandonment past x
 
+-- the work items of a job instance
+abbrev pub instance_works : List Entry → ℕ → List WorkRow
+instance_works past i = filter (λ work. is_at i (instance_made (made past) work.execution)) (works_of past)
+
+-- the plan of a restart of a job execution, by the plans before
+abbrev pub plan_again : List JobTree → List Entry → (ℕ → Plan) → Option Made → Plan
+plan_again catalogue past earlier None = first_plan None
+plan_again catalogue past earlier (Some m) =
+    plan_by
+    (restart_point (is_some (start_of past m.execution)) (walk_value catalogue (works_of past) m.execution m.job (earlier m.execution)) (earlier m.execution).from)
+    (instance_works past m.instance) (job_named catalogue m.job)
+
+-- the plan of the job execution that a call makes
+abbrev pub plan_made : List JobTree → List Entry → (ℕ → Plan) → Call → Plan
+plan_made catalogue past earlier (Start job parameters) = first_plan (job_named catalogue job)
+plan_made catalogue past earlier (Restart y parameters) = plan_again catalogue past earlier (find (is_made y) (made past))
+plan_made catalogue past earlier (Stop y) = first_plan None
+plan_made catalogue past earlier (Abandon y) = first_plan None
+plan_made catalogue past earlier Claim = first_plan None
+plan_made catalogue past earlier (Checkpoint w mark step) = first_plan None
+plan_made catalogue past earlier (Finish w outcome exit step) = first_plan None
+plan_made catalogue past earlier (Lose w) = first_plan None
+
+-- the plan of a job execution, as it was when it was made
+abbrev pub plan_kept : List JobTree → List Entry → ℕ → Plan
+plan_kept catalogue [] x = first_plan None
+plan_kept catalogue (e ∷ older) x =
+    if makes (length (made older)) x e.call then plan_made catalogue older (plan_kept catalogue older) e.call else plan_kept catalogue older x
+
 -- what the walk of a job execution comes to after a past
 abbrev pub value_after : List JobTree → List Entry → Made → Value
-value_after catalogue past m = walk_value catalogue (works_of past) m.execution m.job
+value_after catalogue past m = walk_value catalogue (works_of past) m.execution m.job (plan_kept catalogue past m.execution)
 
 -- the status of a job execution after a past, abandonment aside
 abbrev pub bare_of : List JobTree → List Entry → Made → BatchStatus
@@ -165,7 +201,7 @@ end_of catalogue (e ∷ older) m =
 -- the row of a job execution after a past
 abbrev pub execution_row : List JobTree → List Entry → Made → ExecutionRow
 execution_row catalogue past m =
-    execution_row_with m (stop_of past m.execution) (abandoned_of past m.execution) (start_of past m.execution)
+    execution_row_with m (plan_kept catalogue past m.execution) (stop_of past m.execution) (abandoned_of past m.execution) (start_of past m.execution)
     (value_after catalogue past m) (end_of catalogue past m) (updated_of past m.execution)
 
 -- the rows of a past

@@ -3,12 +3,13 @@
 use Rattle.std.proofs.Common.{subst, ◌≡◌, ℕ, suc, ◌+◌, ◌==◌, ◌<◌, ◌≤◌, Bool, true, false, cond, Option, None, Some, is_some, List, [], ◌∷◌, ◌++◌, length, map, find, refl, sym, ◌∙◌, ap, arith}
 use Rattle.std.proofs.lemmas.List.{length-append, length-map, map-append, append-nil}
 use Rattle.std.proofs.lemmas.Bool.{eqb-true, eqb-false, eq-eqb, ne_eqb}
-use Rattle.batch_ids.specs.Metrics.{zero_metrics}
+use Rattle.batch_ids.specs.Metrics.{zero_metrics, zero_step}
 use Rattle.batch_ids.specs.declared.metric_step.MetricStep.{MetricStep}
 use Rattle.batch_ids.specs.declared.status.WorkOutcome.{WorkOutcome}
+use Rattle.batch_ids.specs.declared.status.WorkOutcome.TheVariants.{Failed}
 use Rattle.job_walk.proofs.Following.{find-map}
 use Rattle.batch_history.specs.declared.call.Call.{Call}
-use Rattle.batch_history.specs.declared.call.Call.TheVariants.{Start, Restart, Stop, Abandon, Claim, Checkpoint, Finish}
+use Rattle.batch_history.specs.declared.call.Call.TheVariants.{Start, Restart, Stop, Abandon, Claim, Checkpoint, Finish, Lose}
 use Rattle.batch_history.specs.declared.call.Reply.{Reply}
 use Rattle.batch_history.specs.declared.call.Reply.TheVariants.{Execution as IsExecution, Work, Closed, Nothing, Done, Go, StopAsked}
 use Rattle.batch_history.specs.declared.call.Entry.{Entry}
@@ -180,6 +181,16 @@ finish-works older who at v o exit step reply none before =
     (λ w off. ap (p w) off) (λ row on. ap (λ b. with_progress row (p row.work b)) on)
     ∙ ap (change_first (is_work v) (over o exit step at)) before.same)
 
+loss-works : (older : List Entry) (who at v : ℕ) (reply : Reply) → taken_up_by reply ≡ None → WorksAgree older
+    → work_items (record { who = who; call = Lose v; at = at; reply = reply } ∷ older) ≡ change_first (is_work v) (over Failed None zero_step at) (works_of older)
+loss-works older who at v reply none before =
+    let e : Entry = record { who = who; call = Lose v; at = at; reply = reply } in
+    let p : ℕ → Bool → Progress = λ w b. progress_by (cond b (Some e) (ending_entry older w)) (with_counts (counts_of zero_step b) (metrics_of older w)) in
+    same-handed older e none
+    ∙ (progress-change (progress_of (e ∷ older)) (progress_of older) v (over Failed None zero_step at) 1 (items_handed_out older) (handed-numbered older)
+    (λ w off. ap (p w) off) (λ row on. ap (λ b. with_progress row (p row.work b)) on)
+    ∙ ap (change_first (is_work v) (over Failed None zero_step at)) before.same)
+
 works-step : (older : List Entry) (who at : ℕ) (call : Call) (reply : Reply) → Fits older call reply → WorksAgree older
     → work_items (record { who = who; call = call; at = at; reply = reply } ∷ older) ≡ works_after who at call reply (works_of older)
 works-step older who at (Start job parameters) reply fits before =
@@ -193,6 +204,7 @@ works-step older who at (Abandon y) reply fits before =
 works-step older who at Claim reply fits before = claim-works older who at reply fits before
 works-step older who at (Checkpoint v mark step) reply fits before = checkpoint-works older who at v mark step reply fits.0 before
 works-step older who at (Finish v o exit step) reply fits before = finish-works older who at v o exit step reply fits.0 before
+works-step older who at (Lose v) reply fits before = loss-works older who at v reply fits.0 before
 
 more-works : (older : List Entry) (e : Entry) → work_item_count older ≤ work_item_count (e ∷ older)
 more-works older e =
@@ -213,6 +225,11 @@ later-step older who at (Finish v o exit step) reply fits before w lt =
     let e : Entry = record { who = who; call = Finish v o exit step; at = at; reply = reply } in
     let there : v ≤ work_item_count older = within older v before.same fits.1 in
     ap (λ b. progress_by (cond b (Some e) (ending_entry older w)) (with_counts (counts_of step b) (metrics_of older w))) (ne_eqb v w (λ is. omega arith))
+    ∙ before.later w lt
+later-step older who at (Lose v) reply fits before w lt =
+    let e : Entry = record { who = who; call = Lose v; at = at; reply = reply } in
+    let there : v ≤ work_item_count older = within older v before.same fits.1 in
+    ap (λ b. progress_by (cond b (Some e) (ending_entry older w)) (with_counts (counts_of zero_step b) (metrics_of older w))) (ne_eqb v w (λ is. omega arith))
     ∙ before.later w lt
 
 works-agree : (past : List Entry) → AllFit past → WorksAgree past

@@ -5,6 +5,7 @@ use Rattle.std.specs.Str.{bytes_eq}
 use Rattle.jsl_model.specs.Jobs.{JobTree}
 use Rattle.job_walk.specs.Walk.{fact_of}
 use Rattle.job_walk.specs.declared.facts.Known.{Known}
+use Rattle.job_walk.specs.declared.plan.Plan.{Plan}
 use Rattle.batch_history.specs.Walks.{fact_of_state, is_work_of, fact_by_work, element_facts, walk_of, walk_value, job_named}
 use Rattle.batch_history.specs.declared.rows.WorkRow.{WorkRow}
 
@@ -36,6 +37,6 @@ pub facts-same : (x : ℕ) (one two : List WorkRow) → known_elements x one ≡
 facts-same x one two same = known-facts x one ∙ (ap fact_of same ∙ sym (known-facts x two))
 
 -- the walk by the list
-pub walk_known : (catalogue : List JobTree) (works : List WorkRow) (x : ℕ) (job : List ℕ) (known : List Known) → known ≡ known_elements x works
-    → walk_of (fact_of known) (job_named catalogue job) ≡ walk_value catalogue works x job
-walk_known catalogue works x job known is = ap (λ f. walk_of f (job_named catalogue job)) (ap fact_of is ∙ sym (known-facts x works))
+pub walk_known : (catalogue : List JobTree) (works : List WorkRow) (x : ℕ) (job : List ℕ) (plan : Plan) (known : List Known) → known ≡ known_elements x works
+    → walk_of plan (fact_of known) (job_named catalogue job) ≡ walk_value catalogue works x job plan
+walk_known catalogue works x job plan known is = ap (λ f. walk_of plan f (job_named catalogue job)) (ap fact_of is ∙ sym (known-facts x works))

@@ -4,11 +4,11 @@ use Rattle.std.specs.List.{list_any}
 use Rattle.std.proofs.lemmas.List.{length-append, length-reverse, append_assoc, reverse-append}
 use Rattle.std.proofs.lemmas.Bool.{ltb-true}
 use Rattle.batch_ids.specs.declared.refusal.Refusal.{Refusal}
-use Rattle.batch_ids.specs.declared.refusal.Refusal.TheVariants.{JobStartException, NoSuchJobExecutionException, JobExecutionNotRunningException, JobExecutionIsRunningException, RepositoryFull}
+use Rattle.batch_ids.specs.declared.refusal.Refusal.TheVariants.{JobStartException, JobExecutionNotRunningException, JobExecutionIsRunningException, RepositoryFull}
 use Rattle.batch_ids.specs.declared.status.WorkOutcome.{WorkOutcome}
 use Rattle.batch_ids.specs.declared.status.WorkOutcome.TheVariants.{Completed, Failed, Stopped}
 use Rattle.batch_history.specs.declared.call.Call.{Call}
-use Rattle.batch_history.specs.declared.call.Call.TheVariants.{Start, Restart, Stop, Abandon, Claim, Checkpoint, Finish}
+use Rattle.batch_history.specs.declared.call.Call.TheVariants.{Start, Restart, Stop, Abandon, Claim, Checkpoint, Finish, Lose}
 use Rattle.batch_history.specs.declared.call.Reply.{Reply}
 use Rattle.batch_history.specs.declared.call.Reply.TheVariants.{Execution as IsExecution, Done}
 use Rattle.batch_history.specs.declared.call.WorkKind.{WorkKind}
@@ -17,7 +17,7 @@ use Rattle.batch_history.specs.declared.call.Entry.{Entry}
 use Rattle.batch_history.specs.declared.rows.ExecutionRow.{ExecutionRow}
 use Rattle.batch_history.specs.declared.rows.WorkRow.{WorkRow}
 use Rattle.batch_history.specs.Legal.{grown, IsLegal}
-use Rattle.batch_history.specs.Replies.{is_nothing, reply, reply_by, row_status, is_running_in, accepted, reply_to_claim, reply_to_stop, reply_to_abandon, go_or_stop, reply_to_kept_checkpoint, reply_to_checkpoint, reply_to_stopped_step, reply_to_stopped_work, reply_to_finish, reply_to_end, report_refusal, unless, stop_requested_of, has_something, is_execution}
+use Rattle.batch_history.specs.Replies.{is_nothing, reply, reply_by, row_status, is_running_in, accepted, reply_to_claim, reply_to_stop, reply_to_abandon, go_or_stop, reply_to_kept_checkpoint, reply_to_checkpoint, reply_to_stopped_step, reply_to_stopped_work, reply_to_finish, reply_to_end, reply_to_loss, loss_refusal, reply_to_restart, restart_refusal, report_refusal, unless, stop_requested_of, has_something, is_execution}
 use Rattle.batch_history.specs.Rows.{History, Rows, rows}
 use Rattle.batch_history.specs.Statuses.{is_finished}
 use Rattle.batch_history.specs.Walks.{job_named}
@@ -95,6 +95,15 @@ finished-room limit r who o None given e = cc
 finished-room limit r who o (Some row) given e =
     unless-room limit r.count (report_refusal who row.claimer row.state) _ given (as-room limit r.count (stop_requested_of r row.execution) row.kind o given) e
 
+lost-room : (limit count : ℕ) (found : Option WorkRow) (given : Reply) → reply_to_loss limit count found ≡ Ok given → count < limit
+lost-room limit count None given e = cc
+lost-room limit count (Some row) given e = unless-room limit count (loss_refusal row.state) _ given (entered-room limit count Done given) e
+
+restarted-room : (limit : ℕ) (r : Rows) (found : Option ExecutionRow) (given : Reply) → reply_to_restart limit r found ≡ Ok given → r.count < limit
+restarted-room limit r None given e = cc
+restarted-room limit r (Some row) given e =
+    unless-room limit r.count (restart_refusal r row) _ given (entered-room limit r.count (IsExecution (length r.executions + 1)) given) e
+
 -- a reply that is entered has room
 pub reply_room : (limit : ℕ) (r : Rows) (who : ℕ) (call : Call) (given : Reply) → reply_by limit r who call ≡ Ok given → is_nothing given ≡ false → r.count < limit
 reply_room limit r who (Start job parameters) given e n =
@@ -103,15 +112,13 @@ reply_room limit r who (Start job parameters) given e n =
       | false ↦ λ s. cc
     ]) e
 reply_room limit r who (Restart x parameters) given e n =
-    (elim (is_some (find (is_execution x) r.executions)) as (λ b. cond b (accepted limit r.count (IsExecution (length r.executions + 1))) (Err NoSuchJobExecutionException) ≡ Ok given → r.count < limit) [
-      | true ↦ λ s. entered-room limit r.count _ given s
-      | false ↦ λ s. cc
-    ]) e
+    restarted-room limit r (find (is_execution x) r.executions) given e
 reply_room limit r who (Stop x) given e n = stopped-room limit r.count (find (is_execution x) r.executions) given e
 reply_room limit r who (Abandon x) given e n = abandoned-room limit r (find (is_execution x) r.executions) given e
 reply_room limit r who Claim given e n = claimed-room limit r (find (has_something r) r.executions) given e n
 reply_room limit r who (Checkpoint w mark step) given e n = checkpointed-room limit r who (find (is_work w) r.works) given e
 reply_room limit r who (Finish w o exit step) given e n = finished-room limit r who o (find (is_work w) r.works) given e
+reply_room limit r who (Lose w) given e n = lost-room limit r.count (find (is_work w) r.works) given e
 
 -- Where a list with one element more is cut
 

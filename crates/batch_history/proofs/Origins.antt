@@ -7,7 +7,7 @@ use Rattle.std.proofs.lemmas.List.Folds.{find-append}
 use Rattle.std.proofs.lemmas.Bool.{eqb-true, ne_eqb}
 use Rattle.batch_ids.specs.Parameters.{Pair}
 use Rattle.batch_history.specs.declared.call.Call.{Call}
-use Rattle.batch_history.specs.declared.call.Call.TheVariants.{Start, Restart, Stop, Abandon, Claim, Checkpoint, Finish}
+use Rattle.batch_history.specs.declared.call.Call.TheVariants.{Start, Restart, Stop, Abandon, Claim, Checkpoint, Finish, Lose}
 use Rattle.batch_history.specs.declared.call.Reply.{Reply}
 use Rattle.batch_history.specs.declared.call.Entry.{Entry}
 use Rattle.batch_history.specs.declared.rows.JobInstance.{JobInstance}
@@ -33,6 +33,7 @@ executions-step older who at (Abandon y) reply h = h
 executions-step older who at Claim reply h = h
 executions-step older who at (Checkpoint w mark step) reply h = h
 executions-step older who at (Finish w o t step) reply h = h
+executions-step older who at (Lose w) reply h = h
 
 -- there are as many as the rows have
 pub executions-made : (past : List Entry) → job_execution_count past ≡ length (made past)
@@ -50,6 +51,7 @@ instances-step older who at (Abandon y) reply h = h
 instances-step older who at Claim reply h = h
 instances-step older who at (Checkpoint w mark step) reply h = h
 instances-step older who at (Finish w o t step) reply h = h
+instances-step older who at (Lose w) reply h = h
 
 instances-made : (past : List Entry) → job_instance_count past ≡ length (instances_of past)
 instances-made [] = refl
@@ -64,6 +66,7 @@ begun-after older (Abandon y) = append-nil (instances_of older)
 begun-after older Claim = append-nil (instances_of older)
 begun-after older (Checkpoint w mark step) = append-nil (instances_of older)
 begun-after older (Finish w o t step) = append-nil (instances_of older)
+begun-after older (Lose w) = append-nil (instances_of older)
 
 -- the job instances are those that the rows have
 pub instances-law : (past : List Entry) → job_instances past ≡ instances_of past
@@ -80,10 +83,11 @@ making older x (Abandon y) = refl
 making older x Claim = refl
 making older x (Checkpoint w mark step) = refl
 making older x (Finish w o t step) = refl
+making older x (Lose w) = refl
 
 -- What is found
 
-find-past : (x k : ℕ) (ms : List Made) → AreNumbered k ms → length ms + k ≤ x → find (is_made x) ms ≡ None
+pub find-past : (x k : ℕ) (ms : List Made) → AreNumbered k ms → length ms + k ≤ x → find (is_made x) ms ≡ None
 find-past x k [] h le = refl
 find-past x k (m ∷ ms) h le =
     let off : (m.execution == x) ≡ false = ne_eqb m.execution x (λ e. omega (arith, h.0, e)) in
@@ -148,6 +152,7 @@ origin-step older at (Abandon y) reply x fits before = before x
 origin-step older at Claim reply x fits before = before x
 origin-step older at (Checkpoint w mark step) reply x fits before = before x
 origin-step older at (Finish w o t step) reply x fits before = before x
+origin-step older at (Lose w) reply x fits before = before x
 
 -- job execution x, if there is one, is the one that the rows have
 pub origin-law : (past : List Entry) → AllFit past → (x : ℕ) → find (is_made x) (made past) ≡ option_map (made_as x) (origin_of past x)

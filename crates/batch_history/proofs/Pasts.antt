@@ -4,12 +4,12 @@ use Rattle.std.specs.List.{list_any}
 use Rattle.std.proofs.lemmas.List.{reverse-reverse, append-nil}
 use Rattle.job_walk.proofs.Following.{find-map}
 use Rattle.batch_ids.specs.declared.refusal.Refusal.{Refusal}
-use Rattle.batch_ids.specs.declared.refusal.Refusal.TheVariants.{JobStartException, NoSuchJobExecutionException, JobExecutionNotRunningException, JobExecutionIsRunningException}
+use Rattle.batch_ids.specs.declared.refusal.Refusal.TheVariants.{JobStartException, JobExecutionNotRunningException, JobExecutionIsRunningException}
 use Rattle.batch_ids.specs.declared.status.WorkOutcome.{WorkOutcome}
 use Rattle.batch_ids.specs.declared.status.WorkOutcome.TheVariants.{Completed, Failed, Stopped}
 use Rattle.jsl_model.specs.Jobs.{JobTree}
 use Rattle.batch_history.specs.declared.call.Call.{Call}
-use Rattle.batch_history.specs.declared.call.Call.TheVariants.{Start, Restart, Stop, Abandon, Claim, Checkpoint, Finish}
+use Rattle.batch_history.specs.declared.call.Call.TheVariants.{Start, Restart, Stop, Abandon, Claim, Checkpoint, Finish, Lose}
 use Rattle.batch_history.specs.declared.call.Reply.{Reply}
 use Rattle.batch_history.specs.declared.call.Reply.TheVariants.{Execution as IsExecution, Work, Closed, Nothing, Done, Go, StopAsked}
 use Rattle.batch_history.specs.declared.call.WorkKind.{WorkKind}
@@ -20,7 +20,7 @@ use Rattle.batch_history.specs.declared.rows.WorkRow.{WorkRow}
 use Rattle.batch_history.proofs.Folds.{made, is_made, works_of, folded_rows, execution_row}
 use Rattle.batch_history.specs.Executions.{Made}
 use Rattle.batch_history.specs.Operations.{taken_up_by}
-use Rattle.batch_history.specs.Replies.{reply_by, row_status, is_running_in, accepted, reply_to_claim, claim_reply, reply_to_stop, reply_to_abandon, go_or_stop, reply_to_kept_checkpoint, reply_to_checkpoint, reply_to_stopped_step, reply_to_stopped_work, reply_to_finish, reply_to_end, report_refusal, unless, stop_requested_of, first_ready, walk_in_rows, has_something, is_execution}
+use Rattle.batch_history.specs.Replies.{reply_by, row_status, is_running_in, accepted, reply_to_claim, claim_reply, reply_to_stop, reply_to_abandon, go_or_stop, reply_to_kept_checkpoint, reply_to_checkpoint, reply_to_stopped_step, reply_to_stopped_work, reply_to_finish, reply_to_end, reply_to_loss, loss_refusal, reply_to_restart, restart_refusal, report_refusal, unless, stop_requested_of, first_ready, walk_in_rows, has_something, is_execution}
 use Rattle.batch_history.specs.Rows.{Rows}
 use Rattle.batch_history.specs.Statuses.{is_finished}
 use Rattle.batch_history.specs.Walks.{job_named}
@@ -56,6 +56,7 @@ Fits older (Abandon y) given = IsMadeBefore older y given
 Fits older Claim given = FitsClaim (length (works_of older)) (length (made older)) given
 Fits older (Checkpoint w mark step) given = IsHandedBefore older w given
 Fits older (Finish w outcome exit step) given = IsHandedBefore older w given
+Fits older (Lose w) given = IsHandedBefore older w given
 
 -- a past each entry of which fits what is older
 abbrev pub AllFit : List Entry → Type 0
@@ -148,6 +149,17 @@ finished-fits limit r who o None given e = cc
 finished-fits limit r who o (Some row) given e =
     (unless-none (report_refusal who row.claimer row.state) _ given (as-none limit r.count (stop_requested_of r row.execution) row.kind o given) e, refl)
 
+lost-fits : (limit count : ℕ) (found : Option WorkRow) (given : Reply) → reply_to_loss limit count found ≡ Ok given
+    → (taken_up_by given ≡ None) × (is_some found ≡ true)
+lost-fits limit count None given e = cc
+lost-fits limit count (Some row) given e = (unless-none (loss_refusal row.state) _ given (entered-none limit count Done given refl) e, refl)
+
+restarted-fits : (limit : ℕ) (r : Rows) (found : Option ExecutionRow) (given : Reply) → reply_to_restart limit r found ≡ Ok given
+    → (taken_up_by given ≡ None) × (is_some found ≡ true)
+restarted-fits limit r None given e = cc
+restarted-fits limit r (Some row) given e =
+    (unless-none (restart_refusal r row) _ given (entered-none limit r.count (IsExecution (length r.executions + 1)) given refl) e, refl)
+
 -- a job execution has a row where it was made
 there : (catalogue : List JobTree) (older : List Entry) (y : ℕ)
     → is_some (find (is_execution y) (map (execution_row catalogue older) (made older))) ≡ is_some (find (is_made y) (made older))
@@ -166,14 +178,8 @@ due-fits limit catalogue older who (Start job parameters) given e =
       | false ↦ λ s. cc
     ]) e
 due-fits limit catalogue older who (Restart y parameters) given e =
-    let r : Rows = folded_rows catalogue older in
-    let n : ℕ = length r.executions + 1 in
-    (elim (is_some (find (is_execution y) r.executions)) as (λ b. is_some (find (is_execution y) r.executions) ≡ b
-    → cond b (accepted limit r.count (IsExecution n)) (Err NoSuchJobExecutionException) ≡ Ok given
-    → (taken_up_by given ≡ None) × (is_some (find (is_made y) (made older)) ≡ true)) [
-      | true ↦ λ is s. (entered-none limit r.count (IsExecution n) given refl s, sym (there catalogue older y) ∙ is)
-      | false ↦ λ is s. cc
-    ]) refl e
+    let fits = restarted-fits limit (folded_rows catalogue older) (find (is_execution y) (map (execution_row catalogue older) (made older))) given e in
+    (fits.0, sym (there catalogue older y) ∙ fits.1)
 due-fits limit catalogue older who (Stop y) given e =
     let fits = stopped-fits limit (length older) (find (is_execution y) (map (execution_row catalogue older) (made older))) given e in
     (fits.0, sym (there catalogue older y) ∙ fits.1)
@@ -188,6 +194,7 @@ due-fits limit catalogue older who (Checkpoint w mark step) given e =
     checkpointed-fits limit (folded_rows catalogue older) who (find (is_work w) (works_of older)) given e
 due-fits limit catalogue older who (Finish w o exit step) given e =
     finished-fits limit (folded_rows catalogue older) who o (find (is_work w) (works_of older)) given e
+due-fits limit catalogue older who (Lose w) given e = lost-fits limit (length older) (find (is_work w) (works_of older)) given e
 
 -- a past is the whole history, the newest first
 pub whole-past : (log : List Entry) → log ≡ reverse (reverse log) ++ []

@@ -1,6 +1,6 @@
 -- The rows of a past with one operation more: what each record is after it, by what it was before.
 use mathlib.Core.Bool.{or-false}
-use Rattle.std.proofs.Common.{◌≡◌, ℕ, ◌+◌, ◌==◌, ◌<◌, ◌≤◌, ◌||◌, Bool, true, false, cond, Option, None, Some, List, [], ◌∷◌, ◌++◌, length, map, find, refl, sym, ◌∙◌, ap, arith, add-one}
+use Rattle.std.proofs.Common.{◌≡◌, ℕ, ◌+◌, ◌==◌, ◌<◌, ◌≤◌, ◌||◌, Bool, true, false, cond, Option, None, Some, is_some, List, [], ◌∷◌, ◌++◌, length, map, find, filter, refl, sym, ◌∙◌, ap, arith, add-one}
 use Rattle.std.specs.Option.{option_map}
 use mathlib.Core.Path.{fun_ext}
 use Rattle.std.proofs.lemmas.List.{map-append, length-map}
@@ -8,28 +8,32 @@ use Rattle.std.proofs.lemmas.Bool.{eqb-true, eqb-false, eq-eqb, ne_eqb}
 use Rattle.job_walk.proofs.Following.{find-map}
 use Rattle.job_walk.specs.declared.facts.Known.{Known}
 use Rattle.job_walk.specs.declared.facts.Value.{Value}
+use Rattle.job_walk.specs.declared.plan.Plan.{Plan}
 use Rattle.batch_ids.specs.Parameters.{Pair}
+use Rattle.batch_ids.specs.Metrics.{zero_step}
 use Rattle.batch_ids.specs.declared.metric_step.MetricStep.{MetricStep}
 use Rattle.batch_ids.specs.declared.status.WorkOutcome.{WorkOutcome}
+use Rattle.batch_ids.specs.declared.status.WorkOutcome.TheVariants.{Failed}
 use Rattle.jsl_model.specs.Jobs.{JobTree}
 use Rattle.batch_history.specs.declared.call.Call.{Call}
-use Rattle.batch_history.specs.declared.call.Call.TheVariants.{Start, Restart, Stop, Abandon, Claim, Checkpoint, Finish}
+use Rattle.batch_history.specs.declared.call.Call.TheVariants.{Start, Restart, Stop, Abandon, Claim, Checkpoint, Finish, Lose}
 use Rattle.batch_history.specs.declared.call.Reply.{Reply}
 use Rattle.batch_history.specs.declared.call.Reply.TheVariants.{Execution as IsExecution, Work, Closed, Nothing, Done, Go, StopAsked}
 use Rattle.batch_history.specs.declared.call.Entry.{Entry}
 use Rattle.batch_history.specs.declared.rows.ExecutionRow.{ExecutionRow}
 use Rattle.batch_history.specs.declared.rows.WorkRow.{WorkRow}
-use Rattle.batch_history.proofs.Folds.{made, remade, is_made, makes, instances_of, works_of, works_after, with_handed_out as handed_out, reported, over, start_of, was_named, stop_of, abandoned_of, updated_of, end_of, value_after, bare_of, place_of, instance_made, folded_checkpoint, execution_row, folded_rows}
-use Rattle.batch_history.proofs.Steps.{refreshed_by, refreshed_at, fresh_row, again_row, instance_in, place_in, rows_after, executions_after}
+use Rattle.batch_history.proofs.Folds.{made, remade, is_made, makes, instances_of, works_of, works_after, with_handed_out as handed_out, reported, over, start_of, was_named, stop_of, abandoned_of, updated_of, end_of, value_after, bare_of, place_of, instance_made, folded_checkpoint, execution_row, folded_rows, plan_made, plan_kept, plan_again}
+use Rattle.batch_history.proofs.Steps.{refreshed_by, refreshed_at, fresh_row, again_row, place_in, rows_after, executions_after}
 use Rattle.batch_history.specs.Checkpoints.{InstanceStep, instance_step_by, is_same_step, checkpoint_after}
 use Rattle.batch_history.specs.Executions.{Made}
 use Rattle.batch_history.specs.Lists.{change_first, is_at}
 use Rattle.batch_history.specs.Moments.{first_moment}
 use Rattle.batch_history.specs.Operations.{taken_up, taken_up_by, stop_request, abandonment}
-use Rattle.batch_history.specs.Replies.{is_execution}
+use Rattle.batch_history.specs.Replies.{instance_in, is_execution}
+use Rattle.batch_history.specs.Restarts.{first_plan, plan_by, restart_point}
 use Rattle.batch_history.specs.Rows.{Rows, execution_row_with}
 use Rattle.batch_history.specs.Statuses.{batch_status, is_finished}
-use Rattle.batch_history.specs.Walks.{fact_of_state, walk_of, job_named}
+use Rattle.batch_history.specs.Walks.{element_facts, fact_of_state, walk_of, walk_value, job_named}
 use Rattle.batch_history.proofs.Knowing.{known_elements, facts-same}
 use Rattle.batch_history.specs.Works.{execution_of_operation, is_work}
 
@@ -84,6 +88,7 @@ known-same x who at (Abandon y) reply works h = refl
 known-same x who at Claim reply works h = known-handed x who at reply works h
 known-same x who at (Checkpoint w mark step) reply works h = known-reported x _ step works
 known-same x who at (Finish w o t step) reply works h = known-change x _ o t step at works h
+known-same x who at (Lose w) reply works h = known-change x _ Failed None zero_step at works h
 
 -- who is taken up is touched
 pub taken-touched : (x : ℕ) (call : Call) (reply : Reply) (works : List WorkRow) → is_at x (execution_of_operation works call reply) ≡ false
@@ -95,6 +100,7 @@ taken-touched x (Abandon y) reply works h = refl
 taken-touched x Claim reply works h = h
 taken-touched x (Checkpoint w mark step) reply works h = refl
 taken-touched x (Finish w o t step) reply works h = refl
+taken-touched x (Lose w) reply works h = refl
 
 -- who is asked to stop is touched
 pub asked-touched : (x : ℕ) (call : Call) (reply : Reply) (works : List WorkRow) → is_at x (execution_of_operation works call reply) ≡ false
@@ -106,6 +112,7 @@ asked-touched x (Abandon y) reply works h = refl
 asked-touched x Claim reply works h = refl
 asked-touched x (Checkpoint w mark step) reply works h = refl
 asked-touched x (Finish w o t step) reply works h = refl
+asked-touched x (Lose w) reply works h = refl
 
 -- who is given up is touched
 given-touched : (x : ℕ) (call : Call) (reply : Reply) (works : List WorkRow) → is_at x (execution_of_operation works call reply) ≡ false
@@ -117,6 +124,7 @@ given-touched x (Abandon y) reply works h = h
 given-touched x Claim reply works h = refl
 given-touched x (Checkpoint w mark step) reply works h = refl
 given-touched x (Finish w o t step) reply works h = refl
+given-touched x (Lose w) reply works h = refl
 
 pub earliest-false : (o : Option ℕ) (at : ℕ) → first_moment o false at ≡ o
 earliest-false None at = refl
@@ -162,13 +170,20 @@ updated-by : (past : List Entry) (e : Entry) (x : ℕ) → makes (length (made p
 updated-by past e x made_no =
     ap (λ b. cond b e.at (cond (is_at x (execution_of_operation (works_of past) e.call e.reply)) e.at (updated_of past x))) made_no
 
-pub same_row : (m : Made) (p1 p2 a1 a2 : Bool) (s1 s2 : Option ℕ) (v1 v2 : Value) (e1 e2 : Option ℕ) (u1 u2 : ℕ)
-    → p1 ≡ p2 → a1 ≡ a2 → s1 ≡ s2 → v1 ≡ v2 → e1 ≡ e2 → u1 ≡ u2
-    → execution_row_with m p1 a1 s1 v1 e1 u1 ≡ execution_row_with m p2 a2 s2 v2 e2 u2
-same_row m p1 p2 a1 a2 s1 s2 v1 v2 e1 e2 u1 u2 p a s v e u =
-    ap (λ x. execution_row_with m x a1 s1 v1 e1 u1) p ∙ (ap (λ x. execution_row_with m p2 x s1 v1 e1 u1) a
-    ∙ (ap (λ x. execution_row_with m p2 a2 x v1 e1 u1) s ∙ (ap (λ x. execution_row_with m p2 a2 s2 x e1 u1) v
-    ∙ (ap (λ x. execution_row_with m p2 a2 s2 v2 x u1) e ∙ ap (λ x. execution_row_with m p2 a2 s2 v2 e2 x) u))))
+pub same_row : (m : Made) (k1 k2 : Plan) (p1 p2 a1 a2 : Bool) (s1 s2 : Option ℕ) (v1 v2 : Value) (e1 e2 : Option ℕ) (u1 u2 : ℕ)
+    → k1 ≡ k2 → p1 ≡ p2 → a1 ≡ a2 → s1 ≡ s2 → v1 ≡ v2 → e1 ≡ e2 → u1 ≡ u2
+    → execution_row_with m k1 p1 a1 s1 v1 e1 u1 ≡ execution_row_with m k2 p2 a2 s2 v2 e2 u2
+same_row m k1 k2 p1 p2 a1 a2 s1 s2 v1 v2 e1 e2 u1 u2 k p a s v e u =
+    ap (λ x. execution_row_with m x p1 a1 s1 v1 e1 u1) k ∙ (ap (λ x. execution_row_with m k2 x a1 s1 v1 e1 u1) p
+    ∙ (ap (λ x. execution_row_with m k2 p2 x s1 v1 e1 u1) a ∙ (ap (λ x. execution_row_with m k2 p2 a2 x v1 e1 u1) s
+    ∙ (ap (λ x. execution_row_with m k2 p2 a2 s2 x e1 u1) v ∙ (ap (λ x. execution_row_with m k2 p2 a2 s2 v2 x u1) e
+    ∙ ap (λ x. execution_row_with m k2 p2 a2 s2 v2 e2 x) u)))))
+
+-- the plan of a job execution stays as it was
+pub planned-by : (catalogue : List JobTree) (past : List Entry) (e : Entry) (x : ℕ) → makes (length (made past)) x e.call ≡ false
+    → plan_kept catalogue (e ∷ past) x ≡ plan_kept catalogue past x
+planned-by catalogue past e x made_no =
+    ap (λ b. cond b (plan_made catalogue past (plan_kept catalogue past) e.call) (plan_kept catalogue past x)) made_no
 
 pub same_status : (p1 p2 : Bool) (s1 s2 : Option ℕ) (v1 v2 : Value) → p1 ≡ p2 → s1 ≡ s2 → v1 ≡ v2 → batch_status p1 s1 v1 ≡ batch_status p2 s2 v2
 same_status p1 p2 s1 s2 v1 v2 p s v =
@@ -181,6 +196,7 @@ pub untouched : (catalogue : List JobTree) (past : List Entry) (e : Entry) (m : 
 untouched catalogue past e m made_no off =
     let x : ℕ = m.execution in
     let works : List WorkRow = works_of past in
+    let k : plan_kept catalogue (e ∷ past) x ≡ plan_kept catalogue past x = planned-by catalogue past e x made_no in
     let p : stop_of (e ∷ past) x ≡ stop_of past x =
     named-by stop_request past e x made_no ∙ (ap (λ b. stop_of past x || b) (asked-touched x e.call e.reply works off) ∙ or-false (stop_of past x)) in
     let a : abandoned_of (e ∷ past) x ≡ abandoned_of past x =
@@ -189,14 +205,15 @@ untouched catalogue past e m made_no off =
     begun-by past e x made_no
     ∙ (ap (λ b. first_moment (start_of past x) b e.at) (taken-touched x e.call e.reply works off) ∙ earliest-false (start_of past x) e.at) in
     let v : value_after catalogue (e ∷ past) m ≡ value_after catalogue past m =
-    ap (λ f. walk_of f (job_named catalogue m.job)) (facts-same x _ works (known-same x e.who e.at e.call e.reply works off)) in
+    ap (λ k. walk_of k (element_facts x (works_of (e ∷ past))) (job_named catalogue m.job)) k
+    ∙ ap (λ f. walk_of (plan_kept catalogue past x) f (job_named catalogue m.job)) (facts-same x _ works (known-same x e.who e.at e.call e.reply works off)) in
     let n : end_of catalogue (e ∷ past) m ≡ end_of catalogue past m =
     ended-by catalogue past e m made_no
     ∙ (ap (λ b. first_moment (end_of catalogue past m) (is_finished b) e.at) (same_status _ _ _ _ _ _ p s v)
     ∙ settled catalogue past m e.at) in
     let u : updated_of (e ∷ past) x ≡ updated_of past x =
     updated-by past e x made_no ∙ ap (λ b. cond b e.at (updated_of past x)) off in
-    same_row m _ _ _ _ _ _ _ _ _ _ _ _ p a s v n u
+    same_row m _ _ _ _ _ _ _ _ _ _ _ _ _ _ k p a s v n u
 
 -- the row of a job execution that an operation is on
 pub refreshed-by : (catalogue : List JobTree) (past : List Entry) (e : Entry) (m : Made) → makes (length (made past)) m.execution e.call ≡ false
@@ -204,7 +221,10 @@ pub refreshed-by : (catalogue : List JobTree) (past : List Entry) (e : Entry) (m
     → execution_row catalogue (e ∷ past) m ≡ refreshed_by catalogue (works_of (e ∷ past)) e.at e.call e.reply (execution_row catalogue past m)
 refreshed-by catalogue past e m made_no on =
     let x : ℕ = m.execution in
-    let value : Value = value_after catalogue (e ∷ past) m in
+    let k : plan_kept catalogue (e ∷ past) x ≡ plan_kept catalogue past x = planned-by catalogue past e x made_no in
+    let value : Value = walk_value catalogue (works_of (e ∷ past)) x m.job (plan_kept catalogue past x) in
+    let v : value_after catalogue (e ∷ past) m ≡ value =
+    ap (λ k. walk_of k (element_facts x (works_of (e ∷ past))) (job_named catalogue m.job)) k in
     let begun : Option ℕ = first_moment (start_of past x) (is_at x (taken_up e.call e.reply)) e.at in
     let stop : Bool = stop_of past x || is_at x (stop_request e.call) in
     let p : stop_of (e ∷ past) x ≡ stop = named-by stop_request past e x made_no in
@@ -212,10 +232,10 @@ refreshed-by catalogue past e m made_no on =
     let s : start_of (e ∷ past) x ≡ begun = begun-by past e x made_no in
     let n : end_of catalogue (e ∷ past) m ≡ first_moment (end_of catalogue past m) (is_finished (batch_status stop begun value)) e.at =
     ended-by catalogue past e m made_no
-    ∙ ap (λ b. first_moment (end_of catalogue past m) (is_finished b) e.at) (same_status _ _ _ _ value value p s refl) in
+    ∙ ap (λ b. first_moment (end_of catalogue past m) (is_finished b) e.at) (same_status _ _ _ _ _ value p s v) in
     let u : updated_of (e ∷ past) x ≡ e.at =
     updated-by past e x made_no ∙ ap (λ b. cond b e.at (updated_of past x)) on in
-    same_row m _ _ _ _ _ _ value value _ _ _ _ p a s refl n u
+    same_row m _ _ _ _ _ _ _ _ _ value _ _ _ _ k p a s v n u
 
 -- Job executions are numbered from one on
 
@@ -240,6 +260,7 @@ numbered-after past at (Abandon y) reply who h = h
 numbered-after past at Claim reply who h = h
 numbered-after past at (Checkpoint w mark step) reply who h = h
 numbered-after past at (Finish w o t step) reply who h = h
+numbered-after past at (Lose w) reply who h = h
 
 pub numbered : (past : List Entry) → AreNumbered 1 (made past)
 numbered [] = tt
@@ -303,16 +324,34 @@ older-rows catalogue past e made_no is =
 not-made : (n x : ℕ) → x < n + 1 → (n + 1 == x) ≡ false
 not-made n x lt = ne_eqb (n + 1) x (λ e. omega arith)
 
+option-map-map : {A B C : Type 0} (f : A → B) (g : B → C) (o : Option A) → option_map g (option_map f o) ≡ option_map (λ x. g (f x)) o
+option-map-map f g None = refl
+option-map-map f g (Some x) = refl
+
+instance-in : (catalogue : List JobTree) (past : List Entry) (x : ℕ)
+    → instance_in (map (execution_row catalogue past) (made past)) x ≡ instance_made (made past) x
+instance-in catalogue past x =
+    ap (λ (o : Option ExecutionRow). option_map (λ row. row.instance) o) (find-map (execution_row catalogue past) (is_execution x) (is_made x) (λ m. refl) (made past))
+    ∙ option-map-map (execution_row catalogue past) (λ row. row.instance) (find (is_made x) (made past))
+
 -- a row that an operation makes
 made-row : (catalogue : List JobTree) (past : List Entry) (e : Entry) (m : Made) → makes (length (made past)) m.execution e.call ≡ true
-    → m.create ≡ e.at → execution_row catalogue (e ∷ past) m ≡ fresh_row m.execution m.instance e.at m.job m.parameters
+    → m.create ≡ e.at
+    → execution_row catalogue (e ∷ past) m ≡ fresh_row m.execution m.instance e.at m.job m.parameters (plan_made catalogue past (plan_kept catalogue past) e.call)
 made-row catalogue past e m made_yes at = rw made_yes (rw at refl)
 
 remade-row : (catalogue : List JobTree) (past : List Entry) (x at : ℕ) (parameters : List Pair) (o : Option Made)
     → fresh_row (remade x parameters at o).execution (remade x parameters at o).instance at (remade x parameters at o).job (remade x parameters at o).parameters
-    ≡ again_row x at parameters (option_map (execution_row catalogue past) o)
+    (plan_again catalogue past (plan_kept catalogue past) o)
+    ≡ again_row (folded_rows catalogue past) x at parameters (option_map (execution_row catalogue past) o)
 remade-row catalogue past x at parameters None = refl
-remade-row catalogue past x at parameters (Some m) = refl
+remade-row catalogue past x at parameters (Some m) =
+    let plan : Plan = plan_kept catalogue past m.execution in
+    let from : List ℕ =
+    restart_point (is_some (start_of past m.execution)) (walk_value catalogue (works_of past) m.execution m.job plan) plan.from in
+    ap (λ (instance : ℕ → Option ℕ). fresh_row x m.instance at m.job parameters
+    (plan_by from (filter (λ (work : WorkRow). is_at m.instance (instance work.execution)) (works_of past)) (job_named catalogue m.job)))
+    (sym (fun_ext (instance-in catalogue past)))
 
 remade-create : (x at : ℕ) (parameters : List Pair) (o : Option Made) → (remade x parameters at o).create ≡ at
 remade-create x at parameters None = refl
@@ -328,7 +367,7 @@ executions-step catalogue past who at (Start job parameters) reply =
     map-append (execution_row catalogue (e ∷ past)) (made past) (m ∷ [])
     ∙ (ap (λ xs. xs ++ execution_row catalogue (e ∷ past) m ∷ []) (older-rows catalogue past e (λ x lt. not-made n x.execution lt) refl)
     ∙ (ap (λ y. map (execution_row catalogue past) (made past) ++ y ∷ []) (made-row catalogue past e m (eq-eqb (n + 1) (n + 1) refl) refl)
-    ∙ ap (λ k. map (execution_row catalogue past) (made past) ++ fresh_row (k + 1) (length (instances_of past) + 1) at job parameters ∷ []) (sym (length-map (made past) (execution_row catalogue past)))))
+    ∙ ap (λ k. map (execution_row catalogue past) (made past) ++ fresh_row (k + 1) (length (instances_of past) + 1) at job parameters (first_plan (job_named catalogue job)) ∷ []) (sym (length-map (made past) (execution_row catalogue past)))))
 executions-step catalogue past who at (Restart y parameters) reply =
     let e : Entry = record { who = who; call = Restart y parameters; at = at; reply = reply } in
     let n : ℕ = length (made past) in
@@ -339,8 +378,8 @@ executions-step catalogue past who at (Restart y parameters) reply =
     ∙ (ap (λ xs. xs ++ execution_row catalogue (e ∷ past) m ∷ []) (older-rows catalogue past e (λ x lt. not-made n x.execution lt) refl)
     ∙ (ap (λ r. old ++ r ∷ []) (made-row catalogue past e m (eq-eqb (n + 1) m.execution (sym (remade-number (n + 1) at parameters o))) (remade-create (n + 1) at parameters o))
     ∙ (ap (λ r. old ++ r ∷ []) (remade-row catalogue past (n + 1) at parameters o)
-    ∙ (ap (λ r. old ++ again_row (n + 1) at parameters r ∷ []) (sym (find-map (execution_row catalogue past) (is_execution y) (is_made y) (λ x. refl) (made past)))
-    ∙ ap (λ k. old ++ again_row (k + 1) at parameters (find (is_execution y) old) ∷ []) (sym (length-map (made past) (execution_row catalogue past)))))))
+    ∙ (ap (λ r. old ++ again_row (folded_rows catalogue past) (n + 1) at parameters r ∷ []) (sym (find-map (execution_row catalogue past) (is_execution y) (is_made y) (λ x. refl) (made past)))
+    ∙ ap (λ k. old ++ again_row (folded_rows catalogue past) (k + 1) at parameters (find (is_execution y) old) ∷ []) (sym (length-map (made past) (execution_row catalogue past)))))))
 executions-step catalogue past who at (Stop y) reply =
     refreshed-rows catalogue past (record { who = who; call = Stop y; at = at; reply = reply }) (Some y) refl (λ m. refl)
 executions-step catalogue past who at (Abandon y) reply =
@@ -353,22 +392,15 @@ executions-step catalogue past who at (Checkpoint w mark step) reply =
 executions-step catalogue past who at (Finish w o t step) reply =
     let call : Call = Finish w o t step in
     refreshed-rows catalogue past (record { who = who; call = call; at = at; reply = reply }) (execution_of_operation (works_of past) call reply) refl (λ m. refl)
+executions-step catalogue past who at (Lose w) reply =
+    let call : Call = Lose w in
+    refreshed-rows catalogue past (record { who = who; call = call; at = at; reply = reply }) (execution_of_operation (works_of past) call reply) refl (λ m. refl)
 
 -- the step of a work item in its job instance stands in the rows
 pub place-by-same : (one other : ℕ → Option ℕ) (row : Option WorkRow) → ((x : ℕ) → one x ≡ other x) → instance_step_by one row ≡ instance_step_by other row
 place-by-same one other None same = refl
 place-by-same one other (Some row) same =
     ap (λ (i : Option ℕ). option_map (λ n. record { instance = n; step = row.element }) i) (same row.execution)
-
-option-map-map : {A B C : Type 0} (f : A → B) (g : B → C) (o : Option A) → option_map g (option_map f o) ≡ option_map (λ x. g (f x)) o
-option-map-map f g None = refl
-option-map-map f g (Some x) = refl
-
-instance-in : (catalogue : List JobTree) (past : List Entry) (x : ℕ)
-    → instance_in (map (execution_row catalogue past) (made past)) x ≡ instance_made (made past) x
-instance-in catalogue past x =
-    ap (λ (o : Option ExecutionRow). option_map (λ row. row.instance) o) (find-map (execution_row catalogue past) (is_execution x) (is_made x) (λ m. refl) (made past))
-    ∙ option-map-map (execution_row catalogue past) (λ row. row.instance) (find (is_made x) (made past))
 
 pub place-in : (catalogue : List JobTree) (past : List Entry) (w : ℕ) → place_of past w ≡ place_in (folded_rows catalogue past) w
 place-in catalogue past w =

@@ -1,18 +1,18 @@
 -- A device of proofs: how one operation changes the rows.
-use Rattle.std.specs.Option.{option_map}
 use Rattle.std.specs.Prelude.{ℕ, ◌+◌, ◌||◌, Bool, false, Option, Some, None, List, [], ◌∷◌, ◌++◌, length, find}
 use Rattle.batch_history.proofs.Folds.{instances_after, works_after}
 use Rattle.batch_history.specs.Checkpoints.{InstanceStep, instance_step_by, is_same_step, checkpoint_after}
 use Rattle.batch_history.specs.Lists.{change_first, is_at}
 use Rattle.batch_history.specs.Moments.{first_moment}
 use Rattle.batch_history.specs.Operations.{taken_up, stop_request, abandonment}
-use Rattle.batch_history.specs.Replies.{is_execution}
+use Rattle.batch_history.specs.Replies.{instance_in, is_execution, restart_plan}
+use Rattle.batch_history.specs.Restarts.{first_plan}
 use Rattle.batch_history.specs.Rows.{Rows}
 use Rattle.batch_history.specs.Statuses.{batch_status, exit_status, is_finished}
-use Rattle.batch_history.specs.Walks.{walk_value}
+use Rattle.batch_history.specs.Walks.{job_named, walk_value}
 use Rattle.batch_history.specs.Works.{is_work, execution_of_operation}
 use Rattle.batch_history.specs.declared.call.Call.{Call}
-use Rattle.batch_history.specs.declared.call.Call.TheVariants.{Start, Restart, Stop, Abandon, Claim, Checkpoint, Finish}
+use Rattle.batch_history.specs.declared.call.Call.TheVariants.{Start, Restart, Stop, Abandon, Claim, Checkpoint, Finish, Lose}
 use Rattle.batch_history.specs.declared.call.Entry.{Entry}
 use Rattle.batch_history.specs.declared.call.Reply.{Reply}
 use Rattle.batch_history.specs.declared.rows.ExecutionRow.{ExecutionRow}
@@ -20,16 +20,18 @@ use Rattle.batch_history.specs.declared.rows.WorkRow.{WorkRow}
 use Rattle.batch_ids.specs.Parameters.{Pair}
 use Rattle.batch_ids.specs.declared.status.BatchStatus.TheVariants.{Starting}
 use Rattle.job_walk.specs.declared.facts.Value.{Value}
+use Rattle.job_walk.specs.declared.plan.Plan.{Plan}
 use Rattle.jsl_model.specs.Jobs.{JobTree}
 
 -- the row of a job execution that was just made
-abbrev pub fresh_row : ℕ → ℕ → ℕ → List ℕ → List Pair → ExecutionRow
-fresh_row x instance at job parameters =
+abbrev pub fresh_row : ℕ → ℕ → ℕ → List ℕ → List Pair → Plan → ExecutionRow
+fresh_row x instance at job parameters plan =
     record {
       execution = x;
       instance = instance;
       job = job;
       parameters = parameters;
+      plan = plan;
       stop = false;
       abandoned = false;
       bare = Starting;
@@ -41,9 +43,9 @@ fresh_row x instance at job parameters =
     }
 
 -- the same, made of an earlier one
-abbrev pub again_row : ℕ → ℕ → List Pair → Option ExecutionRow → ExecutionRow
-again_row x at parameters None = fresh_row x 0 at [] parameters
-again_row x at parameters (Some row) = fresh_row x row.instance at row.job parameters
+abbrev pub again_row : Rows → ℕ → ℕ → List Pair → Option ExecutionRow → ExecutionRow
+again_row r x at parameters None = fresh_row x 0 at [] parameters (first_plan None)
+again_row r x at parameters (Some row) = fresh_row x row.instance at row.job parameters (restart_plan r row)
 
 -- the row anew, with this start, these marks and this value of the walk
 abbrev pub renewed : Bool → Bool → Option ℕ → Value → ℕ → ExecutionRow → ExecutionRow
@@ -53,6 +55,7 @@ renewed stop abandoned start value at row =
       instance = row.instance;
       job = row.job;
       parameters = row.parameters;
+      plan = row.plan;
       stop = stop;
       abandoned = abandoned;
       bare = batch_status stop start value;
@@ -80,7 +83,7 @@ refreshed effect value at row =
 -- the same, `works` being the work items after it
 abbrev pub refreshed_by : List JobTree → List WorkRow → ℕ → Call → Reply → ExecutionRow → ExecutionRow
 refreshed_by catalogue works at call reply row =
-    refreshed (effect_on row.execution call reply) (walk_value catalogue works row.execution row.job) at row
+    refreshed (effect_on row.execution call reply) (walk_value catalogue works row.execution row.job row.plan) at row
 
 abbrev pub refreshed_at : List JobTree → List WorkRow → ℕ → Call → Reply → Option ℕ → List ExecutionRow → List ExecutionRow
 refreshed_at catalogue works at call reply None rows = rows
@@ -89,9 +92,9 @@ refreshed_at catalogue works at call reply (Some x) rows = change_first (is_exec
 -- the job executions after an operation, `works` being the work items after it
 abbrev pub executions_after : Rows → List WorkRow → ℕ → Call → Reply → List ExecutionRow
 executions_after r works at (Start job parameters) reply =
-    r.executions ++ fresh_row (length r.executions + 1) (length r.instances + 1) at job parameters ∷ []
+    r.executions ++ fresh_row (length r.executions + 1) (length r.instances + 1) at job parameters (first_plan (job_named r.catalogue job)) ∷ []
 executions_after r works at (Restart y parameters) reply =
-    r.executions ++ again_row (length r.executions + 1) at parameters (find (is_execution y) r.executions) ∷ []
+    r.executions ++ again_row r (length r.executions + 1) at parameters (find (is_execution y) r.executions) ∷ []
 executions_after r works at (Stop y) reply = refreshed_at r.catalogue works at (Stop y) reply (Some y) r.executions
 executions_after r works at (Abandon y) reply = refreshed_at r.catalogue works at (Abandon y) reply (Some y) r.executions
 executions_after r works at Claim reply = refreshed_at r.catalogue works at Claim reply (execution_of_operation r.works Claim reply) r.executions
@@ -99,10 +102,7 @@ executions_after r works at (Checkpoint w mark step) reply =
     refreshed_at r.catalogue works at (Checkpoint w mark step) reply (execution_of_operation r.works (Checkpoint w mark step) reply) r.executions
 executions_after r works at (Finish w outcome exit step) reply =
     refreshed_at r.catalogue works at (Finish w outcome exit step) reply (execution_of_operation r.works (Finish w outcome exit step) reply) r.executions
-
--- the job instance of a job execution, by its row
-abbrev pub instance_in : List ExecutionRow → ℕ → Option ℕ
-instance_in rows x = option_map (λ row. row.instance) (find (is_execution x) rows)
+executions_after r works at (Lose w) reply = refreshed_at r.catalogue works at (Lose w) reply (execution_of_operation r.works (Lose w) reply) r.executions
 
 -- the step of a work item in its job instance, by the rows
 abbrev pub place_in : Rows → ℕ → Option InstanceStep

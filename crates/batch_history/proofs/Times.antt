@@ -1,22 +1,20 @@
--- Stop, abandonment, start, updated, status and end: what is found by search is what the rows have.
+-- Stop, abandonment, start and updated: what is found by search is what the rows have.
 use Rattle.std.proofs.Common.{◌≡◌, ℕ, ◌+◌, ◌||◌, ◌<◌, ◌≤◌, Bool, true, false, cond, Option, None, Some, is_some, List, [], ◌∷◌, length, find, refl, sym, ◌∙◌, ap, arith}
 use mathlib.Core.Bool.{or_comm}
 use Rattle.std.specs.List.{list_any}
 use Rattle.std.proofs.lemmas.Bool.{eqb-true, ne_eqb, or_from}
-use Rattle.jsl_model.specs.Jobs.{JobTree}
 use Rattle.batch_history.specs.declared.call.Call.{Call}
-use Rattle.batch_history.specs.declared.call.Call.TheVariants.{Start, Restart, Stop, Abandon, Claim, Checkpoint, Finish}
+use Rattle.batch_history.specs.declared.call.Call.TheVariants.{Start, Restart, Stop, Abandon, Claim, Checkpoint, Finish, Lose}
 use Rattle.batch_history.specs.declared.call.Reply.{Reply}
 use Rattle.batch_history.specs.declared.call.Reply.TheVariants.{Execution as IsExecution, Work, Closed, Nothing, Done, Go, StopAsked}
 use Rattle.batch_history.specs.declared.call.Entry.{Entry}
 use Rattle.batch_history.specs.declared.rows.WorkRow.{WorkRow}
-use Rattle.batch_history.proofs.Folds.{made, is_made, works_of, start_of, stop_of, abandoned_of, updated_of, end_of, value_after, bare_of, was_named}
-use Rattle.batch_history.specs.Executions.{Made, Origin, job_execution_count, makes_job_execution, made_as, origin_by_call, origin_of, job_instance_count}
+use Rattle.batch_history.proofs.Folds.{made, is_made, works_of, start_of, stop_of, abandoned_of, updated_of, was_named}
+use Rattle.batch_history.specs.Executions.{job_execution_count, makes_job_execution}
 use Rattle.batch_history.specs.Lists.{is_at}
-use Rattle.batch_history.specs.Moments.{first_moment, start_moment, status_unless_abandoned, end_moment, updated_moment}
+use Rattle.batch_history.specs.Moments.{first_moment, start_moment, updated_moment}
 use Rattle.batch_history.specs.Operations.{taken_up, taken_up_by, stop_request, abandonment, makes_execution}
-use Rattle.batch_history.specs.Statuses.{batch_status, is_finished, stop_requested, is_abandoned}
-use Rattle.batch_history.specs.Walks.{walk_of, job_named, walk_of_execution, job_of_origin, element_facts}
+use Rattle.batch_history.specs.Statuses.{stop_requested, is_abandoned}
 use Rattle.batch_history.specs.Works.{execution_of_operation, work_items}
 use Rattle.batch_history.proofs.Adding.{counted}
 use Rattle.batch_history.proofs.Pasts.{Fits, FitsClaim, AllFit}
@@ -33,12 +31,13 @@ more-made older who at (Abandon y) reply = omega arith
 more-made older who at Claim reply = omega arith
 more-made older who at (Checkpoint w mark step) reply = omega arith
 more-made older who at (Finish w o t step) reply = omega arith
+more-made older who at (Lose w) reply = omega arith
 
-fewer-before : (older : List Entry) (e : Entry) (x : ℕ) → job_execution_count (e ∷ older) < x → job_execution_count older < x
+pub fewer-before : (older : List Entry) (e : Entry) (x : ℕ) → job_execution_count (e ∷ older) < x → job_execution_count older < x
 fewer-before older e x lt = let le : job_execution_count older ≤ job_execution_count (e ∷ older) = more-made older e.who e.at e.call e.reply in omega (arith, le, lt)
 
 -- whom an entry makes was not made before it
-making-after : (older : List Entry) (x : ℕ) (call : Call) → makes_job_execution older x call ≡ true → job_execution_count older < x
+pub making-after : (older : List Entry) (x : ℕ) (call : Call) → makes_job_execution older x call ≡ true → job_execution_count older < x
 making-after older x (Start job parameters) is = omega (arith, eqb-true (job_execution_count older + 1) x is)
 making-after older x (Restart y parameters) is = omega (arith, eqb-true (job_execution_count older + 1) x is)
 making-after older x (Stop y) is = cc
@@ -46,12 +45,13 @@ making-after older x (Abandon y) is = cc
 making-after older x Claim is = cc
 making-after older x (Checkpoint w mark step) is = cc
 making-after older x (Finish w o t step) is = cc
+making-after older x (Lose w) is = cc
 
 named-none : (older : List Entry) (x y : ℕ) → is_some (find (is_made y) (made older)) ≡ true → job_execution_count older < x → is_at x (Some y) ≡ false
 named-none older x y some lt = let le : y ≤ job_execution_count older = made-within older y some in ne_eqb y x (λ e. omega (arith, le, lt, e))
 
 -- nobody is asked to stop who was not made
-asked-none : (older : List Entry) (call : Call) (reply : Reply) (x : ℕ) → Fits older call reply → job_execution_count older < x → is_at x (stop_request call) ≡ false
+pub asked-none : (older : List Entry) (call : Call) (reply : Reply) (x : ℕ) → Fits older call reply → job_execution_count older < x → is_at x (stop_request call) ≡ false
 asked-none older (Stop y) reply x fits lt = named-none older x y fits.1 lt
 asked-none older (Start job parameters) reply x fits lt = refl
 asked-none older (Restart y parameters) reply x fits lt = refl
@@ -59,6 +59,7 @@ asked-none older (Abandon y) reply x fits lt = refl
 asked-none older Claim reply x fits lt = refl
 asked-none older (Checkpoint w mark step) reply x fits lt = refl
 asked-none older (Finish w o t step) reply x fits lt = refl
+asked-none older (Lose w) reply x fits lt = refl
 
 -- nobody is given up who was not made
 given-none : (older : List Entry) (call : Call) (reply : Reply) (x : ℕ) → Fits older call reply → job_execution_count older < x → is_at x (abandonment call) ≡ false
@@ -69,6 +70,7 @@ given-none older (Stop y) reply x fits lt = refl
 given-none older Claim reply x fits lt = refl
 given-none older (Checkpoint w mark step) reply x fits lt = refl
 given-none older (Finish w o t step) reply x fits lt = refl
+given-none older (Lose w) reply x fits lt = refl
 
 claim-takes-none : (works executions x : ℕ) (reply : Reply) → FitsClaim works executions reply → executions < x → is_at x (taken_up_by reply) ≡ false
 claim-takes-none works executions x (Work item) fits lt = ne_eqb item.execution x (λ e. omega (arith, fits.1, e, lt))
@@ -89,6 +91,7 @@ takes-none older Claim reply x fits lt =
     claim-takes-none (length (works_of older)) (length (made older)) x reply fits (omega (arith, executions-made older, lt))
 takes-none older (Checkpoint w mark step) reply x fits lt = ap (is_at x) fits.0
 takes-none older (Finish w o t step) reply x fits lt = ap (is_at x) fits.0
+takes-none older (Lose w) reply x fits lt = ap (is_at x) fits.0
 
 -- Stop and abandonment
 
@@ -96,7 +99,7 @@ takes-none older (Finish w o t step) reply x fits lt = ap (is_at x) fits.0
 abbrev NamesMade : (Call → Option ℕ) → Type 0
 NamesMade names = (older : List Entry) (call : Call) (reply : Reply) (x : ℕ) → Fits older call reply → job_execution_count older < x → is_at x (names call) ≡ false
 
-none-named : (names : Call → Option ℕ) → NamesMade names → (past : List Entry) → AllFit past → (x : ℕ) → job_execution_count past < x
+pub none-named : (names : Call → Option ℕ) → NamesMade names → (past : List Entry) → AllFit past → (x : ℕ) → job_execution_count past < x
     → list_any (λ (e : Entry). is_at x (names e.call)) past ≡ false
 none-named names made [] fits x lt = refl
 none-named names made (e ∷ older) fits x lt =
@@ -144,9 +147,10 @@ takes-law older (Abandon y) reply x fits = ap (is_at x) fits.0
 takes-law older Claim reply x fits = refl
 takes-law older (Checkpoint w mark step) reply x fits = ap (is_at x) fits.0
 takes-law older (Finish w o t step) reply x fits = ap (is_at x) fits.0
+takes-law older (Lose w) reply x fits = ap (is_at x) fits.0
 
 -- who is not made has no start
-start-none : (past : List Entry) → AllFit past → (x : ℕ) → job_execution_count past < x → start_moment past x ≡ None
+pub start-none : (past : List Entry) → AllFit past → (x : ℕ) → job_execution_count past < x → start_moment past x ≡ None
 start-none [] fits x lt = refl
 start-none (e ∷ older) fits x lt =
     let before : job_execution_count older < x = fewer-before older e x lt in
@@ -154,7 +158,7 @@ start-none (e ∷ older) fits x lt =
     ∙ ap (λ b. first_moment None b e.at) (takes-none older e.call e.reply x fits.0 before)
 
 -- who is just made has no start
-start-made : (older : List Entry) (e : Entry) (x : ℕ) → AllFit (e ∷ older) → makes_job_execution older x e.call ≡ true → start_moment (e ∷ older) x ≡ None
+pub start-made : (older : List Entry) (e : Entry) (x : ℕ) → AllFit (e ∷ older) → makes_job_execution older x e.call ≡ true → start_moment (e ∷ older) x ≡ None
 start-made older e x fits is =
     let lt : job_execution_count older < x = making-after older x e.call is in
     ap (λ o. first_moment o (is_at x (taken_up_by e.reply)) e.at) (start-none older fits.1 x lt)
@@ -188,63 +192,3 @@ updated-law (e ∷ older) fits x =
     ∙ (ap (λ works. cond (makes_job_execution older x e.call) e.at (cond (on works) e.at (updated_moment older x))) (works-law older fits.1)
     ∙ (ap (λ n. cond (makes_job_execution older x e.call) e.at (cond (on (works_of older)) e.at n)) (updated-law older fits.1 x)
     ∙ ap (λ b. cond b e.at (cond (on (works_of older)) e.at (updated_of older x))) (sym (making older x e.call))))
-
--- Walk and status
-
--- the walk is the one that the rows have
-pub walk-law : (catalogue : List JobTree) (past : List Entry) (x : ℕ) (o : Origin) → AllFit past → origin_of past x ≡ Some o
-    → walk_of_execution catalogue past x ≡ value_after catalogue past (made_as x o)
-walk-law catalogue past x o fits is =
-    ap (λ (f : Option Origin). walk_of (element_facts x (work_items past)) (job_of_origin catalogue f)) is
-    ∙ ap (λ (rows : List WorkRow). walk_of (element_facts x rows) (job_named catalogue o.job)) (works-law past fits)
-
--- the status is the one that the rows have
-bare-law : (catalogue : List JobTree) (past : List Entry) (x : ℕ) (o : Origin) → AllFit past → origin_of past x ≡ Some o
-    → status_unless_abandoned catalogue past x ≡ bare_of catalogue past (made_as x o)
-bare-law catalogue past x o fits is =
-    ap (λ b. batch_status b (start_moment past x) (walk_of_execution catalogue past x)) (stop-law past fits x)
-    ∙ (ap (λ s. batch_status (stop_of past x) s (walk_of_execution catalogue past x)) (start-law past fits x)
-    ∙ ap (batch_status (stop_of past x) (start_of past x)) (walk-law catalogue past x o fits is))
-
--- End
-
--- who has no start and was not asked to stop isn't finished
-unfinished : (catalogue : List JobTree) (past : List Entry) (x : ℕ) → stop_requested past x ≡ false → start_moment past x ≡ None
-    → is_finished (status_unless_abandoned catalogue past x) ≡ false
-unfinished catalogue past x off none =
-    ap (λ b. is_finished (batch_status b (start_moment past x) (walk_of_execution catalogue past x))) off
-    ∙ ap (λ s. is_finished (batch_status false s (walk_of_execution catalogue past x))) none
-
-end-none : (catalogue : List JobTree) (past : List Entry) → AllFit past → (x : ℕ) → job_execution_count past < x → end_moment catalogue past x ≡ None
-end-none catalogue [] fits x lt = refl
-end-none catalogue (e ∷ older) fits x lt =
-    ap (λ o. first_moment o (is_finished (status_unless_abandoned catalogue (e ∷ older) x)) e.at) (end-none catalogue older fits.1 x (fewer-before older e x lt))
-    ∙ ap (λ b. first_moment None b e.at)
-    (unfinished catalogue (e ∷ older) x (none-named stop_request asked-none (e ∷ older) fits x lt) (start-none (e ∷ older) fits x lt))
-
--- who is just made was not asked to stop
-stop-made : (older : List Entry) (e : Entry) (x : ℕ) → AllFit (e ∷ older) → makes_job_execution older x e.call ≡ true → stop_requested (e ∷ older) x ≡ false
-stop-made older e x fits is =
-    let lt : job_execution_count older < x = making-after older x e.call is in
-    or_from (is_at x (stop_request e.call)) _ (asked-none older e.call e.reply x fits.0 lt) (none-named stop_request asked-none older fits.1 x lt)
-
--- where it comes from was known before an entry that does not make it
-origin-before : (older : List Entry) (e : Entry) (x : ℕ) (o : Origin) → makes_job_execution older x e.call ≡ false → origin_of (e ∷ older) x ≡ Some o → origin_of older x ≡ Some o
-origin-before older e x o is from =
-    sym (ap (λ b. cond b (origin_by_call (job_instance_count older) e.at (origin_of older) e.call) (origin_of older x)) is) ∙ from
-
--- end is the one that the rows have
-pub end-law : (catalogue : List JobTree) (past : List Entry) (x : ℕ) (o : Origin) → AllFit past → origin_of past x ≡ Some o
-    → end_moment catalogue past x ≡ end_of catalogue past (made_as x o)
-end-law catalogue [] x o fits from = refl
-end-law catalogue (e ∷ older) x o fits from =
-    let m : Made = made_as x o in
-    let done : Bool = is_finished (bare_of catalogue (e ∷ older) m) in
-    (elim (makes_job_execution older x e.call) as (λ b. makes_job_execution older x e.call ≡ b
-    → first_moment (end_moment catalogue older x) (is_finished (status_unless_abandoned catalogue (e ∷ older) x)) e.at ≡ cond b None (first_moment (end_of catalogue older m) done e.at)) [
-      | true ↦ λ is. ap (λ t. first_moment t (is_finished (status_unless_abandoned catalogue (e ∷ older) x)) e.at) (end-none catalogue older fits.1 x (making-after older x e.call is))
-          ∙ ap (λ b. first_moment None b e.at) (unfinished catalogue (e ∷ older) x (stop-made older e x fits is) (start-made older e x fits is))
-      | false ↦ λ is. ap (λ t. first_moment t (is_finished (status_unless_abandoned catalogue (e ∷ older) x)) e.at) (end-law catalogue older x o fits.1 (origin-before older e x o is from))
-          ∙ ap (λ s. first_moment (end_of catalogue older m) (is_finished s) e.at) (bare-law catalogue (e ∷ older) x o fits from)
-    ]) refl
-    ∙ ap (λ b. cond b None (first_moment (end_of catalogue older m) done e.at)) (sym (making older x e.call))

@@ -4,7 +4,7 @@ use Rattle.batch_history.specs.Executions.{makes_job_execution}
 use Rattle.batch_history.specs.Lists.{is_at}
 use Rattle.batch_history.specs.Operations.{taken_up_by}
 use Rattle.batch_history.specs.Statuses.{stop_requested, batch_status, is_finished}
-use Rattle.batch_history.specs.Walks.{walk_of_execution}
+use Rattle.batch_history.specs.Restarts.{walk_of_execution}
 use Rattle.batch_history.specs.Works.{work_items, execution_of_operation}
 use Rattle.batch_history.specs.declared.call.Entry.{Entry}
 use Rattle.batch_ids.specs.declared.status.BatchStatus.{BatchStatus}

@@ -3,9 +3,11 @@
 use Rattle.std.specs.Prelude.{ℕ, ◌==◌, Bool, true, false, List, Option, Some, None, is_some, if◌then◌else◌}
 use Rattle.batch_ids.specs.Parameters.{Pair}
 use Rattle.batch_ids.specs.declared.metric_step.MetricStep.{MetricStep}
+use Rattle.batch_ids.specs.Metrics.{zero_step}
 use Rattle.batch_ids.specs.declared.status.WorkOutcome.{WorkOutcome}
+use Rattle.batch_ids.specs.declared.status.WorkOutcome.TheVariants.{Failed}
 use Rattle.batch_history.specs.declared.call.Call.{Call}
-use Rattle.batch_history.specs.declared.call.Call.TheVariants.{Start, Restart, Stop, Abandon, Claim, Checkpoint, Finish}
+use Rattle.batch_history.specs.declared.call.Call.TheVariants.{Start, Restart, Stop, Abandon, Claim, Checkpoint, Finish, Lose}
 use Rattle.batch_history.specs.declared.call.WorkItem.{WorkItem}
 use Rattle.batch_history.specs.declared.call.Reply.{Reply}
 use Rattle.batch_history.specs.declared.call.Reply.TheVariants.{Execution, Work, Closed, Nothing, Done, Go, StopAsked}
@@ -52,6 +54,8 @@ effects (Checkpoint w mark step) =
     record no_effects { reports = Some record { work = w; counts = step; mark = Some mark; end = None } }
 effects (Finish w outcome exit step) =
     record no_effects { reports = Some record { work = w; counts = step; mark = None; end = Some record { outcome = outcome; exit = exit } } }
+effects (Lose w) =
+    record no_effects { reports = Some record { work = w; counts = zero_step; mark = None; end = Some record { outcome = Failed; exit = None } } }
 
 -- what a claim does by its reply: the job execution that it takes up (that of the work item, or the closed one), and the
 -- work item that it hands out

@@ -1,12 +1,15 @@
 -- What calls are answered after a history.
 use Rattle.std.specs.List.{list_any}
-use Rattle.std.specs.Prelude.{Bool, true, false, ℕ, ◌+◌, ◌==◌, ◌&&◌, nat_lt, Option, Some, None, is_some, Result, Ok, Err, List, [], ◌∷◌, length, find, if◌then◌else◌}
+use Rattle.std.specs.Option.{option_map}
+use Rattle.std.specs.Prelude.{Bool, true, false, ℕ, ◌+◌, ◌==◌, ◌&&◌, nat_lt, Option, Some, None, is_some, Result, Ok, Err, List, [], ◌∷◌, length, find, filter, if◌then◌else◌}
 use Rattle.batch_history.specs.Rows.{History, Rows, rows}
+use Rattle.batch_history.specs.Lists.{is_at}
+use Rattle.batch_history.specs.Restarts.{plan_by, restart_point}
 use Rattle.batch_history.specs.Statuses.{is_finished}
 use Rattle.batch_history.specs.Walks.{job_named, walk_value}
 use Rattle.batch_history.specs.Works.{is_work}
 use Rattle.batch_history.specs.declared.call.Call.{Call}
-use Rattle.batch_history.specs.declared.call.Call.TheVariants.{Start, Restart, Stop, Abandon, Claim, Checkpoint, Finish}
+use Rattle.batch_history.specs.declared.call.Call.TheVariants.{Start, Restart, Stop, Abandon, Claim, Checkpoint, Finish, Lose}
 use Rattle.batch_history.specs.declared.call.Reply.{Reply}
 use Rattle.batch_history.specs.declared.call.Reply.TheVariants.{Execution, Work, Closed, Nothing, Done, Go, StopAsked, Execution as IsExecution}
 use Rattle.batch_history.specs.declared.call.WorkItem.{WorkItem}
@@ -20,7 +23,7 @@ use Rattle.batch_history.specs.declared.rows.WorkState.{WorkState}
 use Rattle.batch_history.specs.declared.rows.WorkState.TheVariants.{Busy, Over}
 use Rattle.batch_ids.specs.Statuses.{is_unfinished}
 use Rattle.batch_ids.specs.declared.refusal.Refusal.{Refusal}
-use Rattle.batch_ids.specs.declared.refusal.Refusal.TheVariants.{JobStartException, NoSuchJobExecutionException, JobExecutionNotRunningException, JobExecutionIsRunningException, NoSuchWork, WorkNotRunning, NotClaimer, NotStopping, WrongOutcome, RepositoryFull}
+use Rattle.batch_ids.specs.declared.refusal.Refusal.TheVariants.{JobStartException, NoSuchJobExecutionException, JobExecutionNotRunningException, JobExecutionIsRunningException, JobExecutionAlreadyCompleteException, JobExecutionNotMostRecentException, JobRestartException, NoSuchWork, WorkNotRunning, NotClaimer, NotStopping, WrongOutcome, RepositoryFull}
 use Rattle.batch_ids.specs.declared.status.BatchStatus.{BatchStatus}
 use Rattle.batch_ids.specs.declared.status.BatchStatus.TheVariants.{Starting, Started, Stopping, Stopped as IsStopped, Failed as IsFailed, Completed as IsCompleted, Abandoned}
 use Rattle.batch_ids.specs.declared.status.WorkOutcome.{WorkOutcome}
@@ -28,6 +31,7 @@ use Rattle.batch_ids.specs.declared.status.WorkOutcome.TheVariants.{Completed, F
 use Rattle.job_walk.specs.Runnables.{all_leaves, runnable_in}
 use Rattle.job_walk.specs.declared.facts.Value.{Value}
 use Rattle.job_walk.specs.declared.facts.Value.TheVariants.{Open, Done as IsDone, Ended}
+use Rattle.job_walk.specs.declared.plan.Plan.{Plan}
 use Rattle.job_walk.specs.declared.runnable.Runnable.{Runnable}
 use Rattle.job_walk.specs.declared.runnable.Runnable.TheVariants.{Step as RunsStep, Decision as RunsDecision}
 use Rattle.jsl_model.specs.Jobs.{JobTree}
@@ -57,7 +61,7 @@ abbrev pub row_status : ExecutionRow → BatchStatus
 row_status row = if row.abandoned then Abandoned else row.bare
 
 abbrev pub walk_in_rows : Rows → ExecutionRow → Value
-walk_in_rows r row = walk_value r.catalogue r.works row.execution row.job
+walk_in_rows r row = walk_value r.catalogue r.works row.execution row.job row.plan
 
 -- whether there is something to do, by status and walk: it is STARTING, or STARTED with a ready element
 abbrev pub has_something_by : BatchStatus → Value → Bool
@@ -75,6 +79,11 @@ has_something r row = has_something_by (row_status row) (walk_in_rows r row)
 -- a reply that is entered, or the refusal where the history is full
 abbrev pub accepted : ℕ → ℕ → Reply → Result Reply Refusal
 accepted limit count reply = if nat_lt count limit then Ok reply else Err RepositoryFull
+
+-- the refusal, or else the reply
+abbrev pub unless : Option Refusal → Result Reply Refusal → Result Reply Refusal
+unless None reply = reply
+unless (Some refusal) reply = Err refusal
 
 -- what a worker is to run, a chunk from this checkpoint on
 abbrev pub work_task : Option (List ℕ) → Option Runnable → WorkTask
@@ -107,6 +116,53 @@ abbrev pub reply_to_claim : ℕ → Rows → Option ExecutionRow → Result Repl
 reply_to_claim limit r None = Ok Nothing
 reply_to_claim limit r (Some row) = accepted limit r.count (claim_reply r row (first_ready (walk_in_rows r row)))
 
+-- ---- Restarts (Jakarta Batch 2.1, "JobOperator", restart)
+
+-- whether a job execution is a later one of the job instance of another
+abbrev pub is_later_than : ExecutionRow → ExecutionRow → Bool
+is_later_than row other = other.instance == row.instance && nat_lt row.execution other.execution
+
+-- whether a job may be restarted
+abbrev pub is_restartable : Option JobTree → Bool
+is_restartable None = false
+is_restartable (Some job) = job.restartable
+
+-- why a job execution of this status may not be restarted: a COMPLETED one is at its end, and only a STOPPED or FAILED one
+-- of a restartable job goes on
+abbrev pub refusal_by_status : Bool → BatchStatus → Option Refusal
+refusal_by_status restartable IsCompleted = Some JobExecutionAlreadyCompleteException
+refusal_by_status restartable IsStopped = if restartable then None else Some JobRestartException
+refusal_by_status restartable IsFailed = if restartable then None else Some JobRestartException
+refusal_by_status restartable Starting = Some JobRestartException
+refusal_by_status restartable Started = Some JobRestartException
+refusal_by_status restartable Stopping = Some JobRestartException
+refusal_by_status restartable Abandoned = Some JobRestartException
+
+-- why a job execution may not be restarted: it must be the most recent of its job instance
+abbrev pub restart_refusal : Rows → ExecutionRow → Option Refusal
+restart_refusal r row =
+    if list_any (is_later_than row) r.executions then Some JobExecutionNotMostRecentException
+    else refusal_by_status (is_restartable (job_named r.catalogue row.job)) (row_status row)
+
+-- the job instance of a job execution, by its row
+abbrev pub instance_in : List ExecutionRow → ℕ → Option ℕ
+instance_in rows x = option_map (λ row. row.instance) (find (is_execution x) rows)
+
+-- the work items of a job instance
+abbrev pub works_of_instance : Rows → ℕ → List WorkRow
+works_of_instance r i = filter (λ work. is_at i (instance_in r.executions work.execution)) r.works
+
+-- the plan of the restart of a job execution: all job executions of its job instance are earlier than the next one
+abbrev pub restart_plan : Rows → ExecutionRow → Plan
+restart_plan r row =
+    plan_by (restart_point (is_some row.start) (walk_in_rows r row) row.plan.from) (works_of_instance r row.instance)
+    (job_named r.catalogue row.job)
+
+-- the reply to a restart
+abbrev pub reply_to_restart : ℕ → Rows → Option ExecutionRow → Result Reply Refusal
+reply_to_restart limit r None = Err NoSuchJobExecutionException
+reply_to_restart limit r (Some row) = unless (restart_refusal r row) (accepted limit r.count (IsExecution (length r.executions + 1)))
+
 -- a stop is accepted while the job execution is unfinished
 abbrev pub reply_to_stop : ℕ → ℕ → Option ExecutionRow → Result Reply Refusal
 reply_to_stop limit count None = Err NoSuchJobExecutionException
@@ -135,11 +191,6 @@ stop_requested_of r x = is_stop_requested (find (is_execution x) r.executions)
 abbrev pub report_refusal : ℕ → ℕ → WorkState → Option Refusal
 report_refusal who claimer (Over outcome exit) = Some WorkNotRunning
 report_refusal who claimer Busy = if claimer == who then None else Some NotClaimer
-
--- the refusal, or else the reply
-abbrev pub unless : Option Refusal → Result Reply Refusal → Result Reply Refusal
-unless None reply = reply
-unless (Some refusal) reply = Err refusal
 
 -- a checkpoint of a chunk is kept, and its worker is told whether a stop was asked for
 abbrev pub go_or_stop : Bool → Reply
@@ -178,19 +229,27 @@ reply_to_finish limit r who outcome None = Err NoSuchWork
 reply_to_finish limit r who outcome (Some row) =
     unless (report_refusal who row.claimer row.state) (reply_to_end limit r.count (stop_requested_of r row.execution) row.kind outcome)
 
+-- whoever says so, a busy work item is lost
+abbrev pub loss_refusal : WorkState → Option Refusal
+loss_refusal Busy = None
+loss_refusal (Over outcome exit) = Some WorkNotRunning
+
+abbrev pub reply_to_loss : ℕ → ℕ → Option WorkRow → Result Reply Refusal
+reply_to_loss limit count None = Err NoSuchWork
+reply_to_loss limit count (Some row) = unless (loss_refusal row.state) (accepted limit count Done)
+
 -- what a call is answered by these rows
 abbrev pub reply_by : ℕ → Rows → ℕ → Call → Result Reply Refusal
 reply_by limit r who (Start job parameters) =
     if is_some (job_named r.catalogue job) then accepted limit r.count (IsExecution (length r.executions + 1)) else Err JobStartException
 reply_by limit r who (Restart x parameters) =
-    if is_some (find (is_execution x) r.executions)
-    then accepted limit r.count (IsExecution (length r.executions + 1))
-    else Err NoSuchJobExecutionException
+    reply_to_restart limit r (find (is_execution x) r.executions)
 reply_by limit r who (Stop x) = reply_to_stop limit r.count (find (is_execution x) r.executions)
 reply_by limit r who (Abandon x) = reply_to_abandon limit r (find (is_execution x) r.executions)
 reply_by limit r who Claim = reply_to_claim limit r (find (has_something r) r.executions)
 reply_by limit r who (Checkpoint w mark step) = reply_to_checkpoint limit r who (find (is_work w) r.works)
 reply_by limit r who (Finish w outcome exit step) = reply_to_finish limit r who outcome (find (is_work w) r.works)
+reply_by limit r who (Lose w) = reply_to_loss limit r.count (find (is_work w) r.works)
 
 -- THE REPLY: what a call is answered after a history
 abbrev pub reply : ℕ → History → ℕ → Call → Result Reply Refusal

@@ -5,13 +5,14 @@ use Rattle.batch_history.specs.Checkpoints.{InstanceStep, checkpoint_of}
 use Rattle.batch_history.specs.Executions.{job_instances, job_execution_count, Origin, origin_of, Made, made_as}
 use Rattle.batch_history.specs.Moments.{start_moment, end_moment, updated_moment}
 use Rattle.batch_history.specs.Statuses.{stop_requested, is_abandoned, batch_status, exit_status}
-use Rattle.batch_history.specs.Walks.{walk_of_execution}
+use Rattle.batch_history.specs.Restarts.{plan_of, walk_of_execution}
 use Rattle.batch_history.specs.Works.{work_items}
 use Rattle.batch_history.specs.declared.call.Entry.{Entry}
 use Rattle.batch_history.specs.declared.rows.ExecutionRow.{ExecutionRow}
 use Rattle.batch_history.specs.declared.rows.JobInstance.{JobInstance}
 use Rattle.batch_history.specs.declared.rows.WorkRow.{WorkRow}
 use Rattle.job_walk.specs.declared.facts.Value.{Value}
+use Rattle.job_walk.specs.declared.plan.Plan.{Plan}
 use Rattle.jsl_model.specs.Jobs.{JobTree}
 
 -- a history: a catalogue, and the operations that were accepted over it, in the order of their acceptance
@@ -29,14 +30,15 @@ pub record Rows : Type 0 where
   pub works : List WorkRow
   pub checkpoint : InstanceStep → Option (List ℕ)
 
--- the row of a job execution, with what is kept of its stop, abandonment and moments, and the value of its walk
-abbrev pub execution_row_with : Made → Bool → Bool → Option ℕ → Value → Option ℕ → ℕ → ExecutionRow
-execution_row_with m stop abandoned start value end updated =
+-- the row of a job execution, with its plan, what is kept of its stop, abandonment and moments, and the value of its walk
+abbrev pub execution_row_with : Made → Plan → Bool → Bool → Option ℕ → Value → Option ℕ → ℕ → ExecutionRow
+execution_row_with m plan stop abandoned start value end updated =
     record {
       execution = m.execution;
       instance = m.instance;
       job = m.job;
       parameters = m.parameters;
+      plan = plan;
       stop = stop;
       abandoned = abandoned;
       bare = batch_status stop start value;
@@ -50,8 +52,8 @@ execution_row_with m stop abandoned start value end updated =
 -- the row of job execution x, by where it comes from
 abbrev pub row_of_origin : List JobTree → List Entry → ℕ → Origin → ExecutionRow
 row_of_origin catalogue past x o =
-    execution_row_with (made_as x o) (stop_requested past x) (is_abandoned past x) (start_moment past x) (walk_of_execution catalogue past x)
-    (end_moment catalogue past x) (updated_moment past x)
+    execution_row_with (made_as x o) (plan_of catalogue past x) (stop_requested past x) (is_abandoned past x) (start_moment past x)
+    (walk_of_execution catalogue past x) (end_moment catalogue past x) (updated_moment past x)
 
 -- the row of job execution x, if there is one
 abbrev pub job_execution : List JobTree → List Entry → ℕ → Option ExecutionRow

@@ -1,18 +1,21 @@
--- What is known of the elements of a job execution, and what its walk comes to (Jakarta Batch 2.1, "Job Specification
--- Language").
-use Rattle.std.specs.Prelude.{ℕ, ◌==◌, ◌&&◌, Bool, Option, Some, None, List, [], ◌∷◌, find}
-use Rattle.batch_history.specs.Executions.{Origin, origin_of}
-use Rattle.batch_history.specs.Works.{work_items}
-use Rattle.batch_history.specs.declared.call.Entry.{Entry}
+-- What is known of the steps and decisions of a job execution, and what its walk comes to (Jakarta Batch 2.1, "Job
+-- Specification Language").
+use Rattle.std.specs.Option.{option_map}
+use Rattle.std.specs.Prelude.{ℕ, ◌==◌, ◌&&◌, Bool, true, false, Option, Some, None, List, [], ◌∷◌, find}
 use Rattle.batch_history.specs.declared.rows.WorkRow.{WorkRow}
 use Rattle.batch_history.specs.declared.rows.WorkState.{WorkState}
 use Rattle.batch_history.specs.declared.rows.WorkState.TheVariants.{Busy, Over}
 use Rattle.std.specs.Str.{bytes_eq}
+use Rattle.job_walk.specs.Runnables.{Leaf, all_leaves, runnable_in}
 use Rattle.job_walk.specs.Walk.{value_of}
 use Rattle.job_walk.specs.declared.facts.Fact.{Fact}
-use Rattle.job_walk.specs.declared.facts.Fact.TheVariants.{Nothing as FactNothing, Busy as FactBusy, Over as FactOver}
+use Rattle.job_walk.specs.declared.facts.Fact.TheVariants.{Nothing as FactNothing, Busy as FactBusy, Over as FactOver, Carried as FactCarried, Barred as FactBarred}
 use Rattle.job_walk.specs.declared.facts.Value.{Value}
 use Rattle.job_walk.specs.declared.facts.Value.TheVariants.{Done as IsDone}
+use Rattle.job_walk.specs.declared.plan.Plan.{Plan}
+use Rattle.job_walk.specs.declared.runnable.Runnable.{Runnable}
+use Rattle.job_walk.specs.declared.runnable.Runnable.TheVariants.{Step as RunsStep, Decision as RunsDecision}
+use Rattle.jsl_model.specs.Names.{is_among}
 use Rattle.jsl_model.specs.Jobs.{JobTree}
 use Rattle.jsl_model.specs.declared.element.Element.{Element}
 
@@ -30,33 +33,57 @@ abbrev pub fact_by_work : Option WorkRow → Fact
 fact_by_work None = FactNothing
 fact_by_work (Some row) = fact_of_state row.state
 
--- what is known of each element of job execution x
+-- what is known of each element of job execution x by its work items
 abbrev pub element_facts : ℕ → List WorkRow → List ℕ → Fact
 element_facts x works id = fact_by_work (find (is_work_of x id) works)
+
+-- a step without a work item may have reached its start limit
+abbrev pub unless_barred : Fact → Bool → Fact
+unless_barred FactNothing true = FactBarred
+unless_barred FactNothing false = FactNothing
+unless_barred FactBusy barred = FactBusy
+unless_barred (FactOver outcome exit) barred = FactOver outcome exit
+unless_barred (FactCarried exit) barred = FactCarried exit
+unless_barred FactBarred barred = FactBarred
+
+-- a step: that it is carried counts before its work item, and its work item before its start limit
+abbrev pub step_fact : Option (List ℕ) → Fact → Bool → Fact
+step_fact (Some exit) worked barred = FactCarried exit
+step_fact None worked barred = unless_barred worked barred
+
+-- the exit status with which a step is carried, if it is
+abbrev pub carried_exit : List (List ℕ × List ℕ) → List ℕ → Option (List ℕ)
+carried_exit carried id = option_map (λ (step : List ℕ × List ℕ). step.1) (find (λ (step : List ℕ × List ℕ). bytes_eq step.0 id) carried)
+
+-- what is known of what is run under an id, by the plan and by its work item; a decision is taken anew in each job execution
+abbrev pub runnable_fact : Plan → List ℕ → Fact → Option Runnable → Fact
+runnable_fact plan id worked (Some (RunsStep task)) = step_fact (carried_exit plan.carried id) worked (is_among plan.barred id)
+runnable_fact plan id worked (Some (RunsDecision artifact)) = worked
+runnable_fact plan id worked None = FactNothing
+
+-- what is known of each step and decision of a job
+abbrev pub planned_facts : Plan → List Leaf → (List ℕ → Fact) → List ℕ → Fact
+planned_facts plan leaves worked id = runnable_fact plan id (worked id) (runnable_in leaves id)
 
 -- the id of the first element of a list
 abbrev pub first_element : List Element → List ℕ
 first_element [] = []
 first_element (e ∷ rest) = e.id
 
+-- the id of a job's first element
+abbrev pub first_of_job : Option JobTree → List ℕ
+first_of_job None = []
+first_of_job (Some job) = first_element job.elements
+
 -- the job of this id in the catalogue
 abbrev pub job_named : List JobTree → List ℕ → Option JobTree
 job_named catalogue name = find (λ job. bytes_eq job.id name) catalogue
 
--- a walk begins at the job's first element
-abbrev pub walk_of : (List ℕ → Fact) → Option JobTree → Value
-walk_of facts None = IsDone []
-walk_of facts (Some job) = value_of facts job.elements (first_element job.elements)
+-- what a job comes to by a plan, and by what its work items tell of its elements
+abbrev pub walk_of : Plan → (List ℕ → Fact) → Option JobTree → Value
+walk_of plan worked None = IsDone []
+walk_of plan worked (Some job) = value_of (planned_facts plan (all_leaves job.elements) worked) job.elements plan.from
 
--- what the walk of a job execution of this job comes to, after this work
-abbrev pub walk_value : List JobTree → List WorkRow → ℕ → List ℕ → Value
-walk_value catalogue works x job = walk_of (element_facts x works) (job_named catalogue job)
-
--- the tree of the job of a job execution
-abbrev pub job_of_origin : List JobTree → Option Origin → Option JobTree
-job_of_origin catalogue None = None
-job_of_origin catalogue (Some o) = job_named catalogue o.job
-
--- what the walk of job execution x comes to
-abbrev pub walk_of_execution : List JobTree → List Entry → ℕ → Value
-walk_of_execution catalogue past x = walk_of (element_facts x (work_items past)) (job_of_origin catalogue (origin_of past x))
+-- what the walk of a job execution of this job comes to by its plan, after this work
+abbrev pub walk_value : List JobTree → List WorkRow → ℕ → List ℕ → Plan → Value
+walk_value catalogue works x job plan = walk_of plan (element_facts x works) (job_named catalogue job)

@@ -7,8 +7,8 @@ use batch_ids::{
     try_clone_option,
 };
 
-/// An operation on the job repository (Jakarta Batch 2.1, "JobOperator"; claim, checkpoint and
-/// finish are this service's own, for its workers).
+/// An operation on the job repository (Jakarta Batch 2.1, "JobOperator"; claim, checkpoint, finish
+/// and lose are this service's own, for its workers).
 #[derive(PartialEq, Eq, Debug, Drop)]
 pub enum Call {
     /// Makes a job instance of this job, and its first job execution.
@@ -56,6 +56,12 @@ pub enum Call {
         exit: Option<T256>,
         /// What is added to its metrics.
         step: MetricStep,
+    },
+    /// Gives a busy work item up whose worker is gone: it is FAILED, with the exit status `FAILED`.
+    /// Any session may say so.
+    Lose {
+        /// The work item.
+        work: WorkId,
     },
 }
 
@@ -178,6 +184,7 @@ impl Call {
                 exit,
                 step,
             } => finish_copy(*work, *outcome, exit, *step),
+            Call::Lose { work } => Ok(Call::Lose { work: *work }),
         }
     }
 }

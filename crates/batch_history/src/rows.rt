@@ -8,6 +8,7 @@ use batch_ids::{
     BatchStatus, ExecutionId, InstanceId, Metrics, Moment, OutOfMemory, Parameters, T256, Text,
     WorkId, WorkOutcome, try_clone_option,
 };
+use job_walk::Plan;
 
 /// A job instance (Jakarta Batch 2.1, "JobInstance").
 #[derive(PartialEq, Eq, Debug, Drop)]
@@ -19,7 +20,7 @@ pub struct JobInstance {
 }
 
 /// What a repository keeps of a job execution.
-#[derive(PartialEq, Eq, Debug, Drop)]
+#[derive(Debug, Drop)]
 pub struct ExecutionRow {
     /// Its number.
     pub execution: ExecutionId,
@@ -29,6 +30,9 @@ pub struct ExecutionRow {
     pub job: T256,
     /// The parameters that it was started or restarted with.
     pub parameters: Parameters,
+    /// Where it begins, and what it takes over from earlier job executions (Jakarta Batch 2.1, "Job
+    /// Restart Processing").
+    pub plan: Plan,
     /// Whether it was asked to stop.
     pub stop: bool,
     /// Whether it was abandoned.

@@ -1,88 +1,40 @@
 -- The laws over whole histories.
-use Rattle.std.proofs.Common.{◌≡◌, ◌≢◌, ℕ, ◌+◌, ◌==◌, Bool, true, false, cond, None, Some, is_some, Ok, List, [], ◌∷◌, ◌++◌, length, map, find, reverse, refl, sym, ◌∙◌, ap, subst, arith}
-use Rattle.std.specs.Option.{option_map}
-use Rattle.std.proofs.lemmas.List.{length-append, append_assoc, reverse-append, reverse-reverse, map-append}
+use Rattle.std.proofs.Common.{◌≡◌, ◌≢◌, ℕ, ◌+◌, ◌==◌, Bool, true, false, cond, None, Some, is_some, Ok, List, [], ◌∷◌, ◌++◌, length, map, find, reverse, refl, sym, ◌∙◌, ap, subst}
+use Rattle.std.proofs.lemmas.List.{append_assoc, reverse-append, reverse-reverse, map-append}
 use Rattle.std.proofs.lemmas.Bool.{eqb-true}
 use Rattle.batch_ids.specs.Statuses.{is_unfinished}
 use Rattle.batch_ids.specs.declared.status.BatchStatus.{BatchStatus}
 use Rattle.batch_ids.specs.declared.status.BatchStatus.TheVariants.{Starting, Started, Stopping, Stopped, Failed, Completed, Abandoned}
 use Rattle.jsl_model.specs.Jobs.{JobTree}
 use Rattle.jsl_model.specs.Names.{has_twice, distinct}
-use Rattle.job_walk.proofs.Following.{find-map}
 use Rattle.batch_history.specs.declared.call.Call.{Call}
-use Rattle.batch_history.specs.declared.call.Call.TheVariants.{Start, Restart, Stop, Abandon, Claim, Checkpoint, Finish}
+use Rattle.batch_history.specs.declared.call.Call.TheVariants.{Start, Restart, Stop, Abandon, Claim, Checkpoint, Finish, Lose}
 use Rattle.batch_history.specs.declared.call.Entry.{Entry}
-use Rattle.batch_history.specs.declared.call.WorkItem.{WorkItem}
-use Rattle.batch_history.specs.declared.call.Reply.TheVariants.{Work}
 use Rattle.batch_history.specs.declared.query.Query.TheVariants.{JobNames}
 use Rattle.batch_history.specs.declared.query.Answer.TheVariants.{JobNames as AreNames}
 use Rattle.batch_history.proofs.Folds.{made, is_made, works_of, instances_of, instances_after, stop_of, start_of, abandoned_of, end_of, bare_of, value_after, folded_rows, execution_row}
 use Rattle.batch_history.specs.Answers.{answer}
 use Rattle.batch_history.specs.Executions.{Made}
 use Rattle.batch_history.specs.Legal.{grown, IsLegal}
-use Rattle.batch_history.specs.Replies.{row_status, is_execution, reply, first_ready, walk_in_rows, runnable_of_job, claim_reply, next_work_item}
+use Rattle.batch_history.specs.Replies.{row_status, is_execution}
 use Rattle.batch_history.specs.Rows.{History, Rows, rows}
 use Rattle.batch_history.specs.Statuses.{is_finished}
-use Rattle.batch_history.specs.Walks.{job_named, element_facts}
+use Rattle.batch_history.specs.Walks.{job_named}
 use Rattle.batch_history.specs.Works.{is_work}
 use Rattle.batch_history.specs.declared.rows.ExecutionRow.{ExecutionRow}
 use Rattle.batch_history.specs.declared.rows.WorkRow.{WorkRow}
 use Rattle.batch_history.specs.declared.rows.JobInstance.{JobInstance}
-use Rattle.history_laws.specs.Laws.{beginning, row_in, IsAsBefore, StaysFinished, EndedAt, BelongsTo, HasInstance, WasReady, with_name}
-use Rattle.batch_history.proofs.Finding.{found-passes}
-use Rattle.batch_history.proofs.Legality.{rows_folded}
+use Rattle.history_laws.specs.Laws.{beginning, row_in, IsAsBefore, StaysFinished, EndedAt, BelongsTo, HasInstance, with_name}
+use Rattle.batch_history.proofs.Legality.{past-due, rows_folded}
 use Rattle.batch_history.proofs.Origins.{instances-law}
-use Rattle.history_laws.proofs.Works.{each-found, Apart, AllApart}
-use Rattle.history_laws.proofs.Told.{AllDue, past-due, IsRowOf, row-of, made-number, made-more, ToldClaim, work-told}
-use Rattle.history_laws.proofs.Walks.{ready_sight}
-use Rattle.history_laws.proofs.Runs.{walk-runs}
-use Rattle.history_laws.proofs.Kept.{IsHeld, IsKept, kept, first-seen}
-use Rattle.history_laws.proofs.Ended.{on-it, busy-unfinished, finished-status, finished-stays, made-after}
+use Rattle.batch_history.proofs.WorkLists.{each-found, Apart, AllApart}
+use Rattle.batch_history.proofs.Told.{AllDue, made-number, made-more}
+use Rattle.batch_history.proofs.Kept.{IsHeld, IsKept, kept}
+use Rattle.batch_history.proofs.Finished.{on-it, busy-unfinished, finished-status, finished-stays, made-after}
 use Rattle.history_laws.proofs.Moments.{abandoned-finished, EndedPast, ended-past, over-ended}
-use Rattle.history_laws.proofs.Owners.{InstanceOf, instances-kept, jobs-kept}
+use Rattle.batch_history.proofs.Owners.{InstanceOf, instances-kept, jobs-kept}
 use Rattle.history_laws.proofs.Names.{distinct-more, distinct-once}
-
--- ---- Rows of a legal history
-
--- a beginning of a legal history is legal
-legal-beginning : (limit : ℕ) (h : History) → IsLegal limit h → (before after : List Entry) → h.log ≡ before ++ after → IsLegal limit (beginning h before)
-legal-beginning limit h legal before after cut = record {
-  within = omega (arith, legal.within, ap length cut, length-append before after);
-  due = λ b e a is. legal.due b e (a ++ after) (cut ∙ (ap (λ l. l ++ after) is ∙ append_assoc b (e ∷ a) after));
-}
-
--- the row of a job execution is the one that the fold has
-row-folded : (limit : ℕ) (h : History) → IsLegal limit h → (x : ℕ) → row_in h x ≡ find (is_execution x) (folded_rows h.catalogue (reverse h.log)).executions
-row-folded limit h legal x = ap (λ (r : Rows). find (is_execution x) r.executions) (rows_folded limit h legal)
-
--- so is that of a work item
-work-folded : (limit : ℕ) (h : History) → IsLegal limit h → (w : ℕ) → find (is_work w) (rows h).works ≡ find (is_work w) (works_of (reverse h.log))
-work-folded limit h legal w = ap (λ (r : Rows). find (is_work w) r.works) (rows_folded limit h legal)
-
--- ---- Rows of a past
-
--- the row of a job execution that was made
-row-there : (catalogue : List JobTree) (past : List Entry) (x : ℕ) (m : Made) → find (is_made x) (made past) ≡ Some m
-    → find (is_execution x) (folded_rows catalogue past).executions ≡ Some (execution_row catalogue past m)
-row-there catalogue past x m found =
-    find-map (execution_row catalogue past) (is_execution x) (is_made x) (λ n. refl) (made past) ∙ ap (option_map (execution_row catalogue past)) found
-
-record IsRowAt (catalogue : List JobTree) (past : List Entry) (x : ℕ) (row : ExecutionRow) : Type 0 where
-  one : Made
-  number : one.execution ≡ x
-  found : find (is_made one.execution) (made past) ≡ Some one
-  is_row : row ≡ execution_row catalogue past one
-
-row-at : (catalogue : List JobTree) (past : List Entry) (x : ℕ) (row : ExecutionRow) → find (is_execution x) (folded_rows catalogue past).executions ≡ Some row → IsRowAt catalogue past x row
-row-at catalogue past x row found =
-    let from : IsRowOf catalogue past row = row-of catalogue past (is_execution x) row found in
-    let number : row.execution ≡ x = eqb-true row.execution x (found-passes (is_execution x) (folded_rows catalogue past).executions row found) in
-    record {
-      one = from.one;
-      number = sym (ap (λ (r : ExecutionRow). r.execution) from.is_row) ∙ number;
-      found = from.found;
-      is_row = from.is_row;
-    }
+use Rattle.history_laws.proofs.Beginnings.{legal-beginning, row-folded, work-folded, row-there, IsRowAt, row-at, due-older}
 
 -- ---- What is over
 
@@ -115,10 +67,6 @@ stays-past limit catalogue more past whole x row is due found over due_past =
       finished-status (abandoned_of (more ++ past) m.execution) (bare_of catalogue (more ++ past) m) still,
       subst (λ r. IsAsBefore r after) (sym from.is_row) same,
     )
-
-due-older : (limit : ℕ) (catalogue : List JobTree) (more past : List Entry) → AllDue limit catalogue (more ++ past) → AllDue limit catalogue past
-due-older limit catalogue [] past due = due
-due-older limit catalogue (e ∷ more) past due = due-older limit catalogue more past due.1
 
 pub finished_stays : (limit : ℕ) (h : History) → IsLegal limit h → (before after : List Entry) → h.log ≡ before ++ after → (x : ℕ) (row : ExecutionRow)
     → row_in (beginning h before) x ≡ Some row → is_finished (row_status row) ≡ true → StaysFinished h x row
@@ -302,6 +250,7 @@ names-call (Abandon y) instances = refl
 names-call Claim instances = refl
 names-call (Checkpoint w mark step) instances = refl
 names-call (Finish w o t step) instances = refl
+names-call (Lose w) instances = refl
 
 -- the names that a query is answered with
 names-answered : (h : History) → answer h JobNames ≡ Ok (AreNames (distinct (map (λ (i : JobInstance). i.job) (instances_of (reverse h.log)))))
@@ -323,30 +272,3 @@ names_once h names is =
     let both : Ok (AreNames (distinct (map (λ (i : JobInstance). i.job) (instances_of (reverse h.log))))) ≡ Ok (AreNames names) = sym (names-answered h) ∙ is in
     let before : distinct (map (λ (i : JobInstance). i.job) (instances_of (reverse h.log))) ≡ names = cc in
     ap has_twice (sym before) ∙ distinct-once (map (λ i. i.job) (instances_of (reverse h.log)))
-
--- ---- What is handed out
-
-was-ready : (h : History) (item : WorkItem) → ToldClaim (rows h) (Work item) → WasReady h item
-was-ready h item told =
-    (elim (first_ready (walk_in_rows (rows h) told.row)) as (λ o. first_ready (walk_in_rows (rows h) told.row) ≡ o → Work item ≡ claim_reply (rows h) told.row o → WasReady h item) [
-      | None ↦ λ ready is. cc
-      | Some id ↦ λ ready is.
-          let same : item ≡ next_work_item (rows h) told.row id = cc in
-          record {
-            owner = told.row;
-            least = told.found;
-            execution = ap (λ (i : WorkItem). i.execution) same;
-            ready = ready ∙ ap (λ (i : WorkItem). Some i.element) (sym same);
-            runs = ap (λ (i : WorkItem). is_some (runnable_of_job (job_named h.catalogue told.row.job) i.element)) same
-                ∙ walk-runs ready_sight id (element_facts told.row.execution (rows h).works) (job_named h.catalogue told.row.job) (first-seen id (walk_in_rows (rows h) told.row) ready);
-            number = ap (λ (i : WorkItem). i.work) same;
-          }
-    ]) refl told.answered
-
--- what a claim hands out was ready
-pub handed_ready : (limit : ℕ) (h : History) → IsLegal limit h → (before : List Entry) (e : Entry) (after : List Entry) → h.log ≡ before ++ e ∷ after
-    → (item : WorkItem) → e.reply ≡ Work item → WasReady (beginning h before) item
-handed_ready limit h legal before e after cut item is =
-    let due = legal.due before e after cut in
-    let there : reply limit (beginning h before) e.who e.call ≡ Ok (Work item) = due.0 ∙ ap Ok is in
-    was-ready (beginning h before) item (work-told limit (rows (beginning h before)) e.who e.call item there)

@@ -1,10 +1,6 @@
 pub mod Names
-pub mod Walks
-pub mod Works
-pub mod Told
-pub mod Kept
-pub mod Ended
-pub mod Owners
 pub mod Moments
+pub mod Beginnings
 pub mod Laws
-pub mod Runs
+pub mod Handing
+pub mod Restarts

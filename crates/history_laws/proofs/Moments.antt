@@ -1,13 +1,12 @@
 -- Abandonment and end: an abandoned job execution is over, and the end is the moment of the operation that brought it.
-use Rattle.std.proofs.Common.{◌≡◌, ℕ, ◌+◌, ◌==◌, ◌||◌, ◌&&◌, Bool, true, false, cond, Option, None, Some, is_some, List, [], ◌∷◌, ◌++◌, length, find, refl, sym, ◌∙◌, ap, subst}
-use Rattle.std.specs.List.{list_any}
-use Rattle.std.proofs.lemmas.Bool.{eqb-true, eq-eqb, or_parts}
+use Rattle.std.proofs.Common.{◌≡◌, ℕ, ◌==◌, ◌||◌, ◌&&◌, Bool, true, false, cond, Option, None, Some, is_some, List, [], ◌∷◌, ◌++◌, length, find, refl, sym, ◌∙◌, ap}
+use Rattle.std.proofs.lemmas.Bool.{eqb-true, eq-eqb}
 use Rattle.batch_ids.specs.Statuses.{is_unfinished}
 use Rattle.batch_ids.specs.declared.status.BatchStatus.{BatchStatus}
 use Rattle.batch_ids.specs.declared.status.BatchStatus.TheVariants.{Abandoned}
 use Rattle.jsl_model.specs.Jobs.{JobTree}
 use Rattle.batch_history.specs.declared.call.Call.{Call}
-use Rattle.batch_history.specs.declared.call.Call.TheVariants.{Start, Restart, Stop, Abandon, Claim, Checkpoint, Finish}
+use Rattle.batch_history.specs.declared.call.Call.TheVariants.{Start, Restart, Stop, Abandon, Claim, Checkpoint, Finish, Lose}
 use Rattle.batch_history.specs.declared.call.Reply.{Reply}
 use Rattle.batch_history.specs.declared.call.Entry.{Entry}
 use Rattle.batch_history.specs.declared.rows.ExecutionRow.{ExecutionRow}
@@ -19,47 +18,12 @@ use Rattle.batch_history.specs.Operations.{abandonment}
 use Rattle.batch_history.specs.Replies.{row_status, is_running_in, is_execution}
 use Rattle.batch_history.specs.Rows.{Rows}
 use Rattle.batch_history.specs.Statuses.{is_finished}
-use Rattle.batch_history.proofs.Stepping.{remade-number, settled, ended-by, named-by}
-use Rattle.batch_history.proofs.Finding.{found-passes}
-use Rattle.history_laws.proofs.Told.{Due, AllDue, IsRowOf, row-of, ToldAbandonment, abandonment-told}
-use Rattle.history_laws.proofs.Ended.{finished-step, on-it}
-
--- ---- Before an operation
-
-find-missed : {X : Type 0} (p : X → Bool) (xs : List X) (new x : X) → p new ≡ false → find p (xs ++ new ∷ []) ≡ Some x → find p xs ≡ Some x
-find-missed p [] new x off e = let none : cond (p new) (Some new) None ≡ None = rw off refl in cc
-find-missed p (y ∷ ys) new x off e =
-    (elim (p y) as (λ b. cond b (Some y) (find p (ys ++ new ∷ [])) ≡ Some x → cond b (Some y) (find p ys) ≡ Some x) [
-      | true ↦ λ s. s
-      | false ↦ λ s. find-missed p ys new x off s
-    ]) e
-
--- a job execution that an operation doesn't make was made before it
-made-call : (older : List Entry) (who at : ℕ) (call : Call) (reply : Reply) (x : ℕ) (m : Made) → makes (length (made older)) x call ≡ false
-    → find (is_made x) (made (record { who = who; call = call; at = at; reply = reply } ∷ older)) ≡ Some m → find (is_made x) (made older) ≡ Some m
-made-call older who at (Start job parameters) reply x m off e = find-missed (is_made x) (made older) _ m off e
-made-call older who at (Restart y parameters) reply x m off e =
-    find-missed (is_made x) (made older) _ m (ap (λ n. n == x) (remade-number (length (made older) + 1) at parameters (find (is_made y) (made older))) ∙ off) e
-made-call older who at (Stop y) reply x m off e = e
-made-call older who at (Abandon y) reply x m off e = e
-made-call older who at Claim reply x m off e = e
-made-call older who at (Checkpoint w mark step) reply x m off e = e
-made-call older who at (Finish w o t step) reply x m off e = e
-
-pub made-before : (older : List Entry) (e : Entry) (x : ℕ) (m : Made) → makes (length (made older)) x e.call ≡ false
-    → find (is_made x) (made (e ∷ older)) ≡ Some m → find (is_made x) (made older) ≡ Some m
-made-before older e x m off found = made-call older e.who e.at e.call e.reply x m off found
+use Rattle.batch_history.proofs.Stepping.{settled, ended-by, named-by}
+use Rattle.batch_history.proofs.Finding.{found-passes, any-none}
+use Rattle.batch_history.proofs.Told.{Due, AllDue, IsRowOf, row-of, made-before, ToldAbandonment, abandonment-told}
+use Rattle.batch_history.proofs.Finished.{finished-step, on-it}
 
 -- ---- Abandonment
-
-any-none : {X : Type 0} (p q : X → Bool) (xs : List X) (x : X) → list_any p xs ≡ false → find q xs ≡ Some x → p x ≡ false
-any-none p q [] x none e = cc
-any-none p q (y ∷ ys) x none e =
-    let both = or_parts (p y) (list_any p ys) none in
-    (elim (q y) as (λ b. cond b (Some y) (find q ys) ≡ Some x → p x ≡ false) [
-      | true ↦ λ s. let same : y ≡ x = cc in subst (λ z. p z ≡ false) same both.0
-      | false ↦ λ s. any-none p q ys x both.1 s
-    ]) e
 
 not-running : (abandoned : Bool) (bare : BatchStatus) → (abandoned ≡ true → is_finished bare ≡ true) → is_unfinished (cond abandoned Abandoned bare) ≡ false → is_finished bare ≡ true
 not-running true bare before h = before refl
@@ -94,6 +58,7 @@ given-call limit catalogue older who at (Stop y) reply m due found on before = c
 given-call limit catalogue older who at Claim reply m due found on before = cc
 given-call limit catalogue older who at (Checkpoint w mark step) reply m due found on before = cc
 given-call limit catalogue older who at (Finish w o t step) reply m due found on before = cc
+given-call limit catalogue older who at (Lose w) reply m due found on before = cc
 
 -- an abandoned job execution is over, abandonment aside
 pub abandoned-finished : (limit : ℕ) (catalogue : List JobTree) (past : List Entry) (m : Made) → AllDue limit catalogue past

@@ -1,8 +1,12 @@
-ghost use Rattle.std.specs.Prelude.{ℕ, ◌≡◌, ◌≢◌, ◌++◌, ◌∷◌, [], List, Some, Ok, true, false, is_some, find};
+ghost use Rattle.std.specs.Prelude.{ℕ, ◌≡◌, ◌≢◌, Option, ◌++◌, ◌∷◌, [], List, Some, Ok, true, false, is_some, find};
+ghost use Rattle.batch_ids.specs.Parameters.{Pair};
+ghost use Rattle.batch_ids.specs.Statuses.{is_unfinished};
 ghost use Rattle.jsl_model.specs.Names.{has_twice};
+ghost use Rattle.batch_history.specs.declared.call.Call.TheVariants.{Restart};
 ghost use Rattle.batch_history.specs.declared.call.Entry.{Entry};
-ghost use Rattle.batch_history.specs.declared.call.Reply.TheVariants.{Work};
+ghost use Rattle.batch_history.specs.declared.call.Reply.TheVariants.{Work, Execution as IsExecution};
 ghost use Rattle.batch_history.specs.declared.call.WorkItem.{WorkItem};
+ghost use Rattle.batch_history.specs.declared.call.WorkTask.TheVariants.{Chunk};
 ghost use Rattle.batch_history.specs.declared.query.Query.TheVariants.{JobNames};
 ghost use Rattle.batch_history.specs.declared.query.Answer.TheVariants.{JobNames as AreNames};
 ghost use Rattle.batch_history.specs.declared.rows.ExecutionRow.{ExecutionRow};
@@ -14,7 +18,7 @@ ghost use Rattle.batch_history.specs.Walks.{job_named};
 ghost use Rattle.batch_history.specs.Rows.{History, rows};
 ghost use Rattle.batch_history.specs.Statuses.{is_finished};
 ghost use Rattle.batch_history.specs.Works.{is_work};
-ghost use Rattle.history_laws.specs.Laws.{beginning, row_in, StaysFinished, EndedAt, BelongsTo, WasReady, HasInstance, with_name};
+ghost use Rattle.history_laws.specs.Laws.{beginning, row_in, StaysFinished, EndedAt, BelongsTo, WasReady, IsOfOpenStep, GoesOnFrom, MayGoOn, FollowsFrom, KeepsPlan, HasInstance, with_name};
 
 /// A job execution that is over stays so: whatever is accepted later, all of it stays as it was, its
 /// exit status, start and end among it, but for whether it is abandoned and the moment of the last
@@ -56,14 +60,80 @@ pub fn work_belongs_to_unfinished_job_executions()
 {}
 
 /// What is handed out was ready: a reply of work names the first ready element of the least job
-/// execution with something to do, by the operations before it, and the next number.
+/// execution with something to do, by the operations before it, and the next number. The walk
+/// begins where the job execution begins, and a chunk goes on from the checkpoint of its step.
 ///
 /// It does nothing: its contract is the law, of every entry of a legal history.
-#[tactic(auto, using(crate::proofs::Laws::handed_ready))]
+#[tactic(auto, using(crate::proofs::Handing::handed_ready))]
 pub fn what_is_handed_out_was_ready()
     ensures { (limit : ℕ) (h : History) → IsLegal limit h
         → (before : List Entry) (e : Entry) (after : List Entry) → h.log ≡ before ++ e ∷ after
         → (item : WorkItem) → e.reply ≡ Work item → WasReady (beginning h before) item }
+{}
+
+/// No work is handed out of a step that the job execution carries from an earlier one, or that has
+/// reached its start limit (Jakarta Batch 2.1, "Job Restart Processing").
+///
+/// It does nothing: its contract is the law, of every entry of a legal history.
+#[tactic(auto, using(crate::proofs::Handing::handed_open))]
+pub fn no_work_is_of_a_carried_or_barred_step()
+    ensures { (limit : ℕ) (h : History) → IsLegal limit h
+        → (before : List Entry) (e : Entry) (after : List Entry) → h.log ≡ before ++ e ∷ after
+        → (item : WorkItem) → e.reply ≡ Work item → IsOfOpenStep (beginning h before) item }
+{}
+
+/// Each chunk goes on from the checkpoint of its step: the one that the operations before it left
+/// in the job instance (Jakarta Batch 2.1, "Checkpoint Algorithm").
+///
+/// It does nothing: its contract is the law, of every entry of a legal history.
+#[tactic(auto, using(crate::proofs::Handing::handed_from))]
+pub fn chunks_go_on_from_their_checkpoints()
+    ensures { (limit : ℕ) (h : History) → IsLegal limit h
+        → (before : List Entry) (e : Entry) (after : List Entry) → h.log ≡ before ++ e ∷ after
+        → (item : WorkItem) → e.reply ≡ Work item
+        → (reader writer : List ℕ) (processor : Option (List ℕ)) (count : ℕ)
+        → (mark : Option (List ℕ)) → item.task ≡ Chunk reader processor writer count mark
+        → GoesOnFrom (beginning h before) item mark }
+{}
+
+/// Each restart follows the most recent job execution of its job instance, which is STOPPED or
+/// FAILED (Jakarta Batch 2.1, "JobOperator", restart).
+///
+/// It does nothing: its contract is the law, of every entry of a legal history.
+#[tactic(auto, using(crate::proofs::Restarts::restart_follows))]
+pub fn restarts_follow_the_most_recent_job_execution()
+    ensures { (limit : ℕ) (h : History) → IsLegal limit h
+        → (before : List Entry) (e : Entry) (after : List Entry) → h.log ≡ before ++ e ∷ after
+        → (y : ℕ) (parameters : List Pair) → e.call ≡ Restart y parameters
+        → MayGoOn (beginning h before) y }
+{}
+
+/// At every moment a job instance has at most one unfinished job execution.
+///
+/// It does nothing: its contract is the law, of every legal history and each of its beginnings.
+#[tactic(auto, using(crate::proofs::Restarts::one_unfinished))]
+pub fn job_instances_have_at_most_one_unfinished_job_execution()
+    ensures { (limit : ℕ) (h : History) → IsLegal limit h → (before after : List Entry)
+        → h.log ≡ before ++ after → (x y : ℕ) (one other : ExecutionRow)
+        → row_in (beginning h before) x ≡ Some one → row_in (beginning h before) y ≡ Some other
+        → one.instance ≡ other.instance → is_unfinished (row_status one) ≡ true
+        → is_unfinished (row_status other) ≡ true → x ≡ y }
+{}
+
+/// A job execution goes by the plan that its restart gave it, which comes from the job execution
+/// that the restart names and from the work of its job instance so far. Whatever is accepted later,
+/// the element at which it begins, its carried steps and its barred steps stay the same.
+///
+/// It does nothing: its contract is the law, of every legal history and each of its beginnings.
+#[tactic(auto, using(crate::proofs::Restarts::restart_gives, crate::proofs::Restarts::plan_stays))]
+pub fn job_executions_go_by_the_plan_of_their_restart()
+    ensures given { (limit : ℕ) (h : History) → IsLegal limit h
+        → (before : List Entry) (e : Entry) (after : List Entry) → h.log ≡ before ++ e ∷ after
+        → (y x : ℕ) (parameters : List Pair) → e.call ≡ Restart y parameters
+        → e.reply ≡ IsExecution x → FollowsFrom (beginning h before) e y x }
+    ensures kept { (limit : ℕ) (h : History) → IsLegal limit h → (before after : List Entry)
+        → h.log ≡ before ++ after → (x : ℕ) (row : ExecutionRow)
+        → row_in (beginning h before) x ≡ Some row → KeepsPlan h x row }
 {}
 
 /// Each job execution is of a job instance that was begun, and of its job.

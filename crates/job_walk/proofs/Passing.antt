@@ -23,7 +23,7 @@ use Rattle.job_walk.specs.declared.facts.Value.{Value}
 use Rattle.job_walk.specs.declared.facts.Value.TheVariants.{Open, Done, Ended}
 use Rattle.job_walk.specs.declared.element_result.ElementResult.{ElementResult}
 use Rattle.job_walk.specs.declared.element_result.ElementResult.TheVariants.{ListValue, Outcome}
-use Rattle.job_walk.specs.Walk.{WalkedElement, BodyResult, IsStep, IsDecision, HasResult, step_result, decision_result, value_by_transition, value_after_outcome, value_by_result, value_at, follow, list_value, whole_value, flow_result, all_ready, all_busy, any_open, ended_as, strongest_end, split_result, body_result, element_result, element_with_result, flow_value, walked_element, walked_body, value_of_flow, value_of}
+use Rattle.job_walk.specs.Walk.{WalkedElement, BodyResult, IsRunnable, HasResult, runnable_result, value_by_transition, value_after_outcome, value_by_result, value_at, follow, list_value, whole_value, flow_result, all_ready, all_busy, any_open, ended_as, strongest_end, split_result, body_result, element_result, element_with_result, flow_value, walked_element, walked_body, value_of_flow, value_of}
 use Rattle.std.proofs.lemmas.List.{map-append}
 use Rattle.job_walk.specs.Runnables.{Leaf, Inside, IsRun, Holds, body_leaves, leaves_at, element_leaves, flow_leaves, leaves, leaves_of_flow, all_leaves}
 use Rattle.job_walk.proofs.Agreeing.{leaves_in_body}
@@ -213,11 +213,9 @@ leaves-append test xs ys h =
 
 -- what a body comes to: a step or a decision is shown as itself alone, and what holds others as they are
 abbrev PartPasses : Tests → Inside → BodyResult → Type 0
-PartPasses tests (IsRun runs) IsStep = Unit {0}
-PartPasses tests (IsRun runs) IsDecision = Unit {0}
+PartPasses tests (IsRun runs) IsRunnable = Unit {0}
 PartPasses tests (IsRun runs) (HasResult own_result) = ⊥
-PartPasses tests (Holds inside) IsStep = ⊥
-PartPasses tests (Holds inside) IsDecision = ⊥
+PartPasses tests (Holds inside) IsRunnable = ⊥
 PartPasses tests (Holds inside) (HasResult own_result) = LeavesPass tests.shown inside → ResultPasses tests own_result
 
 abbrev BodyPasses : Tests → (List ℕ → Fact) → Body → Type 0
@@ -272,27 +270,18 @@ body-passes tests facts (Flow es) h =
     λ k. flow-passes tests _ (list-passes tests (map (walked_element facts) (map (λ (e : Passing tests facts). e.0) es)) (rows-pass tests facts es h k) _)
 body-passes tests facts (Split fs) h = λ k. split-passes tests _ (values-pass tests facts fs h k)
 
-step-passes : (tests : Tests) (id : List ℕ) (fact : Fact) → list_all tests.shown (id ∷ []) ≡ true → ResultPasses tests (step_result id fact)
-step-passes tests id (Carried exit) h = tt
-step-passes tests id Busy h = (refl, h)
-step-passes tests id (Over outcome exit) h = tt
-step-passes tests id Barred h = tt
-step-passes tests id Nothing h = (h, refl)
-
-decision-passes : (tests : Tests) (id : List ℕ) (fact : Fact) → list_all tests.shown (id ∷ []) ≡ true → ResultPasses tests (decision_result id fact)
-decision-passes tests id (Carried exit) h = (h, refl)
-decision-passes tests id Busy h = (refl, h)
-decision-passes tests id (Over outcome exit) h = tt
-decision-passes tests id Barred h = (h, refl)
-decision-passes tests id Nothing h = (h, refl)
+runnable-passes : (tests : Tests) (id : List ℕ) (fact : Fact) → list_all tests.shown (id ∷ []) ≡ true → ResultPasses tests (runnable_result id fact)
+runnable-passes tests id (Carried exit) h = tt
+runnable-passes tests id Busy h = (refl, h)
+runnable-passes tests id (Over outcome exit) h = tt
+runnable-passes tests id Barred h = tt
+runnable-passes tests id Nothing h = (h, refl)
 
 part-passes : (tests : Tests) (id : List ℕ) (fact : Fact) (inside : Inside) (part : BodyResult) → PartPasses tests inside part → LeavesPass tests.shown (leaves_at id inside)
     → ResultPasses tests (element_result id fact part)
-part-passes tests id fact (IsRun runs) IsStep p h = step-passes tests id fact h
-part-passes tests id fact (IsRun runs) IsDecision p h = decision-passes tests id fact h
+part-passes tests id fact (IsRun runs) IsRunnable p h = runnable-passes tests id fact h
 part-passes tests id fact (IsRun runs) (HasResult own_result) p h = absurd p
-part-passes tests id fact (Holds inside) IsStep p h = absurd p
-part-passes tests id fact (Holds inside) IsDecision p h = absurd p
+part-passes tests id fact (Holds inside) IsRunnable p h = absurd p
 part-passes tests id fact (Holds inside) (HasResult own_result) p h = p h
 
 element-passes : (tests : Tests) (facts : List ℕ → Fact) (e : Element) → ElementPasses tests facts e

@@ -1,7 +1,7 @@
 ghost use Rattle.std.specs.Prelude.{◌≡◌, ◌∷◌, ◌++◌, [], List, IfOk, None, MatchOption};
 ghost use Rattle.batch_ids.specs.Statuses.{status_name};
 ghost use Rattle.job_walk.specs.declared.facts.Known.{Known};
-ghost use Rattle.job_walk.specs.Walk.{fact_of, step_result, decision_result, ready_result, busy_result};
+ghost use Rattle.job_walk.specs.Walk.{fact_of, runnable_result, ready_result, busy_result};
 
 use crate::facts::{Fact, Known, Value};
 use batch_ids::{BatchStatus, Listed, OutOfMemory, T256, WorkOutcome};
@@ -76,13 +76,13 @@ pub(crate) fn find_known<'a>(known: &'a [Known], id: &T256) -> Option<&'a Known>
     None
 }
 
-/// What a step comes to by itself.
-pub(crate) fn step_result(
+/// What a step or a decision comes to by itself.
+pub(crate) fn runnable_result(
     alloc: Global,
     known: &[Known],
     id: &T256,
 ) -> Result<ElementResult, OutOfMemory>
-    ensures { IfOk result (λ made. made ≡ step_result id.now (fact_of known.now id.now)) }
+    ensures { IfOk result (λ made. made ≡ runnable_result id.now (fact_of known.now id.now)) }
 {
     match find_known(known, id) {
         None => ready_result(alloc, id),
@@ -95,26 +95,6 @@ pub(crate) fn step_result(
             Fact::Busy => busy_result(alloc, id),
             Fact::Over(outcome, exit) => Ok(ElementResult::Outcome(*outcome, exit.try_clone()?)),
             Fact::Barred => Ok(ElementResult::ListValue(ended_value(alloc, BatchStatus::Failed)?)),
-        },
-    }
-}
-
-/// What a decision comes to by itself.
-pub(crate) fn decision_result(
-    alloc: Global,
-    known: &[Known],
-    id: &T256,
-) -> Result<ElementResult, OutOfMemory>
-    ensures { IfOk result (λ made. made ≡ decision_result id.now (fact_of known.now id.now)) }
-{
-    match find_known(known, id) {
-        None => ready_result(alloc, id),
-        Some(one) => match &one.fact {
-            Fact::Nothing => ready_result(alloc, id),
-            Fact::Carried(_) => ready_result(alloc, id),
-            Fact::Busy => busy_result(alloc, id),
-            Fact::Over(outcome, exit) => Ok(ElementResult::Outcome(*outcome, exit.try_clone()?)),
-            Fact::Barred => ready_result(alloc, id),
         },
     }
 }

@@ -25,7 +25,7 @@ use Rattle.job_walk.specs.declared.facts.Value.TheVariants.{Open, Done, Ended}
 use Rattle.job_walk.specs.declared.element_result.ElementResult.{ElementResult}
 use Rattle.job_walk.specs.declared.element_result.ElementResult.TheVariants.{ListValue, Outcome}
 use Rattle.job_walk.proofs.Newest.{differing}
-use Rattle.job_walk.specs.Walk.{WalkedElement, BodyResult, IsStep, IsDecision, HasResult, step_result, decision_result, ready_result, busy_result, value_by_transition, value_after_outcome, value_by_result, value_at, follow, list_value, first_id, whole_value, flow_result, all_ready, all_busy, is_open, any_open, ended_as, strongest_end, split_result, body_result, element_with_result, flow_value, walked_element, walked_body, element_result, value_of_flow, value_of}
+use Rattle.job_walk.specs.Walk.{WalkedElement, BodyResult, IsRunnable, HasResult, runnable_result, ready_result, busy_result, value_by_transition, value_after_outcome, value_by_result, value_at, follow, list_value, first_id, whole_value, flow_result, all_ready, all_busy, is_open, any_open, ended_as, strongest_end, split_result, body_result, element_with_result, flow_value, walked_element, walked_body, element_result, value_of_flow, value_of}
 
 -- ---- Values
 
@@ -304,19 +304,16 @@ split-goes s t id f g rel xs =
 
 -- what the body of an element comes to, before and after
 abbrev PartGoesOn : Sight → Sight → List ℕ → BodyResult → BodyResult → Type 0
-PartGoesOn s t id IsStep after = after ≡ IsStep
-PartGoesOn s t id IsDecision after = after ≡ IsDecision
+PartGoesOn s t id IsRunnable after = after ≡ IsRunnable
 PartGoesOn s t id (HasResult before) after = (own_result : ElementResult) × (after ≡ HasResult own_result) × OwnGoesOn s t id before own_result
 
 -- what is learnt of steps and decisions alone
 pub record Learns (s t : Sight) (id : List ℕ) (facts later : List ℕ → Fact) : Type 0 where
-  pub step : (i : List ℕ) → OwnGoesOn s t id (step_result i (facts i)) (step_result i (later i))
-  pub decision : (i : List ℕ) → OwnGoesOn s t id (decision_result i (facts i)) (decision_result i (later i))
+  pub runs : (i : List ℕ) → OwnGoesOn s t id (runnable_result i (facts i)) (runnable_result i (later i))
 
 part-goes : (s t : Sight) (id : List ℕ) (facts later : List ℕ → Fact) → Learns s t id facts later → (i : List ℕ) (part part2 : BodyResult) → PartGoesOn s t id part part2
     → OwnGoesOn s t id (element_result i (facts i) part) (element_result i (later i) part2)
-part-goes s t id facts later learns i IsStep part2 g = rw g (learns.step i)
-part-goes s t id facts later learns i IsDecision part2 g = rw g (learns.decision i)
+part-goes s t id facts later learns i IsRunnable part2 g = rw g (learns.runs i)
 part-goes s t id facts later learns i (HasResult own_result) part2 g = rw g.1 g.2
 
 abbrev BodyGoes : Sight → Sight → List ℕ → (List ℕ → Fact) → (List ℕ → Fact) → Body → Type 0
@@ -388,7 +385,7 @@ at-or-not {P = P} i id here away =
     ]) refl
 
 -- an element that is not the one looked for shows nothing of it
-away-own : (s t : Sight) (id i : List ℕ) → i ≢ id → (fact : Fact) → OwnGoesOn s t id (step_result i fact) (step_result i fact)
+away-own : (s t : Sight) (id i : List ℕ) → i ≢ id → (fact : Fact) → OwnGoesOn s t id (runnable_result i fact) (runnable_result i fact)
 away-own s t id i other (Carried exit) = record { same = λ _. refl; kept = λ h. cc }
 away-own s t id i other (Over outcome exit) = record { same = λ _. refl; kept = λ h. cc }
 away-own s t id i other Barred = record { same = λ _. refl; kept = λ h. cc }
@@ -400,13 +397,6 @@ away-own s t id i other Nothing =
     let off : bytes_eq id i ≡ false = differing id i (λ e. other (sym e)) in
     let none = nothing-seen s.of_ready s.of_busy in
     record { same = λ _. refl; kept = rw off (λ h. cc) }
-
-away-decision : (s t : Sight) (id i : List ℕ) → i ≢ id → (fact : Fact) → OwnGoesOn s t id (decision_result i fact) (decision_result i fact)
-away-decision s t id i other (Carried exit) = away-own s t id i other Nothing
-away-decision s t id i other Busy = away-own s t id i other Busy
-away-decision s t id i other (Over outcome exit) = record { same = λ _. refl; kept = λ h. cc }
-away-decision s t id i other Barred = away-own s t id i other Nothing
-away-decision s t id i other Nothing = away-own s t id i other Nothing
 
 -- facts that differ at one element alone
 abbrev pub DifferAt : List ℕ → (List ℕ → Fact) → (List ℕ → Fact) → Type 0
@@ -423,8 +413,7 @@ pub claim-here : (id : List ℕ) (facts later : List ℕ → Fact) → DifferAt 
     → Learns ready_sight busy_sight id facts later
 claim-here id facts later differ was is =
     record {
-      step = λ i. at-or-not i id (λ e. rw e (rw was (rw is (ready-busy id)))) (λ off. rw (differ i off) (away-own ready_sight busy_sight id i off (facts i)));
-      decision = λ i. at-or-not i id (λ e. rw e (rw was (rw is (ready-busy id)))) (λ off. rw (differ i off) (away-decision ready_sight busy_sight id i off (facts i)));
+      runs = λ i. at-or-not i id (λ e. rw e (rw was (rw is (ready-busy id)))) (λ off. rw (differ i off) (away-own ready_sight busy_sight id i off (facts i)));
     }
 
 -- what was ready shows nothing as busy
@@ -436,8 +425,7 @@ pub claim-away : (id claimed : List ℕ) (facts later : List ℕ → Fact) → D
     → Learns busy_sight busy_sight id facts later
 claim-away id claimed facts later differ was =
     record {
-      step = λ i. at-or-not i claimed (λ e. rw e (rw was (ready-unseen id claimed _))) (λ off. rw (differ i off) (same-own busy_sight id (step_result i (facts i))));
-      decision = λ i. at-or-not i claimed (λ e. rw e (rw was (ready-unseen id claimed _))) (λ off. rw (differ i off) (same-own busy_sight id (decision_result i (facts i))));
+      runs = λ i. at-or-not i claimed (λ e. rw e (rw was (ready-unseen id claimed _))) (λ off. rw (differ i off) (same-own busy_sight id (runnable_result i (facts i))));
     }
 
 -- what was busy comes to something: no other element sees it
@@ -451,36 +439,49 @@ pub report-away : (id reported : List ℕ) (facts later : List ℕ → Fact) →
     → Learns busy_sight busy_sight id facts later
 report-away id reported facts later differ was other =
     record {
-      step = λ i. at-or-not i reported (λ e. rw e (rw was (busy-over id reported _ other))) (λ off. rw (differ i off) (same-own busy_sight id (step_result i (facts i))));
-      decision = λ i. at-or-not i reported (λ e. rw e (rw was (busy-over id reported _ other))) (λ off. rw (differ i off) (same-own busy_sight id (decision_result i (facts i))));
+      runs = λ i. at-or-not i reported (λ e. rw e (rw was (busy-over id reported _ other))) (λ off. rw (differ i off) (same-own busy_sight id (runnable_result i (facts i))));
     }
 
--- whether there is a work item of an element
-abbrev pub is_worked : Fact → Bool
-is_worked Busy = true
-is_worked (Over outcome exit) = true
-is_worked (Carried exit) = false
-is_worked Barred = false
-is_worked Nothing = false
+-- whether something is known of an element
+abbrev pub is_known : Fact → Bool
+is_known Busy = true
+is_known (Over outcome exit) = true
+is_known (Carried exit) = true
+is_known Barred = true
+is_known Nothing = false
 
-worked-step : (id : List ℕ) (fact : Fact) → is_worked fact ≡ true → OwnGoesOn ready_sight no_sight id (step_result id fact) (step_result id fact)
-worked-step id Busy h = record { same = λ _. refl; kept = λ e. cc }
-worked-step id (Over outcome exit) h = record { same = λ _. refl; kept = λ e. cc }
-worked-step id (Carried exit) h = cc
-worked-step id Barred h = cc
-worked-step id Nothing h = cc
+known-runnable : (id : List ℕ) (fact : Fact) → is_known fact ≡ true → OwnGoesOn ready_sight no_sight id (runnable_result id fact) (runnable_result id fact)
+known-runnable id Busy h = record { same = λ _. refl; kept = λ e. cc }
+known-runnable id (Over outcome exit) h = record { same = λ _. refl; kept = λ e. cc }
+known-runnable id (Carried exit) h = record { same = λ _. refl; kept = λ e. cc }
+known-runnable id Barred h = record { same = λ _. refl; kept = λ e. cc }
+known-runnable id Nothing h = cc
 
-worked-decision : (id : List ℕ) (fact : Fact) → is_worked fact ≡ true → OwnGoesOn ready_sight no_sight id (decision_result id fact) (decision_result id fact)
-worked-decision id Busy h = record { same = λ _. refl; kept = λ e. cc }
-worked-decision id (Over outcome exit) h = record { same = λ _. refl; kept = λ e. cc }
-worked-decision id (Carried exit) h = cc
-worked-decision id Barred h = cc
-worked-decision id Nothing h = cc
-
--- an element with a work item is not ready
-pub worked-unready : (id : List ℕ) (facts : List ℕ → Fact) → is_worked (facts id) ≡ true → Learns ready_sight no_sight id facts facts
-worked-unready id facts worked =
+-- an element of which something is known is not ready
+pub known-unready : (id : List ℕ) (facts : List ℕ → Fact) → is_known (facts id) ≡ true → Learns ready_sight no_sight id facts facts
+known-unready id facts known =
     record {
-      step = λ i. at-or-not i id (λ e. rw e (worked-step id (facts id) worked)) (λ off. away-own ready_sight no_sight id i off (facts i));
-      decision = λ i. at-or-not i id (λ e. rw e (worked-decision id (facts id) worked)) (λ off. away-decision ready_sight no_sight id i off (facts i));
+      runs = λ i. at-or-not i id (λ e. rw e (known-runnable id (facts id) known)) (λ off. away-own ready_sight no_sight id i off (facts i));
+    }
+
+-- whether a work item of an element is busy
+abbrev pub is_busy : Fact → Bool
+is_busy Busy = true
+is_busy (Over outcome exit) = false
+is_busy (Carried exit) = false
+is_busy Barred = false
+is_busy Nothing = false
+
+idle-runnable : (id : List ℕ) (fact : Fact) → is_busy fact ≡ false → OwnGoesOn busy_sight no_sight id (runnable_result id fact) (runnable_result id fact)
+idle-runnable id Busy h = cc
+idle-runnable id (Over outcome exit) h = record { same = λ _. refl; kept = λ e. cc }
+idle-runnable id (Carried exit) h = record { same = λ _. refl; kept = λ e. cc }
+idle-runnable id Barred h = record { same = λ _. refl; kept = λ e. cc }
+idle-runnable id Nothing h = record { same = λ _. refl; kept = λ e. cc }
+
+-- an element without a busy work item is not busy
+pub idle-unseen : (id : List ℕ) (facts : List ℕ → Fact) → is_busy (facts id) ≡ false → Learns busy_sight no_sight id facts facts
+idle-unseen id facts idle =
+    record {
+      runs = λ i. at-or-not i id (λ e. rw e (idle-runnable id (facts id) idle)) (λ off. away-own busy_sight no_sight id i off (facts i));
     }

@@ -1,11 +1,11 @@
 -- Every job execution is of a job instance that was begun, with its job.
-use Rattle.std.proofs.Common.{◌≡◌, ℕ, ◌+◌, ◌==◌, ◌≤◌, Bool, true, false, cond, Option, None, Some, is_some, Ok, Err, List, [], ◌∷◌, ◌++◌, length, find, refl, sym, ◌∙◌, ap, subst, arith}
+use Rattle.std.proofs.Common.{◌≡◌, ℕ, ◌+◌, ◌==◌, ◌≤◌, Bool, true, false, cond, Some, is_some, Ok, Err, List, [], ◌∷◌, ◌++◌, length, find, refl, sym, ◌∙◌, ap, subst, arith}
 use Rattle.std.proofs.lemmas.Bool.{eqb-true, eq-eqb, ne_eqb}
 use Rattle.batch_ids.specs.Parameters.{Pair}
-use Rattle.batch_ids.specs.declared.refusal.Refusal.TheVariants.{NoSuchJobExecutionException, JobStartException}
+use Rattle.batch_ids.specs.declared.refusal.Refusal.TheVariants.{JobStartException}
 use Rattle.jsl_model.specs.Jobs.{JobTree}
 use Rattle.batch_history.specs.declared.call.Call.{Call}
-use Rattle.batch_history.specs.declared.call.Call.TheVariants.{Start, Restart, Stop, Abandon, Claim, Checkpoint, Finish}
+use Rattle.batch_history.specs.declared.call.Call.TheVariants.{Start, Restart, Stop, Abandon, Claim, Checkpoint, Finish, Lose}
 use Rattle.batch_history.specs.declared.call.Reply.{Reply}
 use Rattle.batch_history.specs.declared.call.Reply.TheVariants.{Execution as IsExecution}
 use Rattle.batch_history.specs.declared.call.Entry.{Entry}
@@ -17,8 +17,8 @@ use Rattle.batch_history.specs.Replies.{accepted, is_execution}
 use Rattle.batch_history.specs.Rows.{Rows}
 use Rattle.batch_history.specs.Walks.{job_named}
 use Rattle.batch_history.proofs.Finding.{found-passes}
-use Rattle.history_laws.proofs.Works.{Each, each-map, each-append, each-found, found-before}
-use Rattle.history_laws.proofs.Told.{Due, AllDue, IsRowOf, row-of}
+use Rattle.batch_history.proofs.WorkLists.{Each, each-map, each-append, each-found, found-before}
+use Rattle.batch_history.proofs.Told.{Due, AllDue, IsRowOf, row-of, ToldRestart, restart-told}
 
 abbrev is_instance : ℕ → JobInstance → Bool
 is_instance n i = i.instance == n
@@ -30,7 +30,7 @@ pub record InstanceOf (past : List Entry) (m : Made) : Type 0 where
   pub job : instance.job ≡ m.job
 
 -- job instances are numbered from one on
-abbrev AreBegun : ℕ → List JobInstance → Type 0
+abbrev pub AreBegun : ℕ → List JobInstance → Type 0
 AreBegun k [] = Unit {0}
 AreBegun k (i ∷ is) = (i.instance ≡ k) × AreBegun (k + 1) is
 
@@ -46,8 +46,9 @@ begun-call (Abandon y) is h = h
 begun-call Claim is h = h
 begun-call (Checkpoint w mark step) is h = h
 begun-call (Finish w o t step) is h = h
+begun-call (Lose w) is h = h
 
-begun : (past : List Entry) → AreBegun 1 (instances_of past)
+pub begun : (past : List Entry) → AreBegun 1 (instances_of past)
 begun [] = tt
 begun (e ∷ older) = begun-call e.call (instances_of older) (begun older)
 
@@ -58,18 +59,13 @@ find-new n k (i ∷ is) new h le e =
     rw off (find-new n (k + 1) is new h.1 (omega arith) e)
 
 -- a restart that is accepted names a job execution that was made
-named-found : (limit count n : ℕ) (found : Option ExecutionRow) (given : Reply)
-    → cond (is_some found) (accepted limit count (IsExecution n)) (Err NoSuchJobExecutionException) ≡ Ok given → (row : ExecutionRow) × (found ≡ Some row)
-named-found limit count n None given e = cc
-named-found limit count n (Some row) given e = (row, refl)
-
-restarted : (limit : ℕ) (catalogue : List JobTree) (older : List Entry) (who at y : ℕ) (parameters : List Pair) (reply : Reply)
+pub restarted : (limit : ℕ) (catalogue : List JobTree) (older : List Entry) (who at y : ℕ) (parameters : List Pair) (reply : Reply)
     → Due limit catalogue older record { who = who; call = Restart y parameters; at = at; reply = reply } → (m : Made) × (find (is_made y) (made older) ≡ Some m)
 restarted limit catalogue older who at y parameters reply due =
     let r : Rows = folded_rows catalogue older in
-    let told = named-found limit r.count (length r.executions + 1) (find (is_execution y) r.executions) reply due.0 in
-    let from : IsRowOf catalogue older told.0 = row-of catalogue older (is_execution y) told.0 told.1 in
-    let number : told.0.execution ≡ y = eqb-true told.0.execution y (found-passes (is_execution y) r.executions told.0 told.1) in
+    let told : ToldRestart r y = restart-told limit r y reply due.0 in
+    let from : IsRowOf catalogue older told.row = row-of catalogue older (is_execution y) told.row told.found in
+    let number : told.row.execution ≡ y = eqb-true told.row.execution y (found-passes (is_execution y) r.executions told.row told.found) in
     let same : from.one.execution ≡ y = sym (ap (λ (row : ExecutionRow). row.execution) from.is_row) ∙ number in
     (from.one, subst (λ x. find (is_made x) (made older) ≡ Some from.one) same from.found)
 
@@ -96,6 +92,7 @@ instance-call limit catalogue older who at (Abandon y) reply due h = each-map (I
 instance-call limit catalogue older who at Claim reply due h = each-map (InstanceOf older) _ (made older) (λ m j. record { instance = j.instance; found = j.found; job = j.job }) h
 instance-call limit catalogue older who at (Checkpoint w mark step) reply due h = each-map (InstanceOf older) _ (made older) (λ m j. record { instance = j.instance; found = j.found; job = j.job }) h
 instance-call limit catalogue older who at (Finish w o t step) reply due h = each-map (InstanceOf older) _ (made older) (λ m j. record { instance = j.instance; found = j.found; job = j.job }) h
+instance-call limit catalogue older who at (Lose w) reply due h = each-map (InstanceOf older) _ (made older) (λ m j. record { instance = j.instance; found = j.found; job = j.job }) h
 
 pub instances-kept : (limit : ℕ) (catalogue : List JobTree) (past : List Entry) → AllDue limit catalogue past → Each (InstanceOf past) (made past)
 instances-kept limit catalogue [] due = tt
@@ -105,7 +102,7 @@ instances-kept limit catalogue (e ∷ older) due =
 -- ---- Jobs
 
 -- the job of a job execution is in the catalogue
-abbrev JobIsThere : List JobTree → Made → Type 0
+abbrev pub JobIsThere : List JobTree → Made → Type 0
 JobIsThere catalogue m = is_some (job_named catalogue m.job) ≡ true
 
 -- a start that is accepted is of a job of the catalogue
@@ -129,6 +126,7 @@ job-call limit catalogue older who at (Abandon y) reply due h = h
 job-call limit catalogue older who at Claim reply due h = h
 job-call limit catalogue older who at (Checkpoint w mark step) reply due h = h
 job-call limit catalogue older who at (Finish w o t step) reply due h = h
+job-call limit catalogue older who at (Lose w) reply due h = h
 
 pub jobs-kept : (limit : ℕ) (catalogue : List JobTree) (past : List Entry) → AllDue limit catalogue past → Each (JobIsThere catalogue) (made past)
 jobs-kept limit catalogue [] due = tt

@@ -25,12 +25,13 @@ use Rattle.job_walk.specs.declared.facts.Value.{Value}
 use Rattle.job_walk.specs.declared.facts.Value.TheVariants.{Open, Done, Ended}
 use Rattle.job_walk.specs.declared.element_result.ElementResult.{ElementResult}
 use Rattle.job_walk.specs.declared.element_result.ElementResult.TheVariants.{ListValue, Outcome}
+use Rattle.job_walk.specs.declared.plan.Plan.{Plan}
 use Rattle.job_walk.specs.declared.runnable.Runnable.{Runnable}
-use Rattle.job_walk.specs.Walk.{WalkedElement, BodyResult, IsStep, IsDecision, HasResult, step_result, decision_result, value_by_transition, value_after_outcome, value_by_result, value_at, follow, list_value, whole_value, flow_result, all_ready, all_busy, any_open, ended_as, split_result, body_result, element_result, element_with_result, flow_value, walked_element, walked_body, value_of_flow, value_of}
+use Rattle.job_walk.specs.Walk.{WalkedElement, BodyResult, IsRunnable, HasResult, runnable_result, value_by_transition, value_after_outcome, value_by_result, value_at, follow, list_value, whole_value, flow_result, all_ready, all_busy, any_open, ended_as, split_result, body_result, element_result, element_with_result, flow_value, walked_element, walked_body, value_of_flow, value_of}
 use Rattle.job_walk.specs.Runnables.{Leaf, Inside, IsRun, Holds, body_leaves, leaves_at, element_leaves, flow_leaves, leaves, leaves_of_flow, all_leaves, runnable_in}
 use Rattle.batch_history.specs.Replies.{runnable_of_job}
-use Rattle.batch_history.specs.Walks.{walk_of}
-use Rattle.history_laws.proofs.Walks.{part_at, Sight, seen, own_seen, all_seen, seen-either, nothing-seen, split_ended, strongest-unseen, find-closed}
+use Rattle.batch_history.specs.Walks.{planned_facts, walk_of}
+use Rattle.batch_history.proofs.Sights.{part_at, Sight, seen, own_seen, all_seen, seen-either, nothing-seen, split_ended, strongest-unseen, find-closed}
 
 -- whether one of these leaves has this id
 abbrev has : List Leaf → List ℕ → Bool
@@ -135,24 +136,16 @@ named-busy false true false h = cc
 named-busy false false false h = cc
 
 -- a step or a decision shows itself alone
-step-named : (s : Sight) (id i : List ℕ) (fact : Fact) → own_seen s id (step_result i fact) ≡ true → bytes_eq id i ≡ true
-step-named s id i Nothing h = named-alone s.of_ready s.of_busy (bytes_eq id i) h
-step-named s id i Busy h = named-busy s.of_ready s.of_busy (bytes_eq id i) h
-step-named s id i (Carried exit) h = cc
-step-named s id i (Over outcome exit) h = cc
-step-named s id i Barred h = cc
-
-decision-named : (s : Sight) (id i : List ℕ) (fact : Fact) → own_seen s id (decision_result i fact) ≡ true → bytes_eq id i ≡ true
-decision-named s id i Nothing h = named-alone s.of_ready s.of_busy (bytes_eq id i) h
-decision-named s id i Busy h = named-busy s.of_ready s.of_busy (bytes_eq id i) h
-decision-named s id i (Carried exit) h = named-alone s.of_ready s.of_busy (bytes_eq id i) h
-decision-named s id i (Over outcome exit) h = cc
-decision-named s id i Barred h = named-alone s.of_ready s.of_busy (bytes_eq id i) h
+runnable-named : (s : Sight) (id i : List ℕ) (fact : Fact) → own_seen s id (runnable_result i fact) ≡ true → bytes_eq id i ≡ true
+runnable-named s id i Nothing h = named-alone s.of_ready s.of_busy (bytes_eq id i) h
+runnable-named s id i Busy h = named-busy s.of_ready s.of_busy (bytes_eq id i) h
+runnable-named s id i (Carried exit) h = cc
+runnable-named s id i (Over outcome exit) h = cc
+runnable-named s id i Barred h = cc
 
 -- what is inside an element whose part this is
 abbrev PartHas : Sight → List ℕ → BodyResult → Inside → Type 0
-PartHas s id IsStep inside = (runs : Runnable) × (inside ≡ IsRun runs)
-PartHas s id IsDecision inside = (runs : Runnable) × (inside ≡ IsRun runs)
+PartHas s id IsRunnable inside = (runs : Runnable) × (inside ≡ IsRun runs)
 PartHas s id (HasResult own_result) inside = (all : List Leaf) × (inside ≡ Holds all) × (own_seen s id own_result ≡ true → has all id ≡ true)
 
 has-itself : (id i : List ℕ) (runs : Runnable) → bytes_eq id i ≡ true → has (leaves_at i (IsRun runs)) id ≡ true
@@ -162,8 +155,7 @@ has-itself id i runs h =
 
 part-has : (s : Sight) (id : List ℕ) (facts : List ℕ → Fact) (i : List ℕ) (part : BodyResult) (inside : Inside) → PartHas s id part inside
     → own_seen s id (element_result i (facts i) part) ≡ true → has (leaves_at i inside) id ≡ true
-part-has s id facts i IsStep inside p h = rw p.1 (has-itself id i p.0 (step-named s id i (facts i) h))
-part-has s id facts i IsDecision inside p h = rw p.1 (has-itself id i p.0 (decision-named s id i (facts i) h))
+part-has s id facts i IsRunnable inside p h = rw p.1 (has-itself id i p.0 (runnable-named s id i (facts i) h))
 part-has s id facts i (HasResult own_result) inside p h = rw p.1 (p.2 h)
 
 abbrev insides : Body → Inside
@@ -233,6 +225,7 @@ elements-run s id facts elements from h =
     has-runs (all_leaves elements) id (list-has s id (walked_element facts) leaves (element-has s id facts) elements from h)
 
 -- what a job execution's walk shows is run
-pub walk-runs : (s : Sight) (id : List ℕ) (facts : List ℕ → Fact) (job : Option JobTree) → seen s id (walk_of facts job) ≡ true → is_some (runnable_of_job job id) ≡ true
-walk-runs s id facts None h = cc
-walk-runs s id facts (Some job) h = elements-run s id facts job.elements _ h
+pub walk-runs : (s : Sight) (id : List ℕ) (plan : Plan) (worked : List ℕ → Fact) (job : Option JobTree) → seen s id (walk_of plan worked job) ≡ true
+    → is_some (runnable_of_job job id) ≡ true
+walk-runs s id plan worked None h = cc
+walk-runs s id plan worked (Some job) h = elements-run s id (planned_facts plan (all_leaves job.elements) worked) job.elements plan.from h

@@ -1,11 +1,10 @@
 -- Work items in a list: what holds of each, and what is known of elements by them.
-use Rattle.std.proofs.Common.{◌≡◌, ◌≢◌, ◌⊎◌, inl, inr, ℕ, ◌==◌, Bool, true, false, cond, Option, Some, List, [], ◌∷◌, ◌++◌, find, refl, sym, ◌∙◌, ap, subst}
+use Rattle.std.proofs.Common.{◌≡◌, ◌≢◌, ℕ, ◌==◌, Bool, true, false, cond, Option, Some, List, [], ◌∷◌, ◌++◌, find, refl, sym, ◌∙◌, ap, subst}
 use Rattle.std.specs.Cmp.Lexicographic.{bytes_decides}
 use Rattle.std.proofs.lemmas.Bool.{eqb-true, eqb-false, eq-eqb}
 use Rattle.std.specs.Str.{bytes_eq}
 use Rattle.batch_ids.specs.declared.metric_step.MetricStep.{MetricStep}
 use Rattle.batch_ids.specs.declared.status.WorkOutcome.{WorkOutcome}
-use Rattle.job_walk.specs.declared.facts.Fact.{Fact}
 use Rattle.job_walk.specs.declared.facts.Fact.TheVariants.{Nothing, Busy as FactBusy}
 use Rattle.job_walk.specs.declared.facts.Known.{Known}
 use Rattle.job_walk.proofs.Newest.{differing}
@@ -17,7 +16,7 @@ use Rattle.batch_history.proofs.Folds.{over}
 use Rattle.batch_history.specs.Lists.{change_first}
 use Rattle.batch_history.specs.Walks.{fact_of_state, element_facts}
 use Rattle.batch_history.proofs.Knowing.{known_elements, known-fact}
-use Rattle.history_laws.proofs.Walks.{is_worked, DifferAt}
+use Rattle.batch_history.proofs.Sights.{DifferAt}
 
 -- ---- Each of a list
 
@@ -104,23 +103,6 @@ each-report P Q p f (r ∷ rs) c e apart h new others =
     ]) e
 
 -- ---- What is known of an element by the work items of its job execution
-
-from-state : (state : WorkState) → is_worked (fact_of_state state) ≡ true
-from-state Busy = refl
-from-state (Over outcome exit) = refl
-
--- nothing is known of an element, or there is work of it
-known-worked-listed : (x : ℕ) (works : List WorkRow) (id : List ℕ) → (fact_of (known_elements x works) id ≡ Nothing) ⊎ (is_worked (fact_of (known_elements x works) id) ≡ true)
-known-worked-listed x [] id = inl refl
-known-worked-listed x (r ∷ rs) id =
-    let k : Known = record { id = r.element; fact = fact_of_state r.state } in
-    elim (r.execution == x) as (λ b. (fact_of (cond b (k ∷ known_elements x rs) (known_elements x rs)) id ≡ Nothing) ⊎ (is_worked (fact_of (cond b (k ∷ known_elements x rs) (known_elements x rs)) id) ≡ true)) [
-      | true ↦ elim (bytes_eq r.element id) as (λ b. (cond b (fact_of_state r.state) (fact_of (known_elements x rs) id) ≡ Nothing) ⊎ (is_worked (cond b (fact_of_state r.state) (fact_of (known_elements x rs) id)) ≡ true)) [
-        | true ↦ inr (from-state r.state)
-        | false ↦ known-worked-listed x rs id
-      ]
-      | false ↦ known-worked-listed x rs id
-    ]
 
 not-nothing : (state : WorkState) → fact_of_state state ≢ Nothing
 not-nothing Busy h = cc
@@ -226,10 +208,6 @@ over-differs-listed x p (r ∷ rs) c o t step at e i other =
     ]) e
 
 -- ---- The same of what is known of each element
-
--- nothing is known of an element, or there is work of it
-pub known-worked : (x : ℕ) (works : List WorkRow) (id : List ℕ) → (element_facts x works id ≡ Nothing) ⊎ (is_worked (element_facts x works id) ≡ true)
-known-worked x works id = subst (λ (f : Fact). (f ≡ Nothing) ⊎ (is_worked f ≡ true)) (sym (known-fact x works id)) (known-worked-listed x works id)
 
 -- where nothing is known of an element, no work item is of it
 pub unknown-away : (x : ℕ) (works : List WorkRow) (id : List ℕ) → element_facts x works id ≡ Nothing → Each (λ r. r.execution ≡ x → r.element ≢ id) works

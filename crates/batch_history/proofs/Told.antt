@@ -1,15 +1,16 @@
 -- What the reply that a call was due tells of the rows before it.
-use Rattle.std.proofs.Common.{◌≡◌, ℕ, ◌+◌, ◌==◌, ◌<◌, ◌≤◌, Bool, true, false, cond, Option, None, Some, is_some, Result, Ok, Err, List, [], ◌∷◌, ◌++◌, length, map, find, reverse, refl, sym, ◌∙◌, subst, arith}
+use Rattle.std.proofs.Common.{◌≡◌, ◌⊎◌, inl, inr, ℕ, ◌+◌, ◌==◌, ◌<◌, ◌≤◌, Bool, true, false, cond, Option, None, Some, is_some, Result, Ok, Err, List, [], ◌∷◌, ◌++◌, length, map, find, refl, sym, ◌∙◌, ap, arith}
 use Rattle.std.specs.List.{list_any}
-use Rattle.std.proofs.lemmas.List.{append-nil, reverse-reverse}
 use Rattle.std.proofs.lemmas.Bool.{eqb-true, eq-eqb, ne_eqb}
 use Rattle.batch_ids.specs.declared.refusal.Refusal.{Refusal}
-use Rattle.batch_ids.specs.declared.refusal.Refusal.TheVariants.{JobStartException, NoSuchJobExecutionException, JobExecutionNotRunningException, JobExecutionIsRunningException}
+use Rattle.batch_ids.specs.declared.refusal.Refusal.TheVariants.{JobStartException, JobExecutionNotRunningException, JobExecutionIsRunningException, JobExecutionNotMostRecentException}
+use Rattle.batch_ids.specs.declared.status.BatchStatus.{BatchStatus}
+use Rattle.batch_ids.specs.declared.status.BatchStatus.TheVariants.{Starting, Started, Stopping, Stopped as IsStopped, Failed as IsFailed, Completed as IsCompleted, Abandoned}
 use Rattle.batch_ids.specs.declared.status.WorkOutcome.{WorkOutcome}
 use Rattle.batch_ids.specs.declared.status.WorkOutcome.TheVariants.{Completed, Failed, Stopped}
 use Rattle.jsl_model.specs.Jobs.{JobTree}
 use Rattle.batch_history.specs.declared.call.Call.{Call}
-use Rattle.batch_history.specs.declared.call.Call.TheVariants.{Start, Restart, Stop, Abandon, Claim, Checkpoint, Finish}
+use Rattle.batch_history.specs.declared.call.Call.TheVariants.{Start, Restart, Stop, Abandon, Claim, Checkpoint, Finish, Lose}
 use Rattle.batch_history.specs.declared.call.Reply.{Reply}
 use Rattle.batch_history.specs.declared.call.Reply.TheVariants.{Execution as IsExecution, Work, Done}
 use Rattle.batch_history.specs.declared.call.WorkItem.{WorkItem}
@@ -22,18 +23,15 @@ use Rattle.batch_history.specs.declared.rows.WorkState.{WorkState}
 use Rattle.batch_history.specs.declared.rows.WorkState.TheVariants.{Busy, Over}
 use Rattle.batch_history.proofs.Folds.{made, makes, is_made, folded_rows, execution_row}
 use Rattle.batch_history.specs.Executions.{Made}
-use Rattle.batch_history.specs.Legal.{IsLegal}
-use Rattle.batch_history.specs.Replies.{is_nothing, reply_by, row_status, is_running_in, accepted, reply_to_claim, claim_reply, reply_to_stop, reply_to_abandon, go_or_stop, reply_to_kept_checkpoint, reply_to_stopped_step, reply_to_checkpoint, reply_to_finish, reply_to_end, report_refusal, unless, stop_requested_of, first_ready, walk_in_rows, has_something, is_execution}
-use Rattle.batch_history.specs.Rows.{History, Rows, rows_of_past}
+use Rattle.batch_history.specs.Replies.{is_nothing, reply_by, row_status, is_running_in, accepted, reply_to_claim, claim_reply, reply_to_stop, reply_to_abandon, go_or_stop, reply_to_kept_checkpoint, reply_to_stopped_step, reply_to_checkpoint, reply_to_finish, reply_to_end, reply_to_loss, loss_refusal, reply_to_restart, restart_refusal, refusal_by_status, is_restartable, is_later_than, report_refusal, unless, stop_requested_of, first_ready, walk_in_rows, has_something, is_execution}
+use Rattle.batch_history.specs.Rows.{Rows}
 use Rattle.batch_history.specs.Statuses.{is_finished}
 use Rattle.batch_history.specs.Walks.{job_named}
 use Rattle.batch_history.specs.Works.{is_work}
-use Rattle.batch_history.proofs.Agreeing.{reply-law}
-use Rattle.batch_history.proofs.Legal.{entered-is, cut-before}
-use Rattle.batch_history.proofs.Legality.{legal-fits}
-use Rattle.batch_history.proofs.Stepping.{AreNumbered, numbered}
+use Rattle.batch_history.proofs.Legal.{entered-is}
+use Rattle.batch_history.proofs.Stepping.{AreNumbered, numbered, remade-number}
 use Rattle.batch_history.proofs.Finding.{found-passes}
-use Rattle.history_laws.proofs.Works.{found-before}
+use Rattle.batch_history.proofs.WorkLists.{found-before}
 
 -- ---- Replies that were due
 
@@ -45,22 +43,6 @@ Due limit catalogue older e = (reply_by limit (folded_rows catalogue older) e.wh
 abbrev pub AllDue : ℕ → List JobTree → List Entry → Type 0
 AllDue limit catalogue [] = Unit {0}
 AllDue limit catalogue (e ∷ older) = Due limit catalogue older e × AllDue limit catalogue older
-
--- the entries of a legal history
-pub legal-due : (limit : ℕ) (h : History) (past rest : List Entry) → IsLegal limit h → h.log ≡ reverse past ++ rest → AllDue limit h.catalogue past
-legal-due limit h [] rest legal is = tt
-legal-due limit h (e ∷ older) rest legal is =
-    let cut : h.log ≡ reverse older ++ e ∷ rest = cut-before h.log older rest e is in
-    let due = legal.due (reverse older) e rest cut in
-    let found : reply_by limit (rows_of_past h.catalogue older) e.who e.call ≡ Ok e.reply =
-    subst (λ (p : List Entry). reply_by limit (rows_of_past h.catalogue p) e.who e.call ≡ Ok e.reply) (reverse-reverse older) due.0 in (
-      (sym (reply-law limit h.catalogue older e.who e.call (legal-fits limit h older (e ∷ rest) legal cut)) ∙ found, due.1),
-      legal-due limit h older (e ∷ rest) legal cut,
-    )
-
-pub past-due : (limit : ℕ) (h : History) → IsLegal limit h → AllDue limit h.catalogue (reverse h.log)
-past-due limit h legal =
-    legal-due limit h (reverse h.log) [] legal (sym (append-nil (reverse (reverse h.log)) ∙ reverse-reverse h.log))
 
 -- ---- Job executions that were made
 
@@ -96,7 +78,7 @@ row-of catalogue past p row e =
     record { one = from.one; is_row = from.is_row; found = from.found }
 
 -- numbers of those that were made
-made-among : (x k : ℕ) (ms : List Made) (m : Made) → AreNumbered k ms → find (is_made x) ms ≡ Some m → x < length ms + k
+pub made-among : (x k : ℕ) (ms : List Made) (m : Made) → AreNumbered k ms → find (is_made x) ms ≡ Some m → x < length ms + k
 made-among x k [] m h e = cc
 made-among x k (n ∷ ms) m h e =
     (elim (n.execution == x) as (λ b. (n.execution == x) ≡ b → cond b (Some n) (find (is_made x) ms) ≡ Some m → x < length (n ∷ ms) + k) [
@@ -112,6 +94,7 @@ makes-other count x (Abandon y) lt = refl
 makes-other count x Claim lt = refl
 makes-other count x (Checkpoint w mark step) lt = refl
 makes-other count x (Finish w o t step) lt = refl
+makes-other count x (Lose w) lt = refl
 
 -- a job execution that was made is not made again
 pub made-once : (older : List Entry) (x : ℕ) (m : Made) (call : Call) → find (is_made x) (made older) ≡ Some m → makes (length (made older)) x call ≡ false
@@ -126,6 +109,7 @@ made-with x m older at (Abandon y) reply who h = h
 made-with x m older at Claim reply who h = h
 made-with x m older at (Checkpoint w mark step) reply who h = h
 made-with x m older at (Finish w o t step) reply who h = h
+made-with x m older at (Lose w) reply who h = h
 
 -- and stays as it was made
 pub made-more : (older : List Entry) (e : Entry) (x : ℕ) (m : Made) → find (is_made x) (made older) ≡ Some m → find (is_made x) (made (e ∷ older)) ≡ Some m
@@ -133,6 +117,33 @@ made-more older e x m h = made-with x m older e.at e.call e.reply e.who h
 
 pub made-number : (x : ℕ) (past : List Entry) (m : Made) → find (is_made x) (made past) ≡ Some m → m.execution ≡ x
 made-number x past m h = eqb-true m.execution x (found-passes (is_made x) (made past) m h)
+
+-- ---- Before an operation
+
+find-missed : {X : Type 0} (p : X → Bool) (xs : List X) (new x : X) → p new ≡ false → find p (xs ++ new ∷ []) ≡ Some x → find p xs ≡ Some x
+find-missed p [] new x off e = let none : cond (p new) (Some new) None ≡ None = rw off refl in cc
+find-missed p (y ∷ ys) new x off e =
+    (elim (p y) as (λ b. cond b (Some y) (find p (ys ++ new ∷ [])) ≡ Some x → cond b (Some y) (find p ys) ≡ Some x) [
+      | true ↦ λ s. s
+      | false ↦ λ s. find-missed p ys new x off s
+    ]) e
+
+-- a job execution that an operation doesn't make was made before it
+made-call : (older : List Entry) (who at : ℕ) (call : Call) (reply : Reply) (x : ℕ) (m : Made) → makes (length (made older)) x call ≡ false
+    → find (is_made x) (made (record { who = who; call = call; at = at; reply = reply } ∷ older)) ≡ Some m → find (is_made x) (made older) ≡ Some m
+made-call older who at (Start job parameters) reply x m off e = find-missed (is_made x) (made older) _ m off e
+made-call older who at (Restart y parameters) reply x m off e =
+    find-missed (is_made x) (made older) _ m (ap (λ n. n == x) (remade-number (length (made older) + 1) at parameters (find (is_made y) (made older))) ∙ off) e
+made-call older who at (Stop y) reply x m off e = e
+made-call older who at (Abandon y) reply x m off e = e
+made-call older who at Claim reply x m off e = e
+made-call older who at (Checkpoint w mark step) reply x m off e = e
+made-call older who at (Finish w o t step) reply x m off e = e
+made-call older who at (Lose w) reply x m off e = e
+
+pub made-before : (older : List Entry) (e : Entry) (x : ℕ) (m : Made) → makes (length (made older)) x e.call ≡ false
+    → find (is_made x) (made (e ∷ older)) ≡ Some m → find (is_made x) (made older) ≡ Some m
+made-before older e x m off found = made-call older e.who e.at e.call e.reply x m off found
 
 -- ---- What replies tell
 
@@ -175,6 +186,50 @@ checkpoint-told limit r who w given e = checkpoint-found limit r who w (find (is
 
 pub finish-told : (limit : ℕ) (r : Rows) (who w : ℕ) (o : WorkOutcome) (given : Reply) → reply_to_finish limit r who o (find (is_work w) r.works) ≡ Ok given → ToldReport r.works w
 finish-told limit r who w o given e = finish-found limit r who w o (find (is_work w) r.works) given refl e
+
+lost-busy : (state : WorkState) (reply : Result Reply Refusal) (given : Reply) → unless (loss_refusal state) reply ≡ Ok given → state ≡ Busy
+lost-busy Busy reply given e = refl
+lost-busy (Over outcome exit) reply given e = cc
+
+loss-found : (limit count : ℕ) (works : List WorkRow) (w : ℕ) (found : Option WorkRow) (given : Reply) → find (is_work w) works ≡ found
+    → reply_to_loss limit count found ≡ Ok given → ToldReport works w
+loss-found limit count works w None given is e = cc
+loss-found limit count works w (Some row) given is e = record { row = row; found = is; busy = lost-busy row.state _ given e }
+
+pub loss-told : (limit count : ℕ) (works : List WorkRow) (w : ℕ) (given : Reply) → reply_to_loss limit count (find (is_work w) works) ≡ Ok given → ToldReport works w
+loss-told limit count works w given e = loss-found limit count works w (find (is_work w) works) given refl e
+
+-- a restart that is accepted is of a job execution with no later one in its job instance, STOPPED or FAILED
+pub record ToldRestart (r : Rows) (y : ℕ) : Type 0 where
+  pub row : ExecutionRow
+  pub found : find (is_execution y) r.executions ≡ Some row
+  pub newest : list_any (is_later_than row) r.executions ≡ false
+  pub over : (row_status row ≡ IsStopped) ⊎ (row_status row ≡ IsFailed)
+
+over-status : (restartable : Bool) (status : BatchStatus) (reply : Result Reply Refusal) (given : Reply)
+    → unless (refusal_by_status restartable status) reply ≡ Ok given → (status ≡ IsStopped) ⊎ (status ≡ IsFailed)
+over-status restartable IsCompleted reply given e = cc
+over-status restartable IsStopped reply given e = inl refl
+over-status restartable IsFailed reply given e = inr refl
+over-status restartable Starting reply given e = cc
+over-status restartable Started reply given e = cc
+over-status restartable Stopping reply given e = cc
+over-status restartable Abandoned reply given e = cc
+
+restart-found : (limit : ℕ) (r : Rows) (y : ℕ) (found : Option ExecutionRow) (given : Reply) → find (is_execution y) r.executions ≡ found
+    → reply_to_restart limit r found ≡ Ok given → ToldRestart r y
+restart-found limit r y None given is e = cc
+restart-found limit r y (Some row) given is e =
+    let restartable : Bool = is_restartable (job_named r.catalogue row.job) in
+    let reply : Result Reply Refusal = accepted limit r.count (IsExecution (length r.executions + 1)) in
+    (elim (list_any (is_later_than row) r.executions) as (λ b. list_any (is_later_than row) r.executions ≡ b
+    → unless (cond b (Some JobExecutionNotMostRecentException) (refusal_by_status restartable (row_status row))) reply ≡ Ok given → ToldRestart r y) [
+      | true ↦ λ s t. cc
+      | false ↦ λ s t. record { row = row; found = is; newest = s; over = over-status restartable (row_status row) reply given t }
+    ]) refl e
+
+pub restart-told : (limit : ℕ) (r : Rows) (y : ℕ) (given : Reply) → reply_to_restart limit r (find (is_execution y) r.executions) ≡ Ok given → ToldRestart r y
+restart-told limit r y given e = restart-found limit r y (find (is_execution y) r.executions) given refl e
 
 -- a stop that is accepted is of an unfinished job execution
 pub record ToldStop (r : Rows) (x : ℕ) : Type 0 where
@@ -269,14 +324,23 @@ not-abandoned limit r None item e = cc
 not-abandoned limit r (Some row) item e =
     not-tested (list_any (is_running_in row.instance) r.executions) JobExecutionIsRunningException _ item (not-work limit r.count Done item (λ s. cc)) e
 
+not-lost : (limit count : ℕ) (found : Option WorkRow) (item : WorkItem) → reply_to_loss limit count found ≡ Ok (Work item) → ⊥
+not-lost limit count None item e = cc
+not-lost limit count (Some row) item e = not-unless (loss_refusal row.state) _ item (not-work limit count Done item (λ s. cc)) e
+
+not-restarted : (limit : ℕ) (r : Rows) (found : Option ExecutionRow) (item : WorkItem) → reply_to_restart limit r found ≡ Ok (Work item) → ⊥
+not-restarted limit r None item e = cc
+not-restarted limit r (Some row) item e =
+    not-unless (restart_refusal r row) _ item (not-work limit r.count (IsExecution (length r.executions + 1)) item (λ s. cc)) e
+
 -- a call that is answered with work is a claim
 pub work-told : (limit : ℕ) (r : Rows) (who : ℕ) (call : Call) (item : WorkItem) → reply_by limit r who call ≡ Ok (Work item) → ToldClaim r (Work item)
 work-told limit r who (Start job parameters) item e =
     absurd (not-made (is_some (job_named r.catalogue job)) JobStartException _ item (not-work limit r.count (IsExecution (length r.executions + 1)) item (λ s. cc)) e)
-work-told limit r who (Restart x parameters) item e =
-    absurd (not-made (is_some (find (is_execution x) r.executions)) NoSuchJobExecutionException _ item (not-work limit r.count (IsExecution (length r.executions + 1)) item (λ s. cc)) e)
+work-told limit r who (Restart x parameters) item e = absurd (not-restarted limit r (find (is_execution x) r.executions) item e)
 work-told limit r who (Stop x) item e = absurd (not-stop limit r.count (find (is_execution x) r.executions) item e)
 work-told limit r who (Abandon x) item e = absurd (not-abandoned limit r (find (is_execution x) r.executions) item e)
 work-told limit r who Claim item e = claim-told limit r (Work item) e refl
 work-told limit r who (Checkpoint w mark step) item e = absurd (not-checkpointed limit r who (find (is_work w) r.works) item e)
 work-told limit r who (Finish w o exit step) item e = absurd (not-finished limit r who o (find (is_work w) r.works) item e)
+work-told limit r who (Lose w) item e = absurd (not-lost limit r.count (find (is_work w) r.works) item e)

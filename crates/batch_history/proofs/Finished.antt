@@ -9,12 +9,12 @@ use Rattle.jsl_model.specs.Jobs.{JobTree}
 use Rattle.job_walk.specs.declared.facts.Value.{Value}
 use Rattle.job_walk.specs.declared.facts.Value.TheVariants.{Open, Done as IsDone, Ended}
 use Rattle.batch_history.specs.declared.call.Call.{Call}
-use Rattle.batch_history.specs.declared.call.Call.TheVariants.{Start, Restart, Stop, Abandon, Claim, Checkpoint, Finish}
+use Rattle.batch_history.specs.declared.call.Call.TheVariants.{Start, Restart, Stop, Abandon, Claim, Checkpoint, Finish, Lose}
 use Rattle.batch_history.specs.declared.call.Reply.{Reply}
 use Rattle.batch_history.specs.declared.call.Entry.{Entry}
 use Rattle.batch_history.specs.declared.rows.ExecutionRow.{ExecutionRow}
 use Rattle.batch_history.specs.declared.rows.WorkRow.{WorkRow}
-use Rattle.batch_history.proofs.Folds.{made, makes, is_made, works_of, start_of, stop_of, abandoned_of, updated_of, end_of, value_after, bare_of, folded_rows, execution_row}
+use Rattle.batch_history.proofs.Folds.{made, makes, is_made, works_of, start_of, stop_of, abandoned_of, updated_of, end_of, value_after, plan_kept, bare_of, folded_rows, execution_row}
 use Rattle.batch_history.specs.Executions.{Made}
 use Rattle.batch_history.specs.Lists.{is_at}
 use Rattle.batch_history.specs.Moments.{first_moment}
@@ -22,16 +22,19 @@ use Rattle.batch_history.specs.Operations.{taken_up, taken_up_by, stop_request}
 use Rattle.batch_history.specs.Replies.{row_status, first_ready, walk_in_rows, has_something_by, has_something, claim_reply, is_execution}
 use Rattle.batch_history.specs.Rows.{Rows}
 use Rattle.batch_history.specs.Statuses.{batch_status, is_finished}
-use Rattle.batch_history.specs.Walks.{job_named, walk_of}
+use Rattle.batch_history.specs.Walks.{element_facts, job_named, walk_of}
 use Rattle.batch_history.proofs.Knowing.{known_elements, facts-same}
 use Rattle.batch_history.specs.Works.{is_work, execution_of_operation, execution_of_work}
-use Rattle.batch_history.proofs.Stepping.{known-same, begun-by, named-by, ended-by, same_row, same_status, settled, earliest-false, taken-touched, asked-touched}
-use Rattle.history_laws.specs.Laws.{IsAsBefore}
-use Rattle.history_laws.proofs.Walks.{busy_sight, seen}
+use Rattle.batch_history.proofs.Stepping.{known-same, begun-by, named-by, ended-by, same_row, same_status, settled, earliest-false, taken-touched, asked-touched, planned-by}
+use Rattle.batch_history.proofs.Sights.{busy_sight, seen}
 use Rattle.batch_history.proofs.Finding.{found-passes}
-use Rattle.history_laws.proofs.Works.{each-found}
-use Rattle.history_laws.proofs.Told.{Due, AllDue, IsRowOf, row-of, made-once, made-more, ToldClaim, claim-told, ToldReport, checkpoint-told, finish-told, ToldStop, stop-told}
-use Rattle.history_laws.proofs.Kept.{IsHeld, IsKept, kept}
+use Rattle.batch_history.proofs.WorkLists.{each-found}
+use Rattle.batch_history.proofs.Told.{Due, AllDue, IsRowOf, row-of, made-once, made-more, ToldClaim, claim-told, ToldReport, checkpoint-told, finish-told, loss-told, ToldStop, stop-told}
+use Rattle.batch_history.proofs.Kept.{IsHeld, IsKept, kept}
+
+-- a job execution as it was, but for whether it is abandoned and when an operation was last on it
+abbrev pub IsAsBefore : ExecutionRow → ExecutionRow → Type 0
+IsAsBefore before after = after ≡ record before { abandoned = after.abandoned; updated = after.updated }
 
 -- ---- An operation that asks it for nothing
 
@@ -46,11 +49,14 @@ row-kept catalogue past e m made_no not_asked not_taken known =
     named-by stop_request past e x made_no ∙ (ap (λ b. stop_of past x || b) not_asked ∙ or-false (stop_of past x)) in
     let s : start_of (e ∷ past) x ≡ start_of past x =
     begun-by past e x made_no ∙ (ap (λ b. first_moment (start_of past x) b e.at) not_taken ∙ earliest-false (start_of past x) e.at) in
-    let v : value_after catalogue (e ∷ past) m ≡ value_after catalogue past m = ap (λ f. walk_of f (job_named catalogue m.job)) (facts-same x _ _ known) in
+    let k : plan_kept catalogue (e ∷ past) x ≡ plan_kept catalogue past x = planned-by catalogue past e x made_no in
+    let v : value_after catalogue (e ∷ past) m ≡ value_after catalogue past m =
+    ap (λ p. walk_of p (element_facts x (works_of (e ∷ past))) (job_named catalogue m.job)) k
+    ∙ ap (λ f. walk_of (plan_kept catalogue past x) f (job_named catalogue m.job)) (facts-same x _ _ known) in
     let n : end_of catalogue (e ∷ past) m ≡ end_of catalogue past m =
     ended-by catalogue past e m made_no
     ∙ (ap (λ b. first_moment (end_of catalogue past m) (is_finished b) e.at) (same_status _ _ _ _ _ _ p s v) ∙ settled catalogue past m e.at) in
-    same_row m _ _ (abandoned_of (e ∷ past) x) _ _ _ _ _ _ _ (updated_of (e ∷ past) x) _ p refl s v n refl
+    same_row m _ _ _ _ (abandoned_of (e ∷ past) x) _ _ _ _ _ _ _ (updated_of (e ∷ past) x) _ k p refl s v n refl
 
 -- ---- An operation that is on it
 
@@ -64,7 +70,7 @@ busy-unfinished id stop (Some t) (IsDone exit) shown begun = cc
 busy-unfinished id stop (Some t) (Ended status exit point) shown begun = cc
 
 -- the job execution of a busy work item is not over
-owner-unfinished : (catalogue : List JobTree) (past : List Entry) (w : ℕ) (m : Made) → IsKept catalogue past → ToldReport (works_of past) w
+pub owner-unfinished : (catalogue : List JobTree) (past : List Entry) (w : ℕ) (m : Made) → IsKept catalogue past → ToldReport (works_of past) w
     → find (is_made m.execution) (made past) ≡ Some m → is_at m.execution (execution_of_work (works_of past) w) ≡ true → is_finished (bare_of catalogue past m) ≡ false
 owner-unfinished catalogue past w m k told found on =
     let c : WorkRow = told.row in
@@ -87,12 +93,12 @@ has-unfinished false Failed v h = cc
 has-unfinished false Completed v h = cc
 has-unfinished false Abandoned v h = cc
 
-claimed-execution : (r : Rows) (row : ExecutionRow) (ready : Option (List ℕ)) → taken_up_by (claim_reply r row ready) ≡ Some row.execution
+pub claimed-execution : (r : Rows) (row : ExecutionRow) (ready : Option (List ℕ)) → taken_up_by (claim_reply r row ready) ≡ Some row.execution
 claimed-execution r row None = refl
 claimed-execution r row (Some id) = refl
 
 -- the job execution of a claim is not over
-claim-unfinished : (catalogue : List JobTree) (past : List Entry) (m : Made) (reply : Reply) → ToldClaim (folded_rows catalogue past) reply
+pub claim-unfinished : (catalogue : List JobTree) (past : List Entry) (m : Made) (reply : Reply) → ToldClaim (folded_rows catalogue past) reply
     → find (is_made m.execution) (made past) ≡ Some m → is_at m.execution (taken_up_by reply) ≡ true → is_finished (bare_of catalogue past m) ≡ false
 claim-unfinished catalogue past m reply told found on =
     let r : Rows = folded_rows catalogue past in
@@ -175,6 +181,10 @@ finished-call limit catalogue past who at (Finish w o t step) reply m due k foun
     on-it (is_at m.execution (execution_of_work (works_of past) w))
     (λ on. absurd (not-both (bare_of catalogue past m) over (owner-unfinished catalogue past w m k (finish-told limit (folded_rows catalogue past) who w o reply due.0) found on)))
     (λ off. away catalogue past (entry who at (Finish w o t step) reply) m refl off)
+finished-call limit catalogue past who at (Lose w) reply m due k found over =
+    on-it (is_at m.execution (execution_of_work (works_of past) w))
+    (λ on. absurd (not-both (bare_of catalogue past m) over (owner-unfinished catalogue past w m k (loss-told limit (length past) (works_of past) w reply due.0) found on)))
+    (λ off. away catalogue past (entry who at (Lose w) reply) m refl off)
 
 -- after one operation more
 pub finished-step : (limit : ℕ) (catalogue : List JobTree) (past : List Entry) (e : Entry) (m : Made) → AllDue limit catalogue (e ∷ past)

@@ -1,0 +1,66 @@
+-- The rows of a beginning of a legal history, and of its past.
+use Rattle.std.proofs.Common.{◌≡◌, ℕ, Some, List, [], ◌∷◌, ◌++◌, length, find, reverse, refl, sym, ◌∙◌, ap, arith}
+use Rattle.std.specs.Option.{option_map}
+use Rattle.std.proofs.lemmas.List.{length-append, append_assoc}
+use Rattle.std.proofs.lemmas.Bool.{eqb-true}
+use Rattle.jsl_model.specs.Jobs.{JobTree}
+use Rattle.job_walk.proofs.Following.{find-map}
+use Rattle.batch_history.specs.declared.call.Entry.{Entry}
+use Rattle.batch_history.proofs.Folds.{made, is_made, works_of, folded_rows, execution_row}
+use Rattle.batch_history.specs.Executions.{Made}
+use Rattle.batch_history.specs.Legal.{IsLegal}
+use Rattle.batch_history.specs.Replies.{is_execution}
+use Rattle.batch_history.specs.Rows.{History, Rows, rows}
+use Rattle.batch_history.specs.Works.{is_work}
+use Rattle.batch_history.specs.declared.rows.ExecutionRow.{ExecutionRow}
+use Rattle.history_laws.specs.Laws.{beginning, row_in}
+use Rattle.batch_history.proofs.Finding.{found-passes}
+use Rattle.batch_history.proofs.Legality.{rows_folded}
+use Rattle.batch_history.proofs.Told.{AllDue, IsRowOf, row-of}
+
+-- ---- Rows of a legal history
+
+-- a beginning of a legal history is legal
+pub legal-beginning : (limit : ℕ) (h : History) → IsLegal limit h → (before after : List Entry) → h.log ≡ before ++ after → IsLegal limit (beginning h before)
+legal-beginning limit h legal before after cut = record {
+  within = omega (arith, legal.within, ap length cut, length-append before after);
+  due = λ b e a is. legal.due b e (a ++ after) (cut ∙ (ap (λ l. l ++ after) is ∙ append_assoc b (e ∷ a) after));
+}
+
+-- the row of a job execution is the one that the fold has
+pub row-folded : (limit : ℕ) (h : History) → IsLegal limit h → (x : ℕ) → row_in h x ≡ find (is_execution x) (folded_rows h.catalogue (reverse h.log)).executions
+row-folded limit h legal x = ap (λ (r : Rows). find (is_execution x) r.executions) (rows_folded limit h legal)
+
+-- so is that of a work item
+pub work-folded : (limit : ℕ) (h : History) → IsLegal limit h → (w : ℕ) → find (is_work w) (rows h).works ≡ find (is_work w) (works_of (reverse h.log))
+work-folded limit h legal w = ap (λ (r : Rows). find (is_work w) r.works) (rows_folded limit h legal)
+
+-- ---- Rows of a past
+
+-- the row of a job execution that was made
+pub row-there : (catalogue : List JobTree) (past : List Entry) (x : ℕ) (m : Made) → find (is_made x) (made past) ≡ Some m
+    → find (is_execution x) (folded_rows catalogue past).executions ≡ Some (execution_row catalogue past m)
+row-there catalogue past x m found =
+    find-map (execution_row catalogue past) (is_execution x) (is_made x) (λ n. refl) (made past) ∙ ap (option_map (execution_row catalogue past)) found
+
+pub record IsRowAt (catalogue : List JobTree) (past : List Entry) (x : ℕ) (row : ExecutionRow) : Type 0 where
+  pub one : Made
+  pub number : one.execution ≡ x
+  pub found : find (is_made one.execution) (made past) ≡ Some one
+  pub is_row : row ≡ execution_row catalogue past one
+
+pub row-at : (catalogue : List JobTree) (past : List Entry) (x : ℕ) (row : ExecutionRow) → find (is_execution x) (folded_rows catalogue past).executions ≡ Some row → IsRowAt catalogue past x row
+row-at catalogue past x row found =
+    let from : IsRowOf catalogue past row = row-of catalogue past (is_execution x) row found in
+    let number : row.execution ≡ x = eqb-true row.execution x (found-passes (is_execution x) (folded_rows catalogue past).executions row found) in
+    record {
+      one = from.one;
+      number = sym (ap (λ (r : ExecutionRow). r.execution) from.is_row) ∙ number;
+      found = from.found;
+      is_row = from.is_row;
+    }
+
+-- what is older was due too
+pub due-older : (limit : ℕ) (catalogue : List JobTree) (more past : List Entry) → AllDue limit catalogue (more ++ past) → AllDue limit catalogue past
+due-older limit catalogue [] past due = due
+due-older limit catalogue (e ∷ more) past due = due-older limit catalogue more past due.1

@@ -1,0 +1,167 @@
+-- What is handed out.
+use Rattle.std.proofs.Common.{◌≡◌, ℕ, Bool, true, false, Option, None, Some, Ok, List, ◌∷◌, ◌++◌, find, reverse, refl, sym, ◌∙◌, ap, subst}
+use Rattle.jsl_model.specs.Jobs.{JobTree}
+use Rattle.batch_history.specs.declared.call.Entry.{Entry}
+use Rattle.batch_history.specs.declared.call.WorkItem.{WorkItem}
+use Rattle.batch_history.specs.declared.call.Reply.TheVariants.{Work}
+use Rattle.batch_history.proofs.Folds.{folded_rows, execution_row}
+use Rattle.batch_history.specs.Executions.{Made}
+use Rattle.batch_history.specs.Legal.{IsLegal}
+use Rattle.batch_history.specs.Replies.{reply, first_ready, walk_in_rows, runnable_of_job, claim_reply, next_work_item, has_something, work_task}
+use Rattle.batch_history.specs.Rows.{History, Rows, rows}
+use Rattle.batch_history.specs.Walks.{job_named, element_facts, carried_exit, unless_barred, step_fact, runnable_fact}
+use Rattle.batch_history.specs.declared.rows.ExecutionRow.{ExecutionRow}
+use Rattle.history_laws.specs.Laws.{beginning, row_in, WasReady, IsOpen, IsOfOpenStep, GoesOnFrom, checkpoint_in}
+use Rattle.batch_history.proofs.Legality.{past-due, rows_folded}
+use Rattle.batch_history.proofs.Told.{IsRowOf, row-of, ToldClaim, work-told}
+use Rattle.batch_history.proofs.Sights.{ready_sight}
+use Rattle.batch_history.proofs.Runs.{walk-runs}
+use Rattle.batch_history.proofs.Kept.{first-seen, IsUnknown, ready-unknown}
+use Rattle.jsl_model.specs.Names.{is_among}
+use Rattle.jsl_model.specs.declared.element.Task.{Task}
+use Rattle.jsl_model.specs.declared.element.Task.TheVariants.{Batchlet as BatchletStep, Chunk as ChunkStep}
+use Rattle.job_walk.specs.Runnables.{all_leaves, runnable_in}
+use Rattle.job_walk.specs.declared.facts.Fact.{Fact}
+use Rattle.job_walk.specs.declared.facts.Fact.TheVariants.{Nothing as FactNothing, Busy as FactBusy, Over as FactOver, Carried as FactCarried, Barred as FactBarred}
+use Rattle.job_walk.specs.declared.plan.Plan.{Plan}
+use Rattle.job_walk.specs.declared.runnable.Runnable.{Runnable}
+use Rattle.job_walk.specs.declared.runnable.Runnable.TheVariants.{Step as RunsStep, Decision as RunsDecision}
+use Rattle.batch_history.specs.Restarts.{plan_of}
+use Rattle.batch_history.specs.declared.call.WorkTask.TheVariants.{Chunk}
+use Rattle.batch_history.proofs.Plans.{plan-law}
+use Rattle.history_laws.proofs.Beginnings.{legal-beginning, row-folded, row-there}
+
+-- ---- What is handed out
+
+-- the job execution of a claim, by the rows of its past
+record IsOwner (h : History) (row : ExecutionRow) : Type 0 where
+  found : row_in h row.execution ≡ Some row
+  plan : row.plan ≡ plan_of h.catalogue (reverse h.log) row.execution
+
+is-owner : (limit : ℕ) (h : History) → IsLegal limit h → (row : ExecutionRow) → find (has_something (rows h)) (rows h).executions ≡ Some row → IsOwner h row
+is-owner limit h legal row found =
+    let past : List Entry = reverse h.log in
+    let folded : find (has_something (folded_rows h.catalogue past)) (folded_rows h.catalogue past).executions ≡ Some row =
+    sym (ap (λ (r : Rows). find (has_something r) r.executions) (rows_folded limit h legal)) ∙ found in
+    let from : IsRowOf h.catalogue past row = row-of h.catalogue past (has_something (folded_rows h.catalogue past)) row folded in
+    let m : Made = from.one in
+    let there : row_in h m.execution ≡ Some (execution_row h.catalogue past m) =
+    row-folded limit h legal m.execution ∙ row-there h.catalogue past m.execution m from.found in
+    subst (IsOwner h) (sym from.is_row) (record {
+      found = there;
+      plan = sym (plan-law limit h.catalogue past m.execution m (past-due limit h legal) from.found);
+    })
+
+-- what a claim hands out, and of which job execution
+record HandedOut (h : History) (item : WorkItem) : Type 0 where
+  row : ExecutionRow
+  least : find (has_something (rows h)) (rows h).executions ≡ Some row
+  ready : first_ready (walk_in_rows (rows h) row) ≡ Some item.element
+  is : item ≡ next_work_item (rows h) row item.element
+  owner : IsOwner h row
+
+was-handed : (limit : ℕ) (h : History) → IsLegal limit h → (item : WorkItem) → ToldClaim (rows h) (Work item) → HandedOut h item
+was-handed limit h legal item told =
+    (elim (first_ready (walk_in_rows (rows h) told.row)) as (λ o. first_ready (walk_in_rows (rows h) told.row) ≡ o → Work item ≡ claim_reply (rows h) told.row o → HandedOut h item) [
+      | None ↦ λ ready is. cc
+      | Some id ↦ λ ready is.
+          let same : item ≡ next_work_item (rows h) told.row id = cc in
+          let element : item.element ≡ id = ap (λ (i : WorkItem). i.element) same in
+          record {
+            row = told.row;
+            least = told.found;
+            ready = ready ∙ ap (λ (i : List ℕ). Some i) (sym element);
+            is = same ∙ ap (next_work_item (rows h) told.row) (sym element);
+            owner = is-owner limit h legal told.row told.found;
+          }
+    ]) refl told.answered
+
+handed : (limit : ℕ) (h : History) → IsLegal limit h → (before : List Entry) (e : Entry) (after : List Entry) → h.log ≡ before ++ e ∷ after
+    → (item : WorkItem) → e.reply ≡ Work item → HandedOut (beginning h before) item
+handed limit h legal before e after cut item is =
+    let due = legal.due before e after cut in
+    let there : reply limit (beginning h before) e.who e.call ≡ Ok (Work item) = due.0 ∙ ap Ok is in
+    was-handed limit (beginning h before) (legal-beginning limit h legal before (e ∷ after) cut) item
+    (work-told limit (rows (beginning h before)) e.who e.call item there)
+
+was-ready : (h : History) (item : WorkItem) → HandedOut h item → WasReady h item
+was-ready h item out =
+    record {
+      owner = out.row;
+      least = out.least;
+      execution = ap (λ (i : WorkItem). i.execution) out.is;
+      plan = out.owner.plan;
+      ready = out.ready;
+      runs = walk-runs ready_sight item.element out.row.plan (element_facts out.row.execution (rows h).works) (job_named h.catalogue out.row.job)
+          (first-seen item.element (walk_in_rows (rows h) out.row) out.ready);
+      task = ap (λ (i : WorkItem). i.task) out.is;
+      number = ap (λ (i : WorkItem). i.work) out.is;
+    }
+
+-- what a claim hands out was ready
+pub handed_ready : (limit : ℕ) (h : History) → IsLegal limit h → (before : List Entry) (e : Entry) (after : List Entry) → h.log ≡ before ++ e ∷ after
+    → (item : WorkItem) → e.reply ≡ Work item → WasReady (beginning h before) item
+handed_ready limit h legal before e after cut item is = was-ready (beginning h before) item (handed limit h legal before e after cut item is)
+
+-- its job execution, by the number that it has
+owner-found : (h : History) (item : WorkItem) (out : HandedOut h item) → row_in h item.execution ≡ Some out.row
+owner-found h item out = ap (λ (i : WorkItem). row_in h i.execution) out.is ∙ out.owner.found
+
+-- ---- Carried and barred steps
+
+unbarred : (worked : Fact) (barred : Bool) → unless_barred worked barred ≡ FactNothing → barred ≡ false
+unbarred FactNothing true h = cc
+unbarred FactNothing false h = refl
+unbarred FactBusy barred h = cc
+unbarred (FactOver outcome exit) barred h = cc
+unbarred (FactCarried exit) barred h = cc
+unbarred FactBarred barred h = cc
+
+step-open : (carried : Option (List ℕ)) (worked : Fact) (barred : Bool) → step_fact carried worked barred ≡ FactNothing → (carried ≡ None) × (barred ≡ false)
+step-open (Some exit) worked barred h = cc
+step-open None worked barred h = (refl, unbarred worked barred h)
+
+-- a step of which nothing is known is neither carried nor barred
+unknown-open : (plan : Plan) (worked : List ℕ → Fact) (job : Option JobTree) (id : List ℕ) (task : Task) → IsUnknown plan worked job id
+    → runnable_of_job job id ≡ Some (RunsStep task) → IsOpen plan id
+unknown-open plan worked job id task u runs =
+    let here : runnable_in (all_leaves u.tree.elements) id ≡ Some (RunsStep task) = sym (ap (λ j. runnable_of_job j id) u.is) ∙ runs in
+    step-open (carried_exit plan.carried id) (worked id) (is_among plan.barred id)
+    (sym (ap (runnable_fact plan id (worked id)) here) ∙ u.unknown)
+
+pub handed_open : (limit : ℕ) (h : History) → IsLegal limit h → (before : List Entry) (e : Entry) (after : List Entry) → h.log ≡ before ++ e ∷ after
+    → (item : WorkItem) → e.reply ≡ Work item → IsOfOpenStep (beginning h before) item
+handed_open limit h legal before e after cut item is =
+    let then : History = beginning h before in
+    let out : HandedOut then item = handed limit h legal before e after cut item is in
+    let row : ExecutionRow = out.row in
+    let worked : List ℕ → Fact = element_facts row.execution (rows then).works in
+    let unknown : IsUnknown row.plan worked (job_named h.catalogue row.job) item.element = ready-unknown row.plan worked (job_named h.catalogue row.job) item.element out.ready in
+    record {
+      owner = row;
+      found = owner-found then item out;
+      step = λ task runs. unknown-open row.plan worked (job_named h.catalogue row.job) item.element task unknown runs;
+    }
+
+-- ---- Checkpoints
+
+chunk-from : (mark : Option (List ℕ)) (runs : Option Runnable) (reader writer : List ℕ) (processor : Option (List ℕ)) (count : ℕ) (given : Option (List ℕ))
+    → work_task mark runs ≡ Chunk reader processor writer count given → given ≡ mark
+chunk-from mark (Some (RunsStep (BatchletStep artifact))) reader writer processor count given h = cc
+chunk-from mark (Some (RunsStep (ChunkStep r p w n))) reader writer processor count given h = cc
+chunk-from mark (Some (RunsDecision artifact)) reader writer processor count given h = cc
+chunk-from mark None reader writer processor count given h = cc
+
+pub handed_from : (limit : ℕ) (h : History) → IsLegal limit h → (before : List Entry) (e : Entry) (after : List Entry) → h.log ≡ before ++ e ∷ after
+    → (item : WorkItem) → e.reply ≡ Work item → (reader writer : List ℕ) (processor : Option (List ℕ)) (count : ℕ) (mark : Option (List ℕ))
+    → item.task ≡ Chunk reader processor writer count mark → GoesOnFrom (beginning h before) item mark
+handed_from limit h legal before e after cut item is reader writer processor count mark task =
+    let then : History = beginning h before in
+    let out : HandedOut then item = handed limit h legal before e after cut item is in
+    let given : work_task (checkpoint_in then out.row item.element) (runnable_of_job (job_named h.catalogue out.row.job) item.element) ≡ Chunk reader processor writer count mark =
+    sym (ap (λ (i : WorkItem). i.task) out.is) ∙ task in
+    record {
+      owner = out.row;
+      found = owner-found then item out;
+      checkpoint = chunk-from (checkpoint_in then out.row item.element) (runnable_of_job (job_named h.catalogue out.row.job) item.element) reader writer processor count mark given;
+    }
