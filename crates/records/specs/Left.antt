@@ -1,10 +1,12 @@
 -- What the readers of an index have left: filters of the rows.
-use Rattle.std.specs.Prelude.{ℕ, ◌==◌, List, map, filter, take, drop}
+use Rattle.std.specs.Prelude.{ℕ, ◌==◌, Bool, List, map, filter, take, drop}
 use Rattle.jsl_model.specs.Names.{unheld, is_among}
 use Rattle.batch_history.specs.declared.rows.JobInstance.{JobInstance}
 use Rattle.batch_history.specs.declared.rows.ExecutionRow.{ExecutionRow}
 use Rattle.batch_history.specs.declared.rows.WorkRow.{WorkRow}
 use Rattle.batch_history.specs.Answers.{instances_of_job}
+use Rattle.batch_history.specs.Lists.{is_at}
+use Rattle.batch_history.specs.Replies.{instance_in}
 use Rattle.records.specs.declared.readers.Names.{Names}
 use Rattle.records.specs.declared.readers.InstancesOf.{InstancesOf}
 use Rattle.records.specs.declared.readers.ExecutionsOf.{ExecutionsOf}
@@ -37,3 +39,11 @@ executions_left executions = executions_of executions.instance executions.rows.n
 
 abbrev pub works_left : WorksOf → List WorkRow
 works_left works = works_of works.execution works.rows.now
+
+-- whether a work item is of a job execution of this job instance
+abbrev pub is_work_of_instance : ℕ → List ExecutionRow → WorkRow → Bool
+is_work_of_instance i executions work = is_at i (instance_in executions work.execution)
+
+-- the work items of a job instance
+abbrev pub works_of_instance : ℕ → List ExecutionRow → List WorkRow → List WorkRow
+works_of_instance i executions works = filter (is_work_of_instance i executions) works

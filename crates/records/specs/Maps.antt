@@ -77,6 +77,7 @@ pub record KeepsExecution (before after : ExecutionRow) : Type 0 where
   pub job : after.job ≡ before.job
   pub parameters : after.parameters ≡ before.parameters
   pub create : after.create ≡ before.create
+  pub plan : after.plan ≡ before.plan
   pub stop : before.stop ≡ true → after.stop ≡ true
   pub abandoned : before.abandoned ≡ true → after.abandoned ≡ true
   pub start : IfSome before.start (λ t. after.start ≡ Some t)

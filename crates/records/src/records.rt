@@ -1,4 +1,4 @@
-ghost use Rattle.std.specs.Prelude.{◌≡◌, ◌+◌, ◌-◌, ◌^◌, ◌<◌, ◌≤◌, ◌++◌, ◌∷◌, [], ℕ, List, None, true, length, find, slice_set, is_some, option_copied, IsOk, IfSome, IfNone, OnOk, OnErr};
+ghost use Rattle.std.specs.Prelude.{◌≡◌, ◌+◌, ◌-◌, ◌^◌, ◌<◌, ◌≤◌, ◌++◌, ◌∷◌, [], ℕ, List, None, true, length, find, slice_set, is_some, option_copied, IsOk, IfOk, map, IfSome, IfNone, OnOk, OnErr};
 ghost use Rattle.jsl_model.specs.Names.{distinct};
 ghost use Rattle.batch_history.specs.Answers.{instances_of_job};
 ghost use Rattle.batch_history.specs.Lists.{change_first};
@@ -6,7 +6,7 @@ ghost use Rattle.batch_history.specs.Replies.{is_execution};
 ghost use Rattle.batch_history.specs.Works.{is_work};
 ghost use Rattle.records.specs.Maps.{no_rows, is_instance, is_place, mark_at, at_number, AreKeyed, SetsCheckpoint, MayReplaceExecution, MayReplaceWork};
 ghost use Rattle.records.specs.Placed.{is_elsewhere, with_mark, without_mark};
-ghost use Rattle.records.specs.Left.{job_names, names_left, instances_left, executions_of, executions_left, works_of, works_left};
+ghost use Rattle.records.specs.Left.{job_names, names_left, instances_left, executions_of, executions_left, works_of, works_left, works_of_instance, is_work_of_instance};
 
 use crate::readers::{ExecutionsOf, InstancesOf, Names, WorksOf};
 use batch_history::{CheckpointRow, ExecutionRow, JobInstance, WorkRow};
@@ -120,6 +120,39 @@ impl Records {
         ensures { works_left result ≡ works_of x self.now.works }
     {
         WorksOf::new(self.works.as_slice(), x)
+    }
+
+    /// The work items of this job instance, of all its job executions, by rising number. It costs time
+    /// as there are work items.
+    ///
+    /// # Errors
+    ///
+    /// `OutOfMemory` where memory is refused.
+    pub fn works_of_instance(
+        &self,
+        alloc: Global,
+        i: InstanceId,
+    ) -> Result<Vec<&WorkRow>, OutOfMemory>
+        ensures { IfOk result (λ found. map (λ row. row.now) found.items
+            ≡ works_of_instance i self.now.executions self.now.works) }
+    {
+        let mut found = Vec::new(alloc);
+        for row in self.works.as_slice() {
+            if self.is_of_instance(i, row) {
+                found.push(row)?;
+            }
+        }
+        Ok(found)
+    }
+
+    /// Whether a work item is of a job execution of this job instance.
+    fn is_of_instance(&self, i: InstanceId, row: &WorkRow) -> bool
+        ensures { result ≡ is_work_of_instance i self.now.executions row.now }
+    {
+        match self.execution(row.execution) {
+            None => false,
+            Some(execution) => execution.instance == i,
+        }
     }
 
     /// Adds a job instance with its first job execution, both with the next number.

@@ -18,17 +18,18 @@ use Rattle.batch_history.specs.declared.rows.ExecutionRow.{ExecutionRow}
 use Rattle.batch_history.specs.declared.rows.JobInstance.{JobInstance}
 use Rattle.batch_history.specs.declared.rows.WorkRow.{WorkRow}
 use Rattle.batch_history.proofs.Folds.{reported, over, over_as}
-use Rattle.batch_history.proofs.Steps.{fresh_row, again_row, refreshed, refreshed_by, instance_in, place_in, rows_after}
+use Rattle.batch_history.proofs.Steps.{fresh_row, again_row, refreshed, refreshed_by, place_in, rows_after}
 use Rattle.batch_history.specs.Checkpoints.{InstanceStep, instance_step_by, is_same_step, checkpoint_left}
 use Rattle.batch_history.specs.Lists.{change_first, is_at}
 use Rattle.batch_history.specs.Moments.{first_moment}
-use Rattle.batch_history.specs.Replies.{is_execution}
+use Rattle.batch_history.specs.Replies.{instance_in, is_execution, restart_plan}
 use Rattle.batch_history.specs.Rows.{Rows}
-use Rattle.batch_history.specs.Walks.{walk_value, walk_of, job_named}
-use Rattle.batch_history.proofs.Knowing.{known_elements, walk_known}
-use Rattle.job_walk.specs.Walk.{fact_of}
+use Rattle.batch_history.specs.Restarts.{first_plan}
+use Rattle.batch_history.specs.Walks.{walk_value, job_named}
+use Rattle.batch_history.proofs.Knowing.{known_elements}
 use Rattle.batch_history.specs.Works.{is_work, busy_work}
-use Rattle.seq_repository.specs.Kept.{Kept, AreLast, rows_over, rows_in}
+use Rattle.restart_rules.specs.Restarting.{rows_over}
+use Rattle.seq_repository.specs.Kept.{Kept, AreLast, rows_in}
 use Rattle.seq_repository.specs.declared.last_numbers.LastNumbers.{LastNumbers}
 use Rattle.batch_history.proofs.Finding.{found-passes}
 use Rattle.records.specs.Maps.{Maps, mark_at, is_over, MayReplaceExecution, MayReplaceWork}
@@ -208,12 +209,13 @@ found-work w rows row e = eqb-true row.work w (found-passes (is_work w) rows row
 
 -- the new row of a job execution that was found
 pub changed-row : (x : ℕ) (change : Change) (catalogue : List JobTree) (works : List WorkRow) (at : ℕ) (known : List Known) (rows : List ExecutionRow) (row new : ExecutionRow) (value : Value)
-    → find (is_execution x) rows ≡ Some row → known ≡ known_elements x works → value ≡ walk_of (fact_of known) (job_named catalogue row.job)
+    → find (is_execution x) rows ≡ Some row → known ≡ known_elements x works
+    → ((others : List WorkRow) → known ≡ known_elements row.execution others → value ≡ walk_value catalogue others row.execution row.job row.plan)
     → new ≡ refreshed (effect_of change) value at row
     → Some new ≡ option_map (row_after change catalogue works at) (find (is_execution x) rows)
 changed-row x change catalogue works at known rows row new value found is walk made =
-    let walked : value ≡ walk_value catalogue works row.execution row.job =
-    walk ∙ walk_known catalogue works row.execution row.job known (is ∙ ap (λ y. known_elements y works) (sym (found-execution x rows row found))) in
+    let walked : value ≡ walk_value catalogue works row.execution row.job row.plan =
+    walk works (is ∙ ap (λ y. known_elements y works) (sym (found-execution x rows row found))) in
     ap Some (made ∙ ap (λ v. refreshed (effect_of change) v at row) walked)
     ∙ ap (option_map (row_after change catalogue works at)) (sym found)
 
@@ -233,6 +235,7 @@ changed-own x change at rows row new value found made = (
     job = ap (λ (r : ExecutionRow). r.job) made;
     parameters = ap (λ (r : ExecutionRow). r.parameters) made;
     create = ap (λ (r : ExecutionRow). r.create) made;
+    plan = ap (λ (r : ExecutionRow). r.plan) made;
     stop = λ on. ap (λ (r : ExecutionRow). r.stop) made ∙ ap (λ b. b || (effect_of change).asks) on;
     abandoned = λ on. ap (λ (r : ExecutionRow). r.abandoned) made ∙ ap (λ b. b || (effect_of change).gives_up) on;
     start = moment-stays row.start (effect_of change).takes at new.start (ap (λ (r : ExecutionRow). r.start) made);
@@ -339,12 +342,12 @@ work-entered catalogue count old m1 m2 who at item kept new is made e1 e2 =
 
 pub start-entered : (catalogue : List JobTree) (count : ℕ) (last : LastNumbers) (old m : Maps) (who at : ℕ) (job : List ℕ) (parameters : List Pair) (reply : Reply)
     (made : JobInstance) (row : ExecutionRow) → AreLast last old
-    → made ≡ record { instance = last.instance + 1; job = job } → row ≡ fresh_row (last.execution + 1) (last.instance + 1) at job parameters
+    → made ≡ record { instance = last.instance + 1; job = job } → row ≡ fresh_row (last.execution + 1) (last.instance + 1) at job parameters (first_plan (job_named catalogue job))
     → m ≡ record old { instances = old.instances ++ made ∷ []; executions = old.executions ++ row ∷ [] }
     → rows_over catalogue (count + 1) m ≡ rows_after (rows_over catalogue count old) record { who = who; call = Start job parameters; at = at; reply = reply }
 start-entered catalogue count last old m who at job parameters reply made row lasts begun is e =
     let rows : JobInstance → ExecutionRow → Rows = λ i r. rows_over catalogue (count + 1) (record old { instances = old.instances ++ i ∷ []; executions = old.executions ++ r ∷ [] }) in
-    let numbered : ℕ → ℕ → Rows = λ i x. rows record { instance = i + 1; job = job } (fresh_row (x + 1) (i + 1) at job parameters) in
+    let numbered : ℕ → ℕ → Rows = λ i x. rows record { instance = i + 1; job = job } (fresh_row (x + 1) (i + 1) at job parameters (first_plan (job_named catalogue job))) in
     ap (rows_over catalogue (count + 1)) e
     ∙ (ap (λ (i : JobInstance). rows i row) begun
     ∙ (ap (λ (r : ExecutionRow). rows record { instance = last.instance + 1; job = job } r) is
@@ -353,12 +356,12 @@ start-entered catalogue count last old m who at job parameters reply made row la
 
 pub restart-entered : (catalogue : List JobTree) (count : ℕ) (last : LastNumbers) (old m : Maps) (who at y : ℕ) (parameters : List Pair) (reply : Reply)
     (earlier row : ExecutionRow) → AreLast last old → find (is_execution y) old.executions ≡ Some earlier
-    → row ≡ fresh_row (last.execution + 1) earlier.instance at earlier.job parameters
+    → row ≡ fresh_row (last.execution + 1) earlier.instance at earlier.job parameters (restart_plan (rows_over catalogue count old) earlier)
     → m ≡ record old { executions = old.executions ++ row ∷ [] }
     → rows_over catalogue (count + 1) m ≡ rows_after (rows_over catalogue count old) record { who = who; call = Restart y parameters; at = at; reply = reply }
 restart-entered catalogue count last old m who at y parameters reply earlier row lasts found is e =
     let rows : ExecutionRow → Rows = λ r. rows_over catalogue (count + 1) (record old { executions = old.executions ++ r ∷ [] }) in
     ap (rows_over catalogue (count + 1)) e
     ∙ (ap rows is
-    ∙ (ap (λ (x : ℕ). rows (fresh_row (x + 1) earlier.instance at earlier.job parameters)) lasts.execution
-    ∙ ap (λ (o : Option ExecutionRow). rows (again_row (length old.executions + 1) at parameters o)) (sym found)))
+    ∙ (ap (λ (x : ℕ). rows (fresh_row (x + 1) earlier.instance at earlier.job parameters (restart_plan (rows_over catalogue count old) earlier))) lasts.execution
+    ∙ ap (λ (o : Option ExecutionRow). rows (again_row (rows_over catalogue count old) (length old.executions + 1) at parameters o)) (sym found)))

@@ -3,6 +3,7 @@ pub mod Knowing
 pub mod Lists
 pub mod Metering
 pub mod Pages
+pub mod Placing
 pub mod Readers
 pub mod Replying
 pub mod Sound

@@ -3,17 +3,16 @@ use Rattle.std.proofs.Common.{◌≡◌, ℕ, ◌+◌, ◌==◌, ◌&&◌, ◌||
 use Rattle.std.specs.List.{list_any}
 use Rattle.std.proofs.lemmas.Bool.{eq-eqb}
 use Rattle.std.proofs.lemmas.List.{append_assoc, append-nil, reverse-append}
-use Rattle.job_walk.specs.declared.facts.Known.{Known}
 use Rattle.batch_history.specs.Answers.{is_running_of, record_of, records_of, running_executions}
 use Rattle.batch_history.specs.Lists.{change_first}
 use Rattle.batch_history.specs.Replies.{is_execution, is_running_in}
-use Rattle.batch_history.specs.Walks.{fact_of_state}
 use Rattle.batch_history.specs.declared.rows.ExecutionRow.{ExecutionRow}
 use Rattle.batch_history.specs.declared.rows.WorkRow.{WorkRow}
 use Rattle.batch_history.proofs.Knowing.{known_elements}
 use Rattle.records.specs.Left.{executions_of, works_of}
 use Rattle.records.specs.Maps.{IsNumberedFrom}
 use Rattle.records.proofs.Numbered.{execution_next, no_execution_next}
+use Rattle.restart_rules.proofs.Reading.{known_by, known_read}
 use Rattle.seq_repository.specs.Searches.{is_open}
 
 -- an unfinished job execution of a job instance
@@ -23,18 +22,6 @@ any_open i (row ∷ rest) =
     elim (row.instance == i) as (λ b. list_any is_open (cond b (row ∷ executions_of i rest) (executions_of i rest)) ≡ ((b && is_open row) || list_any (is_running_in i) rest)) [
       | true ↦ ap (λ b. is_open row || b) (any_open i rest)
       | false ↦ any_open i rest
-    ]
-
--- what a work item tells of its element
-abbrev pub known_by : WorkRow → Known
-known_by row = record { id = row.element; fact = fact_of_state row.state }
-
-pub known_read : (x : ℕ) (works : List WorkRow) → map known_by (works_of x works) ≡ known_elements x works
-known_read x [] = refl
-known_read x (row ∷ rest) =
-    elim (row.execution == x) as (λ b. map known_by (cond b (row ∷ works_of x rest) (works_of x rest)) ≡ cond b (known_by row ∷ known_elements x rest) (known_elements x rest)) [
-      | true ↦ ap (λ (ks : List Known). known_by row ∷ ks) (known_read x rest)
-      | false ↦ known_read x rest
     ]
 
 -- the work items of a job execution, one of them changed

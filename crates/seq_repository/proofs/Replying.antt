@@ -2,10 +2,11 @@
 use Rattle.std.proofs.Common.{◌≡◌, ℕ, ◌+◌, ◌<◌, true, false, cond, Option, None, Some, Result, Ok, Err, IfSome, is_some, List, [], find, length, refl, sym, ◌∙◌, ap}
 use Rattle.batch_ids.specs.Parameters.{Pair}
 use Rattle.batch_ids.specs.declared.refusal.Refusal.{Refusal}
-use Rattle.batch_ids.specs.declared.refusal.Refusal.TheVariants.{NoSuchJobExecutionException}
+use Rattle.batch_ids.specs.Refusals.{is_out_of_memory}
+use Rattle.batch_ids.specs.declared.refusal.Refusal.TheVariants.{JobStartException}
 use Rattle.batch_ids.specs.declared.status.WorkOutcome.{WorkOutcome}
 use Rattle.batch_history.specs.declared.call.Reply.{Reply}
-use Rattle.batch_history.specs.declared.call.Call.TheVariants.{Restart}
+use Rattle.batch_history.specs.declared.call.Call.TheVariants.{Start, Restart}
 use Rattle.batch_history.specs.declared.call.Reply.TheVariants.{Work, Execution as IsExecution}
 use Rattle.batch_history.specs.declared.call.Entry.{Entry}
 use Rattle.batch_history.specs.declared.call.WorkItem.{WorkItem}
@@ -15,7 +16,10 @@ use Rattle.batch_history.specs.declared.rows.WorkState.{WorkState}
 use Rattle.batch_history.specs.declared.rows.WorkState.TheVariants.{Busy, Over}
 use Rattle.records.specs.Maps.{is_over}
 use Rattle.batch_history.specs.Due.{IsDue}
-use Rattle.batch_history.specs.Replies.{reply_by, accepted, is_execution, reply_to_claim, claim_reply, reply_to_checkpoint, reply_to_finish, first_ready, walk_in_rows, has_something, is_nothing, report_refusal, reply_to_end, stop_requested_of, unless}
+use Rattle.batch_history.specs.Walks.{job_named}
+use Rattle.job_walk.specs.declared.plan.Plan.{Plan}
+use Rattle.restart_rules.specs.Restarting.{plan_due, plan_due_for, plan_unless}
+use Rattle.batch_history.specs.Replies.{reply_by, accepted, is_execution, reply_to_claim, claim_reply, reply_to_checkpoint, reply_to_finish, first_ready, walk_in_rows, has_something, is_nothing, report_refusal, reply_to_end, reply_to_loss, loss_refusal, reply_to_restart, restart_refusal, restart_plan, stop_requested_of, unless}
 use Rattle.batch_history.specs.Rows.{History, Rows}
 use Rattle.seq_repository.specs.Kept.{Kept, rows_in, IsNext}
 use Rattle.batch_history.specs.declared.call.Call.{Call}
@@ -85,11 +89,61 @@ next_entered limit kept e next = (next-parts limit kept e next).1
 pub next_room : (limit : ℕ) (kept : Kept) (e : Entry) → IsNext limit kept e → kept.count < limit
 next_room limit kept e next = accepted_room limit kept e.who e.call e.reply (next_due limit kept e next) (next_entered limit kept e next)
 
+restarted-some : (limit : ℕ) (r : Rows) (found : Option ExecutionRow) (given : Reply) → reply_to_restart limit r found ≡ Ok given → is_some found ≡ true
+restarted-some limit r None given e = cc
+restarted-some limit r (Some row) given e = refl
+
+unless-planned : (refusal : Option Refusal) (plan given : Plan) (reply : Result Reply Refusal) → plan_unless refusal plan ≡ Ok given → unless refusal reply ≡ reply
+unless-planned None plan given reply e = refl
+unless-planned (Some refusal) plan given reply e = cc
+
+planned-reply : (limit : ℕ) (r : Rows) (found : Option ExecutionRow) (plan : Plan) → plan_due_for r found ≡ Ok plan
+    → reply_to_restart limit r found ≡ accepted limit r.count (IsExecution (length r.executions + 1))
+planned-reply limit r None plan e = cc
+planned-reply limit r (Some row) plan e = unless-planned (restart_refusal r row) (restart_plan r row) plan _ e
+
+unless-refused : (refusal : Option Refusal) (plan : Plan) (given : Refusal) (reply : Result Reply Refusal) → plan_unless refusal plan ≡ Err given → unless refusal reply ≡ Err given
+unless-refused None plan given reply e = cc
+unless-refused (Some refusal) plan given reply e = cc
+
+refused-reply : (limit : ℕ) (r : Rows) (found : Option ExecutionRow) (refusal : Refusal) → plan_due_for r found ≡ Err refusal → reply_to_restart limit r found ≡ Err refusal
+refused-reply limit r None refusal e = cc
+refused-reply limit r (Some row) refusal e = unless-refused (restart_refusal r row) (restart_plan r row) refusal _ e
+
+-- what is lost, is there and is not over yet
+pub lost_there : (limit count : ℕ) (found : Option WorkRow) (given : Reply) → reply_to_loss limit count found ≡ Ok given → is_some found ≡ true
+lost_there limit count None given e = cc
+lost_there limit count (Some row) given e = refl
+
+lost-over : (state : WorkState) (reply : Result Reply Refusal) (given : Reply) → unless (loss_refusal state) reply ≡ Ok given → is_over state ≡ false
+lost-over Busy reply given e = refl
+lost-over (Over ended exit) reply given e = cc
+
+pub lost_busy : (limit count : ℕ) (found : Option WorkRow) (given : Reply) → reply_to_loss limit count found ≡ Ok given → IfSome found (λ row. is_over row.state ≡ false)
+lost_busy limit count None given e = tt
+lost_busy limit count (Some row) given e = lost-over row.state _ given e
+
 -- what is restarted, is there
 pub restarted_there : (limit : ℕ) (r : Rows) (who y : ℕ) (parameters : List Pair) (given : Reply) → reply_by limit r who (Restart y parameters) ≡ Ok given
     → is_some (find (is_execution y) r.executions) ≡ true
 restarted_there limit r who y parameters given e =
-    (elim (is_some (find (is_execution y) r.executions)) as (λ b. cond b (accepted limit r.count (IsExecution (length r.executions + 1))) (Err NoSuchJobExecutionException) ≡ Ok given → b ≡ true) [
+    restarted-some limit r (find (is_execution y) r.executions) given e
+
+-- what is started, is in the catalogue
+pub started_there : (limit : ℕ) (r : Rows) (who : ℕ) (job : List ℕ) (parameters : List Pair) (given : Reply) → reply_by limit r who (Start job parameters) ≡ Ok given
+    → is_some (job_named r.catalogue job) ≡ true
+started_there limit r who job parameters given e =
+    (elim (is_some (job_named r.catalogue job)) as (λ b. cond b (accepted limit r.count (IsExecution (length r.executions + 1))) (Err JobStartException) ≡ Ok given → b ≡ true) [
       | true ↦ λ s. refl
       | false ↦ λ s. cc
     ]) e
+
+-- the reply to a restart, by what may restart
+pub restart_due : (limit : ℕ) (r : Rows) (who x : ℕ) (parameters : List Pair) (plan : Plan) (result : Result Reply Refusal)
+    → plan_due r x ≡ Ok plan → result ≡ accepted limit r.count (IsExecution (length r.executions + 1)) → IsDue result (reply_by limit r who (Restart x parameters))
+restart_due limit r who x parameters plan result due is =
+    is-due result _ (is ∙ sym (planned-reply limit r (find (is_execution x) r.executions) plan due))
+
+pub restart_refused : (limit : ℕ) (r : Rows) (who x : ℕ) (parameters : List Pair) (refusal : Refusal)
+    → (is_out_of_memory refusal ≡ false → plan_due r x ≡ Err refusal) → is_out_of_memory refusal ≡ false → reply_by limit r who (Restart x parameters) ≡ Err refusal
+restart_refused limit r who x parameters refusal due some = refused-reply limit r (find (is_execution x) r.executions) refusal (due some)

@@ -25,7 +25,7 @@ effect_of Report = record { asks = false; gives_up = false; takes = false }
 -- the row after it, `works` being the work items after it
 abbrev pub row_after : Change → List JobTree → List WorkRow → ℕ → ExecutionRow → ExecutionRow
 row_after change catalogue works at row =
-    refreshed (effect_of change) (walk_value catalogue works row.execution row.job) at row
+    refreshed (effect_of change) (walk_value catalogue works row.execution row.job row.plan) at row
 
 -- the job executions with this row, if there is one, in place of the one of its number
 abbrev pub put_row : ℕ → Option ExecutionRow → List ExecutionRow → List ExecutionRow

@@ -5,7 +5,9 @@ use Rattle.jsl_model.specs.Jobs.{JobTree}
 use Rattle.batch_history.specs.Legal.{IsLegal, grown}
 use Rattle.batch_history.specs.Rows.{History, Rows, rows}
 use Rattle.batch_history.specs.declared.call.Entry.{Entry}
-use Rattle.records.specs.Maps.{Maps, mark_at}
+use Rattle.records.specs.Maps.{Maps}
+use Rattle.restart_rules.specs.Placed.{ArePlaced}
+use Rattle.restart_rules.specs.Restarting.{rows_over}
 use Rattle.seq_repository.specs.Metered.{AreWithin}
 use Rattle.seq_repository.specs.declared.last_numbers.LastNumbers.{LastNumbers}
 
@@ -17,18 +19,6 @@ pub record Kept : Type 0 where
   pub last : LastNumbers
   pub records : Maps
 
--- what these rows say, over a catalogue and after so many operations
-abbrev pub rows_over : List JobTree → ℕ → Maps → Rows
-rows_over catalogue count maps =
-    record {
-      catalogue = catalogue;
-      count = count;
-      instances = maps.instances;
-      executions = maps.executions;
-      works = maps.works;
-      checkpoint = mark_at maps.checkpoints;
-    }
-
 -- what it says
 abbrev pub rows_in : Kept → Rows
 rows_in kept = rows_over kept.catalogue kept.count kept.records
@@ -39,8 +29,8 @@ pub record AreLast (last : LastNumbers) (maps : Maps) : Type 0 where
   pub execution : last.execution ≡ length maps.executions
   pub work : last.work ≡ length maps.works
 
--- what a repository of at most so many operations keeps to: an operation gives one number of each kind at most, and the
--- counts of work items fit
+-- what a repository of at most so many operations keeps to: an operation gives one number of each kind at most, the
+-- counts of work items fit, and each walk begins at an element of the own list of its job
 pub record IsSound (limit : ℕ) (kept : Kept) : Type 0 where
   pub few : limit ≤ 1000000
   pub room : kept.count ≤ limit
@@ -49,6 +39,7 @@ pub record IsSound (limit : ℕ) (kept : Kept) : Type 0 where
   pub execution : kept.last.execution ≤ kept.count
   pub work : kept.last.work ≤ kept.count
   pub metrics : AreWithin (most_after kept.count) kept.records.works
+  pub placed : ArePlaced kept.catalogue kept.records.executions
 
 -- a repository stands for a history if it says what the history says
 abbrev pub StandsFor : Kept → History → Type 0

@@ -9,7 +9,7 @@ use Rattle.batch_history.specs.Walks.{walk_value}
 
 -- whether there is something to do for a job execution, by the catalogue and the work items
 abbrev pub has_ready : List JobTree → List WorkRow → ExecutionRow → Bool
-has_ready catalogue works row = has_something_by (row_status row) (walk_value catalogue works row.execution row.job)
+has_ready catalogue works row = has_something_by (row_status row) (walk_value catalogue works row.execution row.job row.plan)
 
 -- whether a job execution is unfinished
 abbrev pub is_open : ExecutionRow → Bool

@@ -5,6 +5,7 @@ ghost use Rattle.batch_history.specs.Due.{IsDue};
 ghost use Rattle.batch_history.specs.Lists.{change_first};
 ghost use Rattle.batch_history.specs.Replies.{is_execution, reply_by, is_nothing};
 ghost use Rattle.batch_history.proofs.Knowing.{known_elements};
+ghost use Rattle.batch_history.specs.Walks.{job_named};
 ghost use Rattle.batch_history.specs.Works.{is_work};
 ghost use Rattle.batch_history.proofs.Steps.{rows_after};
 ghost use Rattle.seq_repository.specs.Kept.{rows_in};
@@ -21,6 +22,7 @@ use batch_ids::{
 };
 use job_walk::Known;
 use records::Records;
+use restart_rules::{first_plan, known_of, restart_plan, walk_of};
 
 /// Puts a row in place of that of its job execution.
 fn put_row(records: &mut Records, x: ExecutionId, new: Option<ExecutionRow>)
@@ -86,7 +88,7 @@ impl<const LIMIT: u64> Repository<LIMIT> {
         match self.records.execution(x) {
             None => Ok(None),
             Some(row) => {
-                let value = search::walk_of(self.alloc, &self.catalogue, known, &row.job)?;
+                let value = walk_of(self.alloc, &self.catalogue, known, row)?;
                 Ok(Some(rows::change_row(self.alloc, change, value, at, row)?))
             }
         }
@@ -98,7 +100,8 @@ impl<const LIMIT: u64> Repository<LIMIT> {
         parameters: &Parameters,
         at: Moment,
     ) -> Result<(), OutOfMemory>
-        requires { self.old.count < LIMIT }
+        requires room { self.old.count < LIMIT }
+        requires there { is_some (job_named self.old.catalogue job.now) ≡ true }
         ensures rows { OnOk result (rows_in self.new ≡ rows_after (rows_in self.old) record {
           who = 0;
           call = Call.Start job.now parameters.now;
@@ -107,12 +110,16 @@ impl<const LIMIT: u64> Repository<LIMIT> {
         }) }
         ensures unchanged { OnErr result (self.new ≡ self.old) }
     {
+        let Some(tree) = self.catalogue.job(job.as_str()) else {
+            unreachable!();
+        };
+        let plan = first_plan(self.alloc, tree)?;
         let first = job.try_clone()?;
         let second = job.try_clone()?;
         let parameters = parameters.try_clone()?;
         let instance = InstanceId::new(self.last.instance + 1);
         let x = self.last.execution + 1;
-        let row = rows::new_execution(x, instance, at, second, parameters);
+        let row = rows::new_execution(x, instance, at, second, parameters, plan);
         let made = JobInstance {
             instance,
             job: first,
@@ -143,11 +150,12 @@ impl<const LIMIT: u64> Repository<LIMIT> {
         let Some(earlier) = self.records.execution(y) else {
             unreachable!();
         };
+        let plan = restart_plan(self.alloc, &self.records, &self.catalogue, earlier)?;
         let instance = earlier.instance;
         let job = earlier.job.try_clone()?;
         let parameters = parameters.try_clone()?;
         let x = self.last.execution + 1;
-        let row = rows::new_execution(x, instance, at, job, parameters);
+        let row = rows::new_execution(x, instance, at, job, parameters, plan);
         self.records.add_execution(row)?;
         self.last.execution += 1;
         self.count += 1;
@@ -170,7 +178,7 @@ impl<const LIMIT: u64> Repository<LIMIT> {
         }) }
         ensures unchanged { OnErr result (self.new ≡ self.old) }
     {
-        let known = search::known_of(self.alloc, &self.records, x)?;
+        let known = known_of(self.alloc, &self.records, x)?;
         let row = self.execution_after(x, change, known.as_slice(), at)?;
         put_row(&mut self.records, x, row);
         self.count += 1;
@@ -223,7 +231,7 @@ impl<const LIMIT: u64> Repository<LIMIT> {
         let element = work.element.try_clone()?;
         let mark = mark.try_clone()?;
         let work = rows::report_counts(*step, work)?;
-        let known = search::known_of(self.alloc, &self.records, x)?;
+        let known = known_of(self.alloc, &self.records, x)?;
         let row = self.execution_after(x, Change::Report, known.as_slice(), at)?;
         put_mark(&mut self.records, &row, element, mark)?;
         self.records.change_work(w, work);
@@ -268,6 +276,23 @@ impl<const LIMIT: u64> Repository<LIMIT> {
         Ok(())
     }
 
+    /// Enters that a work item is lost: it is FAILED.
+    fn enter_loss(&mut self, at: Moment, w: WorkId) -> Result<(), OutOfMemory>
+        requires room { self.old.count < LIMIT }
+        requires held { is_some (find (is_work w) self.old.records.works) ≡ true }
+        requires busy { IfSome (find (is_work w) self.old.records.works)
+            (λ row. is_over row.state ≡ false) }
+        ensures rows { OnOk result (rows_in self.new ≡ rows_after (rows_in self.old) record {
+          who = 0;
+          call = Call.Lose w;
+          at = at;
+          reply = Reply.Done;
+        }) }
+        ensures unchanged { OnErr result (self.new ≡ self.old) }
+    {
+        self.enter_finish(at, w, WorkOutcome::Failed, &None, &MetricStep::zero())
+    }
+
     #[tactic(auto, using(crate::proofs::Replying::claimed_next, crate::proofs::Entries::closed_rows))]
     fn enter_claim(&mut self, who: u64, at: Moment, reply: &Reply) -> Result<(), OutOfMemory>
         requires room { self.old.count < LIMIT }
@@ -289,7 +314,7 @@ impl<const LIMIT: u64> Repository<LIMIT> {
     }
 
     /// Enters a call with the reply that it is due.
-    #[tactic(auto, using(crate::proofs::Replying::restarted_there, crate::proofs::Replying::checkpointed_there, crate::proofs::Replying::finished_there, crate::proofs::Replying::finished_busy, crate::proofs::Entries::stop_rows, crate::proofs::Entries::abandon_rows))]
+    #[tactic(auto, using(crate::proofs::Replying::started_there, crate::proofs::Replying::restarted_there, crate::proofs::Replying::lost_there, crate::proofs::Replying::lost_busy, crate::proofs::Replying::checkpointed_there, crate::proofs::Replying::finished_there, crate::proofs::Replying::finished_busy, crate::proofs::Entries::stop_rows, crate::proofs::Entries::abandon_rows))]
     pub(crate) fn enter_call(
         &mut self,
         who: u64,
@@ -326,6 +351,7 @@ impl<const LIMIT: u64> Repository<LIMIT> {
                 exit,
                 step,
             } => self.enter_finish(at, *work, *outcome, exit, step),
+            Call::Lose { work } => self.enter_loss(at, *work),
         }
     }
 

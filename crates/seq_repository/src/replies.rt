@@ -1,7 +1,7 @@
 ghost use Rattle.std.specs.Prelude.{◌≡◌, [], find, IfOk};
 ghost use Rattle.std.specs.Option.{option_copied};
 ghost use Rattle.batch_history.specs.Due.{IsDue};
-ghost use Rattle.batch_history.specs.Replies.{is_execution, reply_by, accepted, claim_reply, reply_to_stop, reply_to_abandon, reply_to_checkpoint, reply_to_finish, stop_requested_of, report_refusal, reply_to_kept_checkpoint, reply_to_stopped_step, reply_to_stopped_work, reply_to_end, next_work_item, work_task, runnable_of_job, walk_in_rows, first_ready};
+ghost use Rattle.batch_history.specs.Replies.{is_execution, reply_by, accepted, claim_reply, reply_to_stop, reply_to_abandon, reply_to_checkpoint, reply_to_finish, reply_to_loss, stop_requested_of, report_refusal, reply_to_kept_checkpoint, reply_to_stopped_step, reply_to_stopped_work, reply_to_end, next_work_item, work_task, runnable_of_job, walk_in_rows, first_ready};
 ghost use Rattle.batch_history.specs.Walks.{job_named};
 ghost use Rattle.batch_history.specs.Works.{is_work};
 ghost use Rattle.seq_repository.specs.Kept.{rows_in};
@@ -13,6 +13,7 @@ use batch_history::{Call, ExecutionRow, Reply, WorkItem, WorkKind, WorkState, Wo
 use batch_ids::{ExecutionId, OutOfMemory, Refusal, T256, Text, WorkId, WorkOutcome};
 use job_walk::{Runnable, Value};
 use jsl_model::Task;
+use restart_rules::may_restart;
 use std::alloc::Global;
 
 /// The reply to a call that is accepted, or the refusal where the history is full.
@@ -148,13 +149,13 @@ impl<const LIMIT: u64> Repository<LIMIT> {
     }
 
     fn reply_to_restart(&self, x: ExecutionId) -> Result<Reply, Refusal>
-        ensures { result ≡ reply_by LIMIT (rows_in self.now) 0 (Call.Restart x []) }
+        ensures { IsDue result (reply_by LIMIT (rows_in self.now) 0 (Call.Restart x [])) }
     {
-        if self.records.execution(x).is_none() {
-            return Err(Refusal::NoSuchJobExecutionException);
+        if let Err(refusal) = may_restart(self.alloc, &self.records, &self.catalogue, x) {
+            return Err(refusal);
         }
-        let x = ExecutionId::new(self.last.execution + 1);
-        accept::<LIMIT>(self.count, Reply::Execution(x))
+        let next = ExecutionId::new(self.last.execution + 1);
+        accept::<LIMIT>(self.count, Reply::Execution(next))
     }
 
     fn reply_to_stop(&self, x: ExecutionId) -> Result<Reply, Refusal>
@@ -285,6 +286,19 @@ impl<const LIMIT: u64> Repository<LIMIT> {
         }
     }
 
+    fn reply_to_loss(&self, w: WorkId) -> Result<Reply, Refusal>
+        ensures { result ≡ reply_to_loss LIMIT self.now.count (find
+            (is_work w) self.now.records.works) }
+    {
+        match self.records.work(w) {
+            None => Err(Refusal::NoSuchWork),
+            Some(row) => match &row.state {
+                WorkState::Over(_, _) => Err(Refusal::WorkNotRunning),
+                WorkState::Busy => accept::<LIMIT>(self.count, Reply::Done),
+            },
+        }
+    }
+
     /// What a call of the session `who` is answered.
     pub(crate) fn reply(&self, who: u64, call: &Call) -> Result<Reply, Refusal>
         ensures { IsDue result (reply_by LIMIT (rows_in self.now) who call.now) }
@@ -297,6 +311,7 @@ impl<const LIMIT: u64> Repository<LIMIT> {
             Call::Claim => self.reply_to_claim(),
             Call::Checkpoint { work, .. } => self.reply_to_checkpoint(who, *work),
             Call::Finish { work, outcome, .. } => self.reply_to_finish(who, *work, *outcome),
+            Call::Lose { work } => self.reply_to_loss(*work),
         }
     }
 }

@@ -13,7 +13,7 @@ use batch_ids::{
     BatchStatus, ExecutionId, InstanceId, MetricStep, Metrics, Moment, OutOfMemory, Parameters,
     T256, WorkOutcome,
 };
-use job_walk::Value;
+use job_walk::{Plan, Value};
 use std::alloc::Global;
 
 /// What an operation does to the job execution that it is on.
@@ -36,14 +36,16 @@ pub(crate) fn new_execution(
     at: Moment,
     job: T256,
     parameters: Parameters,
+    plan: Plan,
 ) -> ExecutionRow
-    ensures { result ≡ fresh_row x instance at job parameters }
+    ensures { result ≡ fresh_row x instance at job parameters plan }
 {
     ExecutionRow {
         execution: ExecutionId::new(x),
         instance,
         job,
         parameters,
+        plan,
         stop: false,
         abandoned: false,
         bare: BatchStatus::Starting,
@@ -69,6 +71,7 @@ fn row_with(
 {
     let job = row.job.try_clone()?;
     let parameters = row.parameters.try_clone()?;
+    let plan = row.plan.try_clone(alloc)?;
     let bare = batch_status(stop, start, &value);
     let exit = exit_status(alloc, stop, start, value)?;
     Ok(ExecutionRow {
@@ -76,6 +79,7 @@ fn row_with(
         instance: row.instance,
         job,
         parameters,
+        plan,
         stop,
         abandoned,
         bare,

@@ -1,22 +1,23 @@
-ghost use Rattle.std.specs.Prelude.{ℕ, ◌≡◌, ◌++◌, ◌∷◌, [], IfOk, IfSome, find, length, is_some};
+ghost use Rattle.std.specs.Prelude.{ℕ, ◌≡◌, ◌++◌, ◌∷◌, [], true, IfOk, IfSome, find, length, is_some};
 ghost use Rattle.std.specs.List.{list_any};
 ghost use Rattle.std.specs.Option.{option_map};
 ghost use Rattle.batch_ids.specs.declared.metric_step.MetricStep.{MetricStep as Step};
 ghost use Rattle.batch_history.proofs.Folds.{over_as};
 ghost use Rattle.batch_history.specs.Lists.{change_first};
 ghost use Rattle.batch_history.specs.Replies.{is_running_in};
-ghost use Rattle.batch_history.specs.Walks.{fact_of_state, walk_of, walk_value, job_named};
+ghost use Rattle.batch_history.specs.Walks.{walk_value};
 ghost use Rattle.batch_history.proofs.Knowing.{known_elements};
-ghost use Rattle.job_walk.specs.Walk.{fact_of};
 ghost use Rattle.batch_history.specs.Works.{is_work, busy_work};
+ghost use Rattle.restart_rules.specs.Placed.{ArePlaced, is_placed};
 ghost use Rattle.seq_repository.specs.Searches.{has_ready};
 
 use crate::status::first_ready;
-use batch_history::{ExecutionRow, WorkItem, WorkState};
+use batch_history::{ExecutionRow, WorkItem};
 use batch_ids::{BatchStatus, ExecutionId, InstanceId, OutOfMemory, T256, WorkId, WorkOutcome};
 use job_walk::{Fact, Known, Value};
 use jsl_model::Catalogue;
 use records::Records;
+use restart_rules::{known_of, state_fact, walk_value};
 use std::alloc::Global;
 
 /// Whether a job execution of this job instance is unfinished.
@@ -30,34 +31,6 @@ pub(crate) fn is_running(records: &Records, i: InstanceId) -> bool
         }
     }
     false
-}
-
-fn fact_from(state: &WorkState) -> Result<Fact, OutOfMemory>
-    ensures { IfOk result (λ fact. fact ≡ fact_of_state state.now) }
-{
-    match state {
-        WorkState::Busy => Ok(Fact::Busy),
-        WorkState::Over(outcome, exit) => Ok(Fact::Over(*outcome, exit.try_clone()?)),
-    }
-}
-
-/// What is known of the elements of a job execution.
-#[tactic(auto, using(crate::proofs::Readers::known_read))]
-pub(crate) fn known_of(
-    alloc: Global,
-    records: &Records,
-    x: ExecutionId,
-) -> Result<Vec<Known>, OutOfMemory>
-    ensures { IfOk result (λ known. known.items ≡ known_elements x records.now.works) }
-{
-    let mut known = Vec::new(alloc);
-    for row in records.works_of(x) {
-        known.push(Known {
-            id: row.element.try_clone()?,
-            fact: fact_from(&row.state)?,
-        })?;
-    }
-    Ok(known)
 }
 
 /// What is known of the elements of the job execution of a work item, once it is handed out.
@@ -99,7 +72,7 @@ pub(crate) fn known_once_finished(
         let fact = if here {
             Fact::Over(outcome, exit.try_clone()?)
         } else {
-            fact_from(&row.state)?
+            state_fact(&row.state)?
         };
         known.push(Known {
             id: row.element.try_clone()?,
@@ -112,46 +85,6 @@ pub(crate) fn known_once_finished(
     Ok(known)
 }
 
-/// The value of a walk of this job, by what is known of its elements.
-pub(crate) fn walk_of(
-    alloc: Global,
-    catalogue: &Catalogue,
-    known: &[Known],
-    job: &T256,
-) -> Result<Value, OutOfMemory>
-    ensures { IfOk result (λ value. value
-        ≡ walk_of (fact_of known.now) (job_named catalogue.now job.now)) }
-{
-    let Some(job) = catalogue.job(job.as_str()) else {
-        return Ok(Value::Done {
-            exit: T256::empty(alloc),
-        });
-    };
-    let elements = job.elements();
-    match elements.first() {
-        None => {
-            let from = T256::empty(alloc);
-            Ok(job_walk::walk_value(alloc, known, elements, &from)?)
-        }
-        Some(first) => Ok(job_walk::walk_value(alloc, known, elements, &first.id)?),
-    }
-}
-
-/// The value of the walk of a job execution.
-#[tactic(auto, using(batch_history::proofs::Knowing::walk_known))]
-pub(crate) fn walk_value(
-    alloc: Global,
-    catalogue: &Catalogue,
-    records: &Records,
-    row: &ExecutionRow,
-) -> Result<Value, OutOfMemory>
-    ensures { IfOk result (λ value. value
-        ≡ walk_value catalogue.now records.now.works row.now.execution row.now.job) }
-{
-    let known = known_of(alloc, records, row.execution)?;
-    walk_of(alloc, catalogue, known.as_slice(), &row.job)
-}
-
 /// The value of the walk of a job execution, if there is something to do for it.
 fn claimable_value(
     alloc: Global,
@@ -159,10 +92,11 @@ fn claimable_value(
     records: &Records,
     row: &ExecutionRow,
 ) -> Result<Option<Value>, OutOfMemory>
+    requires { is_placed catalogue.now row.now ≡ true }
     ensures some { IfOk result (λ found. is_some found
         ≡ has_ready catalogue.now records.now.works row.now) }
     ensures value { IfOk result (λ found. IfSome found (λ value. value
-        ≡ walk_value catalogue.now records.now.works row.now.execution row.now.job)) }
+        ≡ walk_value catalogue.now records.now.works row.now.execution row.now.job row.now.plan)) }
 {
     match row.status() {
         BatchStatus::Starting => Ok(Some(walk_value(alloc, catalogue, records, row)?)),
@@ -196,11 +130,13 @@ pub(crate) fn find_claimable<'a>(
     records: &'a Records,
     last: u64,
 ) -> Result<Option<Claimable<'a>>, OutOfMemory>
-    requires { last ≡ length records.now.executions }
+    requires last { last ≡ length records.now.executions }
+    requires placed { ArePlaced catalogue.now records.now.executions }
     ensures first { IfOk result (λ found. option_map (λ c. c.row.now) found
         ≡ find (has_ready catalogue.now records.now.works) records.now.executions) }
     ensures value { IfOk result (λ found. IfSome found (λ c. c.value
-        ≡ walk_value catalogue.now records.now.works c.row.now.execution c.row.now.job)) }
+        ≡ walk_value catalogue.now records.now.works
+        c.row.now.execution c.row.now.job c.row.now.plan)) }
 {
     for place in 0..last {
         if let Some(row) = records.execution(ExecutionId::new(place + 1)) {

@@ -1,5 +1,7 @@
 use Rattle.std.proofs.Common.{Bool, List, find, is_some, ap, sym, ◌∙◌}
 use Rattle.batch_history.specs.declared.rows.ExecutionRow.{ExecutionRow}
+use Rattle.batch_history.specs.Replies.{is_execution}
+use Rattle.seq_repository.proofs.Placing.{placed_found}
 use Rattle.seq_repository.specs.Searches.{has_ready}
 use Rattle.seq_repository.proofs.Readers.{next_some, next_none, found_here, found_later}
 use Rattle.seq_repository.proofs.search.find_claimable.Goals.{in-Some+in_ok-value+in_default-2, in_default}
@@ -11,6 +13,10 @@ returns-in-Some-2-clause-first c =
     let next = next_some rows c.loop-place.place c.new.result c.in-Some.row.now c.in-Some.ensures.keyed.executions c.new.ensures c.in-Some.ensures.found in
     found_here (has_ready c.args.catalogue.now c.args.records.now.works) rows _ _ c.in-Some.row.now next c.loop-place.invariant
     (sym c.in_ok-value.ensures.some ∙ ap is_some c.in-Some-2.is)
+
+pub claimable_value-requires : goal.claimable_value-requires
+claimable_value-requires c =
+    placed_found c.args.catalogue.now (is_execution c.new.result) c.args.records.now.executions c.in-Some.row.now (sym c.in-Some.ensures.found) c.requires.placed
 
 pub loop-place-preserved : goal.loop-place-preserved
 loop-place-preserved c =

@@ -5,7 +5,8 @@ use Rattle.batch_history.specs.Works.{is_work}
 use Rattle.batch_history.specs.declared.rows.WorkRow.{WorkRow}
 use Rattle.job_walk.specs.declared.facts.Known.{Known}
 use Rattle.records.specs.Left.{works_left, works_of}
-use Rattle.seq_repository.proofs.Readers.{known_by, known_changed}
+use Rattle.restart_rules.proofs.Reading.{known_by}
+use Rattle.seq_repository.proofs.Readers.{known_changed}
 use Rattle.seq_repository.proofs.search.known_once_finished.Goals as goal
 
 pub loop-row-init : goal.loop-row-init

@@ -5,7 +5,7 @@ use Rattle.batch_history.specs.Lists.{change_first}
 use Rattle.batch_history.proofs.Knowing.{known_elements}
 use Rattle.batch_history.specs.Works.{is_work}
 use Rattle.records.specs.Left.{works_left}
-use Rattle.seq_repository.proofs.Readers.{known_by}
+use Rattle.restart_rules.proofs.Reading.{known_by}
 use Rattle.seq_repository.proofs.search.known_once_finished.Given as goal
 
 abbrev pub invariant-loop-row : goal.invariant-loop-row

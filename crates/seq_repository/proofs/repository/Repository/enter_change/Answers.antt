@@ -1,6 +1,7 @@
-use Rattle.std.proofs.Common.{◌≡◌, ◌∙◌, sym, ap, find, subst, arith}
+use Rattle.std.proofs.Common.{◌≡◌, ◌∙◌, IfSome, sym, ap, find, subst, arith}
 use Rattle.std.specs.Option.{option_map}
 use Rattle.batch_history.specs.Replies.{is_execution}
+use Rattle.records.specs.Maps.{MayReplaceExecution}
 use Rattle.seq_repository.specs.Kept.{Kept}
 use Rattle.seq_repository.specs.Changes.{row_after}
 use Rattle.seq_repository.proofs.Entries.{change-entered}
@@ -18,4 +19,5 @@ returns-clause-rows g c =
 pub invariant_of-self : goal.invariant_of-self
 invariant_of-self g c =
     let kept : Kept = record { catalogue = c.self.inside.catalogue; count = c.self.inside.count; last = c.self.inside.last; records = c.self.inside.records } in
-    sound_change g.row.LIMIT kept c.put_row.new.records c.args.x c.in_ok-row.row c.self.invariant (omega (arith, c.requires, ap (λ (r : Kept). r.count) c.self.view_is)) c.put_row.ensures
+    sound_change g.row.LIMIT kept c.put_row.new.records c.args.x c.in_ok-row.row c.self.invariant (omega (arith, c.requires, ap (λ (r : Kept). r.count) c.self.view_is))
+    (subst (λ (r : Kept). IfSome c.in_ok-row.row (λ row. MayReplaceExecution r.records.executions c.args.x row)) (sym c.self.view_is) c.in_ok-row.ensures.own) c.put_row.ensures

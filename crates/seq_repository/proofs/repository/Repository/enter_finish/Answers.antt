@@ -6,7 +6,7 @@ use Rattle.batch_history.specs.Lists.{change_first}
 use Rattle.batch_history.specs.Replies.{is_execution}
 use Rattle.batch_history.proofs.Knowing.{known_elements}
 use Rattle.batch_history.specs.Works.{is_work}
-use Rattle.records.specs.Maps.{Maps, MayReplaceWork, is_over}
+use Rattle.records.specs.Maps.{Maps, MayReplaceExecution, MayReplaceWork, is_over}
 use Rattle.seq_repository.specs.Kept.{Kept}
 use Rattle.std.specs.Option.{option_map}
 use Rattle.seq_repository.specs.declared.rows.Change.TheVariants.{Report}
@@ -37,7 +37,9 @@ invariant_of-self g c =
     let kept : Kept = record { catalogue = c.self.inside.catalogue; count = c.self.inside.count; last = c.self.inside.last; records = c.self.inside.records } in
     let alone = left-alone c.args.outcome (place_at c.in_ok-row.row c.in_ok-element.element) c.self.inside.records c.drop_mark.new.records c.drop_mark.ensures in
     sound_report g.row.LIMIT kept c.drop_mark.new.records _ c.put_row.new.records (is_work c.args.w) _ c.in-Some.work.now c.in_ok-work.work c.in_ok-row.row c.args.step.now
-    c.self.invariant (omega (arith, c.requires.room, ap (λ (r : Kept). r.count) c.self.view_is)) (sym c.in-Some.ensures) (ap (λ (row : WorkRow). row.metrics) c.in_ok-work.ensures.new) c.in_ok-work.ensures.small
+    c.self.invariant (omega (arith, c.requires.room, ap (λ (r : Kept). r.count) c.self.view_is))
+    (subst (λ (r : Kept). IfSome c.in_ok-row.row (λ row. MayReplaceExecution r.records.executions c.in-Some.work.now.execution row)) (sym c.self.view_is) c.in_ok-row.ensures.own)
+    (sym c.in-Some.ensures) (ap (λ (row : WorkRow). row.metrics) c.in_ok-work.ensures.new) c.in_ok-work.ensures.small
     alone c.change_work.ensures c.put_row.ensures
 
 pub returns-clause-rows : goal.returns-clause-rows

@@ -1,6 +1,11 @@
-use Rattle.std.proofs.Common.{ℕ, ◌+◌, List, sym, ◌∙◌, ap, arith}
+use Rattle.std.proofs.Common.{◌≡◌, ℕ, ◌+◌, true, List, sym, ◌∙◌, ap, arith}
 use Rattle.batch_ids.specs.Parameters.{Pair}
 use Rattle.batch_history.proofs.Steps.{fresh_row}
+use Rattle.batch_history.specs.Replies.{is_execution}
+use Rattle.batch_history.specs.Walks.{job_named}
+use Rattle.job_walk.specs.declared.plan.Plan.{Plan}
+use Rattle.restart_rules.specs.Placed.{begins_in_job, is_placed}
+use Rattle.seq_repository.proofs.Placing.{placed_found}
 use Rattle.batch_history.specs.declared.rows.ExecutionRow.{ExecutionRow}
 use Rattle.seq_repository.specs.declared.last_numbers.LastNumbers.{LastNumbers}
 use Rattle.batch_history.specs.declared.call.Reply.TheVariants.{Done}
@@ -12,15 +17,25 @@ use Rattle.seq_repository.proofs.repository.Repository.enter_restart.Goals as go
 pub invariant_of-self-2 : goal.invariant_of-self-2
 invariant_of-self-2 g c =
     let kept : Kept = record { catalogue = c.self.inside.catalogue; count = c.self.inside.count; last = c.self.inside.last; records = c.self.inside.records } in
-    sound_restart g.row.LIMIT kept c.add_execution.new.self _ c.self.invariant (omega (arith, c.requires.room, ap (λ (r : Kept). r.count) c.self.view_is)) c.in_ok-add_execution.ensures.added
+    let row : ExecutionRow = c.new_execution-row.result in
+    let placed : is_placed kept.catalogue row ≡ true =
+    ap (λ (r : ExecutionRow). is_placed kept.catalogue r) c.new_execution-row.ensures
+    ∙ (ap (λ job. begins_in_job c.in_ok-plan.plan (job_named kept.catalogue job)) c.in_ok-job.ensures ∙ c.in_ok-plan.ensures.begins) in
+    sound_restart g.row.LIMIT kept c.add_execution.new.self row c.self.invariant (omega (arith, c.requires.room, ap (λ (r : Kept). r.count) c.self.view_is)) placed c.in_ok-add_execution.ensures.added
+
+pub restart_plan-requires : goal.restart_plan-requires
+restart_plan-requires g c =
+    placed_found c.self.inside.catalogue (is_execution c.args.y) c.self.inside.records.executions c.in-Some.earlier.now (sym c.in-Some.ensures.found) c.self.invariant.placed
 
 pub returns-clause-rows : goal.returns-clause-rows
 returns-clause-rows g c =
     let last : LastNumbers = c.self.inside.last in
     let earlier : ExecutionRow = c.in-Some.earlier.now in
-    let row : List ℕ → List Pair → ExecutionRow = λ job parameters. fresh_row (last.execution + 1) earlier.instance c.args.at job parameters in
+    let row : List ℕ → List Pair → Plan → ExecutionRow = λ job parameters plan. fresh_row (last.execution + 1) earlier.instance c.args.at job parameters plan in
     rw (← c.self.view_is)
     (restart-entered c.self.inside.catalogue c.self.inside.count last c.self.inside.records c.add_execution.new.self 0 c.args.at c.args.y c.args.parameters.now Done
     earlier c.new_execution-row.result c.self.invariant.last (sym c.in-Some.ensures.found)
-    (c.new_execution-row.ensures ∙ (ap (λ job. row job c.in_ok-parameters.parameters) c.in_ok-job.ensures ∙ ap (row earlier.job) c.in_ok-parameters.ensures.same))
+    (c.new_execution-row.ensures ∙ (ap (λ job. row job c.in_ok-parameters.parameters c.in_ok-plan.plan) c.in_ok-job.ensures
+    ∙ (ap (λ p. row earlier.job p c.in_ok-plan.plan) c.in_ok-parameters.ensures.same
+    ∙ ap (row earlier.job c.args.parameters.now) (c.in_ok-plan.ensures.plan c.self.inside.count))))
     c.in_ok-add_execution.ensures.added)

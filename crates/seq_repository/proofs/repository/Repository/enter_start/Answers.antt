@@ -1,6 +1,11 @@
-use Rattle.std.proofs.Common.{ℕ, ◌+◌, List, ◌∙◌, ap, arith}
+use Rattle.std.proofs.Common.{◌≡◌, ℕ, ◌+◌, true, Some, List, sym, ◌∙◌, ap, arith}
 use Rattle.batch_ids.specs.Parameters.{Pair}
 use Rattle.batch_history.proofs.Steps.{fresh_row}
+use Rattle.batch_history.specs.Restarts.{first_plan}
+use Rattle.batch_history.specs.Walks.{job_named}
+use Rattle.job_walk.specs.declared.plan.Plan.{Plan}
+use Rattle.jsl_model.specs.Jobs.{JobTree}
+use Rattle.restart_rules.specs.Placed.{begins_in_job, is_placed}
 use Rattle.batch_history.specs.declared.rows.ExecutionRow.{ExecutionRow}
 use Rattle.seq_repository.specs.declared.last_numbers.LastNumbers.{LastNumbers}
 use Rattle.batch_history.specs.declared.call.Reply.TheVariants.{Done}
@@ -12,17 +17,29 @@ use Rattle.seq_repository.proofs.repository.Repository.enter_start.Goals as goal
 pub invariant_of-self-2 : goal.invariant_of-self-2
 invariant_of-self-2 g c =
     let kept : Kept = record { catalogue = c.self.inside.catalogue; count = c.self.inside.count; last = c.self.inside.last; records = c.self.inside.records } in
-    sound_start g.row.LIMIT kept c.add_instance.new.self _ _ c.self.invariant (omega (arith, c.requires, ap (λ (r : Kept). r.count) c.self.view_is)) c.in_ok-add_instance.ensures.added
+    let tree : JobTree = c.in-Some.tree.now in
+    let named : job_named kept.catalogue c.in_ok-second.second ≡ Some tree =
+    ap (job_named kept.catalogue) c.in_ok-second.ensures ∙ (ap (job_named kept.catalogue) (sym c.as_str.ensures.same) ∙ sym c.in-Some.ensures) in
+    let row : ExecutionRow = c.new_execution-row.result in
+    let placed : is_placed kept.catalogue row ≡ true =
+    ap (λ (r : ExecutionRow). is_placed kept.catalogue r) c.new_execution-row.ensures
+    ∙ (ap (begins_in_job c.in_ok-plan.plan) named ∙ c.in_ok-plan.ensures.begins) in
+    sound_start g.row.LIMIT kept c.add_instance.new.self _ row c.self.invariant (omega (arith, c.requires.room, ap (λ (r : Kept). r.count) c.self.view_is)) placed c.in_ok-add_instance.ensures.added
 
 pub returns-clause-rows : goal.returns-clause-rows
 returns-clause-rows g c =
     let last : LastNumbers = c.self.inside.last in
-    let row : ℕ → List ℕ → List Pair → ExecutionRow = λ i job parameters. fresh_row (last.execution + 1) i c.args.at job parameters in
+    let catalogue : List JobTree = c.self.inside.catalogue in
+    let row : ℕ → List ℕ → List Pair → Plan → ExecutionRow = λ i job parameters plan. fresh_row (last.execution + 1) i c.args.at job parameters plan in
+    let named : job_named catalogue c.args.job.now ≡ Some c.in-Some.tree.now = ap (job_named catalogue) (sym c.as_str.ensures.same) ∙ sym c.in-Some.ensures in
+    let planned : c.in_ok-plan.plan ≡ first_plan (job_named catalogue c.args.job.now) = c.in_ok-plan.ensures.plan ∙ ap first_plan (sym named) in
     rw (← c.self.view_is)
     (start-entered c.self.inside.catalogue c.self.inside.count last c.self.inside.records c.add_instance.new.self 0 c.args.at c.args.job.now c.args.parameters.now Done
     record { instance = c.new-instance.result; job = c.in_ok-first.first } c.new_execution-row.result c.self.invariant.last
     (ap (λ (i : ℕ). record { instance = i; job = c.in_ok-first.first }) c.new-instance.ensures
     ∙ ap (λ (job : List ℕ). record { instance = last.instance + 1; job = job }) c.in_ok-first.ensures)
-    (c.new_execution-row.ensures ∙ (ap (λ i. row i c.in_ok-second.second c.in_ok-parameters.parameters) c.new-instance.ensures
-    ∙ (ap (λ job. row (last.instance + 1) job c.in_ok-parameters.parameters) c.in_ok-second.ensures ∙ ap (row (last.instance + 1) c.args.job.now) c.in_ok-parameters.ensures.same)))
+    (c.new_execution-row.ensures ∙ (ap (λ i. row i c.in_ok-second.second c.in_ok-parameters.parameters c.in_ok-plan.plan) c.new-instance.ensures
+    ∙ (ap (λ job. row (last.instance + 1) job c.in_ok-parameters.parameters c.in_ok-plan.plan) c.in_ok-second.ensures
+    ∙ (ap (λ p. row (last.instance + 1) c.args.job.now p c.in_ok-plan.plan) c.in_ok-parameters.ensures.same
+    ∙ ap (row (last.instance + 1) c.args.job.now c.args.parameters.now) planned))))
     c.in_ok-add_instance.ensures.added)

@@ -1,6 +1,7 @@
-use Rattle.std.proofs.Common.{◌≡◌, ◌∙◌, ◌++◌, ◌∷◌, [], sym, ap, find, subst, arith}
+use Rattle.std.proofs.Common.{◌≡◌, ◌∙◌, ◌++◌, ◌∷◌, [], IfSome, sym, ap, find, subst, arith}
 use Rattle.std.specs.Option.{option_map}
 use Rattle.batch_history.specs.Replies.{is_execution}
+use Rattle.records.specs.Maps.{MayReplaceExecution}
 use Rattle.seq_repository.specs.Kept.{Kept}
 use Rattle.batch_history.specs.Works.{busy_work}
 use Rattle.batch_history.specs.declared.rows.WorkRow.{WorkRow}
@@ -25,4 +26,5 @@ pub invariant_of-self-2 : goal.invariant_of-self-2
 invariant_of-self-2 g c =
     let kept : Kept = record { catalogue = c.self.inside.catalogue; count = c.self.inside.count; last = c.self.inside.last; records = c.self.inside.records } in
     sound_work g.row.LIMIT kept _ c.put_row.new.records c.args.item.now.execution c.in_ok-row.row c.in_ok-work.work c.self.invariant (omega (arith, c.requires.room, ap (λ (r : Kept). r.count) c.self.view_is))
+    (subst (λ (r : Kept). IfSome c.in_ok-row.row (λ row. MayReplaceExecution r.records.executions c.args.item.now.execution row)) (sym c.self.view_is) c.in_ok-row.ensures.own)
     (ap (λ (row : WorkRow). row.metrics) c.in_ok-work.ensures) c.in_ok-add_work.ensures.added c.put_row.ensures

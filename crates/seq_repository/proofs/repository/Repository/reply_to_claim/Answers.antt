@@ -16,7 +16,7 @@ returns-in_ok-reply-in-Some g c =
     sym (ap (option_map (λ (x : Claimable). x.row.now)) c.in-Some.is) ∙ (c.in_ok-find_claimable.ensures.first
     ∙ ap (λ (v : Kept). find (has_something (rows_in v)) v.records.executions) c.self.view_is) in
     let walked : q.value ≡ walk_in_rows r q.row.now =
-    subst (λ (o : Option Claimable). IfSome o (λ x. x.value ≡ walk_value c.self.inside.catalogue c.self.inside.records.works x.row.now.execution x.row.now.job)) c.in-Some.is c.in_ok-find_claimable.ensures.value
+    subst (λ (o : Option Claimable). IfSome o (λ x. x.value ≡ walk_value c.self.inside.catalogue c.self.inside.records.works x.row.now.execution x.row.now.job x.row.now.plan)) c.in-Some.is c.in_ok-find_claimable.ensures.value
     ∙ ap (λ (v : Kept). walk_in_rows (rows_in v) q.row.now) c.self.view_is in
     claim_due g.row.LIMIT r q.row.now q.value c.in_ok-reply-in-Some.reply c.accept.result found walked c.in_ok-reply-in-Some.ensures
     (c.accept.ensures ∙ ap (λ (v : Kept). accepted g.row.LIMIT v.count c.in_ok-reply-in-Some.reply) c.self.view_is)

@@ -1,0 +1,35 @@
+-- What is read by an index of the rows is what is read from all of them.
+use Rattle.std.proofs.Common.{◌≡◌, ℕ, ◌==◌, ◌&&◌, ◌||◌, Bool, true, false, cond, nat_lt, List, [], ◌∷◌, map, refl, ap}
+use Rattle.std.specs.List.{list_any}
+use Rattle.job_walk.specs.declared.facts.Known.{Known}
+use Rattle.batch_history.specs.Replies.{is_later_than}
+use Rattle.batch_history.specs.Walks.{fact_of_state}
+use Rattle.batch_history.specs.declared.rows.ExecutionRow.{ExecutionRow}
+use Rattle.batch_history.specs.declared.rows.WorkRow.{WorkRow}
+use Rattle.batch_history.proofs.Knowing.{known_elements}
+use Rattle.records.specs.Left.{executions_of, works_of}
+
+-- what a work item tells of its element
+abbrev pub known_by : WorkRow → Known
+known_by row = record { id = row.element; fact = fact_of_state row.state }
+
+pub known_read : (x : ℕ) (works : List WorkRow) → map known_by (works_of x works) ≡ known_elements x works
+known_read x [] = refl
+known_read x (row ∷ rest) =
+    elim (row.execution == x) as (λ b. map known_by (cond b (row ∷ works_of x rest) (works_of x rest)) ≡ cond b (known_by row ∷ known_elements x rest) (known_elements x rest)) [
+      | true ↦ ap (λ (ks : List Known). known_by row ∷ ks) (known_read x rest)
+      | false ↦ known_read x rest
+    ]
+
+-- whether a job execution has a number above this one
+abbrev pub is_above : ℕ → ExecutionRow → Bool
+is_above x row = nat_lt x row.execution
+
+pub later_read : (row : ExecutionRow) (rows : List ExecutionRow) → list_any (is_above row.execution) (executions_of row.instance rows) ≡ list_any (is_later_than row) rows
+later_read row [] = refl
+later_read row (other ∷ rest) =
+    elim (other.instance == row.instance) as (λ b. list_any (is_above row.execution) (cond b (other ∷ executions_of row.instance rest) (executions_of row.instance rest))
+    ≡ ((b && is_above row.execution other) || list_any (is_later_than row) rest)) [
+      | true ↦ ap (λ b. is_above row.execution other || b) (later_read row rest)
+      | false ↦ later_read row rest
+    ]

@@ -1,0 +1,15 @@
+use Rattle.std.proofs.Common.{◌≡◌, ◌++◌, map, drop}
+use Rattle.jsl_model.specs.Trees.{joined}
+use Rattle.batch_history.specs.JobSteps.{all_steps, steps_of_element, steps_of_flow}
+use Rattle.restart_rules.specs.Restarting.{job_step}
+use Rattle.restart_rules.proofs.steps.+gathering.Given as goal
+
+abbrev pub invariant-add_inside-loop-flow : goal.invariant-add_inside-loop-flow
+invariant-add_inside-loop-flow l =
+    map job_step l.steps.items ++ joined (map steps_of_flow (drop l.flow-index l.flow-items))
+    ≡ map job_step l.fn.steps.items ++ steps_of_element l.element
+
+abbrev pub invariant-add_all-loop-element : goal.invariant-add_all-loop-element
+invariant-add_all-loop-element l =
+    map job_step l.steps.items ++ all_steps (drop l.element-index l.elements)
+    ≡ map job_step l.fn.steps.items ++ all_steps l.elements

@@ -1,0 +1,42 @@
+-- What a restart is due.
+use Rattle.std.specs.Prelude.{ℕ, Option, Some, None, Result, Ok, Err, List, find}
+use Rattle.batch_ids.specs.declared.refusal.Refusal.{Refusal}
+use Rattle.batch_ids.specs.declared.refusal.Refusal.TheVariants.{NoSuchJobExecutionException}
+use Rattle.jsl_model.specs.Jobs.{JobTree}
+use Rattle.job_walk.specs.declared.plan.Plan.{Plan}
+use Rattle.batch_history.specs.JobSteps.{JobStep}
+use Rattle.batch_history.specs.Replies.{is_execution, restart_refusal, restart_plan}
+use Rattle.batch_history.specs.Rows.{Rows}
+use Rattle.batch_history.specs.declared.rows.ExecutionRow.{ExecutionRow}
+use Rattle.records.specs.Maps.{Maps, mark_at}
+use Rattle.restart_rules.specs.declared.steps.StepOf.{StepOf}
+
+-- what these rows say, over a catalogue and after so many operations
+abbrev pub rows_over : List JobTree → ℕ → Maps → Rows
+rows_over catalogue count maps =
+    record {
+      catalogue = catalogue;
+      count = count;
+      instances = maps.instances;
+      executions = maps.executions;
+      works = maps.works;
+      checkpoint = mark_at maps.checkpoints;
+    }
+
+-- the refusal, or else the plan
+abbrev pub plan_unless : Option Refusal → Plan → Result Plan Refusal
+plan_unless None plan = Ok plan
+plan_unless (Some refusal) plan = Err refusal
+
+-- the refusal of a restart of this job execution, or else the plan of the next one
+abbrev pub plan_due_for : Rows → Option ExecutionRow → Result Plan Refusal
+plan_due_for r None = Err NoSuchJobExecutionException
+plan_due_for r (Some row) = plan_unless (restart_refusal r row) (restart_plan r row)
+
+-- the same of job execution x
+abbrev pub plan_due : Rows → ℕ → Result Plan Refusal
+plan_due r x = plan_due_for r (find (is_execution x) r.executions)
+
+-- a step as it stands in its job
+abbrev pub job_step : StepOf → JobStep
+job_step s = record { id = s.id.now; step = s.step.now }

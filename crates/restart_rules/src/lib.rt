@@ -1,0 +1,12 @@
+//! Restarts of job executions (Jakarta Batch 2.1, "Job Restart Processing"): which of them may be
+//! restarted, and what the next job execution goes by.
+#![tactic(auto)]
+
+mod plan;
+mod restart;
+mod steps;
+mod walks;
+
+pub use plan::first_plan;
+pub use restart::{may_restart, restart_plan};
+pub use walks::{known_of, state_fact, walk_of, walk_value};

@@ -1,0 +1,130 @@
+//! Which job executions may be restarted.
+ghost use Rattle.std.specs.Prelude.{ℕ, ◌≡◌, Bool, true, is_some, Some, find, IfOk, IfSome};
+ghost use Rattle.std.specs.List.{list_any};
+ghost use Rattle.std.specs.Option.{option_copied};
+ghost use Rattle.batch_history.specs.Due.{IsDue};
+ghost use Rattle.batch_history.specs.Replies.{is_execution, is_later_than, is_restartable, refusal_by_status, restart_plan, restart_refusal};
+ghost use Rattle.batch_history.specs.Restarts.{restart_point};
+ghost use Rattle.batch_history.specs.Walks.{job_named};
+ghost use Rattle.restart_rules.specs.Placed.{begins_in_job, is_placed, IsPlaced};
+ghost use Rattle.restart_rules.specs.Restarting.{plan_due, rows_over};
+
+use crate::plan::plan_by;
+use crate::walks::{job_of, walk_value};
+use batch_history::ExecutionRow;
+use batch_ids::{BatchStatus, ExecutionId, OutOfMemory, Refusal, T256};
+use job_walk::{Plan, Value};
+use jsl_model::Catalogue;
+use records::Records;
+use std::alloc::Global;
+
+/// Whether the job instance of a job execution has a later one.
+#[tactic(auto, using(crate::proofs::Reading::later_read))]
+fn has_later(records: &Records, row: &ExecutionRow) -> bool
+    ensures { result ≡ list_any (is_later_than row.now) records.now.executions }
+{
+    for other in records.executions_of(row.instance) {
+        if row.execution.value() < other.execution.value() {
+            return true;
+        }
+    }
+    false
+}
+
+/// Why a job execution of this status may not be restarted.
+fn refusal_by_status(restartable: bool, status: BatchStatus) -> Option<Refusal>
+    ensures { result ≡ refusal_by_status restartable status }
+{
+    match status {
+        BatchStatus::Completed => Some(Refusal::JobExecutionAlreadyCompleteException),
+        BatchStatus::Stopped | BatchStatus::Failed => if restartable {
+            None
+        } else {
+            Some(Refusal::JobRestartException)
+        },
+        BatchStatus::Starting
+        | BatchStatus::Started
+        | BatchStatus::Stopping
+        | BatchStatus::Abandoned => Some(Refusal::JobRestartException),
+    }
+}
+
+/// The element at which a restart begins.
+fn restart_point(taken_up: bool, value: Value, from: &T256) -> Result<T256, OutOfMemory>
+    ensures { IfOk result (λ point. point ≡ restart_point taken_up value from.now) }
+{
+    match value {
+        Value::Ended { point, .. } => match point {
+            Some(point) => if taken_up {
+                Ok(point)
+            } else {
+                from.try_clone()
+            },
+            None => from.try_clone(),
+        },
+        Value::Open { .. } => from.try_clone(),
+        Value::Done { .. } => from.try_clone(),
+    }
+}
+
+/// The plan of the restart of a job execution: where it begins, and what it takes over from all job
+/// executions of its job instance (Jakarta Batch 2.1, "Job Restart Processing").
+///
+/// # Errors
+///
+/// `OutOfMemory` where memory is refused.
+pub fn restart_plan(
+    alloc: Global,
+    records: &Records,
+    catalogue: &Catalogue,
+    row: &ExecutionRow,
+) -> Result<Plan, OutOfMemory>
+    requires { is_placed catalogue.now row.now ≡ true }
+    ensures plan { (count : ℕ) → IfOk result (λ plan. plan
+        ≡ restart_plan (rows_over catalogue.now count records.now) row.now) }
+    ensures begins { IfOk result (λ plan.
+        begins_in_job plan (job_named catalogue.now row.now.job) ≡ true) }
+{
+    let job = job_of(catalogue, row);
+    let value = walk_value(alloc, catalogue, records, row)?;
+    let from = restart_point(row.start.is_some(), value, &row.plan.from)?;
+    let earlier = records.works_of_instance(alloc, row.instance)?;
+    plan_by(alloc, from, earlier.as_slice(), job.elements())
+}
+
+/// What the next job execution of a job instance goes by, where this one may be restarted (Jakarta
+/// Batch 2.1, "JobOperator", restart).
+///
+/// # Errors
+///
+/// The first that stands:
+/// - `NoSuchJobExecutionException`: there is no such job execution;
+/// - `JobExecutionNotMostRecentException`: its job instance has a later one;
+/// - `JobExecutionAlreadyCompleteException`: it is COMPLETED;
+/// - `JobRestartException`: it is unfinished or ABANDONED, or its job is not restartable.
+///
+/// `OutOfMemory` may stand in place of any answer.
+pub fn may_restart(
+    alloc: Global,
+    records: &Records,
+    catalogue: &Catalogue,
+    x: ExecutionId,
+) -> Result<Plan, Refusal>
+    requires { IsPlaced catalogue.now records.now.executions x }
+    ensures due { (count : ℕ)
+        → IsDue result (plan_due (rows_over catalogue.now count records.now) x) }
+    ensures begins { IfOk result (λ plan. IfSome (find (is_execution x) records.now.executions)
+        (λ row. begins_in_job plan (job_named catalogue.now row.job) ≡ true)) }
+{
+    let Some(row) = records.execution(x) else {
+        return Err(Refusal::NoSuchJobExecutionException);
+    };
+    let job = job_of(catalogue, row);
+    if has_later(records, row) {
+        return Err(Refusal::JobExecutionNotMostRecentException);
+    }
+    match refusal_by_status(job.restartable(), row.status()) {
+        Some(refusal) => Err(refusal),
+        None => Ok(restart_plan(alloc, records, catalogue, row)?),
+    }
+}

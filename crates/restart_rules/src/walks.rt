@@ -1,0 +1,99 @@
+//! The walks of job executions, by their plans and by what their work items tell.
+ghost use Rattle.std.specs.Prelude.{◌≡◌, List, true, Some, IfOk};
+ghost use Rattle.batch_history.proofs.Knowing.{known_elements};
+ghost use Rattle.batch_history.specs.Walks.{fact_of_state, job_named, walk_value};
+ghost use Rattle.batch_history.specs.declared.rows.WorkRow.{WorkRow as Work};
+ghost use Rattle.job_walk.specs.Cursors.{begins_in};
+ghost use Rattle.restart_rules.specs.Placed.{is_placed};
+
+use batch_history::{ExecutionRow, WorkState};
+use batch_ids::{ExecutionId, OutOfMemory};
+use job_walk::{Cursor, Fact, Known, Value};
+use jsl_model::{Catalogue, Job};
+use records::Records;
+use std::alloc::Global;
+
+/// What a work item that is so far tells of its element.
+///
+/// # Errors
+///
+/// `OutOfMemory` where memory is refused.
+pub fn state_fact(state: &WorkState) -> Result<Fact, OutOfMemory>
+    ensures { IfOk result (λ fact. fact ≡ fact_of_state state.now) }
+{
+    match state {
+        WorkState::Busy => Ok(Fact::Busy),
+        WorkState::Over(outcome, exit) => Ok(Fact::Over(*outcome, exit.try_clone()?)),
+    }
+}
+
+/// What the work items of a job execution tell of its elements.
+///
+/// # Errors
+///
+/// `OutOfMemory` where memory is refused.
+#[tactic(auto, using(crate::proofs::Reading::known_read))]
+pub fn known_of(alloc: Global, records: &Records, x: ExecutionId) -> Result<Vec<Known>, OutOfMemory>
+    ensures { IfOk result (λ known. known.items ≡ known_elements x records.now.works) }
+{
+    let mut known = Vec::new(alloc);
+    for row in records.works_of(x) {
+        known.push(Known {
+            id: row.element.try_clone()?,
+            fact: state_fact(&row.state)?,
+        })?;
+    }
+    Ok(known)
+}
+
+/// The job of a job execution, in whose own list its walk begins.
+pub(crate) fn job_of<'a>(catalogue: &'a Catalogue, row: &ExecutionRow) -> &'a Job
+    requires { is_placed catalogue.now row.now ≡ true }
+    ensures named { job_named catalogue.now row.now.job ≡ Some result.now }
+    ensures begins { begins_in row.now.plan result.now ≡ true }
+{
+    match catalogue.job(row.job.as_str()) {
+        Some(job) => job,
+        None => unreachable!(),
+    }
+}
+
+/// What the walk of a job execution comes to, where its work items tell this of its elements.
+///
+/// # Errors
+///
+/// `OutOfMemory` where memory is refused.
+pub fn walk_of(
+    alloc: Global,
+    catalogue: &Catalogue,
+    known: &[Known],
+    row: &ExecutionRow,
+) -> Result<Value, OutOfMemory>
+    requires { is_placed catalogue.now row.now ≡ true }
+    ensures { (works : List Work) → known.now ≡ known_elements row.now.execution works
+        → IfOk result (λ value. value ≡ walk_value catalogue.now works
+        row.now.execution row.now.job row.now.plan) }
+{
+    let job = job_of(catalogue, row);
+    let cursor = Cursor::resume(alloc, job, &row.plan, known)?;
+    Ok(cursor.into_value())
+}
+
+/// What the walk of a job execution comes to.
+///
+/// # Errors
+///
+/// `OutOfMemory` where memory is refused.
+pub fn walk_value(
+    alloc: Global,
+    catalogue: &Catalogue,
+    records: &Records,
+    row: &ExecutionRow,
+) -> Result<Value, OutOfMemory>
+    requires { is_placed catalogue.now row.now ≡ true }
+    ensures { IfOk result (λ value. value ≡ walk_value catalogue.now records.now.works
+        row.now.execution row.now.job row.now.plan) }
+{
+    let known = known_of(alloc, records, row.execution)?;
+    walk_of(alloc, catalogue, known.as_slice(), row)
+}
