@@ -52,6 +52,7 @@ def parameters_at_their_bounds() -> tuple[list[str], list[str]]:
     """A key of 256 bytes and a value of 4,096, and 64 parameters; one more of each is refused."""
     start = '{"do":"start","by":1,"at":0,"job":"a","parameters":{%s}}'
     restart = '{"do":"restart","by":1,"at":0,"execution":1,"parameters":{%s}}'
+    stop = '{"do":"stop","by":1,"at":0,"execution":1}'
     ask = '{"ask":"parameters","execution":%d}'
     longest = '"%s":"%s"' % ("k" * 256, "v" * 4096)
     long_value = '"k":"%s"' % ("v" * 4097)
@@ -69,6 +70,7 @@ def parameters_at_their_bounds() -> tuple[list[str], list[str]]:
         (ask % 3, '{"parameters":{%s,"k":""}}' % most),
         (start % ('"k":"%s","k":""' % ("v" * 5000)), '{"execution":4}'),
         (ask % 4, '{"parameters":{"k":""}}'),
+        (stop, '{"done":true}'),
         (restart % longest, '{"execution":5}'),
         (restart % long_value, TOO_LONG),
         (restart % (most + ',"k":"","l":""'), TOO_LONG),

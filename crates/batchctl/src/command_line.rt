@@ -21,7 +21,8 @@ brackets may be left out):
   {"do":"start","by":N,"at":N,"job":T[,"parameters":{T:T,..}]}
                                    makes a job instance and its first execution
   {"do":"restart","by":N,"at":N,"execution":N[,"parameters":{T:T,..}]}
-                                   makes a further execution of its job instance
+                                   goes on with the job instance of a FAILED or STOPPED execution,
+                                   its most recent one, in a further execution
   {"do":"stop","by":N,"at":N,"execution":N}
                                    asks an unfinished execution to stop
   {"do":"abandon","by":N,"at":N,"execution":N}
@@ -31,6 +32,8 @@ brackets may be left out):
                                    keeps where the chunk of a work item goes on
   {"do":"finish","by":N,"at":N,"work":N,"outcome":O[,"exit":T][,"metrics":{M:N,..}]}
                                    ends a work item; O is COMPLETED, FAILED or STOPPED
+  {"do":"lose","by":N,"at":N,"work":N}
+                                   gives up a work item whose worker is gone: it is FAILED
 M is READ_COUNT, WRITE_COUNT, COMMIT_COUNT, ROLLBACK_COUNT, READ_SKIP_COUNT, PROCESS_SKIP_COUNT,
 FILTER_COUNT or WRITE_SKIP_COUNT; its number, up to 4294967295, is added to the work item's.
 

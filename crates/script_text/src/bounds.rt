@@ -38,6 +38,9 @@ pub fn call_within(alloc: Global, call: &RawCall<'_>) -> Result<Option<Call>, Ou
             exit,
             step,
         } => finish_within(alloc, *work, *outcome, *exit, *step),
+        RawCall::Lose { work } => Ok(Some(Call::Lose {
+            work: WorkId::new(*work),
+        })),
     }
 }
 

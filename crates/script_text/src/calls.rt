@@ -2,7 +2,7 @@
 ghost use Rattle.std.specs.Prelude.{◌≡◌, option_map};
 ghost use Rattle.serde_json.specs.View.{view};
 ghost use Rattle.batch_ids.specs.Statuses.{outcome_named};
-ghost use Rattle.script_text.specs.Calls.{start_of, restart_of, stop_of, abandon_of, claim_of, checkpoint_of, finish_of, call_named};
+ghost use Rattle.script_text.specs.Calls.{start_of, restart_of, stop_of, abandon_of, claim_of, checkpoint_of, finish_of, lose_of, call_named};
 ghost use Rattle.script_text.specs.RawCommands.{call_in};
 
 use crate::metrics::metrics_at;
@@ -37,6 +37,9 @@ pub fn call_named<'v>(word: &str, value: &'v Value) -> Option<RawCall<'v>>
     }
     if word == "finish" {
         return finish_of(value);
+    }
+    if word == "lose" {
+        return lose_of(value);
     }
     None
 }
@@ -132,6 +135,17 @@ fn finish_of(value: &Value) -> Option<RawCall<'_>>
         exit,
         step,
     })
+}
+
+#[tactic(auto, unfolding(crate::specs::Calls::lose_of))]
+fn lose_of(value: &Value) -> Option<RawCall<'_>>
+    ensures { option_map call_in result ≡ lose_of (view value.now) }
+{
+    if !has_only(value, &["do", "by", "at", "work"]) {
+        return None;
+    }
+    let work = number_at(value, "work")?;
+    Some(RawCall::Lose { work })
 }
 
 /// The outcome that a text is the name of.

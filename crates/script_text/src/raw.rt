@@ -49,6 +49,9 @@ pub enum RawCall<'a> {
         exit: Option<&'a str>,
         step: MetricStep,
     },
+    Lose {
+        work: u64,
+    },
 }
 
 /// A query as its line spells it.

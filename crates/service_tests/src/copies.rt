@@ -83,6 +83,7 @@ fn calls_with_texts_are_copied(rt: HostRuntime) -> Result<(), Fail> {
             exit: Some(T256::new(alloc, "bad")?),
             step,
         },
+        Call::Lose { work },
     ] {
         assert_eq!(rt; call.try_clone()?, call);
     }
