@@ -1,0 +1,80 @@
+-- What a desk's answer is to the session that asked.
+use Rattle.std.proofs.Common.{◌≡◌, ℕ, ◌≤◌, Bool, true, false, nat_lt, if◌then◌else◌, Option, Some, None, Result, Ok, Err, List, [], ◌∷◌, ◌++◌, find, length, refl, sym, ◌∙◌, ap, subst, arith, length-append}
+use mathlib.Core.List.{IsPrefix}
+use Rattle.batch_history.specs.Due.{IsDue}
+use Rattle.batch_history.specs.Replies.{accepted, is_execution, is_nothing, reply, reply_to_stop, row_status}
+use Rattle.batch_history.specs.Rows.{Rows, rows}
+use Rattle.batch_history.specs.Statuses.{is_finished}
+use Rattle.batch_history.specs.declared.call.Call.{Call}
+use Rattle.batch_history.specs.declared.call.Call.TheVariants.{Stop}
+use Rattle.batch_history.specs.declared.call.Entry.{Entry}
+use Rattle.batch_history.specs.declared.call.Reply.{Reply}
+use Rattle.batch_history.specs.declared.call.Reply.TheVariants.{Done}
+use Rattle.batch_history.specs.declared.rows.ExecutionRow.{ExecutionRow}
+use Rattle.batch_ids.specs.declared.refusal.Refusal.{Refusal}
+use Rattle.batch_ids.specs.declared.refusal.Refusal.TheVariants.{JobExecutionNotRunningException, RepositoryFull}
+use Rattle.jsl_model.specs.Jobs.{JobTree}
+use Rattle.seat_rules.proofs.Prefixes.{prefix_length, prefix_self, prefix_trans}
+use Rattle.seat_rules.specs.Places.{IsLegalLog}
+use Rattle.seat_rules.specs.Views.{Each, HasStop, entries_by}
+use Rattle.seat_rules.specs.declared.view.SessionView.{SessionView}
+use Rattle.sessions.specs.Answered.{entered, history, moved_on, operation}
+use Rattle.batch_operator.specs.Calls.{IsReplied}
+
+-- ---- Calls
+
+entered_by : (b : Bool) (log more : List Entry) → IsPrefix log (if b then log else log ++ more)
+entered_by true log more = prefix_self log
+entered_by false log more = (more, refl)
+
+-- a log is a beginning of what it is after a call
+entered_longer : (log : List Entry) (who : ℕ) (call : Call) (at : ℕ) (result : Result Reply Refusal) → IsPrefix log (entered log who call at result)
+entered_longer log who call at (Ok r) = entered_by (is_nothing r) log (operation who call at r ∷ [])
+entered_longer log who call at (Err refusal) = prefix_self log
+
+-- the answer of a desk whose log this was
+pub replied : (catalogue : List JobTree) (v w : SessionView) (log now : List Entry) (call : Call) (at : ℕ) (result : Result Reply Refusal)
+    → IsDue result (reply 1000000 (history catalogue log) v.number call) → now ≡ entered log v.number call at result
+    → w ≡ moved_on v now (entered v.mine v.number call at result) → IsPrefix v.seen log → entries_by w.number w.seen ≡ w.mine
+    → IsLegalLog catalogue now → v.least ≤ length log → Each (HasStop w.seen v.least) v.stops → IsReplied catalogue v w call at result
+replied catalogue v w log now call at result due now_is w_is begins own legal least stops =
+    let seen : w.seen ≡ now = ap (λ (s : SessionView). s.seen) w_is in
+    let longer : IsPrefix log w.seen = subst (IsPrefix log) (sym (seen ∙ now_is)) (entered_longer log v.number call at result) in
+    let long = prefix_length log w.seen longer in
+    record {
+      log = log;
+      begins = begins;
+      reply = due;
+      session = w_is ∙ ap (λ (l : List Entry). moved_on v l (entered v.mine v.number call at result)) now_is;
+      sees = record {
+        grows = prefix_trans v.seen log w.seen begins longer;
+        legal = subst (IsLegalLog catalogue) (sym seen) legal;
+        least = omega arith;
+        own = own;
+        stops = stops;
+      };
+    }
+
+-- ---- Stops
+
+accepted_done : (limit count : ℕ) (b : Bool) (r : Reply) → (if b then Ok Done else Err RepositoryFull) ≡ Ok r → is_nothing r ≡ false
+accepted_done limit count true r e = let same : r ≡ Done = cc in ap is_nothing same
+accepted_done limit count false r e = absurd cc
+
+unfinished_done : (limit count : ℕ) (b : Bool) (r : Reply) → (if b then Err JobExecutionNotRunningException else accepted limit count Done) ≡ Ok r → is_nothing r ≡ false
+unfinished_done limit count true r e = absurd cc
+unfinished_done limit count false r e = accepted_done limit count (nat_lt count limit) r e
+
+stop_done : (limit count : ℕ) (found : Option ExecutionRow) (r : Reply) → reply_to_stop limit count found ≡ Ok r → is_nothing r ≡ false
+stop_done limit count None r e = absurd cc
+stop_done limit count (Some row) r e = unfinished_done limit count (is_finished (row_status row)) r e
+
+-- an accepted stop stands in the log after it
+pub has_stop : (catalogue : List JobTree) (who x at : ℕ) (log now : List Entry) (r : Reply) → reply 1000000 (history catalogue log) who (Stop x) ≡ Ok r
+    → now ≡ entered log who (Stop x) at (Ok r) → HasStop now (length now) x
+has_stop catalogue who x at log now r due now_is =
+    let past : Rows = rows (history catalogue log) in
+    let n : is_nothing r ≡ false = stop_done 1000000 past.count (find (is_execution x) past.executions) r due in
+    let e : Entry = operation who (Stop x) at r in
+    let cut : now ≡ log ++ e ∷ [] = now_is ∙ ap (λ (b : Bool). if b then log else log ++ e ∷ []) n in
+    record { before = log; stop = e; after = []; cut = cut; asks = refl; early = omega (arith, ap length cut, length-append log (e ∷ [])) }

@@ -1,0 +1,178 @@
+ghost use Rattle.batch_operator.specs.Calls.{IsAnswered};
+
+use crate::operator::Operator;
+use batch_ids::{ExecutionId, InstanceId, Refusal, T256};
+use op_log::{Answer, Query};
+use seat_rules::Site;
+use sessions::Session;
+use std::sync::Wait;
+
+/// Each query is answered after what its session has seen then, which is all that was accepted before
+/// the lock was got.
+impl<N: Site> Operator<N> {
+    /// The names of the jobs that have a job instance, in order of first start (Jakarta Batch 2.1,
+    /// "JobOperator", getJobNames).
+    ///
+    /// # Errors
+    ///
+    /// None but `OutOfMemory`, where memory is refused.
+    pub fn get_job_names(&self, rt: &impl Wait, session: &mut Session<N>) -> Result<Answer, Refusal>
+        ensures { IsAnswered N.place.catalogue session.old session.new Query.JobNames result }
+    {
+        self.ask(rt, session, &Query::JobNames)
+    }
+
+    /// How many job instances a job has (Jakarta Batch 2.1, "JobOperator", getJobInstanceCount).
+    ///
+    /// # Errors
+    ///
+    /// `NoSuchJobException` where the job has no job instance; `OutOfMemory` in place of any answer where memory
+    /// is refused.
+    pub fn get_job_instance_count(
+        &self,
+        rt: &impl Wait,
+        session: &mut Session<N>,
+        job: T256,
+    ) -> Result<Answer, Refusal>
+        ensures { IsAnswered N.place.catalogue session.old session.new (Query.JobInstanceCount job) result }
+    {
+        self.ask(rt, session, &Query::JobInstanceCount { job })
+    }
+
+    /// The job instances of a job, the newest first: at most `count` of them, without the `start` newest
+    /// (Jakarta Batch 2.1, "JobOperator", getJobInstances).
+    ///
+    /// # Errors
+    ///
+    /// `NoSuchJobException` where the job has no job instance; `OutOfMemory` in place of any answer where memory
+    /// is refused.
+    pub fn get_job_instances(
+        &self,
+        rt: &impl Wait,
+        session: &mut Session<N>,
+        job: T256,
+        start: u64,
+        count: u64,
+    ) -> Result<Answer, Refusal>
+        ensures { IsAnswered N.place.catalogue session.old session.new (Query.JobInstances job start count) result }
+    {
+        self.ask(rt, session, &Query::JobInstances { job, start, count })
+    }
+
+    /// The numbers of the unfinished job executions of a job, rising (Jakarta Batch 2.1, "JobOperator",
+    /// getRunningExecutions).
+    ///
+    /// # Errors
+    ///
+    /// `NoSuchJobException` where the job has no job instance; `OutOfMemory` in place of any answer where memory
+    /// is refused.
+    pub fn get_running_executions(
+        &self,
+        rt: &impl Wait,
+        session: &mut Session<N>,
+        job: T256,
+    ) -> Result<Answer, Refusal>
+        ensures { IsAnswered N.place.catalogue session.old session.new (Query.RunningExecutions job) result }
+    {
+        self.ask(rt, session, &Query::RunningExecutions { job })
+    }
+
+    /// The parameters that were given to the start or restart of a job execution (Jakarta Batch 2.1,
+    /// "JobOperator", getParameters).
+    ///
+    /// # Errors
+    ///
+    /// `NoSuchJobExecutionException`; `OutOfMemory` in place of any answer where memory
+    /// is refused.
+    pub fn get_parameters(
+        &self,
+        rt: &impl Wait,
+        session: &mut Session<N>,
+        execution: ExecutionId,
+    ) -> Result<Answer, Refusal>
+        ensures { IsAnswered N.place.catalogue session.old session.new (Query.Parameters execution) result }
+    {
+        self.ask(rt, session, &Query::Parameters { execution })
+    }
+
+    /// The job instance of a job execution (Jakarta Batch 2.1, "JobOperator", getJobInstance).
+    ///
+    /// # Errors
+    ///
+    /// `NoSuchJobExecutionException`; `OutOfMemory` in place of any answer where memory
+    /// is refused.
+    pub fn get_job_instance(
+        &self,
+        rt: &impl Wait,
+        session: &mut Session<N>,
+        execution: ExecutionId,
+    ) -> Result<Answer, Refusal>
+        ensures { IsAnswered N.place.catalogue session.old session.new (Query.JobInstance execution) result }
+    {
+        self.ask(rt, session, &Query::JobInstance { execution })
+    }
+
+    /// The records of the job executions of a job instance, the newest first (Jakarta Batch 2.1,
+    /// "JobOperator", getJobExecutions).
+    ///
+    /// # Errors
+    ///
+    /// `NoSuchJobInstanceException`; `OutOfMemory` in place of any answer where memory
+    /// is refused.
+    pub fn get_job_executions(
+        &self,
+        rt: &impl Wait,
+        session: &mut Session<N>,
+        instance: InstanceId,
+    ) -> Result<Answer, Refusal>
+        ensures { IsAnswered N.place.catalogue session.old session.new (Query.JobExecutions instance) result }
+    {
+        self.ask(rt, session, &Query::JobExecutions { instance })
+    }
+
+    /// The record of a job execution (Jakarta Batch 2.1, "JobOperator", getJobExecution).
+    ///
+    /// # Errors
+    ///
+    /// `NoSuchJobExecutionException`; `OutOfMemory` in place of any answer where memory
+    /// is refused.
+    pub fn get_job_execution(
+        &self,
+        rt: &impl Wait,
+        session: &mut Session<N>,
+        execution: ExecutionId,
+    ) -> Result<Answer, Refusal>
+        ensures { IsAnswered N.place.catalogue session.old session.new (Query.JobExecution execution) result }
+    {
+        self.ask(rt, session, &Query::JobExecution { execution })
+    }
+
+    /// The records of the step executions of a job execution, by rising number (Jakarta Batch 2.1,
+    /// "JobOperator", getStepExecutions).
+    ///
+    /// # Errors
+    ///
+    /// `NoSuchJobExecutionException`; `OutOfMemory` in place of any answer where memory
+    /// is refused.
+    pub fn get_step_executions(
+        &self,
+        rt: &impl Wait,
+        session: &mut Session<N>,
+        execution: ExecutionId,
+    ) -> Result<Answer, Refusal>
+        ensures { IsAnswered N.place.catalogue session.old session.new (Query.StepExecutions execution) result }
+    {
+        self.ask(rt, session, &Query::StepExecutions { execution })
+    }
+
+    /// How many job executions have each batch status.
+    ///
+    /// # Errors
+    ///
+    /// None but `OutOfMemory`, where memory is refused.
+    pub fn status_counts(&self, rt: &impl Wait, session: &mut Session<N>) -> Result<Answer, Refusal>
+        ensures { IsAnswered N.place.catalogue session.old session.new Query.StatusCounts result }
+    {
+        self.ask(rt, session, &Query::StatusCounts)
+    }
+}

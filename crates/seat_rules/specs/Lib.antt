@@ -1,0 +1,4 @@
+pub mod Places
+pub mod Views
+pub mod Rule
+pub mod Steps

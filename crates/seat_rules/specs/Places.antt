@@ -1,0 +1,34 @@
+-- What contracts see of a table and of a desk's seat.
+use Rattle.std.specs.Prelude.{ℕ, List, []}
+use Rattle.atomic_table.specs.Seated.{TableId}
+use Rattle.batch_history.specs.Legal.{IsLegal}
+use Rattle.batch_history.specs.declared.call.Entry.{Entry}
+use Rattle.jsl_model.specs.Jobs.{JobTree}
+use Rattle.seat_rules.specs.declared.view.SessionView.{SessionView}
+
+-- a table, and the catalogue of its log
+pub record Place : Type 0 where
+  pub table : TableId
+  pub catalogue : List JobTree
+
+-- a place that no table has
+abbrev pub no_place : Place
+no_place = record { table = record { words = 0; slots = 0; views_name = 0; atom = 0; block = 0; offset = 0; slot_names = [] }; catalogue = [] }
+
+-- how many operations a log has at most
+abbrev pub most_operations : ℕ
+most_operations = 1000000
+
+-- a log is legal over a catalogue: each operation in it has the reply that was due after those before it
+abbrev pub IsLegalLog : List JobTree → List Entry → Type 0
+IsLegalLog catalogue log = IsLegal most_operations record { catalogue = catalogue; log = log }
+
+-- what a desk's seat knows: the log, the last session number, and the sessions and the copies that it hosts
+pub record Known : Type 0 where
+  pub log : List Entry
+  pub last : ℕ
+  pub sessions : List SessionView
+  pub copies : List (List Entry)
+
+abbrev pub known : List Entry → ℕ → List SessionView → List (List Entry) → Known
+known log last sessions copies = record { log = log; last = last; sessions = sessions; copies = copies }

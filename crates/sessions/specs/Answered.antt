@@ -1,0 +1,27 @@
+-- What a call leaves.
+use Rattle.std.specs.Prelude.{ℕ, List, [], ◌∷◌, ◌++◌, Result, Ok, Err, if◌then◌else◌}
+use Rattle.batch_history.specs.Replies.{is_nothing}
+use Rattle.batch_history.specs.Rows.{History}
+use Rattle.batch_history.specs.declared.call.Call.{Call}
+use Rattle.batch_history.specs.declared.call.Entry.{Entry}
+use Rattle.batch_history.specs.declared.call.Reply.{Reply}
+use Rattle.batch_ids.specs.declared.refusal.Refusal.{Refusal}
+use Rattle.jsl_model.specs.Jobs.{JobTree}
+use Rattle.seat_rules.specs.Views.{session_view}
+use Rattle.seat_rules.specs.declared.view.SessionView.{SessionView}
+
+-- the operations of this log, over a catalogue
+abbrev pub history : List JobTree → List Entry → History
+history catalogue log = record { catalogue = catalogue; log = log }
+
+abbrev pub operation : ℕ → Call → ℕ → Reply → Entry
+operation who call at reply = record { who = who; call = call; at = at; reply = reply }
+
+-- a list of operations after a call: an accepted one is entered, unless the reply is Nothing, and a refused one is not
+abbrev pub entered : List Entry → ℕ → Call → ℕ → Result Reply Refusal → List Entry
+entered log who call at (Ok reply) = if is_nothing reply then log else log ++ operation who call at reply ∷ []
+entered log who call at (Err refusal) = log
+
+-- a session that has seen this log, in which these operations are its own
+abbrev pub moved_on : SessionView → List Entry → List Entry → SessionView
+moved_on s log mine = session_view s.number log mine s.least s.stops s.fresh

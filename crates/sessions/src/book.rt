@@ -1,0 +1,32 @@
+ghost use Rattle.std.specs.Prelude.{◌≡◌, ◌≤◌, [], ◌∷◌, ◌++◌, length, map};
+ghost use Rattle.seat_rules.specs.Places.{IsLegalLog, known};
+ghost use Rattle.seat_rules.specs.Views.{with_entry};
+
+use op_log::Book;
+use seat_rules::{DeskSeat, SeatTable, Site};
+
+/// Appends the book's last entry to the log that the seat knows. It takes no memory.
+pub fn append_last<N: Site, const LIMIT: u64>(
+    seat: &mut DeskSeat<N>,
+    book: &Book<LIMIT>,
+    table: &SeatTable,
+)
+    requires table { table.now ≡ N.place }
+    requires last { (e : _) × (s : _) × (book.now.log ≡ seat.old.log ++ e ∷ []) × (seat.old.sessions ≡ s ∷ []) × (s.number ≡ e.who) }
+    requires legal { IsLegalLog N.place.catalogue book.now.log }
+    ensures { (e : _) → book.now.log ≡ seat.old.log ++ e ∷ [] → seat.new ≡ known (seat.old.log ++ e ∷ []) seat.old.last (map (with_entry (seat.old.log ++ e ∷ []) e) seat.old.sessions) seat.old.copies }
+{
+    match book.entry(book.len()) {
+        Some(entry) => seat.append(entry, table),
+        None => unreachable!(),
+    }
+}
+
+/// How many operations the book has accepted. It takes no memory.
+pub fn length_of<const LIMIT: u64>(book: &Book<LIMIT>) -> u64
+    requires { LIMIT ≤ 1000000 }
+    ensures length { result ≡ length book.now.log }
+    ensures legal { IsLegalLog book.now.catalogue book.now.log }
+{
+    book.len() as u64
+}
