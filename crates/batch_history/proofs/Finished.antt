@@ -20,7 +20,7 @@ use Rattle.batch_history.specs.Lists.{is_at}
 use Rattle.batch_history.specs.Moments.{first_moment}
 use Rattle.batch_history.specs.Operations.{taken_up, taken_up_by, stop_request}
 use Rattle.batch_history.specs.Replies.{row_status, first_ready, walk_in_rows, has_something_by, has_something, claim_reply, is_execution}
-use Rattle.batch_history.specs.Rows.{Rows}
+use Rattle.batch_history.specs.Rows.{Rows, IsAsBefore}
 use Rattle.batch_history.specs.Statuses.{batch_status, is_finished}
 use Rattle.batch_history.specs.Walks.{element_facts, job_named, walk_of}
 use Rattle.batch_history.proofs.Knowing.{known_elements, facts-same}
@@ -31,10 +31,6 @@ use Rattle.batch_history.proofs.Finding.{found-passes}
 use Rattle.batch_history.proofs.WorkLists.{each-found}
 use Rattle.batch_history.proofs.Told.{Due, AllDue, IsRowOf, row-of, made-once, made-more, ToldClaim, claim-told, ToldReport, checkpoint-told, finish-told, loss-told, ToldStop, stop-told}
 use Rattle.batch_history.proofs.Kept.{IsHeld, IsKept, kept}
-
--- a job execution as it was, but for whether it is abandoned and when an operation was last on it
-abbrev pub IsAsBefore : ExecutionRow → ExecutionRow → Type 0
-IsAsBefore before after = after ≡ record before { abandoned = after.abandoned; updated = after.updated }
 
 -- ---- An operation that asks it for nothing
 
