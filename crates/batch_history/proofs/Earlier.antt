@@ -18,10 +18,10 @@ use Rattle.batch_history.specs.Lists.{change_first, is_at}
 use Rattle.batch_history.specs.Operations.{taken_up_by}
 use Rattle.batch_history.specs.Replies.{first_ready, walk_in_rows, has_something}
 use Rattle.batch_history.specs.Restarts.{is_same_number, is_earlier_work}
-use Rattle.batch_history.specs.Rows.{Rows}
+use Rattle.batch_history.specs.Rows.{Rows, IsAsBefore}
 use Rattle.batch_history.specs.Statuses.{is_finished}
 use Rattle.batch_history.specs.Works.{is_work, busy_work, execution_of_work}
-use Rattle.batch_history.proofs.Finished.{owner-unfinished, claim-unfinished, claimed-execution, on-it, finished-step, made-after, IsAsBefore}
+use Rattle.batch_history.proofs.Finished.{owner-unfinished, claim-unfinished, claimed-execution, on-it, finished-step, made-after}
 use Rattle.batch_history.proofs.Folds.{made, is_made, works_of, bare_of, folded_rows, execution_row, instance_made, reported, over}
 use Rattle.batch_history.proofs.Kept.{IsHeld, IsKept, kept}
 use Rattle.batch_history.proofs.Knowing.{known_elements}

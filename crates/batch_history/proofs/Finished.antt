@@ -19,8 +19,8 @@ use Rattle.batch_history.specs.Executions.{Made}
 use Rattle.batch_history.specs.Lists.{is_at}
 use Rattle.batch_history.specs.Moments.{first_moment}
 use Rattle.batch_history.specs.Operations.{taken_up, taken_up_by, stop_request}
-use Rattle.batch_history.specs.Replies.{row_status, first_ready, walk_in_rows, has_something_by, has_something, claim_reply, is_execution}
-use Rattle.batch_history.specs.Rows.{Rows}
+use Rattle.batch_history.specs.Replies.{row_status, first_ready, walk_in_rows, has_something_by, has_something, claim_reply}
+use Rattle.batch_history.specs.Rows.{Rows, IsAsBefore}
 use Rattle.batch_history.specs.Statuses.{batch_status, is_finished}
 use Rattle.batch_history.specs.Walks.{element_facts, job_named, walk_of}
 use Rattle.batch_history.proofs.Knowing.{known_elements, facts-same}
@@ -29,12 +29,8 @@ use Rattle.batch_history.proofs.Stepping.{known-same, begun-by, named-by, ended-
 use Rattle.batch_history.proofs.Sights.{busy_sight, seen}
 use Rattle.batch_history.proofs.Finding.{found-passes}
 use Rattle.batch_history.proofs.WorkLists.{each-found}
-use Rattle.batch_history.proofs.Told.{Due, AllDue, IsRowOf, row-of, made-once, made-more, ToldClaim, claim-told, ToldReport, checkpoint-told, finish-told, loss-told, ToldStop, stop-told}
+use Rattle.batch_history.proofs.Told.{Due, AllDue, IsRowOf, row-of, row-made, made-once, made-more, ToldClaim, claim-told, ToldReport, checkpoint-told, finish-told, loss-told, ToldStop, stop-told}
 use Rattle.batch_history.proofs.Kept.{IsHeld, IsKept, kept}
-
--- a job execution as it was, but for whether it is abandoned and when an operation was last on it
-abbrev pub IsAsBefore : ExecutionRow → ExecutionRow → Type 0
-IsAsBefore before after = after ≡ record before { abandoned = after.abandoned; updated = after.updated }
 
 -- ---- An operation that asks it for nothing
 
@@ -121,13 +117,7 @@ finished-status false bare h = h
 stop-unfinished : (catalogue : List JobTree) (past : List Entry) (m : Made) (y : ℕ) → ToldStop (folded_rows catalogue past) y
     → find (is_made m.execution) (made past) ≡ Some m → (y == m.execution) ≡ true → is_finished (bare_of catalogue past m) ≢ true
 stop-unfinished catalogue past m y told found on over =
-    let r : Rows = folded_rows catalogue past in
-    let from : IsRowOf catalogue past told.row = row-of catalogue past (is_execution y) told.row told.found in
-    let n : Made = from.one in
-    let number : told.row.execution ≡ y = eqb-true told.row.execution y (found-passes (is_execution y) r.executions told.row told.found) in
-    let same : n.execution ≡ m.execution = sym (ap (λ (row : ExecutionRow). row.execution) from.is_row) ∙ (number ∙ eqb-true y m.execution on) in
-    let one : n ≡ m = let both : Some n ≡ Some m = sym from.found ∙ (ap (λ x. find (is_made x) (made past)) same ∙ found) in cc in
-    let is : told.row ≡ execution_row catalogue past m = from.is_row ∙ ap (execution_row catalogue past) one in
+    let is : told.row ≡ execution_row catalogue past m = row-made catalogue past m y told.row told.found found on in
     let unfinished : is_finished (row_status (execution_row catalogue past m)) ≡ false = subst (λ row. is_finished (row_status row) ≡ false) is told.unfinished in
     let closed : is_finished (row_status (execution_row catalogue past m)) ≡ true = finished-status (abandoned_of past m.execution) (bare_of catalogue past m) over in
     let no : true ≡ false = sym closed ∙ unfinished in cc

@@ -19,11 +19,12 @@ use Rattle.batch_history.specs.Lists.{is_at}
 use Rattle.batch_history.specs.Moments.{first_moment, start_moment}
 use Rattle.batch_history.specs.Operations.{effects, taken_up_by}
 use Rattle.batch_history.specs.Restarts.{is_same_number, is_earlier_work, carried_step, is_barred, plan_by, first_plan, restart_point, is_taken_up, job_of_origin, plan_from, walk_from, beginning_by_making, beginning_among, plan_of}
+use Rattle.batch_history.specs.Rows.{IsAsBefore}
 use Rattle.batch_history.specs.Statuses.{is_finished}
 use Rattle.batch_history.specs.Walks.{element_facts, first_of_job, job_named, walk_of, walk_value}
 use Rattle.batch_history.specs.Works.{work_items}
 use Rattle.batch_history.proofs.Earlier.{filter-same, filter-none, earlier_kept, instance-found, earlier-stays, known-stays}
-use Rattle.batch_history.proofs.Finished.{finished-stays, made-after, on-it, IsAsBefore}
+use Rattle.batch_history.proofs.Finished.{finished-stays, made-after, on-it}
 use Rattle.batch_history.proofs.Folds.{made, makes, is_made, remade, instances_of, works_of, start_of, bare_of, folded_rows, execution_row, instance_made, instance_works, plan_again, plan_made, plan_kept}
 use Rattle.batch_history.proofs.Items.{works-law}
 use Rattle.batch_history.proofs.Kept.{IsHeld, kept}

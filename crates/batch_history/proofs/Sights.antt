@@ -30,7 +30,7 @@ use Rattle.job_walk.specs.Walk.{WalkedElement, BodyResult, IsRunnable, HasResult
 -- ---- Values
 
 -- whether an id stands among others
-abbrev pub is_in : List ℕ → List (List ℕ) → Bool
+abbrev is_in : List ℕ → List (List ℕ) → Bool
 is_in id ids = is_among ids id
 
 -- what is looked for: what is ready, what is busy
@@ -62,7 +62,7 @@ abbrev own_open : ElementResult → Bool
 own_open (ListValue value) = is_open value
 own_open (Outcome outcome exit) = false
 
-abbrev pub own_seen : Sight → List ℕ → ElementResult → Bool
+abbrev own_seen : Sight → List ℕ → ElementResult → Bool
 own_seen s id (ListValue value) = seen s id value
 own_seen s id (Outcome outcome exit) = false
 
@@ -170,7 +170,7 @@ flow-goes s t id (Done exit) w g = record { same = λ _. ap flow_result (g.same 
 flow-goes s t id (Ended status exit point) w g = record { same = λ _. ap flow_result (g.same refl); kept = λ h. cc }
 
 -- whether flows show an element
-abbrev pub all_seen : Sight → List ℕ → List Value → Bool
+abbrev all_seen : Sight → List ℕ → List Value → Bool
 all_seen s id flows = (s.of_ready && is_in id (all_ready flows)) || (s.of_busy && is_in id (all_busy flows))
 
 -- what two lists show together, one of them shows
@@ -213,7 +213,7 @@ together s id ready busy rest =
     rw (list_any-append (bytes_eq id) ready (all_ready rest)) (rw (list_any-append (bytes_eq id) busy (all_busy rest)) refl)
 
 -- a flow shows an element, or the others do
-pub seen-either : (s : Sight) (id : List ℕ) (v : Value) (rest : List Value) → all_seen s id (v ∷ rest) ≡ true → (seen s id v ≡ true) ⊎ (all_seen s id rest ≡ true)
+seen-either : (s : Sight) (id : List ℕ) (v : Value) (rest : List Value) → all_seen s id (v ∷ rest) ≡ true → (seen s id v ≡ true) ⊎ (all_seen s id rest ≡ true)
 seen-either s id (Open ready busy) rest h = sorted-out s.of_ready s.of_busy _ _ _ _ (sym (together s id ready busy rest) ∙ h)
 seen-either s id (Done exit) rest h = inr h
 seen-either s id (Ended status exit point) rest h = inr h
@@ -232,7 +232,7 @@ seen-later s id (Open ready busy) rest h =
 seen-later s id (Done exit) rest h = h
 seen-later s id (Ended status exit point) rest h = h
 
-pub nothing-seen : (r b : Bool) → ((r && false) || (b && false)) ≡ false
+nothing-seen : (r b : Bool) → ((r && false) || (b && false)) ≡ false
 nothing-seen true true = refl
 nothing-seen true false = refl
 nothing-seen false true = refl
@@ -261,11 +261,11 @@ flows-same s t id f g rel (x ∷ xs) h =
     let none = or_parts (is_open (f x)) (any_open (map f xs)) h in
     ap (λ v. v ∷ map g xs) ((rel x).same none.0) ∙ ap (λ vs. f x ∷ vs) (flows-same s t id f g rel xs none.1)
 
-abbrev pub IsClosed : Option Value → Type 0
+abbrev IsClosed : Option Value → Type 0
 IsClosed None = Unit {0}
 IsClosed (Some v) = is_open v ≡ false
 
-pub find-closed : (p : Value → Bool) (flows : List Value) → any_open flows ≡ false → IsClosed (find p flows)
+find-closed : (p : Value → Bool) (flows : List Value) → any_open flows ≡ false → IsClosed (find p flows)
 find-closed p [] h = tt
 find-closed p (v ∷ rest) h =
     let none = or_parts (is_open v) (any_open rest) h in
@@ -274,14 +274,14 @@ find-closed p (v ∷ rest) h =
       | false ↦ find-closed p rest none.1
     ]
 
-pub strongest-unseen : (s : Sight) (id : List ℕ) (failed stopped completed : Option Value) → IsClosed failed → IsClosed stopped → IsClosed completed
+strongest-unseen : (s : Sight) (id : List ℕ) (failed stopped completed : Option Value) → IsClosed failed → IsClosed stopped → IsClosed completed
     → own_seen s id (strongest_end failed stopped completed) ≡ false
 strongest-unseen s id (Some v) stopped completed h1 h2 h3 = closed-unseen s id v h1
 strongest-unseen s id None (Some v) completed h1 h2 h3 = closed-unseen s id v h2
 strongest-unseen s id None None (Some v) h1 h2 h3 = closed-unseen s id v h3
 strongest-unseen s id None None None h1 h2 h3 = refl
 
-abbrev pub split_ended : List Value → ElementResult
+abbrev split_ended : List Value → ElementResult
 split_ended flows = strongest_end (find (ended_as StatusFailed) flows) (find (ended_as StatusStopped) flows) (find (ended_as StatusCompleted) flows)
 
 split-goes : {X : Type 0} (s t : Sight) (id : List ℕ) (f g : X → Value) → ((x : X) → GoesOn s t id (f x) (g x)) → (xs : List X)
@@ -325,7 +325,7 @@ ElementGoes s t id facts later e = RowGoesOn s t id (walked_element facts e) (wa
 abbrev FlowGoes : Sight → Sight → List ℕ → (List ℕ → Fact) → (List ℕ → Fact) → SplitFlow → Type 0
 FlowGoes s t id facts later flow = GoesOn s t id (value_of_flow facts flow) (value_of_flow later flow)
 
-abbrev pub part_at : (List ℕ → Fact) → Body-F Body Element SplitFlow → BodyResult
+abbrev part_at : (List ℕ → Fact) → Body-F Body Element SplitFlow → BodyResult
 part_at facts x = body_result (map-Body Body Element SplitFlow BodyResult WalkedElement Value (walked_body facts) (walked_element facts) (value_of_flow facts) x)
 
 body-inside : (s t : Sight) (id : List ℕ) (facts later : List ℕ → Fact)

@@ -17,10 +17,10 @@ use Rattle.batch_history.specs.declared.rows.JobInstance.{JobInstance}
 use Rattle.batch_history.proofs.Folds.{made, makes, is_made, remade, instances_of, bare_of, folded_rows, execution_row}
 use Rattle.batch_history.specs.Executions.{Made}
 use Rattle.batch_history.specs.Replies.{row_status, is_execution, is_later_than}
-use Rattle.batch_history.specs.Rows.{Rows}
+use Rattle.batch_history.specs.Rows.{Rows, IsAsBefore}
 use Rattle.batch_history.specs.Statuses.{is_finished}
 use Rattle.batch_history.proofs.Finding.{found-passes, any-none}
-use Rattle.batch_history.proofs.Finished.{finished-step, on-it, IsAsBefore}
+use Rattle.batch_history.proofs.Finished.{finished-step, on-it}
 use Rattle.batch_history.proofs.Origins.{find-past}
 use Rattle.batch_history.proofs.Owners.{InstanceOf, instances-kept, AreBegun, begun}
 use Rattle.batch_history.proofs.Stepping.{AreNumbered, numbered}

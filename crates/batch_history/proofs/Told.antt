@@ -77,6 +77,17 @@ row-of catalogue past p row e =
     let from = found-from (execution_row catalogue past) p 1 (made past) row (numbered past) e in
     record { one = from.one; is_row = from.is_row; found = from.found }
 
+-- the row of a number is of the job execution that was made with it
+pub row-made : (catalogue : List JobTree) (past : List Entry) (m : Made) (y : ℕ) (row : ExecutionRow) → find (is_execution y) (folded_rows catalogue past).executions ≡ Some row
+    → find (is_made m.execution) (made past) ≡ Some m → (y == m.execution) ≡ true → row ≡ execution_row catalogue past m
+row-made catalogue past m y row there found on =
+    let from : IsRowOf catalogue past row = row-of catalogue past (is_execution y) row there in
+    let n : Made = from.one in
+    let number : row.execution ≡ y = eqb-true row.execution y (found-passes (is_execution y) (folded_rows catalogue past).executions row there) in
+    let same : n.execution ≡ m.execution = sym (ap (λ (r : ExecutionRow). r.execution) from.is_row) ∙ (number ∙ eqb-true y m.execution on) in
+    let one : n ≡ m = let both : Some n ≡ Some m = sym from.found ∙ (ap (λ x. find (is_made x) (made past)) same ∙ found) in cc in
+    from.is_row ∙ ap (execution_row catalogue past) one
+
 -- numbers of those that were made
 pub made-among : (x k : ℕ) (ms : List Made) (m : Made) → AreNumbered k ms → find (is_made x) ms ≡ Some m → x < length ms + k
 made-among x k [] m h e = cc

@@ -1,6 +1,6 @@
 -- What a history says: a row for each job instance, job execution and work item, and the checkpoint of each step.
 use Rattle.std.specs.Option.{option_map}
-use Rattle.std.specs.Prelude.{ℕ, ◌+◌, Bool, Option, List, [], ◌∷◌, length, reverse, zero, suc, filter_map}
+use Rattle.std.specs.Prelude.{◌≡◌, ℕ, ◌+◌, Bool, Option, List, [], ◌∷◌, length, reverse, zero, suc, filter_map}
 use Rattle.batch_history.specs.Checkpoints.{InstanceStep, checkpoint_of}
 use Rattle.batch_history.specs.Executions.{job_instances, job_execution_count, Origin, origin_of, Made, made_as}
 use Rattle.batch_history.specs.Moments.{start_moment, end_moment, updated_moment}
@@ -48,6 +48,10 @@ execution_row_with m plan stop abandoned start value end updated =
       exit = exit_status stop start value;
       updated = updated;
     }
+
+-- a job execution as it was, but for whether it is abandoned and when an operation was last on it
+abbrev pub IsAsBefore : ExecutionRow → ExecutionRow → Type 0
+IsAsBefore before after = after ≡ record before { abandoned = after.abandoned; updated = after.updated }
 
 -- the row of job execution x, by where it comes from
 abbrev pub row_of_origin : List JobTree → List Entry → ℕ → Origin → ExecutionRow

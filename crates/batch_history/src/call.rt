@@ -235,13 +235,9 @@ impl WorkTask {
     }
 
     /// An equal task.
-
     ///
-
     /// # Errors
-
     ///
-
     /// `OutOfMemory` where memory is refused.
     pub fn try_clone(&self) -> Result<WorkTask, OutOfMemory>
         ensures { IfOk result (λ copy. copy ≡ self.now) }

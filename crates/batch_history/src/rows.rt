@@ -77,7 +77,7 @@ pub struct WorkRow {
     pub state: WorkState,
     /// The moment of the claim that was answered with it.
     pub start: Moment,
-    /// The moment of the finish that ended it, if it is over.
+    /// The moment of the finish or of the loss that ended it, if it is over.
     pub end: Option<Moment>,
     /// What was reported of it so far.
     pub metrics: Metrics,
@@ -123,13 +123,9 @@ impl ExecutionRow {
     }
 
     /// The record of it that is shown.
-
     ///
-
     /// # Errors
-
     ///
-
     /// `OutOfMemory` where memory is refused.
     pub fn record(&self) -> Result<JobExecution, OutOfMemory>
         ensures { IfOk result (λ shown. shown ≡ record_of self.now) }

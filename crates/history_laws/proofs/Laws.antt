@@ -17,14 +17,14 @@ use Rattle.batch_history.specs.Answers.{answer}
 use Rattle.batch_history.specs.Executions.{Made}
 use Rattle.batch_history.specs.Legal.{grown, IsLegal}
 use Rattle.batch_history.specs.Replies.{row_status, is_execution}
-use Rattle.batch_history.specs.Rows.{History, Rows, rows}
+use Rattle.batch_history.specs.Rows.{History, Rows, rows, IsAsBefore}
 use Rattle.batch_history.specs.Statuses.{is_finished}
 use Rattle.batch_history.specs.Walks.{job_named}
 use Rattle.batch_history.specs.Works.{is_work}
 use Rattle.batch_history.specs.declared.rows.ExecutionRow.{ExecutionRow}
 use Rattle.batch_history.specs.declared.rows.WorkRow.{WorkRow}
 use Rattle.batch_history.specs.declared.rows.JobInstance.{JobInstance}
-use Rattle.history_laws.specs.Laws.{beginning, row_in, IsAsBefore, StaysFinished, EndedAt, BelongsTo, HasInstance, with_name}
+use Rattle.history_laws.specs.Laws.{beginning, row_in, StaysFinished, EndedAt, BelongsTo, HasInstance, with_name}
 use Rattle.batch_history.proofs.Legality.{past-due, rows_folded}
 use Rattle.batch_history.proofs.Origins.{instances-law}
 use Rattle.batch_history.proofs.WorkLists.{each-found, Apart, AllApart}

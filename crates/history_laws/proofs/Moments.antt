@@ -1,6 +1,6 @@
 -- Abandonment and end: an abandoned job execution is over, and the end is the moment of the operation that brought it.
 use Rattle.std.proofs.Common.{◌≡◌, ℕ, ◌==◌, ◌||◌, ◌&&◌, Bool, true, false, cond, Option, None, Some, is_some, List, [], ◌∷◌, ◌++◌, length, find, refl, sym, ◌∙◌, ap}
-use Rattle.std.proofs.lemmas.Bool.{eqb-true, eq-eqb}
+use Rattle.std.proofs.lemmas.Bool.{eq-eqb}
 use Rattle.batch_ids.specs.Statuses.{is_unfinished}
 use Rattle.batch_ids.specs.declared.status.BatchStatus.{BatchStatus}
 use Rattle.batch_ids.specs.declared.status.BatchStatus.TheVariants.{Abandoned}
@@ -19,8 +19,8 @@ use Rattle.batch_history.specs.Replies.{row_status, is_running_in, is_execution}
 use Rattle.batch_history.specs.Rows.{Rows}
 use Rattle.batch_history.specs.Statuses.{is_finished}
 use Rattle.batch_history.proofs.Stepping.{settled, ended-by, named-by}
-use Rattle.batch_history.proofs.Finding.{found-passes, any-none}
-use Rattle.batch_history.proofs.Told.{Due, AllDue, IsRowOf, row-of, made-before, ToldAbandonment, abandonment-told}
+use Rattle.batch_history.proofs.Finding.{any-none}
+use Rattle.batch_history.proofs.Told.{Due, AllDue, row-made, made-before, ToldAbandonment, abandonment-told}
 use Rattle.batch_history.proofs.Finished.{finished-step, on-it}
 
 -- ---- Abandonment
@@ -35,12 +35,7 @@ abandonment-over : (catalogue : List JobTree) (past : List Entry) (m : Made) (y 
     → (abandoned_of past m.execution ≡ true → is_finished (bare_of catalogue past m) ≡ true) → is_finished (bare_of catalogue past m) ≡ true
 abandonment-over catalogue past m y told found on before =
     let r : Rows = folded_rows catalogue past in
-    let from : IsRowOf catalogue past told.row = row-of catalogue past (is_execution y) told.row told.found in
-    let n : Made = from.one in
-    let number : told.row.execution ≡ y = eqb-true told.row.execution y (found-passes (is_execution y) r.executions told.row told.found) in
-    let same : n.execution ≡ m.execution = sym (ap (λ (row : ExecutionRow). row.execution) from.is_row) ∙ (number ∙ eqb-true y m.execution on) in
-    let one : n ≡ m = let both : Some n ≡ Some m = sym from.found ∙ (ap (λ x. find (is_made x) (made past)) same ∙ found) in cc in
-    let is : told.row ≡ execution_row catalogue past m = from.is_row ∙ ap (execution_row catalogue past) one in
+    let is : told.row ≡ execution_row catalogue past m = row-made catalogue past m y told.row told.found found on in
     let none : is_running_in told.row.instance told.row ≡ false = any-none (is_running_in told.row.instance) (is_execution y) r.executions told.row told.none told.found in
     let self : (told.row.instance == told.row.instance) ≡ true = eq-eqb told.row.instance told.row.instance refl in
     let rest : is_unfinished (row_status told.row) ≡ false = sym (ap (λ b. b && is_unfinished (row_status told.row)) self) ∙ none in

@@ -18,7 +18,7 @@ use Rattle.batch_history.specs.declared.rows.JobInstance.{JobInstance}
 use Rattle.batch_history.specs.Legal.{grown}
 use Rattle.batch_history.specs.Replies.{row_status, is_execution, has_something, first_ready, walk_in_rows, work_task, runnable_of_job, restart_plan}
 use Rattle.batch_history.specs.Restarts.{plan_of}
-use Rattle.batch_history.specs.Rows.{History, rows}
+use Rattle.batch_history.specs.Rows.{History, rows, IsAsBefore}
 use Rattle.batch_history.specs.Statuses.{is_finished}
 use Rattle.batch_history.specs.Walks.{job_named, carried_exit}
 
@@ -31,10 +31,6 @@ abbrev pub row_in : History → ℕ → Option ExecutionRow
 row_in h x = find (is_execution x) (rows h).executions
 
 -- ---- A job execution that is over
-
--- a job execution as it was, but for whether it is abandoned and when an operation was last on it
-abbrev pub IsAsBefore : ExecutionRow → ExecutionRow → Type 0
-IsAsBefore before after = after ≡ record before { abandoned = after.abandoned; updated = after.updated }
 
 -- it is over, and as it was
 pub record StaysFinished (h : History) (x : ℕ) (before : ExecutionRow) : Type 0 where
