@@ -1,0 +1,4 @@
+pub mod Copying
+pub mod Soundness
+pub mod Stepping
+pub mod Following

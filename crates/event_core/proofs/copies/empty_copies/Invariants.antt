@@ -1,0 +1,7 @@
+use Rattle.std.proofs.Common.{◌≡◌, [], replicate}
+use Rattle.event_core.specs.Copies.{AreCopies, lengths}
+use Rattle.event_core.proofs.copies.empty_copies.Given as goal
+
+abbrev pub invariant-loop : goal.invariant-loop
+invariant-loop l =
+    AreCopies record { catalogue = l.catalogue; log = [] } l.copies.items × (lengths l.copies.items ≡ replicate l.counter 0)

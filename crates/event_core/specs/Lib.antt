@@ -1,0 +1,4 @@
+pub mod Copies
+pub mod Headline
+pub mod Seeing
+pub mod Worlds

@@ -1,0 +1,252 @@
+ghost use Rattle.std.specs.Prelude.{◌≡◌, Err, IfOk, OnErr, Result};
+ghost use Rattle.batch_history.specs.Due.{IsDue};
+ghost use Rattle.batch_history.specs.Replies.{reply};
+ghost use Rattle.event_core.specs.Headline.{FollowOneHistory};
+ghost use Rattle.event_core.specs.Worlds.{empty_world, history_after, IsCutShort, limit, outcomes, step};
+
+use crate::copies::{LIMIT, copy_at, empty_copies, take_in};
+use crate::event::{Event, Outcome};
+use crate::sessions::{Seen, Sessions};
+use batch_ids::{Moment, OutOfMemory, Refusal};
+use jsl_model::Catalogue;
+use op_log::{Answer, Book, Call, Query, Reply, Repository};
+use std::alloc::{AllocError, Global};
+use std::marker::Model;
+
+/// A job repository of at most 1,000,000 operations, with sessions that call and ask, and copies
+/// that lag behind it. Contracts see its history, what each session has seen, and how many
+/// operations each copy has.
+///
+/// It keeps by its type that the history is legal, that no session has seen more of it than there
+/// is, and that each copy stands for the first operations of it, as many as the copy has.
+#[derive(Debug, Drop)]
+pub struct World {
+    book: Book<LIMIT>,
+    sessions: Sessions,
+    copies: Vec<Repository<LIMIT>>,
+}
+
+impl Model for World {
+    ghost use Rattle.event_core.specs.Copies.{AreCopies, state_of};
+    ghost use Rattle.event_core.specs.Worlds.{IsSound, State};
+    ghost use Rattle.jsl_model.specs.contracts.element.Body as body;
+    ghost use Rattle.std.specs.Coded.{codes};
+
+    ghost Value = { State };
+
+    ghost coded = { Prim.hlevel (codes, body.the_row.coded) };
+
+    ghost view = { λ w. state_of w.book w.sessions w.copies.items };
+
+    ghost invariant = { λ w. IsSound (state_of w.book w.sessions w.copies.items) × AreCopies w.book w.copies.items };
+}
+
+impl World {
+    /// A world before the first event: an empty history over this catalogue, so many sessions that
+    /// have seen nothing, and so many copies that have no operation.
+    ///
+    /// It copies the catalogue once for each copy. All memory that the world takes later comes from
+    /// `alloc`.
+    ///
+    /// # Errors
+    ///
+    /// `OutOfMemory` alone.
+    pub fn new(
+        alloc: Global,
+        catalogue: Catalogue,
+        sessions: u64,
+        copies: u64,
+    ) -> Result<World, OutOfMemory>
+        ensures { IfOk result (λ world. world ≡ empty_world catalogue sessions copies) }
+    {
+        let copies = empty_copies(alloc, &catalogue, copies)?;
+        let sessions = Sessions::new(alloc, sessions)?;
+        Ok(World {
+            book: Book::new(alloc, catalogue)?,
+            sessions,
+            copies,
+        })
+    }
+
+    /// Lets an event happen, and tells what it is answered.
+    ///
+    /// A call or a query costs what it costs the book or the copy that answers it. A Publish enters
+    /// each operation that its copy lacks, one after the other. A meeting and a glance cost the same
+    /// however many operations there are.
+    ///
+    /// # Errors
+    ///
+    /// `OutOfMemory` alone, in place of any outcome. The history, the sessions and the copies are
+    /// then as they were, but for a Publish, whose copy keeps the operations that it took in until
+    /// then.
+    pub fn step(&mut self, event: &Event) -> Result<Outcome, OutOfMemory>
+        ensures step { IfOk result (λ outcome. step self.old event.now
+            ≡ record { outcome = outcome; after = self.new }) }
+        ensures refused { OnErr result (IsCutShort self.old event.now self.new) }
+    {
+        match event {
+            Event::Call { who, call, at } => self.call(*who, call, *at),
+            Event::Publish { copy, upto } => self.publish(*copy, *upto),
+            Event::Read { who, copy, query } => self.read(*who, *copy, query),
+            Event::Ask { who, query } => self.ask(*who, query),
+            Event::Meet { one, other } => Ok(self.meet(*one, *other)),
+            Event::Glance { who } => Ok(self.glance(*who)),
+        }
+    }
+
+    /// A session makes a call.
+    fn call(&mut self, who: u64, call: &Call, at: Moment) -> Result<Outcome, OutOfMemory>
+        ensures step { IfOk result (λ outcome. step self.old (Event.Call who call.now at)
+            ≡ record { outcome = outcome; after = self.new }) }
+        ensures refused { OnErr result (self.new ≡ self.old) }
+    {
+        let Some(seen) = self.sessions.seen_by(who) else {
+            return Ok(Outcome::Skipped);
+        };
+        let replied = act(&mut self.book, who, call, at)?;
+        let front = self.book.len() as u64;
+        self.sessions.set(who, Seen { front, ..seen });
+        Ok(Outcome::Replied(replied))
+    }
+
+    /// A copy takes in what it lacks.
+    fn publish(&mut self, copy: u64, upto: u64) -> Result<Outcome, OutOfMemory>
+        ensures step { IfOk result (λ outcome. step self.old (Event.Publish copy upto)
+            ≡ record { outcome = outcome; after = self.new }) }
+        ensures refused { OnErr result (IsCutShort self.old (Event.Publish copy upto) self.new) }
+    {
+        if copy >= self.copies.len() as u64 {
+            return Ok(Outcome::Skipped);
+        }
+        let taker = &mut self.copies[copy as usize];
+        take_in(taker, &self.book, upto)?;
+        Ok(Outcome::Published {
+            length: taker.len(),
+        })
+    }
+
+    /// A session asks a copy, or the book where the copy is behind what the session has seen.
+    fn read(&mut self, who: u64, copy: u64, query: &Query) -> Result<Outcome, OutOfMemory>
+        ensures step { IfOk result (λ outcome. step self.old (Event.Read who copy query.now)
+            ≡ record { outcome = outcome; after = self.new }) }
+        ensures refused { OnErr result (self.new ≡ self.old) }
+    {
+        let Some(seen) = self.sessions.seen_by(who) else {
+            return Ok(Outcome::Skipped);
+        };
+        let Some(asked) = copy_at(&self.copies, copy) else {
+            return Ok(Outcome::Skipped);
+        };
+        let front = asked.len();
+        if !seen.has_seen_no_more(front) {
+            return self.ask(who, query);
+        }
+        let answered = told(asked.ask(query))?;
+        self.sessions.set(who, Seen { front, ..seen });
+        Ok(Outcome::Answered(answered))
+    }
+
+    /// A session asks the book.
+    fn ask(&mut self, who: u64, query: &Query) -> Result<Outcome, OutOfMemory>
+        ensures step { IfOk result (λ outcome. step self.old (Event.Ask who query.now)
+            ≡ record { outcome = outcome; after = self.new }) }
+        ensures refused { OnErr result (self.new ≡ self.old) }
+    {
+        let Some(seen) = self.sessions.seen_by(who) else {
+            return Ok(Outcome::Skipped);
+        };
+        let answered = told(self.book.ask(query))?;
+        let front = self.book.len() as u64;
+        self.sessions.set(who, Seen { front, ..seen });
+        Ok(Outcome::Answered(answered))
+    }
+
+    /// Two sessions tell each other what they have seen.
+    fn meet(&mut self, one: u64, other: u64) -> Outcome
+        ensures { step self.old (Event.Meet one other) ≡ record { outcome = result; after = self.new } }
+    {
+        if one == other {
+            return Outcome::Skipped;
+        }
+        let Some(a) = self.sessions.seen_by(one) else {
+            return Outcome::Skipped;
+        };
+        let Some(b) = self.sessions.seen_by(other) else {
+            return Outcome::Skipped;
+        };
+        let joined = a.joined(b);
+        self.sessions.set(one, joined);
+        self.sessions.set(other, joined);
+        Outcome::Met
+    }
+
+    /// A session looks how many operations there are.
+    fn glance(&mut self, who: u64) -> Outcome
+        ensures { step self.old (Event.Glance who) ≡ record { outcome = result; after = self.new } }
+    {
+        let Some(seen) = self.sessions.seen_by(who) else {
+            return Outcome::Skipped;
+        };
+        let n = self.book.len() as u64;
+        self.sessions.set(who, Seen { least: n, ..seen });
+        Outcome::Count { n }
+    }
+}
+
+/// What the book answers a call, where memory is not refused.
+fn act(
+    book: &mut Book<LIMIT>,
+    who: u64,
+    call: &Call,
+    at: Moment,
+) -> Result<Result<Reply, Refusal>, OutOfMemory>
+    ensures reply { IfOk result (λ given. given ≡ reply limit book.old who call.now) }
+    ensures after { IfOk result (λ given. book.new
+        ≡ history_after book.old who call.now at given) }
+    ensures refused { OnErr result (book.new ≡ book.old) }
+{
+    told(book.act(who, call.try_clone()?, at))
+}
+
+/// What was told, where memory was not refused.
+fn told<R>(given: Result<R, Refusal>) -> Result<Result<R, Refusal>, OutOfMemory>
+    ensures due { (due : Result R Refusal) → IsDue given due → IfOk result (λ told. told ≡ due) }
+    ensures given { IfOk result (λ told. told ≡ given) }
+    ensures refused { OnErr result (given ≡ Err Refusal.OutOfMemory) }
+{
+    match given {
+        Ok(answer) => Ok(Ok(answer)),
+        Err(Refusal::OutOfMemory) => Err(AllocError),
+        Err(refusal) => Ok(Err(refusal)),
+    }
+}
+
+/// What each of these events is answered, from a world before the first event: an empty history
+/// over this catalogue, so many sessions (numbered from 1) and so many copies (numbered from 0).
+///
+/// The outcomes follow one growing history: each reply is that of the whole history so far, each
+/// answer that of some first operations of it, no fewer than the session had seen, and each session's
+/// accepted calls stand in it in order. It costs what the events cost one after the other.
+///
+/// # Errors
+///
+/// `OutOfMemory` alone, in place of all outcomes.
+#[tactic(auto, using(crate::proofs::Following::follow_one_history))]
+pub fn run(
+    alloc: Global,
+    catalogue: Catalogue,
+    sessions: u64,
+    copies: u64,
+    events: &[Event],
+) -> Result<Vec<Outcome>, OutOfMemory>
+    ensures outcomes { IfOk result (λ told. told.items
+        ≡ outcomes (empty_world catalogue sessions copies) events.now) }
+    ensures one_history { FollowOneHistory (empty_world catalogue sessions copies) events.now }
+{
+    let mut world = World::new(alloc, catalogue, sessions, copies)?;
+    let mut told = Vec::new(alloc);
+    for event in events {
+        told.push(world.step(event)?)?;
+    }
+    Ok(told)
+}
