@@ -7,6 +7,7 @@ mod calls;
 mod copy_count;
 mod operator;
 mod queries;
+mod states;
 
 pub use copy_count::CopyCount;
 pub use operator::Operator;

@@ -1,12 +1,14 @@
-ghost use Rattle.std.specs.Prelude.{◌≡◌, ◌≤◌, ◌∷◌, ◌++◌, [], IsTrue, IfOk, IfErr, length};
+ghost use Rattle.std.specs.Prelude.{◌≡◌, ◌<◌, ◌≤◌, ◌∷◌, ◌++◌, [], IsTrue, IfOk, IfErr, length};
 ghost use Rattle.seat_rules.specs.Places.{IsLegalLog};
 ghost use Rattle.seat_rules.specs.Views.{glanced_at, new_session};
 ghost use Rattle.batch_operator.specs.Calls.{IsAnswered, IsReplied};
 
 use crate::copy_count::CopyCount;
+use crate::states::{counts_of_nothing, repositories_of_nothing};
 use batch_ids::{ExecutionId, Moment, OutOfMemory, Refusal};
 use jsl_model::Catalogue;
-use op_log::{Answer, Call, Query, Reply};
+use op_log::{Answer, Call, Query, Reply, Repository};
+use read_copies::{Copies, StatusCounts};
 use seat_rules::{BookSeat, SeatTable, Site};
 use sessions::{Desk, Session};
 use std::alloc::Global;
@@ -23,13 +25,18 @@ pub(crate) struct Kept<N: Site> {
 /// A job repository that many threads use at once, each by a session of its own. It is lent to
 /// threads by reference, and keeps at most 1,000,000 operations.
 ///
-/// Each call but `operations_at_least` and `stop_seen` waits for one lock.
+/// Each mutation waits for the lock of the book. A query waits for the lock of a read copy, and for the
+/// book's only where that copy is behind what its session has seen. `operations_at_least` and
+/// `stop_seen` wait for nobody.
 #[derive(Drop)]
 pub struct Operator<N: Site> {
     pub(crate) desk: Mutex<Kept<N>>,
     pub(crate) table: SeatTable,
-    copies: CopyCount,
+    pub(crate) repositories: Copies<Repository<1_000_000>, N>,
+    pub(crate) counts: Copies<StatusCounts, N>,
     ghost named: { table ≡ N.place },
+    ghost some: { 0 < repositories },
+    ghost both: { counts ≡ repositories },
 }
 
 impl<N: Site> Operator<N> {
@@ -48,13 +55,18 @@ impl<N: Site> Operator<N> {
         requires table { table ≡ N.place }
         requires seat { seat ≡ N.place.table }
         requires catalogue { catalogue ≡ N.place.catalogue }
-        ensures { IfOk result (λ operator. operator.copies ≡ copies) }
+        ensures { IfOk result (λ operator. operator.repositories ≡ copies.count) }
     {
-        let desk = Desk::new(alloc, seat, catalogue)?;
+        let repositories = repositories_of_nothing(alloc, &catalogue, copies)?;
+        let counts = counts_of_nothing(alloc, &catalogue, copies)?;
+        let mut desk = Desk::new(alloc, seat, catalogue)?;
+        let repositories = Copies::new(alloc, repositories, &mut desk, &table)?;
+        let counts = Copies::new(alloc, counts, &mut desk, &table)?;
         Ok(Operator {
             desk: Mutex::new(Kept { desk }),
             table,
-            copies,
+            repositories,
+            counts,
         })
     }
 
@@ -65,11 +77,27 @@ impl<N: Site> Operator<N> {
         &self.table
     }
 
-    /// How many read copies of each kind it was made for.
-    pub fn copies(&self) -> CopyCount
-        ensures { result ≡ self.now.copies }
+    /// How many read copies it has of each kind.
+    pub fn copies(&self) -> usize
+        ensures count { result ≡ self.now.repositories }
+        ensures some { 0 < result }
     {
-        self.copies
+        self.repositories.len()
+    }
+
+    /// Brings read copy `j` of each kind to the history so far, so that the queries of sessions whose
+    /// number leaves `j` when it is divided by `copies` are answered by it.
+    ///
+    /// # Errors
+    ///
+    /// `OutOfMemory` where memory is refused; the copies keep what they have absorbed until then.
+    pub fn publish(&self, rt: &impl Wait, j: usize) -> Result<(), OutOfMemory>
+        requires { j < self.now.repositories }
+    {
+        let mut kept = self.desk.lock(rt);
+        self.repositories
+            .publish(rt, j, &mut kept.desk, &self.table)?;
+        self.counts.publish(rt, j, &mut kept.desk, &self.table)
     }
 
     /// A session that has made no call, and has seen the history so far. It is all that a thread needs,
@@ -127,7 +155,29 @@ impl<N: Site> Operator<N> {
     ) -> Result<Answer, Refusal>
         ensures { IsAnswered N.place.catalogue session.old session.new query.now result }
     {
+        let j = self.copy_for(session);
+        match self.repositories.read(rt, j, session, query, &self.table) {
+            Some(answer) => answer,
+            None => self.ask_book(rt, session, query),
+        }
+    }
+
+    pub(crate) fn ask_book(
+        &self,
+        rt: &impl Wait,
+        session: &mut Session<N>,
+        query: &Query,
+    ) -> Result<Answer, Refusal>
+        ensures { IsAnswered N.place.catalogue session.old session.new query.now result }
+    {
         self.desk.lock(rt).desk.ask(session, query, &self.table)
+    }
+
+    /// The read copy that a session reads: its number, divided by how many copies there are, leaves it.
+    pub(crate) fn copy_for(&self, session: &Session<N>) -> usize
+        ensures { result < self.now.repositories }
+    {
+        (session.number() % self.repositories.len() as u64) as usize
     }
 
     /// A count of accepted operations: all that were accepted before the session looks, at least as many

@@ -7,8 +7,8 @@ use seat_rules::Site;
 use sessions::Session;
 use std::sync::Wait;
 
-/// Each query is answered after what its session has seen then, which is all that was accepted before
-/// the lock was got.
+/// Each query is answered after what its session has seen then: what a read copy has absorbed, where
+/// that is at least what the session had seen and was shown, and else the whole history.
 impl<N: Site> Operator<N> {
     /// The names of the jobs that have a job instance, in order of first start (Jakarta Batch 2.1,
     /// "JobOperator", getJobNames).
@@ -173,6 +173,11 @@ impl<N: Site> Operator<N> {
     pub fn status_counts(&self, rt: &impl Wait, session: &mut Session<N>) -> Result<Answer, Refusal>
         ensures { IsAnswered N.place.catalogue session.old session.new Query.StatusCounts result }
     {
-        self.ask(rt, session, &Query::StatusCounts)
+        let j = self.copy_for(session);
+        match self.counts.read(rt, j, session, &(), &self.table) {
+            Some(Ok(counts)) => Ok(Answer::StatusCounts(counts)),
+            Some(Err(refusal)) => Err(refusal),
+            None => self.ask_book(rt, session, &Query::StatusCounts),
+        }
     }
 }

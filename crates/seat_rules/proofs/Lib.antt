@@ -1,3 +1,9 @@
 pub mod Prefixes
 pub mod Sums
-pub mod Steps
+pub mod Keeping
+pub mod Joining
+pub mod Parting
+pub mod Opening
+pub mod Appending
+pub mod Glancing
+pub mod Stopping

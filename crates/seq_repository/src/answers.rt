@@ -254,7 +254,7 @@ fn steps(
 
 /// How many job executions have each status, `last` being the last number of one.
 #[tactic(auto, using(crate::proofs::Tallies::both_counted, crate::proofs::Tallies::none_before, crate::proofs::Tallies::none_after, crate::proofs::Tallies::total_counted))]
-fn counts(rows: &Records, last: u64) -> CountsByStatus
+pub fn counts(rows: &Records, last: u64) -> CountsByStatus
     requires { last ≡ length rows.now.executions }
     ensures { result ≡ counts_of rows.now.executions }
 {

@@ -1,4 +1,4 @@
-ghost use Rattle.std.specs.Prelude.{◌≡◌, ◌≤◌, [], IfOk, IsOk, OnErr, OnOk};
+ghost use Rattle.std.specs.Prelude.{◌≡◌, ◌≤◌, [], IfOk, IsOk, OnErr, OnOk, Ok};
 ghost use Rattle.batch_history.specs.Answers.{answer};
 ghost use Rattle.batch_history.specs.Due.{IsDue};
 ghost use Rattle.batch_history.specs.Legal.{IsLegal, after_call, grown};
@@ -8,7 +8,7 @@ ghost use Rattle.seq_repository.specs.Kept.{IsNext, StandsFor};
 
 use crate::answers;
 use crate::last_numbers::LastNumbers;
-use batch_history::{Answer, Call, Entry, Query, Reply};
+use batch_history::{Answer, Call, CountsByStatus, Entry, Query, Reply};
 use batch_ids::{Moment, OutOfMemory, Refusal};
 use jsl_model::Catalogue;
 use records::Records;
@@ -134,5 +134,13 @@ impl<const LIMIT: u64> Repository<LIMIT> {
         ensures { (h : History) → StandsFor self.now h → IsDue result (answer h query.now) }
     {
         answers::answer(self.alloc, &self.records, self.last.execution, query)
+    }
+
+    /// How many job executions have each batch status. It takes no memory, and goes over all job
+    /// executions.
+    pub fn status_counts(&self) -> CountsByStatus
+        ensures { (h : History) → StandsFor self.now h → answer h Query.StatusCounts ≡ Ok (Answer.StatusCounts result) }
+    {
+        answers::counts(&self.records, self.last.execution)
     }
 }

@@ -11,7 +11,7 @@ use Rattle.seat_rules.specs.Views.{Each, HasStop, entries_by, informed, list_of,
 use Rattle.sessions.specs.Sessions.{IsSession, Meets, one_of}
 use Rattle.seat_rules.proofs.Prefixes.{prefix_shorter, prefix_whole, entries_between, entries_short}
 use Rattle.seat_rules.specs.declared.view.SessionView.{SessionView}
-use Rattle.seat_rules.proofs.Steps.{stop_push}
+use Rattle.seat_rules.proofs.Keeping.{stop_push}
 use Rattle.seat_rules.proofs.Sums.{each-imp, times_own}
 
 -- what the rule says of a session that sits alone

@@ -1,7 +1,7 @@
 use Rattle.std.proofs.Common.{sym, ap, ◌∙◌, arith}
 use Rattle.seat_rules.specs.Places.{Known, Place}
 use Rattle.seat_rules.specs.Views.{known_in}
-use Rattle.seat_rules.proofs.Steps.{appends_at}
+use Rattle.seat_rules.proofs.Appending.{appends_at}
 use Rattle.seat_rules.proofs.desk_seat.DeskSeat.append_as.Goals as goal
 
 pub fetch_add-requires : goal.fetch_add-requires

@@ -1,6 +1,6 @@
 use Rattle.std.proofs.Common.{sym, ap, ◌∙◌, arith}
 use Rattle.seat_rules.specs.Places.{Place}
-use Rattle.seat_rules.proofs.Steps.{makes_copy}
+use Rattle.seat_rules.proofs.Parting.{makes_copy}
 use Rattle.seat_rules.proofs.desk_seat.DeskSeat.copy_seat.Goals as goal
 
 pub split_seat-requires : goal.split_seat-requires

@@ -1,7 +1,7 @@
 use Rattle.std.proofs.Common.{◌≡◌, [], sym, ap, ◌∙◌, arith}
 use Rattle.seat_rules.specs.Places.{Known, Place}
 use Rattle.seat_rules.specs.Views.{known_in}
-use Rattle.seat_rules.proofs.Steps.{joins, looks, learns}
+use Rattle.seat_rules.proofs.Joining.{joins, looks, learns}
 use Rattle.seat_rules.proofs.desk_seat.DeskSeat.host_copy.Goals as goal
 
 pub join_seat-requires : goal.join_seat-requires

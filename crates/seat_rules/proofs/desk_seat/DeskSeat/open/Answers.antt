@@ -1,7 +1,7 @@
 use Rattle.std.proofs.Common.{◌≡◌, sym, ap, ◌∙◌, arith, []}
 use Rattle.seat_rules.specs.Places.{Known, Place, known}
 use Rattle.seat_rules.specs.Views.{desk_view, known_in}
-use Rattle.seat_rules.proofs.Steps.{opens}
+use Rattle.seat_rules.proofs.Opening.{opens}
 use Rattle.seat_rules.proofs.desk_seat.DeskSeat.open.Goals as goal
 
 pub split_seat-requires : goal.split_seat-requires

@@ -1,6 +1,6 @@
 use Rattle.std.proofs.Common.{sym, ap, ◌∙◌, arith}
 use Rattle.seat_rules.specs.Places.{Place}
-use Rattle.seat_rules.proofs.Steps.{leaves}
+use Rattle.seat_rules.proofs.Parting.{leaves}
 use Rattle.seat_rules.proofs.desk_seat.DeskSeat.part.Goals as goal
 
 pub split_seat-requires : goal.split_seat-requires

@@ -1,7 +1,7 @@
 use Rattle.std.proofs.Common.{sym, ap, ◌∙◌, arith}
 use Rattle.seat_rules.specs.Places.{Place}
 use Rattle.seat_rules.specs.Views.{known_in}
-use Rattle.seat_rules.proofs.Steps.{releases}
+use Rattle.seat_rules.proofs.Parting.{releases}
 use Rattle.seat_rules.proofs.desk_seat.DeskSeat.part_copy_as.Goals as goal
 
 pub split_seat-requires : goal.split_seat-requires

@@ -1,7 +1,7 @@
 use Rattle.std.proofs.Common.{ℕ, length, sym, ap, ◌∙◌, subst, arith}
 use Rattle.seat_rules.specs.Places.{Known, Place}
 use Rattle.seat_rules.specs.Views.{HasStop, known_in}
-use Rattle.seat_rules.proofs.Steps.{raises}
+use Rattle.seat_rules.proofs.Stopping.{raises}
 use Rattle.seat_rules.proofs.desk_seat.DeskSeat.raise.Goals as goal
 
 pub store-requires : goal.store-requires

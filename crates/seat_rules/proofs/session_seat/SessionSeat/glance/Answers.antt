@@ -1,6 +1,6 @@
 use Rattle.std.proofs.Common.{sym, ap, ◌∙◌, arith}
 use Rattle.seat_rules.specs.Places.{Place}
-use Rattle.seat_rules.proofs.Steps.{glances}
+use Rattle.seat_rules.proofs.Glancing.{glances}
 use Rattle.seat_rules.proofs.session_seat.SessionSeat.glance.Goals as goal
 
 pub load-count-requires : goal.load-count-requires

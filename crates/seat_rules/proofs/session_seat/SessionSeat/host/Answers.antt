@@ -1,6 +1,6 @@
 use Rattle.std.proofs.Common.{sym, ap, ◌∙◌, arith}
 use Rattle.seat_rules.specs.Places.{Place}
-use Rattle.seat_rules.proofs.Steps.{joins, looks}
+use Rattle.seat_rules.proofs.Joining.{joins, looks}
 use Rattle.seat_rules.proofs.session_seat.SessionSeat.host.Goals as goal
 
 pub join_seat-requires : goal.join_seat-requires

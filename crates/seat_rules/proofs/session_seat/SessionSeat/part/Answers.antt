@@ -1,7 +1,7 @@
 use Rattle.std.proofs.Common.{sym, ap, ◌∙◌, arith, []}
 use Rattle.seat_rules.specs.Places.{Place}
 use Rattle.seat_rules.specs.Views.{view_of}
-use Rattle.seat_rules.proofs.Steps.{parts}
+use Rattle.seat_rules.proofs.Parting.{parts}
 use Rattle.seat_rules.proofs.session_seat.SessionSeat.part.Goals as goal
 
 pub split_seat-leaver-requires : goal.split_seat-leaver-requires

@@ -2,7 +2,8 @@ use Rattle.std.proofs.Common.{sym, ap, ◌∙◌, arith, []}
 use Rattle.seat_rules.specs.Places.{Place}
 use Rattle.seat_rules.specs.Steps.{hosting}
 use Rattle.seat_rules.specs.Views.{view_of}
-use Rattle.seat_rules.proofs.Steps.{joins, looks, reads}
+use Rattle.seat_rules.proofs.Joining.{joins, looks}
+use Rattle.seat_rules.proofs.Parting.{reads}
 use Rattle.seat_rules.proofs.session_seat.SessionSeat.read.Goals as goal
 
 pub join_seat-requires : goal.join_seat-requires

@@ -3,7 +3,7 @@ use Rattle.batch_history.specs.Replies.{is_nothing, reply}
 use Rattle.batch_history.specs.Rows.{History}
 use Rattle.batch_history.specs.declared.call.Entry.{Entry}
 use Rattle.jsl_model.specs.Jobs.{JobTree}
-use Rattle.seat_rules.proofs.Steps.{entries_more}
+use Rattle.seat_rules.proofs.Appending.{entries_more}
 use Rattle.seat_rules.specs.Places.{IsLegalLog, Known}
 use Rattle.seat_rules.specs.Views.{Each, HasStop, entries_by}
 use Rattle.seat_rules.specs.declared.view.SessionView.{SessionView}
