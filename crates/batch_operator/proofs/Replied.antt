@@ -54,27 +54,3 @@ replied catalogue v w log now call at result due now_is w_is begins own legal le
         stops = stops;
       };
     }
-
--- ---- Stops
-
-accepted_done : (limit count : ℕ) (b : Bool) (r : Reply) → (if b then Ok Done else Err RepositoryFull) ≡ Ok r → is_nothing r ≡ false
-accepted_done limit count true r e = let same : r ≡ Done = cc in ap is_nothing same
-accepted_done limit count false r e = absurd cc
-
-unfinished_done : (limit count : ℕ) (b : Bool) (r : Reply) → (if b then Err JobExecutionNotRunningException else accepted limit count Done) ≡ Ok r → is_nothing r ≡ false
-unfinished_done limit count true r e = absurd cc
-unfinished_done limit count false r e = accepted_done limit count (nat_lt count limit) r e
-
-stop_done : (limit count : ℕ) (found : Option ExecutionRow) (r : Reply) → reply_to_stop limit count found ≡ Ok r → is_nothing r ≡ false
-stop_done limit count None r e = absurd cc
-stop_done limit count (Some row) r e = unfinished_done limit count (is_finished (row_status row)) r e
-
--- an accepted stop stands in the log after it
-pub has_stop : (catalogue : List JobTree) (who x at : ℕ) (log now : List Entry) (r : Reply) → reply 1000000 (history catalogue log) who (Stop x) ≡ Ok r
-    → now ≡ entered log who (Stop x) at (Ok r) → HasStop now (length now) x
-has_stop catalogue who x at log now r due now_is =
-    let past : Rows = rows (history catalogue log) in
-    let n : is_nothing r ≡ false = stop_done 1000000 past.count (find (is_execution x) past.executions) r due in
-    let e : Entry = operation who (Stop x) at r in
-    let cut : now ≡ log ++ e ∷ [] = now_is ∙ ap (λ (b : Bool). if b then log else log ++ e ∷ []) n in
-    record { before = log; stop = e; after = []; cut = cut; asks = refl; early = omega (arith, ap length cut, length-append log (e ∷ [])) }
