@@ -1,8 +1,8 @@
 -- Every list of events follows one growing history.
-use Rattle.std.proofs.Common.{◌≡◌, ℕ, zero, suc, ◌-◌, ◌≤◌, ◌==◌, ◌&&◌, nat_le, Bool, true, false, cond, Option, None, Some, Result, Ok, Err, List, [], ◌∷◌, ◌++◌, set, refl, sym, ◌∙◌, ap, arith}
+use Rattle.std.proofs.Common.{◌≡◌, ◌≢◌, ℕ, ◌≤◌, ◌==◌, true, false, cond, Option, None, Some, Result, Ok, Err, List, [], ◌∷◌, ◌++◌, refl, sym, ◌∙◌, ap, arith, subst}
 use Rattle.std.specs.Prelude.{slice_get}
 use Rattle.std.specs.List.{cons_option}
-use Rattle.std.proofs.lemmas.Bool.{leb-true}
+use Rattle.std.proofs.lemmas.Bool.{ne_eqb}
 use Rattle.std.proofs.lemmas.List.{append-nil, append_assoc}
 use Rattle.std.proofs.lemmas.List.Elements.{filter-append}
 use Rattle.batch_ids.specs.declared.refusal.Refusal.{Refusal}
@@ -15,12 +15,13 @@ use Rattle.batch_history.specs.declared.call.Entry.{Entry}
 use Rattle.batch_history.specs.declared.call.Reply.{Reply}
 use Rattle.batch_history.specs.declared.query.Query.{Query}
 use Rattle.history_laws.proofs.Restarts.{one_unfinished, restart_follows}
-use Rattle.event_core.specs.Headline.{entry_with, accepted_call, accepted_calls, operations_by, IsRepliedAtEnd, IsAnsweredAfterFirst, Continues, HoldsAfter, HoldsAt, FollowOneHistory}
-use Rattle.event_core.specs.Seeing.{seen_by, with_seen, has_seen_no_more}
-use Rattle.event_core.specs.Worlds.{State, Step, limit, empty_world, operations, skipped, if_there, replied, answered_after, read_after, met, step, state_after, outcomes, IsSound}
+use Rattle.event_core.specs.Headline.{entry_with, accepted_call, accepted_calls, operations_by, HasSeen, IsRepliedAtEnd, IsAnsweredAfterFirst, IsShownAll, HaveMet, Continues, HoldsAfter, HoldsAt, FollowOneHistory}
+use Rattle.event_core.specs.Seeing.{seen_by}
+use Rattle.event_core.specs.Worlds.{State, Step, limit, empty_world, operations, skipped, if_there, replied, answered_after, read_after, met, step, state_after, outcomes, IsSound, history_after, glanced}
 use Rattle.event_core.specs.declared.event.Event.{Event}
 use Rattle.event_core.specs.declared.event.Event.TheVariants.{Call as Calls, Publish, Read, Ask, Meet, Glance}
 use Rattle.event_core.specs.declared.sessions.Seen.{Seen}
+use Rattle.event_core.proofs.Remembering.{seen-now, read-late, one-knows, other-knows, keeps-step}
 use Rattle.event_core.proofs.Soundness.{All-at, there-cases, continues-same, continues-after, seen-within, read-within, sound-after, sound-empty}
 use Rattle.event_core.proofs.Stepping.{there}
 
@@ -115,25 +116,16 @@ replied-at : (s : State) (e : Event) (who : ℕ) (call : Call) (at : ℕ) (seen 
     → IsRepliedAtEnd s e who call seen
 replied-at s e who call at seen sound is found =
     let within = seen-within s who seen sound found in
+    let h : History = history_after s.history who call at (reply limit s.history who call) in
+    let done : step s e ≡ replied s who call at seen (reply limit s.history who call) =
+    ap (step s) is ∙ there s (seen_by s.sessions who) seen (λ seen. replied s who call at seen (reply limit s.history who call)) (sym found) in
     record {
-      outcome = ap (λ (e : Event). (step s e).outcome) is
-          ∙ ap (λ (t : Step). t.outcome) (there s (seen_by s.sessions who) seen (λ seen. replied s who call at seen (reply limit s.history who call)) (sym found));
+      outcome = ap (λ (t : Step). t.outcome) done;
       front = within.0;
       least = within.1;
+      seen_now = subst (λ (t : Step). seen_by t.after.sessions who ≡ Some (record seen { front = operations t.after.history })) (sym done)
+          (seen-now s.sessions who seen (record seen { front = operations h }) found);
     }
-
--- the session that has seen something has seen it
-seen-set : (sessions : List Seen) (i : ℕ) (old new : Seen) → slice_get sessions i ≡ Some old → slice_get (set sessions i new) i ≡ Some new
-seen-set [] i old new found = cc
-seen-set (x ∷ sessions) zero old new found = refl
-seen-set (x ∷ sessions) (suc i) old new found = seen-set sessions i old new found
-
-seen-now : (sessions : List Seen) (who : ℕ) (old new : Seen) → seen_by sessions who ≡ Some old → seen_by (with_seen sessions who new) who ≡ Some new
-seen-now sessions who old new found =
-    (elim (who == 0) as (λ b. cond b None (slice_get sessions (who - 1)) ≡ Some old → cond b None (slice_get (with_seen sessions who new) (who - 1)) ≡ Some new) [
-      | true ↦ λ e. cc
-      | false ↦ λ e. seen-set sessions (who - 1) old new e
-    ]) found
 
 answered-at : (s : State) (e : Event) (who : ℕ) (query : Query) (seen : Seen) (k : ℕ) → seen_by s.sessions who ≡ Some seen
     → step s e ≡ answered_after s who query seen k → seen.front ≤ k → seen.least ≤ k → k ≤ operations s.history
@@ -146,24 +138,6 @@ answered-at s e who query seen k found is front least within = record {
   outcome = ap (λ (t : Step). t.outcome) is;
   seen_now = ap (λ (t : Step). seen_by t.after.sessions who) is ∙ seen-now s.sessions who seen (record seen { front = k }) found;
 }
-
-both : (p q : Bool) → (p && q) ≡ true → (p ≡ true) × (q ≡ true)
-both true q e = (refl, e)
-both false q e = cc
-
-seen-no-more : (front least n : ℕ) → (nat_le front n && nat_le least n) ≡ true → (front ≤ n) × (least ≤ n)
-seen-no-more front least n enough =
-    let parts = both (nat_le front n) (nat_le least n) enough in
-    (leb-true front n parts.0, leb-true least n parts.1)
-
--- a read is answered no earlier than its session had seen
-read-late : (h : History) (seen : Seen) (n : ℕ) → seen.front ≤ operations h → seen.least ≤ operations h
-    → (seen.front ≤ read_after h seen n) × (seen.least ≤ read_after h seen n)
-read-late h seen n front least =
-    (elim (has_seen_no_more seen n) as (λ b. has_seen_no_more seen n ≡ b → (seen.front ≤ cond b n (operations h)) × (seen.least ≤ cond b n (operations h))) [
-      | true ↦ λ enough. seen-no-more seen.front seen.least n enough
-      | false ↦ λ behind. (front, least)
-    ]) refl
 
 read-at : (s : State) (e : Event) (who copy n : ℕ) (query : Query) (seen : Seen) → IsSound s → e ≡ Read who copy query
     → seen_by s.sessions who ≡ Some seen → slice_get s.copies copy ≡ Some n → IsAnsweredAfterFirst s e who query seen
@@ -182,6 +156,30 @@ ask-at s e who query seen sound is found =
     (ap (step s) is ∙ there s (seen_by s.sessions who) seen (λ seen. answered_after s who query seen (operations s.history)) (sym found))
     within.0 within.1 (omega arith)
 
+glanced-at : (s : State) (e : Event) (who : ℕ) (seen : Seen) → IsSound s → e ≡ Glance who → seen_by s.sessions who ≡ Some seen → IsShownAll s e who seen
+glanced-at s e who seen sound is found =
+    let done : step s e ≡ glanced s who seen = ap (step s) is ∙ there s (seen_by s.sessions who) seen (glanced s who) (sym found) in
+    record {
+      outcome = ap (λ (t : Step). t.outcome) done;
+      least = (seen-within s who seen sound found).1;
+      seen_now = ap (λ (t : Step). seen_by t.after.sessions who) done ∙ seen-now s.sessions who seen (record seen { least = operations s.history }) found;
+    }
+
+met-at : (s : State) (e : Event) (one other : ℕ) (a b : Seen) → e ≡ Meet one other → one ≢ other → seen_by s.sessions one ≡ Some a
+    → seen_by s.sessions other ≡ Some b → HaveMet s e one other a b
+met-at s e one other a b is two found too =
+    let apart : (one == other) ≡ false = ne_eqb one other two in
+    let done : step s e ≡ met s one other a b =
+    ap (step s) is
+    ∙ (ap (λ c. cond c (skipped s) (if_there s (seen_by s.sessions one) (λ a. if_there s (seen_by s.sessions other) (met s one other a)))) apart
+    ∙ (there s (seen_by s.sessions one) a (λ a. if_there s (seen_by s.sessions other) (met s one other a)) (sym found)
+    ∙ there s (seen_by s.sessions other) b (met s one other a) (sym too))) in
+    record {
+      outcome = ap (λ (t : Step). t.outcome) done;
+      one_knows = subst (λ (t : Step). HasSeen t.after one b) (sym done) (one-knows s one other a b found too);
+      other_knows = subst (λ (t : Step). HasSeen t.after other a) (sym done) (other-knows s one other a b found too);
+    }
+
 -- ---- The whole
 
 holds-at : (s : State) (e : Event) → IsSound s → HoldsAt s e
@@ -189,6 +187,9 @@ holds-at s e sound = record {
   calls = λ who call at seen is found. replied-at s e who call at seen sound is found;
   reads = λ who copy n query seen is found has. read-at s e who copy n query seen sound is found has;
   asks = λ who query seen is found. ask-at s e who query seen sound is found;
+  glances = λ who seen is found. glanced-at s e who seen sound is found;
+  meets = λ one other a b is two found too. met-at s e one other a b is two found too;
+  keeps = λ who seen found. keeps-step s e who seen sound found;
   grows = continues-step s e;
 }
 

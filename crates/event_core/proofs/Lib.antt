@@ -1,4 +1,5 @@
 pub mod Copying
+pub mod Remembering
 pub mod Soundness
 pub mod Stepping
 pub mod Following

@@ -1,5 +1,5 @@
 -- What holds of every list of events, whatever sessions and copies do: they follow one growing history.
-use Rattle.std.specs.Prelude.{ℕ, ◌≡◌, ◌≤◌, ◌==◌, true, Option, None, Some, Ok, Err, List, ◌∷◌, ◌++◌, filter, filter_map, zip, slice_get, if◌then◌else◌}
+use Rattle.std.specs.Prelude.{ℕ, ◌≡◌, ◌≢◌, ◌≤◌, ◌==◌, true, Option, None, Some, Ok, Err, List, ◌∷◌, ◌++◌, filter, filter_map, zip, slice_get, if◌then◌else◌}
 use Rattle.batch_ids.specs.Parameters.{Pair}
 use Rattle.batch_ids.specs.Statuses.{is_unfinished}
 use Rattle.batch_history.specs.Answers.{answer}
@@ -74,11 +74,20 @@ RestartsFollow h =
 
 -- ---- What each event is answered
 
--- a call is answered by the whole history, and its session had seen no more than that
+-- a session has seen this at least
+pub record HasSeen (s : State) (who : ℕ) (seen : Seen) : Type 0 where
+  pub now : Seen
+  pub found : seen_by s.sessions who ≡ Some now
+  pub front : seen.front ≤ now.front
+  pub least : seen.least ≤ now.least
+
+-- a call is answered by the whole history, and its session had seen no more than that; it has seen what there is now
 pub record IsRepliedAtEnd (s : State) (e : Event) (who : ℕ) (call : Call) (seen : Seen) : Type 0 where
   pub outcome : (step s e).outcome ≡ Replied (reply limit s.history who call)
   pub front : seen.front ≤ operations s.history
   pub least : seen.least ≤ operations s.history
+  pub seen_now : seen_by (step s e).after.sessions who
+      ≡ Some (record seen { front = operations (step s e).after.history })
 
 -- a query is answered after the first k operations, no fewer than its session had seen, and the session has seen these now
 pub record IsAnsweredAfterFirst (s : State) (e : Event) (who : ℕ) (query : Query) (seen : Seen) : Type 0 where
@@ -88,6 +97,18 @@ pub record IsAnsweredAfterFirst (s : State) (e : Event) (who : ℕ) (query : Que
   pub within : k ≤ operations s.history
   pub outcome : (step s e).outcome ≡ Answered (answer (first k s.history) query)
   pub seen_now : seen_by (step s e).after.sessions who ≡ Some (record seen { front = k })
+
+-- a session that glances is shown how many operations there are, no fewer than it had been shown, and keeps the count
+pub record IsShownAll (s : State) (e : Event) (who : ℕ) (seen : Seen) : Type 0 where
+  pub outcome : (step s e).outcome ≡ Count (operations s.history)
+  pub least : seen.least ≤ operations s.history
+  pub seen_now : seen_by (step s e).after.sessions who ≡ Some (record seen { least = operations s.history })
+
+-- two sessions met: each has seen now what the other had
+pub record HaveMet (s : State) (e : Event) (one other : ℕ) (a b : Seen) : Type 0 where
+  pub outcome : (step s e).outcome ≡ Met
+  pub one_knows : HasSeen (step s e).after one b
+  pub other_knows : HasSeen (step s e).after other a
 
 -- a history is another with more operations behind it
 pub record Continues (before after : History) : Type 0 where
@@ -106,7 +127,7 @@ pub record HoldsAfter (start : State) (before : List Event) : Type 0 where
   pub restarts : RestartsFollow (state_after start before).history
 
 -- what holds at an event: a call is answered at the end of the history, a query after some first operations of it, each no
--- earlier than its session had seen, and the history goes on
+-- earlier than its session had seen; no session forgets what it has seen, and the history goes on
 pub record HoldsAt (s : State) (e : Event) : Type 0 where
   pub calls : (who : ℕ) (call : Call) (at : ℕ) (seen : Seen) → e ≡ Calls who call at
       → seen_by s.sessions who ≡ Some seen → IsRepliedAtEnd s e who call seen
@@ -114,6 +135,10 @@ pub record HoldsAt (s : State) (e : Event) : Type 0 where
       → seen_by s.sessions who ≡ Some seen → slice_get s.copies copy ≡ Some n → IsAnsweredAfterFirst s e who query seen
   pub asks : (who : ℕ) (query : Query) (seen : Seen) → e ≡ Ask who query
       → seen_by s.sessions who ≡ Some seen → IsAnsweredAfterFirst s e who query seen
+  pub glances : (who : ℕ) (seen : Seen) → e ≡ Glance who → seen_by s.sessions who ≡ Some seen → IsShownAll s e who seen
+  pub meets : (one other : ℕ) (a b : Seen) → e ≡ Meet one other → one ≢ other → seen_by s.sessions one ≡ Some a
+      → seen_by s.sessions other ≡ Some b → HaveMet s e one other a b
+  pub keeps : (who : ℕ) (seen : Seen) → seen_by s.sessions who ≡ Some seen → HasSeen (step s e).after who seen
   pub grows : Continues s.history (step s e).after.history
 
 -- ONE GROWING HISTORY: what holds of a list of events, after any of them and at each
