@@ -12,6 +12,7 @@ mod comparison;
 mod directive;
 mod script;
 mod stage;
+mod two_threads;
 
 use anyhow::Result;
 use comparison::print_comparison;
@@ -19,6 +20,7 @@ use script::{Ending, run_script};
 use std::fs;
 use std::rt::Files;
 use std::sync::Wait;
+use two_threads::print_two_threads;
 
 /// Names in each line a file of scripts, and the file of the replies that they want. The last line names the replies of others,
 /// so that a comparison which finds all alike shows.
@@ -61,5 +63,5 @@ fn main(rt: HostRuntime) -> Result<()> {
             run_case(&rt, scripts, replies)?;
         }
     }
-    Ok(())
+    print_two_threads(&rt)
 }
