@@ -12,8 +12,10 @@ use Rattle.batch_history.proofs.rows.CheckpointRow.TheSendSync as checkpoint_cro
 use Rattle.seq_repository.specs.contracts.repository.Repository as repository
 use Rattle.op_log.specs.contracts.book.Book as book
 use Rattle.seat_rules.proofs.desk_seat.DeskSeat.TheSendSync as seat_crosses
+use Rattle.seat_rules.proofs.copy_seat.CopySeat.TheSendSync as copy_crosses
 use Rattle.seat_rules.proofs.place.SeatTable.TheSendSync as table_crosses
 use Rattle.seat_rules.specs.declared.place.Site
+use Rattle.read_copies.specs.contracts.status_counts.StatusCounts as status_counts
 use Rattle.batch_operator.specs.contracts.operator.Operator as operator
 
 catalogue_send : IsSend catalogue.the_row
@@ -25,6 +27,9 @@ repository_send L = search (catalogue_send, instance_crosses.the_send, execution
 book_send : (L : RattleType) → IsSend (book.the_row L)
 book_send L = search (repository_send, entry_crosses.the_send, crosses, sendable) depth 60 fits 20000
 
+counts_send : IsSend status_counts.the_row
+counts_send = search (repository_send, crosses, sendable) depth 60 fits 20000
+
 -- an operator of any name may be lent to other threads
 pub operator_sync : (N : RattleType) (g : Site.Ghosts N.Denot) → IsSync (operator.the_row N g)
-operator_sync N g = search (book_send, seat_crosses.the_send, table_crosses.the_sync, crosses, sendable) depth 60 fits 20000
+operator_sync N g = search (book_send, repository_send, counts_send, seat_crosses.the_send, copy_crosses.the_send, table_crosses.the_sync, crosses, sendable) depth 60 fits 20000

@@ -55,10 +55,13 @@ fn work<N: Site>(rt: &impl Wait, operator: &Operator<N>, mut session: Session<N>
     Ok(session)
 }
 
-/// Looks on, and asks the first job execution to stop, unless it is finished by then.
+/// Brings the read copy to the history, looks on, and asks the first job execution to stop, unless it is finished by then.
 fn look_on<N: Site>(rt: &impl Wait, operator: &Operator<N>, mut session: Session<N>) -> Ended<N> {
     let first = ExecutionId::new(1);
     for turn in 0..TURNS {
+        if operator.copies() > 0 {
+            operator.publish(rt, 0)?;
+        }
         let _counts = operator.status_counts(rt, &mut session)?;
         let _operations = operator.operations_at_least(&mut session);
         if !operator.stop_seen(&mut session, first) {
