@@ -1,1 +1,2 @@
 mod Replied
+pub mod Crossing

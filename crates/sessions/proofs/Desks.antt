@@ -1,11 +1,12 @@
 -- What a call leaves of a session.
-use Rattle.std.proofs.Common.{◌≢◌, ◌≡◌, ◌⊎◌, ℕ, ◌≤◌, ◌<◌, max, nat_lt, if◌then◌else◌, Bool, true, false, List, [], ◌∷◌, ◌++◌, map, length, refl, ap, sym, ◌∙◌, subst, arith, inl, inr, append_assoc, length-append}
+use Rattle.std.proofs.Common.{◌≢◌, ◌≡◌, ◌⊎◌, ℕ, ◌≤◌, ◌<◌, nat_lt, if◌then◌else◌, Bool, true, false, List, [], ◌∷◌, ◌++◌, map, length, refl, ap, sym, ◌∙◌, subst, arith, inl, inr, append_assoc, length-append}
 use mathlib.Core.List.{IsPrefix}
 use Rattle.std.proofs.lemmas.Bool.Decides.{nat_tests}
 use borrow.Author.Tests.{ltb-true}
 use Rattle.batch_history.specs.declared.call.Entry.{Entry}
 use Rattle.jsl_model.specs.Jobs.{JobTree}
 use Rattle.seat_rules.specs.Places.{IsLegalLog}
+use Rattle.seat_rules.specs.Steps.{met_one, met_other}
 use Rattle.seat_rules.specs.Rule.{IsSessionOf}
 use Rattle.seat_rules.specs.Views.{Each, HasStop, entries_by, informed, list_of, met, times}
 use Rattle.sessions.specs.Sessions.{IsSession, Meets, one_of}
@@ -55,9 +56,36 @@ same_by g h log last p q false false is is' =
 pub met_same : (g h : SessionView) (log : List Entry) (last : ℕ) → IsSessionOf log last g → IsSessionOf log last h → (met g h).seen ≡ (met h g).seen
 met_same g h log last p q = same_by g h log last p q (nat_lt (length g.seen) (length h.seen)) (nat_lt (length h.seen) (length g.seen)) refl refl
 
--- two sessions on one seat
-pub two_are : (seat other both : List SessionView) → seat ≡ one_of seat ∷ [] → other ≡ one_of other ∷ [] → both ≡ seat ++ other → both ≡ one_of seat ∷ one_of other ∷ []
-two_are seat other both a b is = is ∙ (λ i. a i ++ b i)
+-- two sessions that sat on one seat and parted
+pub record HaveMet (one other one_after other_after : SessionView) : Type 0 where
+  pub one_meets : Meets one other one_after
+  pub other_meets : Meets other one other_after
+  pub same : one_after.seen ≡ other_after.seen
+  pub apart : one.number ≢ other.number
+
+two_numbers : (g h : SessionView) → ((n : ℕ) → times n (g ∷ h ∷ []) ≤ 1) → g.number ≢ h.number
+two_numbers g h once e =
+    let a = times_own g.number g refl in
+    let b = times_own g.number h (sym e) in
+    let o = once g.number in
+    omega arith
+
+pub have_met : (log : List Entry) (last : ℕ) (seat other both one_after other_after : List SessionView) → seat ≡ one_of seat ∷ [] → other ≡ one_of other ∷ []
+    → both ≡ seat ++ other → Each (IsSessionOf log last) (seat ++ other) → ((n : ℕ) → times n (seat ++ other) ≤ 1)
+    → one_after ≡ met_one both → other_after ≡ met_other both → HaveMet (one_of seat) (one_of other) (one_of one_after) (one_of other_after)
+have_met log last seat other both one_after other_after one two both_is each once one_is other_is =
+    let s = one_of seat in
+    let t = one_of other in
+    let pair : seat ++ other ≡ s ∷ t ∷ [] = λ i. one i ++ two i in
+    let fine = subst (Each (IsSessionOf log last)) pair each in
+    let one_now : one_of one_after ≡ met s t = ap one_of (one_is ∙ ap met_one (both_is ∙ pair)) in
+    let other_now : one_of other_after ≡ met t s = ap one_of (other_is ∙ ap met_other (both_is ∙ pair)) in
+    record {
+      one_meets = subst (Meets s t) (sym one_now) (meets s t log last fine.0 fine.1.0);
+      other_meets = subst (Meets t s) (sym other_now) (meets t s log last fine.1.0 fine.0);
+      same = ap (λ (x : SessionView). x.seen) one_now ∙ (met_same s t log last fine.0 fine.1.0 ∙ sym (ap (λ (x : SessionView). x.seen) other_now));
+      apart = two_numbers s t (subst (λ (gs : List SessionView). (n : ℕ) → times n gs ≤ 1) pair once);
+    }
 
 -- the calls that a session saw stopped stand in what it has seen after its next call
 pub still_stopped : (log now : List Entry) (last : ℕ) (catalogue : List JobTree) (number front least accepted : ℕ) (seat : List SessionView) → IsSession catalogue number front least accepted seat → Each (IsSessionOf log last) seat → IsPrefix log now → Each (HasStop now (one_of seat).least) (one_of seat).stops
@@ -65,13 +93,6 @@ still_stopped log now last catalogue number front least accepted seat s each pre
     let p = alone log last catalogue number front least accepted seat s each in
     let g = one_of seat in
     subst (λ (l : List Entry). Each (HasStop l g.least) g.stops) pre.1 (each-imp (HasStop log g.least) (HasStop (log ++ pre.0) g.least) g.stops (λ x y. stop_push log pre.0 g.least x y) p.stops)
-
-pub two_numbers : (g h : SessionView) → ((n : ℕ) → times n (g ∷ h ∷ []) ≤ 1) → g.number ≢ h.number
-two_numbers g h once e =
-    let a = times_own g.number g refl in
-    let b = times_own g.number h (sym e) in
-    let o = once g.number in
-    omega arith
 
 -- a call that stands early in a log stands in each beginning that is as long
 pub stop_within : (l log : List Entry) (n x : ℕ) → IsPrefix l log → n ≤ length l → HasStop log n x → HasStop l n x
@@ -103,19 +124,6 @@ catches_up log l last catalogue number front least accepted entries seat now cop
       own = entries_between g.number g.seen l log g.mine pre p h.all_seen h.mine;
       stops = each-imp (HasStop log g.least) (HasStop l g.least) g.stops (λ x y. stop_within l log g.least x p low' y) h.stops;
     })
-
-pub met_is : (catalogue : List JobTree) (number front least accepted front' least' : ℕ) (seat now : List SessionView) (h : SessionView) (both : List Entry) → IsSession catalogue number front least accepted seat → now ≡ met (one_of seat) h ∷ [] → (met (one_of seat) h).seen ≡ both → IsLegalLog catalogue both
-    → front' ≡ length both → least' ≡ max (one_of seat).least h.least → IsSession catalogue number front' least' accepted now
-met_is catalogue number front least accepted front' least' seat now h both s is seen legal f l =
-    subst (IsSession catalogue number front' least' accepted) (sym is) (record { one = refl; number_is = s.number_is; front_is = f ∙ ap length (sym seen); least_is = l; accepted_is = s.accepted_is; legal = subst (IsLegalLog catalogue) (sym seen) legal })
-
-pub longer_legal : (catalogue : List JobTree) (xs ys : List Entry) → IsLegalLog catalogue xs → IsLegalLog catalogue ys → (b : Bool) → IsLegalLog catalogue (if b then ys else xs)
-longer_legal catalogue xs ys p q true = q
-longer_legal catalogue xs ys p q false = p
-
-pub longer_length : (xs ys : List Entry) (b : Bool) → nat_lt (length xs) (length ys) ≡ b → length (if b then ys else xs) ≡ max (length xs) (length ys)
-longer_length xs ys true is = let less : length xs < length ys = ltb-true (length xs) (length ys) is in omega arith
-longer_length xs ys false is = let more : length ys ≤ length xs = grind (arith, nat_tests) in omega arith
 
 pub read_is : (catalogue : List JobTree) (number front least accepted entries : ℕ) (l : List Entry) (seat now : List SessionView) → IsSession catalogue number front least accepted seat → now ≡ map (informed l) seat → entries ≡ length l → IsLegalLog catalogue l → IsSession catalogue number entries least accepted now
 read_is catalogue number front least accepted entries l seat now s is n legal =

@@ -1,0 +1,162 @@
+//! Four threads share one job repository: two start jobs, one claims work and finishes it, and one looks on and asks a job
+//! execution to stop. Each has a session of its own and ends after so many turns. What is printed does not depend on which
+//! thread came first.
+#![tactic(auto)]
+
+ghost use Rattle.std.specs.Prelude.{◌≡◌};
+
+use anyhow::{Result, bail};
+use batch_ids::{ExecutionId, MetricStep, Parameters, Refusal, T256, WorkOutcome};
+use batch_operator::{CopyCount, Operator};
+use jsl_json::read_catalogue;
+use jsl_model::Catalogue;
+use op_log::{Answer, Reply};
+use seat_rules::{BookSeat, SeatTable, Site};
+use sessions::Session;
+use std::marker::Brand;
+use std::sync::Wait;
+use std::thread;
+use std::thread::Threads;
+
+const CATALOGUE: &[u8] =
+    b"{\"jobs\":[{\"id\":\"report\",\"elements\":[{\"kind\":\"step\",\"id\":\"print\",\"batchlet\":{\"ref\":\"printer\"}}]}]}";
+
+/// How many job executions each of two threads starts.
+const STARTS: u64 = 20;
+
+/// How often work is claimed, or the repository looked at.
+const TURNS: u64 = 100;
+
+/// The session of a thread that has ended, or what its last call was refused for.
+type Ended<N> = Result<Session<N>, Refusal>;
+
+/// Starts job executions.
+fn start_jobs<N: Site>(
+    rt: &(impl Wait + AllocGlobal),
+    operator: &Operator<N>,
+    mut session: Session<N>,
+) -> Ended<N> {
+    for turn in 0..STARTS {
+        let job = T256::new(rt.alloc(), "report")?;
+        let parameters = Parameters::none(rt.alloc());
+        operator.start(rt, &mut session, job, parameters, turn)?;
+    }
+    Ok(session)
+}
+
+/// Claims work and finishes it.
+fn work<N: Site>(rt: &impl Wait, operator: &Operator<N>, mut session: Session<N>) -> Ended<N> {
+    for turn in 0..TURNS {
+        if let Reply::Work(item) = operator.claim(rt, &mut session, turn)? {
+            let (outcome, step) = (WorkOutcome::Completed, MetricStep::zero());
+            operator.finish(rt, &mut session, item.work, outcome, None, step, turn)?;
+        }
+    }
+    Ok(session)
+}
+
+/// Brings the read copy to the history, looks on, and asks the first job execution to stop, unless it is finished by then.
+fn look_on<N: Site>(rt: &impl Wait, operator: &Operator<N>, mut session: Session<N>) -> Ended<N> {
+    let first = ExecutionId::new(1);
+    for turn in 0..TURNS {
+        if operator.copies() > 0 {
+            operator.publish(rt, 0)?;
+        }
+        let _counts = operator.status_counts(rt, &mut session)?;
+        let _operations = operator.operations_at_least(&mut session);
+        if !operator.stop_seen(&mut session, first) {
+            let _reply = operator.stop(rt, &mut session, first, turn);
+        }
+    }
+    Ok(session)
+}
+
+fn two_start<N: Site + Send + Sync, R: Threads + Wait + AllocGlobal + Sync>(
+    rt: &R,
+    operator: &Operator<N>,
+    sessions: (Session<N>, Session<N>),
+) -> (Ended<N>, Ended<N>) {
+    let (one, other) = sessions;
+    thread::join(
+        rt,
+        || start_jobs(rt, operator, one),
+        || start_jobs(rt, operator, other),
+    )
+}
+
+fn one_works<N: Site + Send + Sync, R: Threads + Wait + Sync>(
+    rt: &R,
+    operator: &Operator<N>,
+    sessions: (Session<N>, Session<N>),
+) -> (Ended<N>, Ended<N>) {
+    let (one, other) = sessions;
+    thread::join(
+        rt,
+        || work(rt, operator, one),
+        || look_on(rt, operator, other),
+    )
+}
+
+/// Lets four threads run to their end, and gives the number of operations that their sessions had accepted.
+fn run_threads<N: Site + Send + Sync, R: Threads + Wait + AllocGlobal + Sync>(
+    rt: &R,
+    operator: &Operator<N>,
+) -> Result<u64> {
+    let starters = (operator.open_session(rt)?, operator.open_session(rt)?);
+    let others = (operator.open_session(rt)?, operator.open_session(rt)?);
+    let (starters, others) = thread::join(
+        rt,
+        || two_start(rt, operator, starters),
+        || one_works(rt, operator, others),
+    );
+    let mut accepted: u64 = 0;
+    for ended in [starters.0, starters.1, others.0, others.1] {
+        accepted = accepted.saturating_add(ended?.accepted());
+    }
+    Ok(accepted)
+}
+
+/// Says what a session that is opened behind the threads sees.
+fn run<N: Site + Send + Sync, R: Threads + Wait + Print + AllocGlobal + Sync>(
+    rt: &R,
+    table: SeatTable,
+    seat: BookSeat,
+    catalogue: Catalogue,
+) -> Result<()>
+    requires table { table ≡ N.place }
+    requires seat { seat ≡ N.place.table }
+    requires catalogue { catalogue ≡ N.place.catalogue }
+{
+    let Some(copies) = CopyCount::new(1) else {
+        bail!("one copy is too many");
+    };
+    let operator = Operator::<N>::new(rt.alloc(), table, seat, catalogue, copies)?;
+    let accepted = run_threads(rt, &operator)?;
+    let mut session = operator.open_session(rt)?;
+    let shown = operator.operations_at_least(&mut session);
+    println!(rt;
+        "session {} is shown all accepted operations: {}",
+        session.number(),
+        shown == accepted
+    )?;
+    let job = T256::new(rt.alloc(), "report")?;
+    if let Answer::JobInstanceCount(count) = operator.get_job_instance_count(
+        rt,
+        &mut session,
+        job,
+    )? {
+        println!(rt; "{count} job instances")?;
+    }
+    Ok(())
+}
+
+/// Makes the table, and names it.
+fn share<R: Threads + Wait + Print + AllocGlobal + Sync>(rt: &R) -> Result<()> {
+    let catalogue = read_catalogue(rt.alloc(), CATALOGUE)?;
+    let (table, seat) = SeatTable::new(rt.alloc(), &catalogue)?;
+    run::<Brand, _>(rt, table, seat, catalogue)
+}
+
+fn main(rt: HostRuntime) -> Result<()> {
+    share(&rt)
+}
