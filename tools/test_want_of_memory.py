@@ -41,6 +41,15 @@ fn name(fault: Fault) -> Result<&'static str, AllocError> {
 """
 
 
+PROMISES = """
+trait Absorb {
+    fn absorb(&mut self, entry: &Entry) -> Result<(), OutOfMemory>
+        requires { stands self.old entry }
+        ensures refused { OnErr result (self.new ≡ self.old) };
+}
+"""
+
+
 class Places(unittest.TestCase):
     def test_an_answer_on_a_rare_condition_is_found(self) -> None:
         self.assertEqual(places_in(GIVES_UP), ["return Err(OutOfMemory);"])
@@ -51,6 +60,9 @@ class Places(unittest.TestCase):
     def test_a_refusal_that_is_turned_into_want_of_memory_is_found(self) -> None:
         line = "Err(Refusal::RepositoryFull) => Err(Refusal::OutOfMemory),"
         self.assertEqual(places_in("match reply {\n    " + line + "\n}"), [line])
+
+    def test_a_method_without_a_body_makes_nothing(self) -> None:
+        self.assertEqual(places_in(PROMISES), [])
 
     def test_a_closure_that_makes_it_is_found(self) -> None:
         line = "let at = self.place(key).ok_or(AllocError)?;"

@@ -62,6 +62,7 @@ def code_of(text: str) -> str:
     text = without_block(text, r"\benum \w+[^{;]*\{")
     text = re.sub(r"^\s*(?:pub )?(?:ghost )?use [^;]*;", lambda use: "\n" * use[0].count("\n"), text, flags=re.M)
     text = re.sub(r"\bpub type \w+ = \w+;", "", text)
+    text = re.sub(r"->[^{;]*;", lambda kind: ";" + "\n" * kind[0].count("\n"), text)
     return re.sub(r"->[^{]*\{", lambda kind: "{" + "\n" * kind[0].count("\n"), text)
 
 
