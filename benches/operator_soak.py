@@ -4,8 +4,8 @@ were answered. Printed are operations a second with 1, 2, 4 and 8 threads.
     python3 benches/operator_soak.py [OPERATIONS]
 
 A call costs as the history is long, so that the time grows with the square of OPERATIONS, which is 2,000 if it is not given.
-The program is proved and built in a copy of the repository, over what earlier checks left in `out/`, and stands outside the
-gate.
+The program is proved and built in a copy of the repository, over what earlier checks left in `out/`. It stands outside the
+gate, so its files are texts: `rt ci` takes no source that no crate names.
 """
 
 from __future__ import annotations
@@ -34,7 +34,10 @@ def copy_to(folder: Path) -> Path:
     (folder / "crates.txt").write_text("\n".join([*lines, f"{NAME}: {' '.join(sorted(LIBRARIES))}"]) + "\n")
     for name in kept:
         shutil.copytree(ROOT / "crates" / name, folder / "crates" / name)
-    shutil.copytree(ROOT / "benches" / NAME, folder / "crates" / NAME)
+    for source in (ROOT / "benches" / NAME).rglob("*.txt"):
+        copied = folder / "crates" / source.relative_to(ROOT / "benches").with_suffix("")
+        copied.parent.mkdir(parents=True, exist_ok=True)
+        shutil.copy(source, copied)
     return folder / "crates" / NAME
 
 
