@@ -10,12 +10,14 @@
 mod asking;
 mod comparison;
 mod directive;
+mod full_desk;
 mod script;
 mod stage;
 mod two_threads;
 
 use anyhow::Result;
 use comparison::print_comparison;
+use full_desk::print_full_desk;
 use script::{Ending, run_script};
 use std::fs;
 use std::rt::Files;
@@ -63,5 +65,6 @@ fn main(rt: HostRuntime) -> Result<()> {
             run_case(&rt, scripts, replies)?;
         }
     }
-    print_two_threads(&rt)
+    print_two_threads(&rt)?;
+    print_full_desk(&rt)
 }

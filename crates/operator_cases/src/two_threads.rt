@@ -15,7 +15,7 @@ use std::thread;
 use std::thread::Threads;
 
 /// A job of one step.
-const CATALOGUE: &[u8] =
+pub(crate) const CATALOGUE: &[u8] =
     b"{\"jobs\":[{\"id\":\"a\",\"elements\":[{\"kind\":\"step\",\"id\":\"s\",\"batchlet\":{\"ref\":\"ok\"}}]}]}";
 
 /// How many job executions each thread starts.

@@ -1,0 +1,97 @@
+ghost use Rattle.std.specs.Prelude.{◌≡◌, []};
+
+use crate::two_threads::CATALOGUE;
+use anyhow::Result;
+use batch_ids::{Parameters, T256};
+use jsl_json::read_catalogue;
+use jsl_model::Catalogue;
+use op_log::{Answer, Call, Query};
+use seat_rules::{BookSeat, SeatTable, Site};
+use sessions::{Desk, Session};
+use std::alloc::Global;
+use std::marker::Brand;
+
+/// Tells what sessions are answered by a desk of at most two operations.
+pub(crate) fn print_full_desk<R: Print + AllocGlobal>(rt: &R) -> Result<()> {
+    let catalogue = read_catalogue(rt.alloc(), CATALOGUE)?;
+    let (table, seat) = SeatTable::new(rt.alloc(), &catalogue)?;
+    fill::<Brand, _>(rt, table, seat, catalogue)
+}
+
+fn fill<N: Site, R: Print + AllocGlobal>(
+    rt: &R,
+    table: SeatTable,
+    seat: BookSeat,
+    catalogue: Catalogue,
+) -> Result<()>
+    requires table { table ≡ N.place }
+    requires seat { seat ≡ N.place.table }
+    requires catalogue { catalogue ≡ N.place.catalogue }
+{
+    let mut desk = Desk::<N, 2>::new(rt.alloc(), seat, catalogue)?;
+    let one = desk.open(&table)?;
+    let other = desk.open(&table)?;
+    print_answers(rt, &mut desk, one, other, &table)
+}
+
+fn print_answers<N: Site, R: Print + AllocGlobal>(
+    rt: &R,
+    desk: &mut Desk<N, 2>,
+    one: Session<N>,
+    other: Session<N>,
+    table: &SeatTable,
+) -> Result<()>
+    requires table { table.now ≡ N.place }
+    requires alone { desk.old.hosted ≡ [] }
+{
+    let (mut one, mut other) = (one, other);
+    let first = start(rt.alloc(), desk, &mut one, table);
+    let second = start(rt.alloc(), desk, &mut other, table);
+    let third = start(rt.alloc(), desk, &mut one, table);
+    let fourth = start(rt.alloc(), desk, &mut other, table);
+    println!(rt; "a desk of two: {first}, {second}; once it is full: {third}, {fourth}")?;
+    let counted = count(rt.alloc(), desk, &mut one, table);
+    let operations = desk.len();
+    println!(rt; "and then: {counted} job instances, {operations} operations")?;
+    Ok(())
+}
+
+/// What a start of the job is answered.
+fn start<N: Site>(
+    alloc: Global,
+    desk: &mut Desk<N, 2>,
+    session: &mut Session<N>,
+    table: &SeatTable,
+) -> &'static str
+    requires table { table.now ≡ N.place }
+    requires alone { desk.old.hosted ≡ [] }
+    ensures alone { desk.new.hosted ≡ [] }
+{
+    let Ok(job) = T256::new(alloc, "a") else {
+        return "no memory";
+    };
+    let parameters = Parameters::none(alloc);
+    match desk.act(session, Call::Start { job, parameters }, 0, table) {
+        Ok(_) => "accepted",
+        Err(refusal) => refusal.name(),
+    }
+}
+
+/// How many job instances the job has.
+fn count<N: Site>(
+    alloc: Global,
+    desk: &mut Desk<N, 2>,
+    session: &mut Session<N>,
+    table: &SeatTable,
+) -> u64
+    requires table { table.now ≡ N.place }
+    requires alone { desk.old.hosted ≡ [] }
+{
+    let Ok(job) = T256::new(alloc, "a") else {
+        return 0;
+    };
+    match desk.ask(session, &Query::JobInstanceCount { job }, table) {
+        Ok(Answer::JobInstanceCount(count)) => count,
+        _ => 0,
+    }
+}
