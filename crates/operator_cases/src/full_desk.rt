@@ -2,10 +2,10 @@ ghost use Rattle.std.specs.Prelude.{◌≡◌, []};
 
 use crate::two_threads::CATALOGUE;
 use anyhow::Result;
-use batch_ids::{Parameters, Refusal, T256};
+use batch_ids::{Parameters, T256};
 use jsl_json::read_catalogue;
 use jsl_model::Catalogue;
-use op_log::{Answer, Call, Query, Reply};
+use op_log::{Answer, Call, Query};
 use seat_rules::{BookSeat, SeatTable, Site};
 use sessions::{Desk, Session};
 use std::alloc::Global;
@@ -28,39 +28,53 @@ fn fill<N: Site, R: Print + AllocGlobal>(
     requires seat { seat ≡ N.place.table }
     requires catalogue { catalogue ≡ N.place.catalogue }
 {
-    let alloc = rt.alloc();
-    let mut desk = Desk::<N, 2>::new(alloc, seat, catalogue)?;
-    let mut one = desk.open(&table)?;
-    let mut other = desk.open(&table)?;
-    let first = start(alloc, &mut desk, &mut one, &table);
-    let second = start(alloc, &mut desk, &mut other, &table);
-    println!(rt; "a desk of two: {}, {}", told(&first), told(&second))?;
-    let third = start(alloc, &mut desk, &mut one, &table);
-    let fourth = start(alloc, &mut desk, &mut other, &table);
-    println!(rt; "once it is full: {}, {}", told(&third), told(&fourth))?;
-    let counted = count(alloc, &mut desk, &mut one, &table)?;
-    println!(rt;
-        "and then: {counted} job instances, {} operations, of session {} {}",
-        desk.len(),
-        one.number(),
-        one.accepted()
-    )?;
+    let mut desk = Desk::<N, 2>::new(rt.alloc(), seat, catalogue)?;
+    let one = desk.open(&table)?;
+    let other = desk.open(&table)?;
+    print_answers(rt, &mut desk, one, other, &table)
+}
+
+fn print_answers<N: Site, R: Print + AllocGlobal>(
+    rt: &R,
+    desk: &mut Desk<N, 2>,
+    one: Session<N>,
+    other: Session<N>,
+    table: &SeatTable,
+) -> Result<()>
+    requires table { table.now ≡ N.place }
+    requires alone { desk.old.hosted ≡ [] }
+{
+    let (mut one, mut other) = (one, other);
+    let first = start(rt.alloc(), desk, &mut one, table);
+    let second = start(rt.alloc(), desk, &mut other, table);
+    let third = start(rt.alloc(), desk, &mut one, table);
+    let fourth = start(rt.alloc(), desk, &mut other, table);
+    println!(rt; "a desk of two: {first}, {second}; once it is full: {third}, {fourth}")?;
+    let counted = count(rt.alloc(), desk, &mut one, table);
+    let operations = desk.len();
+    println!(rt; "and then: {counted} job instances, {operations} operations")?;
     Ok(())
 }
 
+/// What a start of the job is answered.
 fn start<N: Site>(
     alloc: Global,
     desk: &mut Desk<N, 2>,
     session: &mut Session<N>,
     table: &SeatTable,
-) -> Result<Reply, Refusal>
+) -> &'static str
     requires table { table.now ≡ N.place }
     requires alone { desk.old.hosted ≡ [] }
     ensures alone { desk.new.hosted ≡ [] }
 {
-    let job = T256::new(alloc, "a")?;
+    let Ok(job) = T256::new(alloc, "a") else {
+        return "no memory";
+    };
     let parameters = Parameters::none(alloc);
-    desk.act(session, Call::Start { job, parameters }, 0, table)
+    match desk.act(session, Call::Start { job, parameters }, 0, table) {
+        Ok(_) => "accepted",
+        Err(refusal) => refusal.name(),
+    }
 }
 
 /// How many job instances the job has.
@@ -69,20 +83,15 @@ fn count<N: Site>(
     desk: &mut Desk<N, 2>,
     session: &mut Session<N>,
     table: &SeatTable,
-) -> Result<u64, Refusal>
+) -> u64
     requires table { table.now ≡ N.place }
     requires alone { desk.old.hosted ≡ [] }
 {
-    let job = T256::new(alloc, "a")?;
-    match desk.ask(session, &Query::JobInstanceCount { job }, table)? {
-        Answer::JobInstanceCount(count) => Ok(count),
-        _ => Ok(0),
-    }
-}
-
-fn told(reply: &Result<Reply, Refusal>) -> &'static str {
-    match reply {
-        Ok(_) => "accepted",
-        Err(refusal) => refusal.name(),
+    let Ok(job) = T256::new(alloc, "a") else {
+        return 0;
+    };
+    match desk.ask(session, &Query::JobInstanceCount { job }, table) {
+        Ok(Answer::JobInstanceCount(count)) => count,
+        _ => 0,
     }
 }
