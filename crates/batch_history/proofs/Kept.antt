@@ -10,6 +10,7 @@ use Rattle.batch_ids.specs.declared.metric_step.MetricStep.{MetricStep}
 use Rattle.batch_ids.specs.declared.status.WorkOutcome.{WorkOutcome}
 use Rattle.batch_ids.specs.declared.status.WorkOutcome.TheVariants.{Failed}
 use Rattle.jsl_model.specs.Jobs.{JobTree}
+use Rattle.job_walk.specs.Keys.{WorkKey}
 use Rattle.job_walk.specs.declared.facts.Fact.{Fact}
 use Rattle.job_walk.specs.Runnables.{all_leaves, runnable_in}
 use Rattle.job_walk.specs.declared.facts.Fact.TheVariants.{Nothing as FactNothing, Busy as FactBusy, Over as FactOver, Carried as FactCarried, Barred as FactBarred}
@@ -46,14 +47,14 @@ same-goes : (s : Sight) (id : List ℕ) (v : Value) → GoesOn s s id v v
 same-goes s id v = record { same = λ _. refl; kept = λ h. h }
 
 -- what is known of the steps and decisions of a job
-abbrev pub facts_of : Plan → (List ℕ → Fact) → JobTree → List ℕ → Fact
+abbrev pub facts_of : Plan → (WorkKey → Fact) → JobTree → WorkKey → Fact
 facts_of plan worked tree = planned_facts plan (all_leaves tree.elements) worked
 
 nothing-goes : (s t : Sight) (id exit : List ℕ) → GoesOn s t id (IsDone exit) (IsDone exit)
 nothing-goes s t id exit = record { same = λ _. refl; kept = λ h. cc }
 
 -- a job execution's walk goes on as what is learnt
-pub walk_of-goes : (s t : Sight) (id : List ℕ) (plan : Plan) (worked later : List ℕ → Fact) (job : Option JobTree)
+pub walk_of-goes : (s t : Sight) (id : List ℕ) (plan : Plan) (worked later : WorkKey → Fact) (job : Option JobTree)
     → ((tree : JobTree) → job ≡ Some tree → Learns s t id (facts_of plan worked tree) (facts_of plan later tree))
     → GoesOn s t id (walk_of plan worked job) (walk_of plan later job)
 walk_of-goes s t id plan worked later None learns = nothing-goes s t id []
@@ -76,7 +77,7 @@ first-seen id (IsDone exit) h = cc
 first-seen id (Ended status exit point) h = cc
 
 -- a step or decision of a job of which nothing is known
-pub record IsUnknown (plan : Plan) (worked : List ℕ → Fact) (job : Option JobTree) (id : List ℕ) : Type 0 where
+pub record IsUnknown (plan : Plan) (worked : WorkKey → Fact) (job : Option JobTree) (id : List ℕ) : Type 0 where
   pub tree : JobTree
   pub is : job ≡ Some tree
   pub runs : is_some (runnable_in (all_leaves tree.elements) id) ≡ true
@@ -90,7 +91,7 @@ known-or-not (FactCarried exit) = inr refl
 known-or-not FactBarred = inr refl
 
 -- nothing is known of what is ready
-pub ready-unknown : (plan : Plan) (worked : List ℕ → Fact) (job : Option JobTree) (id : List ℕ) → first_ready (walk_of plan worked job) ≡ Some id
+pub ready-unknown : (plan : Plan) (worked : WorkKey → Fact) (job : Option JobTree) (id : List ℕ) → first_ready (walk_of plan worked job) ≡ Some id
     → IsUnknown plan worked job id
 ready-unknown plan worked None id h = cc
 ready-unknown plan worked (Some tree) id h =
@@ -104,18 +105,18 @@ ready-unknown plan worked (Some tree) id h =
     ]
 
 -- there is no work item of it
-pub unknown-unworked : (plan : Plan) (worked : List ℕ → Fact) (job : Option JobTree) (id : List ℕ) → IsUnknown plan worked job id → worked id ≡ FactNothing
+pub unknown-unworked : (plan : Plan) (worked : WorkKey → Fact) (job : Option JobTree) (id : List ℕ) → IsUnknown plan worked job id → worked id ≡ FactNothing
 unknown-unworked plan worked job id u = planned-nothing plan (all_leaves u.tree.elements) worked id u.runs u.unknown
 
 same-tree : (job : Option JobTree) (one two : JobTree) → job ≡ Some one → job ≡ Some two → one ≡ two
 same-tree job one two h k = let both : Some one ≡ Some two = sym h ∙ k in cc
 
-unknown-in : (plan : Plan) (worked : List ℕ → Fact) (job : Option JobTree) (id : List ℕ) (tree : JobTree) → IsUnknown plan worked job id → job ≡ Some tree
+unknown-in : (plan : Plan) (worked : WorkKey → Fact) (job : Option JobTree) (id : List ℕ) (tree : JobTree) → IsUnknown plan worked job id → job ≡ Some tree
     → facts_of plan worked tree id ≡ FactNothing
 unknown-in plan worked job id tree u is =
     subst (λ t. facts_of plan worked t id ≡ FactNothing) (same-tree job u.tree tree u.is is) u.unknown
 
-runs-in : (plan : Plan) (worked : List ℕ → Fact) (job : Option JobTree) (id : List ℕ) (tree : JobTree) → IsUnknown plan worked job id → job ≡ Some tree
+runs-in : (plan : Plan) (worked : WorkKey → Fact) (job : Option JobTree) (id : List ℕ) (tree : JobTree) → IsUnknown plan worked job id → job ≡ Some tree
     → is_some (runnable_in (all_leaves tree.elements) id) ≡ true
 runs-in plan worked job id tree u is =
     subst (λ (t : JobTree). is_some (runnable_in (all_leaves t.elements) id) ≡ true) (same-tree job u.tree tree u.is is) u.runs
@@ -128,7 +129,7 @@ busy-or-not (FactCarried exit) = inr refl
 busy-or-not FactBarred = inr refl
 
 -- what a walk shows as busy is known as busy
-pub shown-busy : (plan : Plan) (worked : List ℕ → Fact) (job : Option JobTree) (id : List ℕ) (tree : JobTree) → job ≡ Some tree
+pub shown-busy : (plan : Plan) (worked : WorkKey → Fact) (job : Option JobTree) (id : List ℕ) (tree : JobTree) → job ≡ Some tree
     → seen busy_sight id (walk_of plan worked job) ≡ true → facts_of plan worked tree id ≡ FactBusy
 shown-busy plan worked job id tree is h =
     let shown : seen busy_sight id (walk_of plan worked (Some tree)) ≡ true = subst (λ j. seen busy_sight id (walk_of plan worked j) ≡ true) is h in
@@ -274,8 +275,8 @@ new-goes : (catalogue : List JobTree) (works : List WorkRow) (new : WorkRow) (m 
     → ((new.execution == m.execution) ≡ true → IsUnknown plan (element_facts m.execution works) (job_named catalogue m.job) new.element)
     → GoesOn busy_sight busy_sight id (walk_value catalogue works m.execution m.job plan) (walk_value catalogue (works ++ new ∷ []) m.execution m.job plan)
 new-goes catalogue works new m plan id was =
-    let before : List ℕ → Fact = element_facts m.execution works in
-    let after : List ℕ → Fact = element_facts m.execution (works ++ new ∷ []) in
+    let before : WorkKey → Fact = element_facts m.execution works in
+    let after : WorkKey → Fact = element_facts m.execution (works ++ new ∷ []) in
     on-or-off new.execution m.execution
     (λ on. walk_of-goes busy_sight busy_sight id plan before after (job_named catalogue m.job)
     (λ tree is. claim-away id new.element (facts_of plan before tree) (facts_of plan after tree)
@@ -307,8 +308,8 @@ work-kept catalogue older who at m id found ready k =
     let e : Entry = record { who = who; call = Claim; at = at; reply = Work (next_work_item (folded_rows catalogue older) (execution_row catalogue older m) id) } in
     let plan : Plan = plan_kept catalogue older x in
     let job : Option JobTree = job_named catalogue m.job in
-    let before : List ℕ → Fact = element_facts x works in
-    let after : List ℕ → Fact = element_facts x (works ++ new ∷ []) in
+    let before : WorkKey → Fact = element_facts x works in
+    let after : WorkKey → Fact = element_facts x (works ++ new ∷ []) in
     let unknown : IsUnknown plan before job id = ready-unknown plan before job id ready in
     let was : before id ≡ FactNothing = unknown-unworked plan before job id unknown in
     let on : (x == x) ≡ true = eq-eqb x x refl in

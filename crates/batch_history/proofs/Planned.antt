@@ -1,6 +1,7 @@
 -- What is known of the steps and decisions of a job by a plan, after what their work items tell.
 use Rattle.std.proofs.Common.{◌≡◌, ℕ, Bool, true, Option, None, Some, is_some, List, refl, ap}
 use Rattle.jsl_model.specs.Names.{is_among}
+use Rattle.job_walk.specs.Keys.{WorkKey}
 use Rattle.job_walk.specs.Runnables.{Leaf, runnable_in}
 use Rattle.job_walk.specs.declared.facts.Fact.{Fact}
 use Rattle.job_walk.specs.declared.facts.Fact.TheVariants.{Nothing, Carried, Busy, Over, Barred}
@@ -11,7 +12,7 @@ use Rattle.batch_history.specs.Walks.{unless_barred, step_fact, carried_exit, ru
 use Rattle.batch_history.proofs.Sights.{DifferAt}
 
 -- facts that differ at one element alone
-pub planned-differ : (plan : Plan) (leaves : List Leaf) (id : List ℕ) (worked later : List ℕ → Fact) → DifferAt id worked later
+pub planned-differ : (plan : Plan) (leaves : List Leaf) (id : List ℕ) (worked later : WorkKey → Fact) → DifferAt id worked later
     → DifferAt id (planned_facts plan leaves worked) (planned_facts plan leaves later)
 planned-differ plan leaves id worked later differ i other = ap (λ f. runnable_fact plan i f (runnable_in leaves i)) (differ i other)
 
@@ -32,7 +33,7 @@ runnable-nothing plan id worked (Some (RunsStep task)) some h = step-nothing (ca
 runnable-nothing plan id worked (Some (RunsDecision artifact)) some h = h
 
 -- where nothing is known of what is run, there is no work item of it
-pub planned-nothing : (plan : Plan) (leaves : List Leaf) (worked : List ℕ → Fact) (id : List ℕ) → is_some (runnable_in leaves id) ≡ true
+pub planned-nothing : (plan : Plan) (leaves : List Leaf) (worked : WorkKey → Fact) (id : List ℕ) → is_some (runnable_in leaves id) ≡ true
     → planned_facts plan leaves worked id ≡ Nothing → worked id ≡ Nothing
 planned-nothing plan leaves worked id some h = runnable-nothing plan id (worked id) (runnable_in leaves id) some h
 
@@ -47,6 +48,6 @@ runnable-busy plan id worked later (Some (RunsStep task)) some h is = step-busy 
 runnable-busy plan id worked later (Some (RunsDecision artifact)) some h is = is
 
 -- where nothing was known of what is run, and a work item of it is busy now, it is busy
-pub planned-busy : (plan : Plan) (leaves : List Leaf) (worked later : List ℕ → Fact) (id : List ℕ) → is_some (runnable_in leaves id) ≡ true
+pub planned-busy : (plan : Plan) (leaves : List Leaf) (worked later : WorkKey → Fact) (id : List ℕ) → is_some (runnable_in leaves id) ≡ true
     → planned_facts plan leaves worked id ≡ Nothing → later id ≡ Busy → planned_facts plan leaves later id ≡ Busy
 planned-busy plan leaves worked later id some h is = runnable-busy plan id (worked id) (later id) (runnable_in leaves id) some h is

@@ -6,6 +6,7 @@ use Rattle.jsl_model.specs.Jobs.{JobTree}
 use Rattle.jsl_model.specs.Names.{is_among}
 use Rattle.jsl_model.specs.declared.element.Element.{Element}
 use Rattle.jsl_model.proofs.Among.{bytes_eq-sym}
+use Rattle.job_walk.specs.Keys.{WorkKey}
 use Rattle.job_walk.specs.declared.facts.Fact.{Fact}
 use Rattle.job_walk.specs.declared.facts.Value.{Value}
 use Rattle.job_walk.specs.declared.facts.Value.TheVariants.{Open, Done, Ended}
@@ -35,7 +36,7 @@ seen-so s id (Open ready busy) h = one-way s.of_ready s.of_busy (is_among ready 
 seen-so s id (Done exit) h = cc
 seen-so s id (Ended status exit point) h = cc
 
-seen-leaf : (s : Sight) (id : List ℕ) (facts : List ℕ → Fact) (elements : List Element) (from : List ℕ) → seen s id (value_of facts elements from) ≡ true
+seen-leaf : (s : Sight) (id : List ℕ) (facts : WorkKey → Fact) (elements : List Element) (from : List ℕ) → seen s id (value_of facts elements from) ≡ true
     → is_among (ids_of (all_leaves elements)) id ≡ true
 seen-leaf s id facts elements from h =
     elim (seen-so s id (value_of facts elements from) h) [
@@ -53,12 +54,12 @@ leaf-runs (leaf ∷ rest) id h =
     ]) (ap (λ b. b || is_among (ids_of rest) id) (bytes_eq-sym leaf.id id) ∙ h)
 
 -- what a list of elements shows is run
-pub elements-run : (s : Sight) (id : List ℕ) (facts : List ℕ → Fact) (elements : List Element) (from : List ℕ) → seen s id (value_of facts elements from) ≡ true
+pub elements-run : (s : Sight) (id : List ℕ) (facts : WorkKey → Fact) (elements : List Element) (from : List ℕ) → seen s id (value_of facts elements from) ≡ true
     → is_some (runnable_in (all_leaves elements) id) ≡ true
 elements-run s id facts elements from h = leaf-runs (all_leaves elements) id (seen-leaf s id facts elements from h)
 
 -- what a job execution's walk shows is run
-pub walk-runs : (s : Sight) (id : List ℕ) (plan : Plan) (worked : List ℕ → Fact) (job : Option JobTree) → seen s id (walk_of plan worked job) ≡ true
+pub walk-runs : (s : Sight) (id : List ℕ) (plan : Plan) (worked : WorkKey → Fact) (job : Option JobTree) → seen s id (walk_of plan worked job) ≡ true
     → is_some (runnable_of_job job id) ≡ true
 walk-runs s id plan worked None h = cc
 walk-runs s id plan worked (Some job) h = elements-run s id (planned_facts plan (all_leaves job.elements) worked) job.elements plan.from h

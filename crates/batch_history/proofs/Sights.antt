@@ -18,6 +18,7 @@ use Rattle.jsl_model.specs.declared.element.SplitFlow.{SplitFlow, fold-roll-Spli
 use Rattle.jsl_model.specs.declared.element.Body.{Body, Body-F, map-Body, fold-roll-Body}
 use Rattle.jsl_model.specs.declared.element.Body.TheOpen.{Step, Flow, Split, Decision}
 use Rattle.transitions.specs.Transitions.{matching_transition}
+use Rattle.job_walk.specs.Keys.{WorkKey}
 use Rattle.job_walk.specs.declared.facts.Fact.{Fact}
 use Rattle.job_walk.specs.declared.facts.Fact.TheVariants.{Nothing, Carried, Busy, Over, Barred}
 use Rattle.job_walk.specs.declared.facts.Value.{Value}
@@ -25,7 +26,7 @@ use Rattle.job_walk.specs.declared.facts.Value.TheVariants.{Open, Done, Ended}
 use Rattle.job_walk.specs.declared.element_result.ElementResult.{ElementResult}
 use Rattle.job_walk.specs.declared.element_result.ElementResult.TheVariants.{ListValue, Outcome}
 use Rattle.job_walk.proofs.Newest.{differing}
-use Rattle.job_walk.specs.Walk.{WalkedElement, BodyResult, IsRunnable, HasResult, runnable_result, ready_result, busy_result, value_by_transition, value_after_outcome, value_by_result, value_at, follow, list_value, first_id, whole_value, flow_result, all_ready, all_busy, is_open, any_open, ended_as, strongest_end, split_result, body_result, element_with_result, flow_value, walked_element, walked_body, element_result, value_of_flow, value_of}
+use Rattle.job_walk.specs.Walk.{WalkedElement, BodyResult, IsStep, IsDecision, HasResult, runnable_result, ready_result, busy_result, value_by_transition, value_after_outcome, value_by_result, value_at, follow, list_value, first_id, whole_value, flow_result, all_ready, all_busy, is_open, any_open, ended_as, strongest_end, split_result, body_result, element_with_result, flow_value, walked_element, walked_body, element_result, value_of_flow, value_of}
 
 -- ---- Values
 
@@ -304,31 +305,33 @@ split-goes s t id f g rel xs =
 
 -- what the body of an element comes to, before and after
 abbrev PartGoesOn : Sight → Sight → List ℕ → BodyResult → BodyResult → Type 0
-PartGoesOn s t id IsRunnable after = after ≡ IsRunnable
+PartGoesOn s t id (IsStep step) after = after ≡ IsStep step
+PartGoesOn s t id IsDecision after = after ≡ IsDecision
 PartGoesOn s t id (HasResult before) after = (own_result : ElementResult) × (after ≡ HasResult own_result) × OwnGoesOn s t id before own_result
 
 -- what is learnt of steps and decisions alone
-pub record Learns (s t : Sight) (id : List ℕ) (facts later : List ℕ → Fact) : Type 0 where
+pub record Learns (s t : Sight) (id : List ℕ) (facts later : WorkKey → Fact) : Type 0 where
   pub runs : (i : List ℕ) → OwnGoesOn s t id (runnable_result i (facts i)) (runnable_result i (later i))
 
-part-goes : (s t : Sight) (id : List ℕ) (facts later : List ℕ → Fact) → Learns s t id facts later → (i : List ℕ) (part part2 : BodyResult) → PartGoesOn s t id part part2
-    → OwnGoesOn s t id (element_result i (facts i) part) (element_result i (later i) part2)
-part-goes s t id facts later learns i IsRunnable part2 g = rw g (learns.runs i)
+part-goes : (s t : Sight) (id : List ℕ) (facts later : WorkKey → Fact) → Learns s t id facts later → (i : List ℕ) (part part2 : BodyResult) → PartGoesOn s t id part part2
+    → OwnGoesOn s t id (element_result facts i part) (element_result later i part2)
+part-goes s t id facts later learns i (IsStep step) part2 g = rw g (learns.runs i)
+part-goes s t id facts later learns i IsDecision part2 g = rw g (learns.runs i)
 part-goes s t id facts later learns i (HasResult own_result) part2 g = rw g.1 g.2
 
-abbrev BodyGoes : Sight → Sight → List ℕ → (List ℕ → Fact) → (List ℕ → Fact) → Body → Type 0
+abbrev BodyGoes : Sight → Sight → List ℕ → (WorkKey → Fact) → (WorkKey → Fact) → Body → Type 0
 BodyGoes s t id facts later body = PartGoesOn s t id (walked_body facts body) (walked_body later body)
 
-abbrev ElementGoes : Sight → Sight → List ℕ → (List ℕ → Fact) → (List ℕ → Fact) → Element → Type 0
+abbrev ElementGoes : Sight → Sight → List ℕ → (WorkKey → Fact) → (WorkKey → Fact) → Element → Type 0
 ElementGoes s t id facts later e = RowGoesOn s t id (walked_element facts e) (walked_element later e)
 
-abbrev FlowGoes : Sight → Sight → List ℕ → (List ℕ → Fact) → (List ℕ → Fact) → SplitFlow → Type 0
+abbrev FlowGoes : Sight → Sight → List ℕ → (WorkKey → Fact) → (WorkKey → Fact) → SplitFlow → Type 0
 FlowGoes s t id facts later flow = GoesOn s t id (value_of_flow facts flow) (value_of_flow later flow)
 
-abbrev part_at : (List ℕ → Fact) → Body-F Body Element SplitFlow → BodyResult
+abbrev part_at : (WorkKey → Fact) → Body-F Body Element SplitFlow → BodyResult
 part_at facts x = body_result (map-Body Body Element SplitFlow BodyResult WalkedElement Value (walked_body facts) (walked_element facts) (value_of_flow facts) x)
 
-body-inside : (s t : Sight) (id : List ℕ) (facts later : List ℕ → Fact)
+body-inside : (s t : Sight) (id : List ℕ) (facts later : WorkKey → Fact)
     → (y : Body-F ((b : Body) × BodyGoes s t id facts later b) ((e : Element) × ElementGoes s t id facts later e) ((f : SplitFlow) × FlowGoes s t id facts later f))
     → PartGoesOn s t id (part_at facts (map-Body _ _ _ Body Element SplitFlow (λ e. e.0) (λ e. e.0) (λ e. e.0) y))
     (part_at later (map-Body _ _ _ Body Element SplitFlow (λ e. e.0) (λ e. e.0) (λ e. e.0) y))
@@ -344,7 +347,7 @@ body-inside s t id facts later (Split flows) =
     (_, refl, split-goes s t id (λ e. value_of_flow facts e.0) (λ e. value_of_flow later e.0) (λ e. e.1) flows))
 
 -- every element goes on as what is learnt of steps and decisions does
-pub element-goes : (s t : Sight) (id : List ℕ) (facts later : List ℕ → Fact) → Learns s t id facts later → (e : Element) → RowGoesOn s t id (walked_element facts e) (walked_element later e)
+pub element-goes : (s t : Sight) (id : List ℕ) (facts later : WorkKey → Fact) → Learns s t id facts later → (e : Element) → RowGoesOn s t id (walked_element facts e) (walked_element later e)
 element-goes s t id facts later learns =
     ind-Element (BodyGoes s t id facts later) (ElementGoes s t id facts later) (FlowGoes s t id facts later)
     (λ x y is.
@@ -366,7 +369,7 @@ element-goes s t id facts later learns =
     (whole-goes s t id (λ e. walked_element facts e.0) (λ e. walked_element later e.0) (λ e. e.1) y.elements))))))
 
 -- THE WALK GOES ON: so does a list of elements
-pub walk-goes : (s t : Sight) (id : List ℕ) (facts later : List ℕ → Fact) → Learns s t id facts later → (elements : List Element) (from : List ℕ)
+pub walk-goes : (s t : Sight) (id : List ℕ) (facts later : WorkKey → Fact) → Learns s t id facts later → (elements : List Element) (from : List ℕ)
     → GoesOn s t id (value_of facts elements from) (value_of later elements from)
 walk-goes s t id facts later learns elements from =
     list-goes s t id (walked_element facts) (walked_element later) (element-goes s t id facts later learns) elements from
@@ -399,7 +402,7 @@ away-own s t id i other Nothing =
     record { same = λ _. refl; kept = rw off (λ h. cc) }
 
 -- facts that differ at one element alone
-abbrev pub DifferAt : List ℕ → (List ℕ → Fact) → (List ℕ → Fact) → Type 0
+abbrev pub DifferAt : List ℕ → (WorkKey → Fact) → (WorkKey → Fact) → Type 0
 DifferAt id facts later = (i : List ℕ) → i ≢ id → later i ≡ facts i
 
 -- what was ready is busy
@@ -409,7 +412,7 @@ ready-busy id =
     record { same = λ closed. cc; kept = λ h. rw here refl }
 
 -- a claim of an element that nothing is known of: it was ready, and is busy
-pub claim-here : (id : List ℕ) (facts later : List ℕ → Fact) → DifferAt id facts later → facts id ≡ Nothing → later id ≡ Busy
+pub claim-here : (id : List ℕ) (facts later : WorkKey → Fact) → DifferAt id facts later → facts id ≡ Nothing → later id ≡ Busy
     → Learns ready_sight busy_sight id facts later
 claim-here id facts later differ was is =
     record {
@@ -421,7 +424,7 @@ ready-unseen : (id i : List ℕ) (after : ElementResult) → OwnGoesOn busy_sigh
 ready-unseen id i after = record { same = λ closed. cc; kept = λ h. cc }
 
 -- the same claim, seen at a busy element
-pub claim-away : (id claimed : List ℕ) (facts later : List ℕ → Fact) → DifferAt claimed facts later → facts claimed ≡ Nothing
+pub claim-away : (id claimed : List ℕ) (facts later : WorkKey → Fact) → DifferAt claimed facts later → facts claimed ≡ Nothing
     → Learns busy_sight busy_sight id facts later
 claim-away id claimed facts later differ was =
     record {
@@ -435,7 +438,7 @@ busy-over id i after other =
     record { same = λ closed. cc; kept = rw off (λ h. cc) }
 
 -- a report of a busy element, seen at another
-pub report-away : (id reported : List ℕ) (facts later : List ℕ → Fact) → DifferAt reported facts later → facts reported ≡ Busy → id ≢ reported
+pub report-away : (id reported : List ℕ) (facts later : WorkKey → Fact) → DifferAt reported facts later → facts reported ≡ Busy → id ≢ reported
     → Learns busy_sight busy_sight id facts later
 report-away id reported facts later differ was other =
     record {
@@ -458,7 +461,7 @@ known-runnable id Barred h = record { same = λ _. refl; kept = λ e. cc }
 known-runnable id Nothing h = cc
 
 -- an element of which something is known is not ready
-pub known-unready : (id : List ℕ) (facts : List ℕ → Fact) → is_known (facts id) ≡ true → Learns ready_sight no_sight id facts facts
+pub known-unready : (id : List ℕ) (facts : WorkKey → Fact) → is_known (facts id) ≡ true → Learns ready_sight no_sight id facts facts
 known-unready id facts known =
     record {
       runs = λ i. at-or-not i id (λ e. rw e (known-runnable id (facts id) known)) (λ off. away-own ready_sight no_sight id i off (facts i));
@@ -480,7 +483,7 @@ idle-runnable id Barred h = record { same = λ _. refl; kept = λ e. cc }
 idle-runnable id Nothing h = record { same = λ _. refl; kept = λ e. cc }
 
 -- an element without a busy work item is not busy
-pub idle-unseen : (id : List ℕ) (facts : List ℕ → Fact) → is_busy (facts id) ≡ false → Learns busy_sight no_sight id facts facts
+pub idle-unseen : (id : List ℕ) (facts : WorkKey → Fact) → is_busy (facts id) ≡ false → Learns busy_sight no_sight id facts facts
 idle-unseen id facts idle =
     record {
       runs = λ i. at-or-not i id (λ e. rw e (idle-runnable id (facts id) idle)) (λ off. away-own busy_sight no_sight id i off (facts i));

@@ -28,6 +28,7 @@ use Rattle.batch_ids.specs.declared.status.BatchStatus.{BatchStatus}
 use Rattle.batch_ids.specs.declared.status.BatchStatus.TheVariants.{Starting, Started, Stopping, Stopped as IsStopped, Failed as IsFailed, Completed as IsCompleted, Abandoned}
 use Rattle.batch_ids.specs.declared.status.WorkOutcome.{WorkOutcome}
 use Rattle.batch_ids.specs.declared.status.WorkOutcome.TheVariants.{Completed, Failed, Stopped}
+use Rattle.job_walk.specs.Keys.{WorkKey}
 use Rattle.job_walk.specs.Runnables.{all_leaves, runnable_in}
 use Rattle.job_walk.specs.declared.facts.Value.{Value}
 use Rattle.job_walk.specs.declared.facts.Value.TheVariants.{Open, Done as IsDone, Ended}
@@ -47,8 +48,8 @@ is_nothing Done = false
 is_nothing Go = false
 is_nothing StopAsked = false
 
-abbrev pub first_ready : Value → Option (List ℕ)
-first_ready (Open (id ∷ ready) busy) = Some id
+abbrev pub first_ready : Value → Option WorkKey
+first_ready (Open (key ∷ ready) busy) = Some key
 first_ready (Open [] busy) = None
 first_ready (IsDone exit) = None
 first_ready (Ended status exit point) = None
@@ -97,19 +98,19 @@ abbrev pub runnable_of_job : Option JobTree → List ℕ → Option Runnable
 runnable_of_job None id = None
 runnable_of_job (Some job) id = runnable_in (all_leaves job.elements) id
 
--- the work item of an element of a job execution
-abbrev pub next_work_item : Rows → ExecutionRow → List ℕ → WorkItem
-next_work_item r row id =
+-- the next work item of a job execution, of this work key
+abbrev pub next_work_item : Rows → ExecutionRow → WorkKey → WorkItem
+next_work_item r row key =
     record {
       work = length r.works + 1;
       execution = row.execution;
-      element = id;
-      task = work_task (r.checkpoint record { instance = row.instance; step = id }) (runnable_of_job (job_named r.catalogue row.job) id);
+      element = key;
+      task = work_task (r.checkpoint record { instance = row.instance; step = key }) (runnable_of_job (job_named r.catalogue row.job) key);
     }
 
 -- a claim of a job execution hands out its first ready element, or closes it where it has none
-abbrev pub claim_reply : Rows → ExecutionRow → Option (List ℕ) → Reply
-claim_reply r row (Some id) = Work (next_work_item r row id)
+abbrev pub claim_reply : Rows → ExecutionRow → Option WorkKey → Reply
+claim_reply r row (Some key) = Work (next_work_item r row key)
 claim_reply r row None = Closed row.execution
 
 abbrev pub reply_to_claim : ℕ → Rows → Option ExecutionRow → Result Reply Refusal

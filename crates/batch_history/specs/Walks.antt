@@ -6,6 +6,7 @@ use Rattle.batch_history.specs.declared.rows.WorkRow.{WorkRow}
 use Rattle.batch_history.specs.declared.rows.WorkState.{WorkState}
 use Rattle.batch_history.specs.declared.rows.WorkState.TheVariants.{Busy, Over}
 use Rattle.std.specs.Str.{bytes_eq}
+use Rattle.job_walk.specs.Keys.{WorkKey}
 use Rattle.job_walk.specs.Runnables.{Leaf, all_leaves, runnable_in}
 use Rattle.job_walk.specs.Walk.{value_of}
 use Rattle.job_walk.specs.declared.facts.Fact.{Fact}
@@ -24,18 +25,18 @@ abbrev pub fact_of_state : WorkState → Fact
 fact_of_state Busy = FactBusy
 fact_of_state (Over outcome exit) = FactOver outcome exit
 
--- whether a work item is of this element of job execution x
-abbrev pub is_work_of : ℕ → List ℕ → WorkRow → Bool
-is_work_of x id row = row.execution == x && bytes_eq row.element id
+-- whether a work item of job execution x has this work key
+abbrev pub is_work_of : ℕ → WorkKey → WorkRow → Bool
+is_work_of x key row = row.execution == x && bytes_eq row.element key
 
--- what is known of an element by its work item: nothing without one
+-- what is known of a work key by its work item: nothing without one
 abbrev pub fact_by_work : Option WorkRow → Fact
 fact_by_work None = FactNothing
 fact_by_work (Some row) = fact_of_state row.state
 
--- what is known of each element of job execution x by its work items
-abbrev pub element_facts : ℕ → List WorkRow → List ℕ → Fact
-element_facts x works id = fact_by_work (find (is_work_of x id) works)
+-- what is known of each work key of job execution x by its work items
+abbrev pub element_facts : ℕ → List WorkRow → WorkKey → Fact
+element_facts x works key = fact_by_work (find (is_work_of x key) works)
 
 -- a step without a work item may have reached its start limit
 abbrev pub unless_barred : Fact → Bool → Fact
@@ -56,14 +57,14 @@ abbrev pub carried_exit : List (List ℕ × List ℕ) → List ℕ → Option (L
 carried_exit carried id = option_map (λ (step : List ℕ × List ℕ). step.1) (find (λ (step : List ℕ × List ℕ). bytes_eq step.0 id) carried)
 
 -- what is known of what is run under an id, by the plan and by its work item; a decision is taken anew in each job execution
-abbrev pub runnable_fact : Plan → List ℕ → Fact → Option Runnable → Fact
+abbrev pub runnable_fact : Plan → WorkKey → Fact → Option Runnable → Fact
 runnable_fact plan id worked (Some (RunsStep task)) = step_fact (carried_exit plan.carried id) worked (is_among plan.barred id)
 runnable_fact plan id worked (Some (RunsDecision artifact)) = worked
 runnable_fact plan id worked None = FactNothing
 
 -- what is known of each step and decision of a job
-abbrev pub planned_facts : Plan → List Leaf → (List ℕ → Fact) → List ℕ → Fact
-planned_facts plan leaves worked id = runnable_fact plan id (worked id) (runnable_in leaves id)
+abbrev pub planned_facts : Plan → List Leaf → (WorkKey → Fact) → WorkKey → Fact
+planned_facts plan leaves worked key = runnable_fact plan key (worked key) (runnable_in leaves key)
 
 -- the id of the first element of a list
 abbrev pub first_element : List Element → List ℕ
@@ -80,7 +81,7 @@ abbrev pub job_named : List JobTree → List ℕ → Option JobTree
 job_named catalogue name = find (λ job. bytes_eq job.id name) catalogue
 
 -- what a job comes to by a plan, and by what its work items tell of its elements
-abbrev pub walk_of : Plan → (List ℕ → Fact) → Option JobTree → Value
+abbrev pub walk_of : Plan → (WorkKey → Fact) → Option JobTree → Value
 walk_of plan worked None = IsDone []
 walk_of plan worked (Some job) = value_of (planned_facts plan (all_leaves job.elements) worked) job.elements plan.from
 

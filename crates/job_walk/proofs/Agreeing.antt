@@ -1,45 +1,46 @@
 -- A walk depends on what is known of the job's steps and decisions alone.
-use Rattle.std.proofs.Common.{◌≡◌, ℕ, List, [], ◌∷◌, map, refl, sym, ap, subst, arith}
+use Rattle.std.proofs.Common.{◌≡◌, ℕ, List, [], ◌∷◌, map, refl, sym, ◌∙◌, ap, subst, arith}
 use Rattle.jsl_model.specs.declared.element.Element.{Element, ind-Element, map-Element, fold-roll-Element}
 use Rattle.jsl_model.specs.declared.element.SplitFlow.{SplitFlow, fold-roll-SplitFlow}
 use Rattle.jsl_model.specs.declared.element.Body.{Body, Body-F, map-Body, fold-Body, fold-roll-Body}
 use Rattle.jsl_model.specs.declared.element.Body.TheOpen.{Step, Flow, Split, Decision}
 use Rattle.jsl_model.specs.Trees.{joined}
+use Rattle.job_walk.specs.Keys.{WorkKey}
 use Rattle.job_walk.specs.declared.facts.Fact.{Fact}
 use Rattle.job_walk.specs.declared.facts.Value.{Value}
 use Rattle.job_walk.specs.declared.element_result.ElementResult.{ElementResult}
-use Rattle.job_walk.specs.Walk.{WalkedElement, BodyResult, HasResult, list_value, whole_value, flow_result, split_result, body_result, element_result, element_with_result, flow_value, walked_element, walked_body, value_of_flow, value_of}
+use Rattle.job_walk.specs.Walk.{WalkedElement, BodyResult, IsStep, IsDecision, HasResult, runnable_result, list_value, whole_value, flow_result, split_result, body_result, element_result, element_with_result, flow_value, walked_element, walked_body, value_of_flow, value_of}
 use Rattle.job_walk.specs.Runnables.{Leaf, Inside, IsRun, Holds, body_leaves, leaves_at, element_leaves, flow_leaves, leaves, leaves_of_flow, all_leaves}
 use Rattle.job_walk.specs.Lists.{Agree}
 use Rattle.job_walk.proofs.Alls.{All-left, All-right}
 
 -- what a body comes to, by both: a step or a decision the same, and what holds others the same where they agree
-abbrev BodyPair : (List ℕ → Fact) → (List ℕ → Fact) → Inside → BodyResult → BodyResult → Type 0
+abbrev BodyPair : (WorkKey → Fact) → (WorkKey → Fact) → Inside → BodyResult → BodyResult → Type 0
 BodyPair facts later (IsRun runs) p q = p ≡ q
 BodyPair facts later (Holds inside) p q = Agree facts later inside → (r : ElementResult) × (p ≡ HasResult r) × (q ≡ HasResult r)
 
 abbrev pub leaves_in_body : Body → Inside
 leaves_in_body = fold-Body Inside (List Leaf) (List Leaf) body_leaves element_leaves flow_leaves
 
-abbrev BodySame : (List ℕ → Fact) → (List ℕ → Fact) → Body → Type 0
+abbrev BodySame : (WorkKey → Fact) → (WorkKey → Fact) → Body → Type 0
 BodySame facts later b = BodyPair facts later (leaves_in_body b) (walked_body facts b) (walked_body later b)
 
-abbrev ElementSame : (List ℕ → Fact) → (List ℕ → Fact) → Element → Type 0
+abbrev ElementSame : (WorkKey → Fact) → (WorkKey → Fact) → Element → Type 0
 ElementSame facts later e = Agree facts later (leaves e) → walked_element facts e ≡ walked_element later e
 
-abbrev FlowSame : (List ℕ → Fact) → (List ℕ → Fact) → SplitFlow → Type 0
+abbrev FlowSame : (WorkKey → Fact) → (WorkKey → Fact) → SplitFlow → Type 0
 FlowSame facts later f = Agree facts later (leaves_of_flow f) → value_of_flow facts f ≡ value_of_flow later f
 
-abbrev SameElement : (List ℕ → Fact) → (List ℕ → Fact) → Type 0
+abbrev SameElement : (WorkKey → Fact) → (WorkKey → Fact) → Type 0
 SameElement facts later = (e : Element) × ElementSame facts later e
 
-abbrev SameFlow : (List ℕ → Fact) → (List ℕ → Fact) → Type 0
+abbrev SameFlow : (WorkKey → Fact) → (WorkKey → Fact) → Type 0
 SameFlow facts later = (f : SplitFlow) × FlowSame facts later f
 
-abbrev IsAgreed : (List ℕ → Fact) → (List ℕ → Fact) → Leaf → Type 0
+abbrev IsAgreed : (WorkKey → Fact) → (WorkKey → Fact) → Leaf → Type 0
 IsAgreed facts later leaf = facts leaf.id ≡ later leaf.id
 
-rows-same : (facts later : List ℕ → Fact) (es : List (SameElement facts later)) → Agree facts later (joined (map leaves (map (λ (e : SameElement facts later). e.0) es)))
+rows-same : (facts later : WorkKey → Fact) (es : List (SameElement facts later)) → Agree facts later (joined (map leaves (map (λ (e : SameElement facts later). e.0) es)))
     → map (walked_element facts) (map (λ (e : SameElement facts later). e.0) es) ≡ map (walked_element later) (map (λ (e : SameElement facts later). e.0) es)
 rows-same facts later [] h = refl
 rows-same facts later (e ∷ es) h =
@@ -49,7 +50,7 @@ rows-same facts later (e ∷ es) h =
     rows-same facts later es (All-right (IsAgreed facts later) (leaves e.0) rest h) in
     cc
 
-values-same : (facts later : List ℕ → Fact) (fs : List (SameFlow facts later)) → Agree facts later (joined (map leaves_of_flow (map (λ (f : SameFlow facts later). f.0) fs)))
+values-same : (facts later : WorkKey → Fact) (fs : List (SameFlow facts later)) → Agree facts later (joined (map leaves_of_flow (map (λ (f : SameFlow facts later). f.0) fs)))
     → map (value_of_flow facts) (map (λ (f : SameFlow facts later). f.0) fs) ≡ map (value_of_flow later) (map (λ (f : SameFlow facts later). f.0) fs)
 values-same facts later [] h = refl
 values-same facts later (f ∷ fs) h =
@@ -62,10 +63,10 @@ values-same facts later (f ∷ fs) h =
 abbrev inside_at : Body-F Body Element SplitFlow → Inside
 inside_at x = body_leaves (map-Body Body Element SplitFlow Inside (List Leaf) (List Leaf) leaves_in_body leaves leaves_of_flow x)
 
-abbrev part_at : (List ℕ → Fact) → Body-F Body Element SplitFlow → BodyResult
+abbrev part_at : (WorkKey → Fact) → Body-F Body Element SplitFlow → BodyResult
 part_at facts x = body_result (map-Body Body Element SplitFlow BodyResult WalkedElement Value (walked_body facts) (walked_element facts) (value_of_flow facts) x)
 
-body-same : (facts later : List ℕ → Fact) (y : Body-F ((b : Body) × BodySame facts later b) (SameElement facts later) (SameFlow facts later))
+body-same : (facts later : WorkKey → Fact) (y : Body-F ((b : Body) × BodySame facts later b) (SameElement facts later) (SameFlow facts later))
     → BodyPair facts later (inside_at (map-Body _ _ _ Body Element SplitFlow (λ e. e.0) (λ e. e.0) (λ e. e.0) y))
     (part_at facts (map-Body _ _ _ Body Element SplitFlow (λ e. e.0) (λ e. e.0) (λ e. e.0) y)) (part_at later (map-Body _ _ _ Body Element SplitFlow (λ e. e.0) (λ e. e.0) (λ e. e.0) y))
 body-same facts later (Step step) = refl
@@ -75,13 +76,19 @@ body-same facts later (Flow es) =
 body-same facts later (Split fs) =
     λ h. (split_result (map (value_of_flow facts) (map (λ (f : SameFlow facts later). f.0) fs)), refl, ap (λ values. HasResult (split_result values)) (sym (values-same facts later fs h)))
 
-part-same : (facts later : List ℕ → Fact) (id : List ℕ) (inside : Inside) (p q : BodyResult) → BodyPair facts later inside p q → Agree facts later (leaves_at id inside)
-    → element_result id (facts id) p ≡ element_result id (later id) q
-part-same facts later id (IsRun runs) p q same h = let here : facts id ≡ later id = h 0 record { id = id; runs = runs } (omega arith) in cc
+run-same : (facts later : WorkKey → Fact) (id : List ℕ) (p : BodyResult) → facts id ≡ later id → element_result facts id p ≡ element_result later id p
+run-same facts later id (IsStep step) h = ap (runnable_result id) h
+run-same facts later id IsDecision h = ap (runnable_result id) h
+run-same facts later id (HasResult own_result) h = refl
+
+part-same : (facts later : WorkKey → Fact) (id : List ℕ) (inside : Inside) (p q : BodyResult) → BodyPair facts later inside p q → Agree facts later (leaves_at id inside)
+    → element_result facts id p ≡ element_result later id q
+part-same facts later id (IsRun runs) p q same h =
+    run-same facts later id p (h 0 record { id = id; runs = runs } (omega arith)) ∙ ap (element_result later id) same
 part-same facts later id (Holds inside) p q same h = let r = same h in rw r.1 (rw r.2 refl)
 
 -- two facts functions that agree on the steps and decisions in an element give it the same result
-pub element-same : (facts later : List ℕ → Fact) (e : Element) → Agree facts later (leaves e) → walked_element facts e ≡ walked_element later e
+pub element-same : (facts later : WorkKey → Fact) (e : Element) → Agree facts later (leaves e) → walked_element facts e ≡ walked_element later e
 element-same facts later =
     ind-Element (BodySame facts later) (ElementSame facts later) (FlowSame facts later)
     (λ x y is.
@@ -105,7 +112,7 @@ element-same facts later =
     (subst (λ z. Agree facts later (joined (map leaves z.elements)) → whole_value (map (walked_element facts) z.elements) ≡ whole_value (map (walked_element later) z.elements)) is
     (λ h. ap whole_value (rows-same facts later y.elements h))))))
 
-walked-same : (facts later : List ℕ → Fact) (elements : List Element) → Agree facts later (all_leaves elements)
+walked-same : (facts later : WorkKey → Fact) (elements : List Element) → Agree facts later (all_leaves elements)
     → map (walked_element facts) elements ≡ map (walked_element later) elements
 walked-same facts later [] h = refl
 walked-same facts later (e ∷ es) h =
@@ -114,6 +121,6 @@ walked-same facts later (e ∷ es) h =
     cc
 
 -- two facts functions that agree on the steps and decisions of a list give it the same value
-pub value-same : (facts later : List ℕ → Fact) (elements : List Element) → Agree facts later (all_leaves elements)
+pub value-same : (facts later : WorkKey → Fact) (elements : List Element) → Agree facts later (all_leaves elements)
     → (from : List ℕ) → value_of facts elements from ≡ value_of later elements from
 value-same facts later elements h from = ap (λ rows. list_value rows from) (walked-same facts later elements h)

@@ -6,6 +6,7 @@ use Rattle.std.specs.Str.{bytes_eq}
 use Rattle.std.proofs.lemmas.List.{append_assoc, at_drop_more, drop_all, map-append}
 use Rattle.jsl_model.specs.Jobs.{JobTree}
 use Rattle.jsl_model.specs.Trees.{joined}
+use Rattle.job_walk.specs.Keys.{WorkKey}
 use Rattle.job_walk.specs.declared.facts.Fact.{Fact}
 use Rattle.job_walk.specs.declared.facts.Known.{Known}
 use Rattle.job_walk.specs.declared.plan.Plan.{Plan}
@@ -46,7 +47,7 @@ added-all at_first held xs i before whole past left =
 -- ---- What facts say of it
 
 -- of an id that is among these, facts that say what is known at first of each say what is known of it
-found-first : (plan : Plan) (known : List Known) (facts : List ℕ → Fact) (all : List Leaf) → All (λ leaf. facts leaf.id ≡ fact_at_first plan known leaf.id leaf.runs) all
+found-first : (plan : Plan) (known : List Known) (facts : WorkKey → Fact) (all : List Leaf) → All (λ leaf. facts leaf.id ≡ fact_at_first plan known leaf.id leaf.runs) all
     → (id : List ℕ) → list_any (λ leaf. bytes_eq leaf.id id) all ≡ true → fact_of (map (known_at_first plan known) all) id ≡ facts id
 found-first plan known facts [] h id among = cc
 found-first plan known facts (leaf ∷ rest) h id among =
@@ -68,7 +69,7 @@ among-itself (leaf ∷ rest) (suc k) d lt =
     ]
 
 -- where facts say of each step and decision what is known of it at first, the walk comes to what the job comes to by these facts
-pub resumed-value : (job : JobTree) (plan : Plan) (known : List Known) (facts : List ℕ → Fact)
+pub resumed-value : (job : JobTree) (plan : Plan) (known : List Known) (facts : WorkKey → Fact)
     → All (λ leaf. facts leaf.id ≡ fact_at_first plan known leaf.id leaf.runs) (all_leaves job.elements)
     → value_in (resumed job plan known) ≡ value_of facts job.elements plan.from
 resumed-value job plan known facts h =

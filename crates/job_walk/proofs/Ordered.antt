@@ -15,6 +15,7 @@ use Rattle.jsl_model.specs.Names.{is_among}
 use Rattle.jsl_model.specs.Targets.{Item, ids, targets_in, item_of, outline, named_in, lists_of, lists_inside, lists_of_flow, lacks_target, lacks_some_target, HasRanks}
 use Rattle.jsl_model.specs.Faults.{has_long_text, has_empty, is_too_deep, has_too_many, has_duplicate, tree_fault, IsChecked}
 use Rattle.jsl_model.proofs.InnerLists.{inside-flow, inside-split, flow-lists}
+use Rattle.job_walk.specs.Keys.{WorkKey}
 use Rattle.job_walk.specs.declared.facts.Fact.{Fact}
 use Rattle.job_walk.specs.Walk.{WalkedElement, walked_element, value_of}
 use Rattle.job_walk.specs.Lists.{has_element, IsOrdered, StandsIn, Itself, InFlow, InSplit, value_from}
@@ -69,7 +70,7 @@ ordered job checked list stands = record {
 -- ---- Ordered lists
 
 -- the value of an ordered list from an element is what the element comes to by itself, carried on by the list's value
-pub goes-on : (list : List Element) → IsOrdered (outline list) → (facts : List ℕ → Fact) (id : List ℕ) (element : Element)
+pub goes-on : (list : List Element) → IsOrdered (outline list) → (facts : WorkKey → Fact) (id : List ℕ) (element : Element)
     → find (λ (e : Element). bytes_eq e.id id) list ≡ Some element → value_of facts list id ≡ value_from facts list element
 goes-on list is facts id element found =
     let rows : List WalkedElement = map (walked_element facts) list in
@@ -78,7 +79,7 @@ goes-on list is facts id element found =
 
 -- of a checked job: so does each of its lists
 pub goes-on-checked : (job : JobTree) → IsChecked job → (list : List Element) → StandsIn list job.elements
-    → (facts : List ℕ → Fact) (id : List ℕ) (element : Element)
+    → (facts : WorkKey → Fact) (id : List ℕ) (element : Element)
     → find (λ (e : Element). bytes_eq e.id id) list ≡ Some element → value_of facts list id ≡ value_from facts list element
 goes-on-checked job checked list stands = goes-on list (ordered job checked list stands)
 

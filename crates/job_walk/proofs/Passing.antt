@@ -16,6 +16,7 @@ use Rattle.jsl_model.specs.declared.element.Body.TheOpen.{Step, Flow, Split, Dec
 use Rattle.jsl_model.specs.Trees.{joined, Node, BodyNodes, body_nodes, element_nodes, flow_nodes, nodes_of, in_body, nodes_of_flow, nodes}
 use Rattle.jsl_model.specs.Faults.{restart_at, restarts_in, restarts}
 use Rattle.transitions.specs.Transitions.{matches_on, matching_transition}
+use Rattle.job_walk.specs.Keys.{WorkKey}
 use Rattle.job_walk.specs.Lists.{ids_of}
 use Rattle.job_walk.specs.declared.facts.Fact.{Fact}
 use Rattle.job_walk.specs.declared.facts.Fact.TheVariants.{Nothing, Carried, Busy, Over, Barred}
@@ -23,7 +24,7 @@ use Rattle.job_walk.specs.declared.facts.Value.{Value}
 use Rattle.job_walk.specs.declared.facts.Value.TheVariants.{Open, Done, Ended}
 use Rattle.job_walk.specs.declared.element_result.ElementResult.{ElementResult}
 use Rattle.job_walk.specs.declared.element_result.ElementResult.TheVariants.{ListValue, Outcome}
-use Rattle.job_walk.specs.Walk.{WalkedElement, BodyResult, IsRunnable, HasResult, runnable_result, value_by_transition, value_after_outcome, value_by_result, value_at, follow, list_value, whole_value, flow_result, all_ready, all_busy, any_open, ended_as, strongest_end, split_result, body_result, element_result, element_with_result, flow_value, walked_element, walked_body, value_of_flow, value_of}
+use Rattle.job_walk.specs.Walk.{WalkedElement, BodyResult, IsStep, IsDecision, HasResult, runnable_result, value_by_transition, value_after_outcome, value_by_result, value_at, follow, list_value, whole_value, flow_result, all_ready, all_busy, any_open, ended_as, strongest_end, split_result, body_result, element_result, element_with_result, flow_value, walked_element, walked_body, value_of_flow, value_of}
 use Rattle.std.proofs.lemmas.List.{map-append}
 use Rattle.job_walk.specs.Runnables.{Leaf, Inside, IsRun, Holds, body_leaves, leaves_at, element_leaves, flow_leaves, leaves, leaves_of_flow, all_leaves}
 use Rattle.job_walk.proofs.Agreeing.{leaves_in_body}
@@ -213,27 +214,29 @@ leaves-append test xs ys h =
 
 -- what a body comes to: a step or a decision is shown as itself alone, and what holds others as they are
 abbrev PartPasses : Tests → Inside → BodyResult → Type 0
-PartPasses tests (IsRun runs) IsRunnable = Unit {0}
+PartPasses tests (IsRun runs) (IsStep step) = Unit {0}
+PartPasses tests (IsRun runs) IsDecision = Unit {0}
 PartPasses tests (IsRun runs) (HasResult own_result) = ⊥
-PartPasses tests (Holds inside) IsRunnable = ⊥
+PartPasses tests (Holds inside) (IsStep step) = ⊥
+PartPasses tests (Holds inside) IsDecision = ⊥
 PartPasses tests (Holds inside) (HasResult own_result) = LeavesPass tests.shown inside → ResultPasses tests own_result
 
-abbrev BodyPasses : Tests → (List ℕ → Fact) → Body → Type 0
+abbrev BodyPasses : Tests → (WorkKey → Fact) → Body → Type 0
 BodyPasses tests facts b = PointsPass tests.point (in_body b).nodes → PartPasses tests (leaves_in_body b) (walked_body facts b)
 
-abbrev ElementPasses : Tests → (List ℕ → Fact) → Element → Type 0
+abbrev ElementPasses : Tests → (WorkKey → Fact) → Element → Type 0
 ElementPasses tests facts e = PointsPass tests.point (nodes_of e) → LeavesPass tests.shown (leaves e) → RowPasses tests (walked_element facts e)
 
-abbrev FlowPasses : Tests → (List ℕ → Fact) → SplitFlow → Type 0
+abbrev FlowPasses : Tests → (WorkKey → Fact) → SplitFlow → Type 0
 FlowPasses tests facts f = PointsPass tests.point (nodes_of_flow f) → LeavesPass tests.shown (leaves_of_flow f) → Passes tests (value_of_flow facts f)
 
-abbrev Passing : Tests → (List ℕ → Fact) → Type 0
+abbrev Passing : Tests → (WorkKey → Fact) → Type 0
 Passing tests facts = (e : Element) × ElementPasses tests facts e
 
-abbrev PassingFlow : Tests → (List ℕ → Fact) → Type 0
+abbrev PassingFlow : Tests → (WorkKey → Fact) → Type 0
 PassingFlow tests facts = (f : SplitFlow) × FlowPasses tests facts f
 
-rows-pass : (tests : Tests) (facts : List ℕ → Fact) (es : List (Passing tests facts))
+rows-pass : (tests : Tests) (facts : WorkKey → Fact) (es : List (Passing tests facts))
     → PointsPass tests.point (joined (map nodes_of (map (λ (e : Passing tests facts). e.0) es))) → LeavesPass tests.shown (joined (map leaves (map (λ (e : Passing tests facts). e.0) es)))
     → RowsPass tests (map (walked_element facts) (map (λ (e : Passing tests facts). e.0) es))
 rows-pass tests facts [] h k = tt
@@ -242,7 +245,7 @@ rows-pass tests facts (e ∷ es) h k =
     let shown = leaves-append tests.shown (leaves e.0) (joined (map leaves (map (λ (e : Passing tests facts). e.0) es))) k in
     (e.1 points.0 shown.0, rows-pass tests facts es points.1 shown.1)
 
-values-pass : (tests : Tests) (facts : List ℕ → Fact) (fs : List (PassingFlow tests facts))
+values-pass : (tests : Tests) (facts : WorkKey → Fact) (fs : List (PassingFlow tests facts))
     → PointsPass tests.point (joined (map nodes_of_flow (map (λ (f : PassingFlow tests facts). f.0) fs))) → LeavesPass tests.shown (joined (map leaves_of_flow (map (λ (f : PassingFlow tests facts). f.0) fs)))
     → ValuesPass tests (map (value_of_flow facts) (map (λ (f : PassingFlow tests facts). f.0) fs))
 values-pass tests facts [] h k = tt
@@ -257,10 +260,10 @@ nodes_at x = body_nodes (map-Body Body Element SplitFlow BodyNodes (List Node) (
 abbrev inside_at : Body-F Body Element SplitFlow → Inside
 inside_at x = body_leaves (map-Body Body Element SplitFlow Inside (List Leaf) (List Leaf) leaves_in_body leaves leaves_of_flow x)
 
-abbrev part_at : (List ℕ → Fact) → Body-F Body Element SplitFlow → BodyResult
+abbrev part_at : (WorkKey → Fact) → Body-F Body Element SplitFlow → BodyResult
 part_at facts x = body_result (map-Body Body Element SplitFlow BodyResult WalkedElement Value (walked_body facts) (walked_element facts) (value_of_flow facts) x)
 
-body-passes : (tests : Tests) (facts : List ℕ → Fact) (y : Body-F ((b : Body) × BodyPasses tests facts b) (Passing tests facts) (PassingFlow tests facts))
+body-passes : (tests : Tests) (facts : WorkKey → Fact) (y : Body-F ((b : Body) × BodyPasses tests facts b) (Passing tests facts) (PassingFlow tests facts))
     → PointsPass tests.point (nodes_at (map-Body _ _ _ Body Element SplitFlow (λ e. e.0) (λ e. e.0) (λ e. e.0) y)).nodes
     → PartPasses tests (inside_at (map-Body _ _ _ Body Element SplitFlow (λ e. e.0) (λ e. e.0) (λ e. e.0) y))
     (part_at facts (map-Body _ _ _ Body Element SplitFlow (λ e. e.0) (λ e. e.0) (λ e. e.0) y))
@@ -277,14 +280,16 @@ runnable-passes tests id (Over outcome exit) h = tt
 runnable-passes tests id Barred h = tt
 runnable-passes tests id Nothing h = (h, refl)
 
-part-passes : (tests : Tests) (id : List ℕ) (fact : Fact) (inside : Inside) (part : BodyResult) → PartPasses tests inside part → LeavesPass tests.shown (leaves_at id inside)
-    → ResultPasses tests (element_result id fact part)
-part-passes tests id fact (IsRun runs) IsRunnable p h = runnable-passes tests id fact h
-part-passes tests id fact (IsRun runs) (HasResult own_result) p h = absurd p
-part-passes tests id fact (Holds inside) IsRunnable p h = absurd p
-part-passes tests id fact (Holds inside) (HasResult own_result) p h = p h
+part-passes : (tests : Tests) (facts : WorkKey → Fact) (id : List ℕ) (inside : Inside) (part : BodyResult) → PartPasses tests inside part → LeavesPass tests.shown (leaves_at id inside)
+    → ResultPasses tests (element_result facts id part)
+part-passes tests facts id (IsRun runs) (IsStep step) p h = runnable-passes tests id (facts id) h
+part-passes tests facts id (IsRun runs) IsDecision p h = runnable-passes tests id (facts id) h
+part-passes tests facts id (IsRun runs) (HasResult own_result) p h = absurd p
+part-passes tests facts id (Holds inside) (IsStep step) p h = absurd p
+part-passes tests facts id (Holds inside) IsDecision p h = absurd p
+part-passes tests facts id (Holds inside) (HasResult own_result) p h = p h
 
-element-passes : (tests : Tests) (facts : List ℕ → Fact) (e : Element) → ElementPasses tests facts e
+element-passes : (tests : Tests) (facts : WorkKey → Fact) (e : Element) → ElementPasses tests facts e
 element-passes tests facts =
     ind-Element (BodyPasses tests facts) (ElementPasses tests facts) (FlowPasses tests facts)
     (λ x y is.
@@ -301,7 +306,7 @@ element-passes tests facts =
     → RowPasses tests (element_with_result facts (map-Element Body Element SplitFlow BodyResult WalkedElement Value (walked_body facts) (walked_element facts) (value_of_flow facts) z))) is
     (λ h k.
     let parts = both-true (list_all tests.point (restarts_in y.transitions)) (list_all tests.point (restarts (in_body y.body.0).nodes)) (sym (list_all-append tests.point (restarts_in y.transitions) (restarts (in_body y.body.0).nodes)) ∙ h) in
-    record { transitions = parts.0; own_result = part-passes tests y.id (facts y.id) (leaves_in_body y.body.0) (walked_body facts y.body.0) (y.body.1 parts.1) k })))))
+    record { transitions = parts.0; own_result = part-passes tests facts y.id (leaves_in_body y.body.0) (walked_body facts y.body.0) (y.body.1 parts.1) k })))))
     (λ x y is.
     rw (fold-roll-SplitFlow BodyResult WalkedElement Value body_result (element_with_result facts) flow_value x)
     (rw (fold-roll-SplitFlow BodyNodes (List Node) (List Node) body_nodes element_nodes flow_nodes x)
@@ -309,7 +314,7 @@ element-passes tests facts =
     (subst (λ z. PointsPass tests.point (joined (map nodes_of z.elements)) → LeavesPass tests.shown (joined (map leaves z.elements)) → Passes tests (whole_value (map (walked_element facts) z.elements))) is
     (λ h k. list-passes tests (map (walked_element facts) (map (λ (e : Passing tests facts). e.0) y.elements)) (rows-pass tests facts y.elements h k) _)))))
 
-elements-pass : (tests : Tests) (facts : List ℕ → Fact) (es : List Element) → PointsPass tests.point (nodes es) → LeavesPass tests.shown (all_leaves es) → RowsPass tests (map (walked_element facts) es)
+elements-pass : (tests : Tests) (facts : WorkKey → Fact) (es : List Element) → PointsPass tests.point (nodes es) → LeavesPass tests.shown (all_leaves es) → RowsPass tests (map (walked_element facts) es)
 elements-pass tests facts [] h k = tt
 elements-pass tests facts (e ∷ es) h k =
     let points = points-append tests.point (nodes_of e) (nodes es) h in
@@ -317,7 +322,7 @@ elements-pass tests facts (e ∷ es) h k =
     (element-passes tests facts e points.0 shown.0, elements-pass tests facts es points.1 shown.1)
 
 -- where all restart points that are written in a tree, and the ids of its steps and decisions, pass tests, so do those of its walk
-pub walk-passes : (tests : Tests) (facts : List ℕ → Fact) (elements : List Element) (from : List ℕ) → PointsPass tests.point (nodes elements) → LeavesPass tests.shown (all_leaves elements)
+pub walk-passes : (tests : Tests) (facts : WorkKey → Fact) (elements : List Element) (from : List ℕ) → PointsPass tests.point (nodes elements) → LeavesPass tests.shown (all_leaves elements)
     → Passes tests (value_of facts elements from)
 walk-passes tests facts elements from h k = list-passes tests (map (walked_element facts) elements) (elements-pass tests facts elements h k) from
 

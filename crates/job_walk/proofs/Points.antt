@@ -10,6 +10,7 @@ use Rattle.jsl_model.specs.Targets.{outline, ids, lacks_some_target, has_some_lo
 use Rattle.jsl_model.specs.Jobs.{JobTree}
 use Rattle.jsl_model.specs.Faults.{has_restarts, has_long_text, has_empty, is_too_deep, has_too_many, has_duplicate, tree_fault, IsChecked}
 use Rattle.jsl_model.proofs.Among.{bytes_eq-sym}
+use Rattle.job_walk.specs.Keys.{WorkKey}
 use Rattle.job_walk.specs.Lists.{has_element, ids_of}
 use Rattle.job_walk.proofs.Passing.{Passes, walk-passes, all-true}
 use Rattle.job_walk.specs.Runnables.{all_leaves}
@@ -25,7 +26,7 @@ among-own (e ∷ es) id =
     cc
 
 -- where each restart that is written in a job begins at an element of the job's own list, so does that of its walk
-pub own-point : (job : JobTree) → has_restarts job ≡ true → (facts : List ℕ → Fact) (from : List ℕ) (status : BatchStatus) (exit point : List ℕ)
+pub own-point : (job : JobTree) → has_restarts job ≡ true → (facts : WorkKey → Fact) (from : List ℕ) (status : BatchStatus) (exit point : List ℕ)
     → value_of facts job.elements from ≡ Ended status exit (Some point) → has_element job.elements point ≡ true
 own-point job own facts from status exit point is =
     sym (among-own job.elements point)
@@ -54,6 +55,6 @@ checked-restarts job checked =
     (no-fault (has_long_text job) TextTooLong (tree_fault job) checked.faultless)))))))
 
 -- a restart of a checked job begins at an element of the job's own list
-pub checked-point : (job : JobTree) → IsChecked job → (facts : List ℕ → Fact) (from : List ℕ) (status : BatchStatus) (exit point : List ℕ)
+pub checked-point : (job : JobTree) → IsChecked job → (facts : WorkKey → Fact) (from : List ℕ) (status : BatchStatus) (exit point : List ℕ)
     → value_of facts job.elements from ≡ Ended status exit (Some point) → has_element job.elements point ≡ true
 checked-point job checked = own-point job (checked-restarts job checked)

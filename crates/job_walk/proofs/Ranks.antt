@@ -12,6 +12,7 @@ use Rattle.jsl_model.specs.declared.element.Then.{Then}
 use Rattle.jsl_model.specs.declared.element.Then.TheVariants.{Next, End, Fail, Stop}
 use Rattle.jsl_model.specs.Targets.{Item, named_by, named_in, outline, ids, place_in, graph_of, HasRanks}
 use Rattle.transitions.specs.Transitions.{matches_on, matching_transition}
+use Rattle.job_walk.specs.Keys.{WorkKey}
 use Rattle.job_walk.specs.declared.facts.Fact.{Fact}
 use Rattle.job_walk.specs.declared.facts.Value.{Value}
 use Rattle.job_walk.specs.declared.facts.Value.TheVariants.{Done}
@@ -212,10 +213,10 @@ ranked-ids rows h = record {
   };
 }
 
-outline-walked : (facts : List ℕ → Fact) (elements : List Element) → items_in (map (walked_element facts) elements) ≡ outline elements
+outline-walked : (facts : WorkKey → Fact) (elements : List Element) → items_in (map (walked_element facts) elements) ≡ outline elements
 outline-walked facts [] = refl
 outline-walked facts (e ∷ es) = cc (ap item_in (walked_element-parts facts e), outline-walked facts es)
 
 -- the same of the elements of a list, whatever is known of them
-pub ranked-walked : (facts : List ℕ → Fact) (elements : List Element) → HasRanks (outline elements) → HasRanks (items_in (map (walked_element facts) elements))
+pub ranked-walked : (facts : WorkKey → Fact) (elements : List Element) → HasRanks (outline elements) → HasRanks (items_in (map (walked_element facts) elements))
 ranked-walked facts elements h = subst HasRanks (sym (outline-walked facts elements)) h

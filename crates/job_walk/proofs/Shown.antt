@@ -5,6 +5,7 @@ use Rattle.std.specs.Str.{bytes_eq}
 use Rattle.std.specs.Cmp.Lexicographic.{bytes_decides}
 use Rattle.jsl_model.specs.declared.element.Element.{Element}
 use Rattle.jsl_model.specs.Names.{is_among}
+use Rattle.job_walk.specs.Keys.{WorkKey}
 use Rattle.job_walk.specs.declared.facts.Fact.{Fact}
 use Rattle.job_walk.specs.declared.facts.Value.{Value}
 use Rattle.job_walk.specs.declared.facts.Value.TheVariants.{Open, Done, Ended}
@@ -45,7 +46,7 @@ abbrev of_leaves : List Element → Tests
 of_leaves elements = record { shown = is_among (ids_of (all_leaves elements)); point = λ id. true }
 
 -- all that a walk shows is a step or a decision
-pub shown-leaves : (facts : List ℕ → Fact) (elements : List Element) (from : List ℕ) → Passes (of_leaves elements) (value_of facts elements from)
+pub shown-leaves : (facts : WorkKey → Fact) (elements : List Element) (from : List ℕ) → Passes (of_leaves elements) (value_of facts elements from)
 shown-leaves facts elements from =
     walk-passes (of_leaves elements) facts elements from (all-true (restarts (nodes elements))) (all-among (ids_of (all_leaves elements)))
 
@@ -60,11 +61,11 @@ busy-passes tests (Done exit) id h k = cc
 busy-passes tests (Ended status exit point) id h k = cc
 
 -- what is ready is a step or a decision
-pub ready-leaf : (facts : List ℕ → Fact) (elements : List Element) (from id : List ℕ) → is_among (ready_of (value_of facts elements from)) id ≡ true
+pub ready-leaf : (facts : WorkKey → Fact) (elements : List Element) (from id : List ℕ) → is_among (ready_of (value_of facts elements from)) id ≡ true
     → is_among (ids_of (all_leaves elements)) id ≡ true
 ready-leaf facts elements from id h = ready-passes (of_leaves elements) (value_of facts elements from) id (shown-leaves facts elements from) h
 
 -- what is busy is a step or a decision
-pub busy-leaf : (facts : List ℕ → Fact) (elements : List Element) (from id : List ℕ) → is_among (busy_of (value_of facts elements from)) id ≡ true
+pub busy-leaf : (facts : WorkKey → Fact) (elements : List Element) (from id : List ℕ) → is_among (busy_of (value_of facts elements from)) id ≡ true
     → is_among (ids_of (all_leaves elements)) id ≡ true
 busy-leaf facts elements from id h = busy-passes (of_leaves elements) (value_of facts elements from) id (shown-leaves facts elements from) h

@@ -1,4 +1,5 @@
 pub mod Cursors
+pub mod Keys
 pub mod Lists
 pub mod Runnables
 pub mod Walk

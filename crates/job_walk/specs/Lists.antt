@@ -8,6 +8,7 @@ use Rattle.jsl_model.specs.declared.element.Body.TheVariants.{Flow, Split}
 use Rattle.jsl_model.specs.Targets.{Item, lacks_target, HasRanks}
 use Rattle.job_walk.specs.declared.facts.Fact.{Fact}
 use Rattle.job_walk.specs.declared.facts.Value.{Value}
+use Rattle.job_walk.specs.Keys.{WorkKey}
 use Rattle.job_walk.specs.Runnables.{Leaf}
 use Rattle.job_walk.specs.Walk.{walked_element, value_by_result, value_of}
 
@@ -33,16 +34,16 @@ pub data StandsIn (list : List Element) : List Element → Type 0 where
 
 -- where a list goes from an element of it: what the element comes to by itself, and then the list's value from the
 -- element to which that leads
-abbrev pub value_from : (List ℕ → Fact) → List Element → Element → Value
+abbrev pub value_from : (WorkKey → Fact) → List Element → Element → Value
 value_from facts elements element =
     value_by_result (value_of facts elements) (walked_element facts element) (walked_element facts element).own_result
 
 -- ---- Steps and decisions
 
--- the ids of these steps and decisions
-abbrev pub ids_of : List Leaf → List (List ℕ)
+-- the work keys of these steps and decisions
+abbrev pub ids_of : List Leaf → List WorkKey
 ids_of leaves = map (λ leaf. leaf.id) leaves
 
 -- the same is known of these steps and decisions
-abbrev pub Agree : (List ℕ → Fact) → (List ℕ → Fact) → List Leaf → Type 0
+abbrev pub Agree : (WorkKey → Fact) → (WorkKey → Fact) → List Leaf → Type 0
 Agree facts later leaves = All (λ leaf. facts leaf.id ≡ later leaf.id) leaves

@@ -9,6 +9,7 @@ ghost use Rattle.job_walk.specs.declared.facts.Known.{Known};
 ghost use Rattle.job_walk.specs.declared.plan.Plan.{Plan};
 ghost use Rattle.jsl_model.specs.Names.{is_among};
 ghost use Rattle.job_walk.specs.Cursors.{CursorState, known_ids, fact_at_first, resumed, value_in, with_fact, ready_of, busy_of, is_shown, IsCursor};
+ghost use Rattle.job_walk.specs.Keys.{WorkKey};
 ghost use Rattle.job_walk.specs.Lists.{has_element, value_from, ids_of, Agree, StandsIn};
 ghost use Rattle.job_walk.specs.Runnables.{leaves, all_leaves};
 ghost use Rattle.job_walk.specs.Walk.{fact_of, value_of, walked_element};
@@ -22,14 +23,14 @@ use jsl_model::Element;
 /// It does nothing: its contract is the law. Since something is known of all that is ready or busy,
 /// a step is busy after `take` and over after `report`, whatever was known of it before.
 pub fn the_newest_fact_counts()
-    ensures known { (cursor : CursorState) → IsCursor cursor → (id : List ℕ)
-        → is_shown (value_in cursor) id ≡ true → is_among (known_ids cursor.facts) id ≡ true }
-    ensures one { (cursor : CursorState) (id : List ℕ) (fact : Fact)
-        → is_among (known_ids cursor.facts) id ≡ true
-        → fact_of (with_fact cursor id fact).facts id ≡ fact }
-    ensures others { (cursor : CursorState) (id : List ℕ) (fact : Fact) (other : List ℕ)
-        → id ≢ other
-        → fact_of (with_fact cursor id fact).facts other ≡ fact_of cursor.facts other }
+    ensures known { (cursor : CursorState) → IsCursor cursor → (key : WorkKey)
+        → is_shown (value_in cursor) key ≡ true → is_among (known_ids cursor.facts) key ≡ true }
+    ensures one { (cursor : CursorState) (key : WorkKey) (fact : Fact)
+        → is_among (known_ids cursor.facts) key ≡ true
+        → fact_of (with_fact cursor key fact).facts key ≡ fact }
+    ensures others { (cursor : CursorState) (key : WorkKey) (fact : Fact) (other : WorkKey)
+        → key ≢ other
+        → fact_of (with_fact cursor key fact).facts other ≡ fact_of cursor.facts other }
 {}
 
 /// A restart begins at an element of the job's own list: the restart point with which the walk of a
@@ -37,7 +38,7 @@ pub fn the_newest_fact_counts()
 ///
 /// It does nothing: its contract is the law. See Jakarta Batch 2.1, "Job Restart Processing".
 pub fn a_restart_begins_at_a_job_level_element()
-    ensures { (job : JobTree) → IsChecked job → (facts : List ℕ → Fact) (from : List ℕ)
+    ensures { (job : JobTree) → IsChecked job → (facts : WorkKey → Fact) (from : List ℕ)
         (status : BatchStatus) (exit point : List ℕ)
         → value_of facts job.elements from ≡ Value.Ended status exit (Some point)
         → has_element job.elements point ≡ true }
@@ -52,7 +53,7 @@ pub fn a_restart_begins_at_a_job_level_element()
 pub fn a_list_goes_on_from_element_to_element()
     ensures value { (job : JobTree) → IsChecked job
         → (list : List Element) → StandsIn list job.elements
-        → (facts : List ℕ → Fact) (id : List ℕ) (element : Element)
+        → (facts : WorkKey → Fact) (id : List ℕ) (element : Element)
         → find (λ (e : Element). bytes_eq e.id id) list ≡ Some element
         → value_of facts list id ≡ value_from facts list element }
     ensures targets { (job : JobTree) → IsChecked job
@@ -68,10 +69,10 @@ pub fn a_list_goes_on_from_element_to_element()
 ///
 /// It does nothing: its contract is the law.
 pub fn steps_and_decisions_decide_a_walk()
-    ensures value { (facts later : List ℕ → Fact) (elements : List Element)
+    ensures value { (facts later : WorkKey → Fact) (elements : List Element)
         → Agree facts later (all_leaves elements)
         → (from : List ℕ) → value_of facts elements from ≡ value_of later elements from }
-    ensures element { (facts later : List ℕ → Fact) (element : Element)
+    ensures element { (facts later : WorkKey → Fact) (element : Element)
         → Agree facts later (leaves element)
         → walked_element facts element ≡ walked_element later element }
 {}
@@ -80,12 +81,12 @@ pub fn steps_and_decisions_decide_a_walk()
 ///
 /// It does nothing: its contract is the law.
 pub fn what_is_shown_is_a_step_or_decision()
-    ensures ready { (facts : List ℕ → Fact) (elements : List Element) (from id : List ℕ)
-        → is_among (ready_of (value_of facts elements from)) id ≡ true
-        → is_among (ids_of (all_leaves elements)) id ≡ true }
-    ensures busy { (facts : List ℕ → Fact) (elements : List Element) (from id : List ℕ)
-        → is_among (busy_of (value_of facts elements from)) id ≡ true
-        → is_among (ids_of (all_leaves elements)) id ≡ true }
+    ensures ready { (facts : WorkKey → Fact) (elements : List Element) (from : List ℕ)
+        (key : WorkKey) → is_among (ready_of (value_of facts elements from)) key ≡ true
+        → is_among (ids_of (all_leaves elements)) key ≡ true }
+    ensures busy { (facts : WorkKey → Fact) (elements : List Element) (from : List ℕ)
+        (key : WorkKey) → is_among (busy_of (value_of facts elements from)) key ≡ true
+        → is_among (ids_of (all_leaves elements)) key ≡ true }
 {}
 
 /// What is known at first decides a walk: where facts say of each step and decision of the job what
@@ -93,7 +94,7 @@ pub fn what_is_shown_is_a_step_or_decision()
 ///
 /// It does nothing: its contract is the law.
 pub fn what_is_known_at_first_decides_a_walk()
-    ensures { (job : JobTree) (plan : Plan) (known : List Known) (facts : List ℕ → Fact)
+    ensures { (job : JobTree) (plan : Plan) (known : List Known) (facts : WorkKey → Fact)
         → All (λ leaf. facts leaf.id ≡ fact_at_first plan known leaf.id leaf.runs)
         (all_leaves job.elements)
         → value_in (resumed job plan known) ≡ value_of facts job.elements plan.from }
