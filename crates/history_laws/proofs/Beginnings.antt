@@ -1,7 +1,6 @@
--- The rows of a beginning of a legal history, and of its past.
-use Rattle.std.proofs.Common.{◌≡◌, ℕ, Some, List, [], ◌∷◌, ◌++◌, length, find, reverse, refl, sym, ◌∙◌, ap, arith}
+-- The rows of a legal history, and of its past.
+use Rattle.std.proofs.Common.{◌≡◌, ℕ, Some, List, [], ◌∷◌, ◌++◌, find, reverse, refl, sym, ◌∙◌, ap}
 use Rattle.std.specs.Option.{option_map}
-use Rattle.std.proofs.lemmas.List.{length-append, append_assoc}
 use Rattle.std.proofs.lemmas.Bool.{eqb-true}
 use Rattle.jsl_model.specs.Jobs.{JobTree}
 use Rattle.job_walk.proofs.Following.{find-map}
@@ -13,19 +12,12 @@ use Rattle.batch_history.specs.Replies.{is_execution}
 use Rattle.batch_history.specs.Rows.{History, Rows, rows}
 use Rattle.batch_history.specs.Works.{is_work}
 use Rattle.batch_history.specs.declared.rows.ExecutionRow.{ExecutionRow}
-use Rattle.history_laws.specs.Laws.{beginning, row_in}
+use Rattle.history_laws.specs.Laws.{row_in}
 use Rattle.batch_history.proofs.Finding.{found-passes}
 use Rattle.batch_history.proofs.Legality.{rows_folded}
 use Rattle.batch_history.proofs.Told.{AllDue, IsRowOf, row-of}
 
 -- ---- Rows of a legal history
-
--- a beginning of a legal history is legal
-pub legal-beginning : (limit : ℕ) (h : History) → IsLegal limit h → (before after : List Entry) → h.log ≡ before ++ after → IsLegal limit (beginning h before)
-legal-beginning limit h legal before after cut = record {
-  within = omega (arith, legal.within, ap length cut, length-append before after);
-  due = λ b e a is. legal.due b e (a ++ after) (cut ∙ (ap (λ l. l ++ after) is ∙ append_assoc b (e ∷ a) after));
-}
 
 -- the row of a job execution is the one that the fold has
 pub row-folded : (limit : ℕ) (h : History) → IsLegal limit h → (x : ℕ) → row_in h x ≡ find (is_execution x) (folded_rows h.catalogue (reverse h.log)).executions

@@ -12,6 +12,7 @@ use Rattle.batch_history.specs.Rows.{History, Rows, rows}
 use Rattle.batch_history.specs.Walks.{job_named, element_facts, carried_exit, unless_barred, step_fact, runnable_fact}
 use Rattle.batch_history.specs.declared.rows.ExecutionRow.{ExecutionRow}
 use Rattle.history_laws.specs.Laws.{beginning, row_in, WasReady, IsOpen, IsOfOpenStep, GoesOnFrom, checkpoint_in}
+use Rattle.batch_history.proofs.Legal.{legal-beginning}
 use Rattle.batch_history.proofs.Legality.{past-due, rows_folded}
 use Rattle.batch_history.proofs.Told.{IsRowOf, row-of, ToldClaim, work-told}
 use Rattle.batch_history.proofs.Sights.{ready_sight}
@@ -29,7 +30,7 @@ use Rattle.job_walk.specs.declared.runnable.Runnable.TheVariants.{Step as RunsSt
 use Rattle.batch_history.specs.Restarts.{plan_of}
 use Rattle.batch_history.specs.declared.call.WorkTask.TheVariants.{Chunk}
 use Rattle.batch_history.proofs.Plans.{plan-law}
-use Rattle.history_laws.proofs.Beginnings.{legal-beginning, row-folded, row-there}
+use Rattle.history_laws.proofs.Beginnings.{row-folded, row-there}
 
 -- ---- What is handed out
 

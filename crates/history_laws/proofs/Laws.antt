@@ -25,6 +25,7 @@ use Rattle.batch_history.specs.declared.rows.ExecutionRow.{ExecutionRow}
 use Rattle.batch_history.specs.declared.rows.WorkRow.{WorkRow}
 use Rattle.batch_history.specs.declared.rows.JobInstance.{JobInstance}
 use Rattle.history_laws.specs.Laws.{beginning, row_in, StaysFinished, EndedAt, BelongsTo, HasInstance, with_name}
+use Rattle.batch_history.proofs.Legal.{legal-beginning}
 use Rattle.batch_history.proofs.Legality.{past-due, rows_folded}
 use Rattle.batch_history.proofs.Origins.{instances-law}
 use Rattle.batch_history.proofs.WorkLists.{each-found, Apart, AllApart}
@@ -34,7 +35,7 @@ use Rattle.batch_history.proofs.Finished.{on-it, busy-unfinished, finished-statu
 use Rattle.history_laws.proofs.Moments.{abandoned-finished, EndedPast, ended-past, over-ended}
 use Rattle.batch_history.proofs.Owners.{InstanceOf, instances-kept, jobs-kept}
 use Rattle.history_laws.proofs.Names.{distinct-more, distinct-once}
-use Rattle.history_laws.proofs.Beginnings.{legal-beginning, row-folded, work-folded, row-there, IsRowAt, row-at, due-older}
+use Rattle.history_laws.proofs.Beginnings.{row-folded, work-folded, row-there, IsRowAt, row-at, due-older}
 
 -- ---- What is over
 

@@ -17,7 +17,7 @@ use Rattle.batch_history.specs.Replies.{row_status, is_execution, reply, is_late
 use Rattle.batch_history.specs.Rows.{History, Rows, rows}
 use Rattle.batch_history.specs.Statuses.{is_finished}
 use Rattle.batch_history.specs.declared.rows.ExecutionRow.{ExecutionRow}
-use Rattle.history_laws.specs.Laws.{beginning, row_in, MayGoOn, FollowsFrom, KeepsPlan}
+use Rattle.history_laws.specs.Laws.{beginning, row_in, MayGoOn, RestartsFollow, HasOneUnfinishedEach, FollowsFrom, KeepsPlan}
 use Rattle.batch_history.proofs.Finding.{found-passes, any-none}
 use Rattle.batch_history.proofs.Legality.{past-due, rows_folded, rows_grown}
 use Rattle.batch_history.proofs.Finished.{finished-status, made-after}
@@ -29,10 +29,10 @@ use Rattle.std.proofs.lemmas.List.Folds.{find-append}
 use Rattle.batch_ids.specs.declared.refusal.Refusal.{Refusal}
 use Rattle.batch_history.specs.declared.call.Reply.{Reply}
 use Rattle.batch_history.specs.declared.call.Reply.TheVariants.{Execution as IsExecution}
-use Rattle.batch_history.proofs.Legal.{entered-is}
+use Rattle.batch_history.proofs.Legal.{entered-is, legal-beginning}
 use Rattle.batch_history.proofs.Origins.{find-past}
 use Rattle.batch_history.proofs.Steps.{fresh_row, again_row, executions_after}
-use Rattle.history_laws.proofs.Beginnings.{legal-beginning, row-folded, row-there, IsRowAt, row-at}
+use Rattle.history_laws.proofs.Beginnings.{row-folded, row-there, IsRowAt, row-at}
 
 -- ---- The job execution that a restart names
 
@@ -55,8 +55,7 @@ may-go-on h y told =
       over = told.over;
     }
 
-pub restart_follows : (limit : ℕ) (h : History) → IsLegal limit h → (before : List Entry) (e : Entry) (after : List Entry) → h.log ≡ before ++ e ∷ after
-    → (y : ℕ) (parameters : List Pair) → e.call ≡ Restart y parameters → MayGoOn (beginning h before) y
+pub restart_follows : (limit : ℕ) (h : History) → IsLegal limit h → RestartsFollow h
 restart_follows limit h legal before e after cut y parameters is =
     let due = legal.due before e after cut in
     let there : reply limit (beginning h before) e.who (Restart y parameters) ≡ Ok e.reply = sym (ap (reply limit (beginning h before) e.who) is) ∙ due.0 in
@@ -90,9 +89,7 @@ not-earlier limit h legal x y one other found_one found_other same unfinished lt
     ∙ finished-status (abandoned_of past first.one.execution) (bare_of h.catalogue past first.one) over in
     over-both (row_status one) shown unfinished
 
-pub one_unfinished : (limit : ℕ) (h : History) → IsLegal limit h → (before after : List Entry) → h.log ≡ before ++ after → (x y : ℕ) (one other : ExecutionRow)
-    → row_in (beginning h before) x ≡ Some one → row_in (beginning h before) y ≡ Some other → one.instance ≡ other.instance
-    → is_unfinished (row_status one) ≡ true → is_unfinished (row_status other) ≡ true → x ≡ y
+pub one_unfinished : (limit : ℕ) (h : History) → IsLegal limit h → HasOneUnfinishedEach h
 one_unfinished limit h legal before after cut x y one other found_one found_other same unfinished_one unfinished_other =
     let begun : IsLegal limit (beginning h before) = legal-beginning limit h legal before after cut in
     let not_below : x < y → ⊥ = not-earlier limit (beginning h before) begun x y one other found_one found_other same unfinished_one in

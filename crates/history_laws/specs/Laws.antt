@@ -1,5 +1,6 @@
 -- What every legal history keeps, in the words of its subject.
 use Rattle.std.specs.Prelude.{ℕ, ◌≡◌, ◌⊎◌, ◌≤◌, ◌+◌, ◌==◌, true, false, Option, None, Some, is_some, List, [], ◌∷◌, ◌++◌, length, find, reverse, if◌then◌else◌}
+use Rattle.batch_ids.specs.Parameters.{Pair}
 use Rattle.batch_ids.specs.Statuses.{is_unfinished}
 use Rattle.batch_ids.specs.declared.status.BatchStatus.TheVariants.{Stopped, Failed}
 use Rattle.job_walk.specs.declared.plan.Plan.{Plan}
@@ -8,6 +9,7 @@ use Rattle.job_walk.specs.declared.runnable.Runnable.TheVariants.{Step as RunsSt
 use Rattle.jsl_model.specs.Names.{is_among}
 use Rattle.jsl_model.specs.declared.element.Task.{Task}
 use Rattle.batch_history.specs.declared.call.Call.{Call}
+use Rattle.batch_history.specs.declared.call.Call.TheVariants.{Restart}
 use Rattle.batch_history.specs.Operations.{Making, begins, restarts, effects}
 use Rattle.batch_history.specs.declared.call.WorkItem.{WorkItem}
 use Rattle.batch_history.specs.declared.call.Entry.{Entry}
@@ -18,13 +20,13 @@ use Rattle.batch_history.specs.declared.rows.JobInstance.{JobInstance}
 use Rattle.batch_history.specs.Legal.{grown}
 use Rattle.batch_history.specs.Replies.{row_status, is_execution, has_something, first_ready, walk_in_rows, work_task, runnable_of_job, restart_plan}
 use Rattle.batch_history.specs.Restarts.{plan_of}
-use Rattle.batch_history.specs.Rows.{History, rows, IsAsBefore}
+use Rattle.batch_history.specs.Rows.{History, history, rows, IsAsBefore}
 use Rattle.batch_history.specs.Statuses.{is_finished}
 use Rattle.batch_history.specs.Walks.{job_named, carried_exit}
 
 -- the history as it was after its first operations
 abbrev pub beginning : History → List Entry → History
-beginning h before = record { catalogue = h.catalogue; log = before }
+beginning h before = history h.catalogue before
 
 -- the row of a job execution, if it was made
 abbrev pub row_in : History → ℕ → Option ExecutionRow
@@ -105,6 +107,20 @@ pub record MayGoOn (h : History) (y : ℕ) : Type 0 where
   pub latest : (x : ℕ) (other : ExecutionRow) → row_in h x ≡ Some other
       → other.instance ≡ row.instance → x ≤ y
   pub over : (row_status row ≡ Stopped) ⊎ (row_status row ≡ Failed)
+
+-- each restart follows the most recent job execution of its job instance, which is STOPPED or FAILED
+abbrev pub RestartsFollow : History → Type 0
+RestartsFollow h =
+    (before : List Entry) (e : Entry) (after : List Entry) → h.log ≡ before ++ e ∷ after
+    → (y : ℕ) (parameters : List Pair) → e.call ≡ Restart y parameters → MayGoOn (beginning h before) y
+
+-- after any first operations, a job instance has at most one unfinished job execution
+abbrev pub HasOneUnfinishedEach : History → Type 0
+HasOneUnfinishedEach h =
+    (before after : List Entry) → h.log ≡ before ++ after → (x y : ℕ) (one other : ExecutionRow)
+    → row_in (beginning h before) x ≡ Some one → row_in (beginning h before) y ≡ Some other
+    → one.instance ≡ other.instance → is_unfinished (row_status one) ≡ true
+    → is_unfinished (row_status other) ≡ true → x ≡ y
 
 -- what a restart makes: a job execution of the job instance and the job of the one that it names, with the plan of a
 -- restart of that one

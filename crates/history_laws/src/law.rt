@@ -1,6 +1,5 @@
 ghost use Rattle.std.specs.Prelude.{ℕ, ◌≡◌, ◌≢◌, Option, ◌++◌, ◌∷◌, [], List, Some, Ok, true, false, is_some, find};
 ghost use Rattle.batch_ids.specs.Parameters.{Pair};
-ghost use Rattle.batch_ids.specs.Statuses.{is_unfinished};
 ghost use Rattle.jsl_model.specs.Names.{has_twice};
 ghost use Rattle.batch_history.specs.declared.call.Call.TheVariants.{Restart};
 ghost use Rattle.batch_history.specs.declared.call.Entry.{Entry};
@@ -18,7 +17,7 @@ ghost use Rattle.batch_history.specs.Walks.{job_named};
 ghost use Rattle.batch_history.specs.Rows.{History, rows};
 ghost use Rattle.batch_history.specs.Statuses.{is_finished};
 ghost use Rattle.batch_history.specs.Works.{is_work};
-ghost use Rattle.history_laws.specs.Laws.{beginning, row_in, StaysFinished, EndedAt, BelongsTo, WasReady, IsOfOpenStep, GoesOnFrom, MayGoOn, FollowsFrom, KeepsPlan, HasInstance, with_name};
+ghost use Rattle.history_laws.specs.Laws.{beginning, row_in, StaysFinished, EndedAt, BelongsTo, WasReady, IsOfOpenStep, GoesOnFrom, RestartsFollow, HasOneUnfinishedEach, FollowsFrom, KeepsPlan, HasInstance, with_name};
 
 /// A job execution that is over stays so: whatever is accepted later, all of it stays as it was, its
 /// exit status, start and end among it, but for whether it is abandoned and the moment of the last
@@ -102,10 +101,7 @@ pub fn chunks_go_on_from_their_checkpoints()
 /// It does nothing: its contract is the law, of every entry of a legal history.
 #[tactic(auto, using(crate::proofs::Restarts::restart_follows))]
 pub fn restarts_follow_the_most_recent_job_execution()
-    ensures { (limit : ℕ) (h : History) → IsLegal limit h
-        → (before : List Entry) (e : Entry) (after : List Entry) → h.log ≡ before ++ e ∷ after
-        → (y : ℕ) (parameters : List Pair) → e.call ≡ Restart y parameters
-        → MayGoOn (beginning h before) y }
+    ensures { (limit : ℕ) (h : History) → IsLegal limit h → RestartsFollow h }
 {}
 
 /// At every moment a job instance has at most one unfinished job execution.
@@ -113,11 +109,7 @@ pub fn restarts_follow_the_most_recent_job_execution()
 /// It does nothing: its contract is the law, of every legal history and each of its beginnings.
 #[tactic(auto, using(crate::proofs::Restarts::one_unfinished))]
 pub fn job_instances_have_at_most_one_unfinished_job_execution()
-    ensures { (limit : ℕ) (h : History) → IsLegal limit h → (before after : List Entry)
-        → h.log ≡ before ++ after → (x y : ℕ) (one other : ExecutionRow)
-        → row_in (beginning h before) x ≡ Some one → row_in (beginning h before) y ≡ Some other
-        → one.instance ≡ other.instance → is_unfinished (row_status one) ≡ true
-        → is_unfinished (row_status other) ≡ true → x ≡ y }
+    ensures { (limit : ℕ) (h : History) → IsLegal limit h → HasOneUnfinishedEach h }
 {}
 
 /// A job execution goes by the plan that its restart gave it, which comes from the job execution
