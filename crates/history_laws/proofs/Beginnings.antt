@@ -9,23 +9,27 @@ use Rattle.batch_history.proofs.Folds.{made, is_made, works_of, folded_rows, exe
 use Rattle.batch_history.specs.Executions.{Made}
 use Rattle.batch_history.specs.Legal.{IsLegal}
 use Rattle.batch_history.specs.Replies.{is_execution}
-use Rattle.batch_history.specs.Rows.{History, Rows, rows}
+use Rattle.batch_history.specs.Rows.{History}
 use Rattle.batch_history.specs.Works.{is_work}
 use Rattle.batch_history.specs.declared.rows.ExecutionRow.{ExecutionRow}
-use Rattle.history_laws.specs.Laws.{row_in}
+use Rattle.history_laws.specs.Laws.{row_in, work_in}
 use Rattle.batch_history.proofs.Finding.{found-passes}
-use Rattle.batch_history.proofs.Legality.{rows_folded}
+use Rattle.batch_history.proofs.Agreeing.{execution-law}
+use Rattle.batch_history.proofs.Items.{works-law}
+use Rattle.batch_history.proofs.Legality.{past-due}
+use Rattle.batch_history.proofs.Plans.{due-all-fit}
 use Rattle.batch_history.proofs.Told.{AllDue, IsRowOf, row-of}
 
--- ---- Rows of a legal history
+-- ---- What stands in the log of a legal history
 
--- the row of a job execution is the one that the fold has
+-- the record of a job execution is the row that the fold has
 pub row-folded : (limit : ℕ) (h : History) → IsLegal limit h → (x : ℕ) → row_in h x ≡ find (is_execution x) (folded_rows h.catalogue (reverse h.log)).executions
-row-folded limit h legal x = ap (λ (r : Rows). find (is_execution x) r.executions) (rows_folded limit h legal)
+row-folded limit h legal x = execution-law limit h.catalogue (reverse h.log) x (past-due limit h legal)
 
--- so is that of a work item
-pub work-folded : (limit : ℕ) (h : History) → IsLegal limit h → (w : ℕ) → find (is_work w) (rows h).works ≡ find (is_work w) (works_of (reverse h.log))
-work-folded limit h legal w = ap (λ (r : Rows). find (is_work w) r.works) (rows_folded limit h legal)
+-- so is a work item
+pub work-folded : (limit : ℕ) (h : History) → IsLegal limit h → (w : ℕ) → work_in h w ≡ find (is_work w) (works_of (reverse h.log))
+work-folded limit h legal w =
+    ap (find (is_work w)) (works-law (reverse h.log) (due-all-fit limit h.catalogue (reverse h.log) (past-due limit h legal)))
 
 -- ---- Rows of a past
 
