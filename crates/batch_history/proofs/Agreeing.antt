@@ -4,6 +4,7 @@ use Rattle.std.specs.List.{cons_option}
 use Rattle.std.specs.Option.{option_map}
 use Rattle.std.proofs.lemmas.Bool.{eq-eqb, ne_eqb}
 use Rattle.jsl_model.specs.Jobs.{JobTree}
+use Rattle.job_walk.proofs.Following.{find-map}
 use Rattle.batch_history.specs.declared.call.Call.{Call}
 use Rattle.batch_history.specs.declared.call.Entry.{Entry}
 use Rattle.batch_history.specs.declared.rows.ExecutionRow.{ExecutionRow}
@@ -12,7 +13,7 @@ use Rattle.batch_history.specs.declared.rows.JobInstance.{JobInstance}
 use Rattle.batch_history.proofs.Folds.{made, is_made, folded_rows, execution_row}
 use Rattle.batch_history.specs.Checkpoints.{InstanceStep, checkpoint_of}
 use Rattle.batch_history.specs.Executions.{Made, Origin, origin_of, made_as}
-use Rattle.batch_history.specs.Replies.{reply_by}
+use Rattle.batch_history.specs.Replies.{is_execution, reply_by}
 use Rattle.batch_history.specs.Rows.{Rows, row_of_origin, job_execution, numbers_from, job_executions, rows_of_past}
 use Rattle.batch_history.specs.Works.{work_items}
 use Rattle.batch_history.proofs.Ends.{planned-law, walk-law, end-law}
@@ -40,6 +41,19 @@ row-here limit catalogue past x m None due from is = cc
 row-here limit catalogue past x m (Some o) due from is =
     let same : made_as x o ≡ m = cc in
     ap Some (row-law limit catalogue past x o due from) ∙ ap (λ n. Some (execution_row catalogue past n)) same
+
+row-as : (limit : ℕ) (catalogue : List JobTree) (past : List Entry) (x : ℕ) (o : Option Origin) → AllDue limit catalogue past → origin_of past x ≡ o
+    → option_map (row_of_origin catalogue past x) o ≡ option_map (execution_row catalogue past) (option_map (made_as x) o)
+row-as limit catalogue past x None due from = refl
+row-as limit catalogue past x (Some o) due from = ap Some (row-law limit catalogue past x o due from)
+
+-- job execution x, if there is one, is the one that the rows have under this number
+pub execution-law : (limit : ℕ) (catalogue : List JobTree) (past : List Entry) (x : ℕ) → AllDue limit catalogue past
+    → job_execution catalogue past x ≡ find (is_execution x) (folded_rows catalogue past).executions
+execution-law limit catalogue past x due =
+    row-as limit catalogue past x (origin_of past x) due refl
+    ∙ (ap (option_map (execution_row catalogue past)) (sym (origin-law past (due-all-fit limit catalogue past due) x))
+    ∙ sym (find-map (execution_row catalogue past) (is_execution x) (is_made x) (λ n. refl) (made past)))
 
 -- those made from number k on are found under their numbers
 abbrev AreFound : List Entry → ℕ → List Made → Type 0

@@ -48,6 +48,10 @@ pub handed-length : (past : List Entry) → length (items_handed_out past) ≡ w
 handed-length [] = refl
 handed-length (e ∷ older) = length-step older e.who e.at e.call e.reply (handed-length older)
 
+-- the work items are as many as were counted
+pub works-counted : (past : List Entry) → length (work_items past) ≡ work_item_count past
+works-counted past = length-map (items_handed_out past) (with_progress_of (progress_of past)) ∙ handed-length past
+
 rows-step : (w who at : ℕ) (reply : Reply) (rows : List WorkRow) → AreRows 1 rows → w ≡ length rows + 1 → AreRows 1 (rows ++ item_handed_out w who at reply)
 rows-step w who at (Work item) rows h e = rows-append 1 rows (record (busy_work who at item) { work = w }) h e
 rows-step w who at (IsExecution x) rows h e = subst (AreRows 1) (sym (append-nil rows)) h

@@ -1,8 +1,9 @@
--- A legal history with one operation more.
+-- Legal histories: without an operation, their beginnings, and with one operation more.
 use Rattle.std.proofs.Common.{subst, ◌≡◌, ℕ, ◌+◌, ◌<◌, Bool, true, false, cond, nat_lt, Option, None, Some, Result, Ok, Err, is_some, List, [], ◌∷◌, ◌++◌, length, find, reverse, ◌⊎◌, inl, inr, refl, ◌∙◌, ap, arith}
 use Rattle.std.specs.List.{list_any}
 use Rattle.std.proofs.lemmas.List.{length-append, length-reverse, append_assoc, reverse-append}
 use Rattle.std.proofs.lemmas.Bool.{ltb-true}
+use Rattle.jsl_model.specs.Jobs.{JobTree}
 use Rattle.batch_ids.specs.declared.refusal.Refusal.{Refusal}
 use Rattle.batch_ids.specs.declared.refusal.Refusal.TheVariants.{JobStartException, JobExecutionNotRunningException, JobExecutionIsRunningException, RepositoryFull}
 use Rattle.batch_ids.specs.declared.status.WorkOutcome.{WorkOutcome}
@@ -18,7 +19,7 @@ use Rattle.batch_history.specs.declared.rows.ExecutionRow.{ExecutionRow}
 use Rattle.batch_history.specs.declared.rows.WorkRow.{WorkRow}
 use Rattle.batch_history.specs.Legal.{grown, IsLegal}
 use Rattle.batch_history.specs.Replies.{is_nothing, reply, reply_by, row_status, is_running_in, accepted, reply_to_claim, reply_to_stop, reply_to_abandon, go_or_stop, reply_to_kept_checkpoint, reply_to_checkpoint, reply_to_stopped_step, reply_to_stopped_work, reply_to_finish, reply_to_end, reply_to_loss, loss_refusal, reply_to_restart, restart_refusal, report_refusal, unless, stop_requested_of, has_something, is_execution}
-use Rattle.batch_history.specs.Rows.{History, Rows, rows}
+use Rattle.batch_history.specs.Rows.{History, history, Rows, rows}
 use Rattle.batch_history.specs.Statuses.{is_finished}
 use Rattle.batch_history.specs.Walks.{job_named}
 use Rattle.batch_history.specs.Works.{is_work}
@@ -151,7 +152,7 @@ cut-before log older rest e is =
     is ∙ (ap (λ l. l ++ rest) (reverse-append (e ∷ []) older) ∙ append_assoc (reverse older) (e ∷ []) rest)
 
 abbrev IsDueAt : ℕ → History → List Entry → Entry → Type 0
-IsDueAt limit h before e = (reply limit record { catalogue = h.catalogue; log = before } e.who e.call ≡ Ok e.reply) × (is_nothing e.reply ≡ false)
+IsDueAt limit h before e = (reply limit (history h.catalogue before) e.who e.call ≡ Ok e.reply) × (is_nothing e.reply ≡ false)
 
 -- a legal history grows by an operation with the reply that is due
 pub legal_grown : (limit : ℕ) (h : History) (e : Entry) → IsLegal limit h → reply limit h e.who e.call ≡ Ok e.reply → is_nothing e.reply ≡ false → IsLegal limit (grown h e)
@@ -164,3 +165,18 @@ legal_grown limit h e legal due accepted =
         | inr w ↦ legal.due before f w.ws w.front
       ];
     }
+
+-- a history without an operation is legal
+pub legal-nothing : (limit : ℕ) (catalogue : List JobTree) → IsLegal limit (history catalogue [])
+legal-nothing limit catalogue = record { within = omega arith; due = λ before e after cut. cut-empty before e after cut }
+  where
+    cut-empty : (before : List Entry) (e : Entry) (after : List Entry) → [] ≡ before ++ e ∷ after → IsDueAt limit (history catalogue []) before e
+    cut-empty before e after cut = absurd (omega (arith, ap length cut, length-append before (e ∷ after)))
+
+-- a beginning of a legal history is legal
+pub legal-beginning : (limit : ℕ) (h : History) → IsLegal limit h → (before after : List Entry) → h.log ≡ before ++ after
+    → IsLegal limit (history h.catalogue before)
+legal-beginning limit h legal before after cut = record {
+  within = omega (arith, legal.within, ap length cut, length-append before after);
+  due = λ b e a is. legal.due b e (a ++ after) (cut ∙ (ap (λ l. l ++ after) is ∙ append_assoc b (e ∷ a) after));
+}

@@ -1,18 +1,22 @@
 -- The law of the fold: in every legal history its rows are those that the searches find, so that one operation more
 -- changes what the searches find as it changes the rows.
-use Rattle.std.proofs.Common.{◌≡◌, ℕ, Ok, List, [], ◌∷◌, ◌++◌, reverse, subst, sym, ◌∙◌, ap}
+use Rattle.std.proofs.Common.{◌≡◌, ℕ, ◌<◌, Bool, false, Option, None, Some, Ok, List, [], ◌∷◌, ◌++◌, find, reverse, refl, subst, sym, ◌∙◌, ap}
+use Rattle.std.specs.Option.{option_map}
 use Rattle.std.proofs.lemmas.List.{reverse-append, reverse-reverse}
-use Rattle.batch_history.proofs.Agreeing.{rows-law, reply-law}
-use Rattle.batch_history.proofs.Folds.{folded_rows}
+use Rattle.batch_history.proofs.Agreeing.{execution-law, rows-law, reply-law}
+use Rattle.batch_history.proofs.Folds.{made, folded_rows, execution_row}
 use Rattle.batch_history.proofs.Legal.{cut-before}
 use Rattle.batch_history.proofs.Pasts.{whole-past}
-use Rattle.batch_history.proofs.Stepping.{rows-step}
+use Rattle.batch_history.proofs.Stepping.{numbered, rows-step}
 use Rattle.batch_history.proofs.Steps.{rows_after}
-use Rattle.batch_history.proofs.Told.{AllDue}
+use Rattle.batch_history.proofs.Told.{AllDue, found-least}
 use Rattle.batch_history.specs.Legal.{grown, IsLegal}
-use Rattle.batch_history.specs.Replies.{reply_by}
-use Rattle.batch_history.specs.Rows.{History, Rows, rows, rows_of_past}
+use Rattle.batch_history.specs.Replies.{instance_in, is_execution, reply_by}
+use Rattle.batch_history.specs.Rows.{History, Rows, rows, rows_of_past, row_of_origin, job_execution}
 use Rattle.batch_history.specs.declared.call.Entry.{Entry}
+use Rattle.batch_history.specs.declared.rows.ExecutionRow.{ExecutionRow}
+use Rattle.batch_history.specs.Executions.{Origin, origin_of, instance_of_execution}
+use Rattle.jsl_model.specs.Jobs.{JobTree}
 
 -- the replies of a legal history were due, each by the rows of what is older
 pub legal-due : (limit : ℕ) (h : History) (past rest : List Entry) → IsLegal limit h → h.log ≡ reverse past ++ rest → AllDue limit h.catalogue past
@@ -32,6 +36,34 @@ past-due limit h legal = legal-due limit h (reverse h.log) [] legal (whole-past 
 -- the rows of a legal history are those of the fold
 pub rows_folded : (limit : ℕ) (h : History) → IsLegal limit h → rows h ≡ folded_rows h.catalogue (reverse h.log)
 rows_folded limit h legal = rows-law limit h.catalogue (reverse h.log) (past-due limit h legal)
+
+-- what its rows have under the number of a job execution is what the searches in its log find
+pub execution_found : (limit : ℕ) (h : History) → IsLegal limit h → (x : ℕ)
+    → find (is_execution x) (rows h).executions ≡ job_execution h.catalogue (reverse h.log) x
+execution_found limit h legal x =
+    ap (λ (r : Rows). find (is_execution x) r.executions) (rows_folded limit h legal)
+    ∙ sym (execution-law limit h.catalogue (reverse h.log) x (past-due limit h legal))
+
+instance-as : (catalogue : List JobTree) (past : List Entry) (x : ℕ) (o : Option Origin)
+    → option_map (λ (row : ExecutionRow). row.instance) (option_map (row_of_origin catalogue past x) o) ≡ option_map (λ (o : Origin). o.instance) o
+instance-as catalogue past x None = refl
+instance-as catalogue past x (Some o) = refl
+
+-- so is its job instance
+pub instance_found : (limit : ℕ) (h : History) → IsLegal limit h → (x : ℕ)
+    → instance_in (rows h).executions x ≡ instance_of_execution (reverse h.log) x
+instance_found limit h legal x =
+    ap (option_map (λ (row : ExecutionRow). row.instance)) (execution_found limit h legal x)
+    ∙ instance-as h.catalogue (reverse h.log) x (origin_of (reverse h.log) x)
+
+-- the job execution whose row passes a test first has the least number of those that pass it
+pub least_found : (limit : ℕ) (h : History) → IsLegal limit h → (p : ExecutionRow → Bool) (row : ExecutionRow) → find p (rows h).executions ≡ Some row
+    → (x : ℕ) (other : ExecutionRow) → job_execution h.catalogue (reverse h.log) x ≡ Some other → x < row.execution → p other ≡ false
+least_found limit h legal p row first x other there lt =
+    let past : List Entry = reverse h.log in
+    found-least (execution_row h.catalogue past) p x 1 (made past) row other (numbered past) (λ m. refl)
+    (sym (ap (λ (r : Rows). find p r.executions) (rows_folded limit h legal)) ∙ first)
+    (sym (execution-law limit h.catalogue past x (past-due limit h legal)) ∙ there) lt
 
 -- the rows of a legal history with one operation more
 pub rows_grown : (limit : ℕ) (h : History) (e : Entry) → IsLegal limit (grown h e) → rows (grown h e) ≡ rows_after (rows h) e

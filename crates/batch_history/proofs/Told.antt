@@ -1,5 +1,5 @@
 -- What the reply that a call was due tells of the rows before it.
-use Rattle.std.proofs.Common.{◌≡◌, ◌⊎◌, inl, inr, ℕ, ◌+◌, ◌==◌, ◌<◌, ◌≤◌, Bool, true, false, cond, Option, None, Some, is_some, Result, Ok, Err, List, [], ◌∷◌, ◌++◌, length, map, find, refl, sym, ◌∙◌, ap, arith}
+use Rattle.std.proofs.Common.{subst, ◌≡◌, ◌⊎◌, inl, inr, ℕ, ◌+◌, ◌==◌, ◌<◌, ◌≤◌, Bool, true, false, cond, Option, None, Some, is_some, Result, Ok, Err, List, [], ◌∷◌, ◌++◌, length, map, find, refl, sym, ◌∙◌, ap, arith}
 use Rattle.std.specs.List.{list_any}
 use Rattle.std.proofs.lemmas.Bool.{eqb-true, eq-eqb, ne_eqb}
 use Rattle.batch_ids.specs.declared.refusal.Refusal.{Refusal}
@@ -76,6 +76,34 @@ pub row-of : (catalogue : List JobTree) (past : List Entry) (p : ExecutionRow �
 row-of catalogue past p row e =
     let from = found-from (execution_row catalogue past) p 1 (made past) row (numbered past) e in
     record { one = from.one; is_row = from.is_row; found = from.found }
+
+found-above : (f : Made → ExecutionRow) (x k : ℕ) (ms : List Made) (row : ExecutionRow) → AreNumbered k ms → ((m : Made) → (f m).execution ≡ m.execution)
+    → find (is_execution x) (map f ms) ≡ Some row → k ≤ x
+found-above f x k [] row h named e = cc
+found-above f x k (m ∷ ms) row h named e =
+    (elim ((f m).execution == x) as (λ b. ((f m).execution == x) ≡ b → cond b (Some (f m)) (find (is_execution x) (map f ms)) ≡ Some row → k ≤ x) [
+      | true ↦ λ is s. let here : (f m).execution ≡ x = eqb-true (f m).execution x is in omega (arith, h.0, named m, here)
+      | false ↦ λ is s. let rest : k + 1 ≤ x = found-above f x (k + 1) ms row h.1 named s in omega (arith, rest)
+    ]) refl e
+
+-- the row that is found first has the least number of those that pass the test
+pub found-least : (f : Made → ExecutionRow) (p : ExecutionRow → Bool) (x k : ℕ) (ms : List Made) (row other : ExecutionRow) → AreNumbered k ms
+    → ((m : Made) → (f m).execution ≡ m.execution) → find p (map f ms) ≡ Some row → find (is_execution x) (map f ms) ≡ Some other → x < row.execution
+    → p other ≡ false
+found-least f p x k [] row other h named first there lt = cc
+found-least f p x k (m ∷ ms) row other h named first there lt =
+    (elim (p (f m)) as (λ b. p (f m) ≡ b → cond b (Some (f m)) (find p (map f ms)) ≡ Some row → p other ≡ false) [
+      | true ↦ λ passes s.
+          let is : f m ≡ row = cc in
+          let number : (f m).execution ≡ row.execution = ap (λ (r : ExecutionRow). r.execution) is in
+          let above : k ≤ x = found-above f x k (m ∷ ms) other h named there in
+          absurd (omega (arith, lt, above, h.0, named m, number))
+      | false ↦ λ fails s.
+          (elim ((f m).execution == x) as (λ b. cond b (Some (f m)) (find (is_execution x) (map f ms)) ≡ Some other → p other ≡ false) [
+            | true ↦ λ t. let is : f m ≡ other = cc in subst (λ r. p r ≡ false) is fails
+            | false ↦ λ t. found-least f p x (k + 1) ms row other h.1 named s t lt
+          ]) there
+    ]) refl first
 
 -- the row of a number is of the job execution that was made with it
 pub row-made : (catalogue : List JobTree) (past : List Entry) (m : Made) (y : ℕ) (row : ExecutionRow) → find (is_execution y) (folded_rows catalogue past).executions ≡ Some row

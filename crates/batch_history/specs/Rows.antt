@@ -20,6 +20,10 @@ pub record History : Type 0 where
   pub catalogue : List JobTree
   pub log : List Entry
 
+-- the history of these operations over a catalogue
+abbrev pub history : List JobTree → List Entry → History
+history catalogue log = record { catalogue = catalogue; log = log }
+
 -- what a history says: its catalogue, how many operations were accepted, a row for each job instance, job execution and
 -- work item, by rising number, and the checkpoint of each step of a job instance
 pub record Rows : Type 0 where

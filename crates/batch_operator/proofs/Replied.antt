@@ -3,7 +3,7 @@ use Rattle.std.proofs.Common.{◌≡◌, ℕ, ◌≤◌, Bool, true, false, nat_
 use mathlib.Core.List.{IsPrefix}
 use Rattle.batch_history.specs.Due.{IsDue}
 use Rattle.batch_history.specs.Replies.{accepted, is_execution, is_nothing, reply, reply_to_stop, row_status}
-use Rattle.batch_history.specs.Rows.{Rows, rows}
+use Rattle.batch_history.specs.Rows.{Rows, rows, history}
 use Rattle.batch_history.specs.Statuses.{is_finished}
 use Rattle.batch_history.specs.declared.call.Call.{Call}
 use Rattle.batch_history.specs.declared.call.Call.TheVariants.{Stop}
@@ -16,9 +16,10 @@ use Rattle.batch_ids.specs.declared.refusal.Refusal.TheVariants.{JobExecutionNot
 use Rattle.jsl_model.specs.Jobs.{JobTree}
 use Rattle.seat_rules.proofs.Prefixes.{prefix_length, prefix_self, prefix_trans}
 use Rattle.seat_rules.specs.Places.{IsLegalLog}
-use Rattle.seat_rules.specs.Views.{Each, HasStop, entries_by}
+use Rattle.batch_history.specs.Legal.{entries_by}
+use Rattle.seat_rules.specs.Views.{Each, HasStop}
 use Rattle.seat_rules.specs.declared.view.SessionView.{SessionView}
-use Rattle.sessions.specs.Answered.{entered, history, moved_on, operation}
+use Rattle.sessions.specs.Answered.{entered, moved_on, operation}
 use Rattle.batch_operator.specs.Calls.{IsReplied}
 
 -- ---- Calls

@@ -11,10 +11,12 @@ use Rattle.batch_history.specs.declared.query.Answer.{Answer}
 use Rattle.batch_history.specs.declared.query.Query.{Query}
 use Rattle.batch_ids.specs.declared.refusal.Refusal.{Refusal}
 use Rattle.jsl_model.specs.Jobs.{JobTree}
-use Rattle.seat_rules.specs.Places.{IsLegalLog, most_operations}
-use Rattle.seat_rules.specs.Views.{Each, HasStop, entries_by, informed}
+use Rattle.seat_rules.specs.Places.{IsLegalLog}
+use Rattle.batch_history.specs.Legal.{entries_by, most_operations}
+use Rattle.seat_rules.specs.Views.{Each, HasStop, informed}
 use Rattle.seat_rules.specs.declared.view.SessionView.{SessionView}
-use Rattle.sessions.specs.Answered.{entered, history, moved_on}
+use Rattle.batch_history.specs.Rows.{history}
+use Rattle.sessions.specs.Answered.{entered, moved_on}
 
 -- a session before and after a call that sees the log: what it has seen after it is legal, begins with what it had seen, has
 -- at least as many operations as it was shown, has all its own operations and no other of its number, and has the stops

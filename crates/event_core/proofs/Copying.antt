@@ -1,18 +1,18 @@
 -- Copies of a history that goes on, and what a copy takes in next.
-use Rattle.std.proofs.Common.{◌≡◌, ℕ, suc, ◌+◌, ◌≤◌, ◌<◌, None, Some, inl, inr, replicate, List, [], ◌∷◌, ◌++◌, length, get_or, take, drop, sym, ◌∙◌, ap, subst, arith}
+use Rattle.std.proofs.Common.{◌≡◌, ℕ, ◌+◌, ◌≤◌, ◌<◌, None, Some, inl, inr, replicate, List, [], ◌∷◌, ◌++◌, length, get_or, take, drop, sym, ◌∙◌, ap, subst, arith}
 use Rattle.std.specs.Prelude.{slice_get}
-use Rattle.std.proofs.Math.Seq.{take-suc}
 use Rattle.std.proofs.lemmas.List.{length-append, length-reverse, length-take-le, map-append, replicate-append-replicate, take-append-drop, take-append-le}
-use Rattle.std.proofs.lemmas.Option.{get_or_from_slice_get, slice_get_cases, slice_get_within}
+use Rattle.std.proofs.lemmas.Option.{slice_get_cases, slice_get_within}
 use Rattle.jsl_model.specs.Jobs.{JobTree}
-use Rattle.batch_history.specs.Legal.{IsLegal, grown}
-use Rattle.batch_history.specs.Rows.{History, Rows}
+use Rattle.batch_history.proofs.Legal.{legal-beginning}
+use Rattle.batch_history.specs.Legal.{IsLegal, grown, most_operations}
+use Rattle.batch_history.specs.Rows.{History, Rows, history}
 use Rattle.batch_history.specs.declared.call.Entry.{Entry}
-use Rattle.history_laws.proofs.Beginnings.{legal-beginning}
+use Rattle.op_log.proofs.Taking.{take-next}
 use Rattle.seq_repository.specs.Kept.{Kept, StandsFor, IsNext}
 use Rattle.event_core.specs.Copies.{IsCopy, AreCopies, lengths}
 use Rattle.event_core.specs.Headline.{Continues}
-use Rattle.event_core.specs.Worlds.{limit, operations, first}
+use Rattle.event_core.specs.Worlds.{operations, first}
 
 -- what stands for a history has its number of operations
 pub counted : (kept : Kept) (h : History) → StandsFor kept h → kept.count ≡ operations h
@@ -26,7 +26,7 @@ copy-within h kept copy =
 -- the first operations stay
 pub first-stays : (k : ℕ) (h g : History) → Continues h g → k ≤ operations h → first k h ≡ first k g
 first-stays k h g c within =
-    ap (λ (l : List Entry). record { catalogue = h.catalogue; log = l }) (sym (take-append-le k h.log c.more within)) ∙ ap (first k) (sym c.grown)
+    ap (history h.catalogue) (sym (take-append-le k h.log c.more within)) ∙ ap (first k) (sym c.grown)
 
 -- a copy stays one
 pub copy-stays : (h g : History) (kept : Kept) → Continues h g → IsCopy h kept → IsCopy g kept
@@ -36,22 +36,18 @@ pub copies-stay : (h g : History) (copies : List Kept) → Continues h g → Are
 copies-stay h g copies c each = λ k d lt. copy-stays h g (get_or copies k d) c (each k d lt)
 
 -- the first operations and the next one
-pub first-more : (k : ℕ) (h : History) (e : Entry) → slice_get h.log k ≡ Some e → grown (first k h) e ≡ first (k + 1) h
-first-more k h e there =
-    let within : k < length h.log = slice_get_within h.log k e there in
-    let one : k + 1 ≡ suc k = omega arith in
-    ap (λ (l : List Entry). record { catalogue = h.catalogue; log = l })
-    (ap (λ x. take k h.log ++ x ∷ []) (sym (get_or_from_slice_get h.log k e e there)) ∙ (sym (take-suc h.log k e within) ∙ ap (λ n. take n h.log) (sym one)))
+first-more : (k : ℕ) (h : History) (e : Entry) → slice_get h.log k ≡ Some e → grown (first k h) e ≡ first (k + 1) h
+first-more k h e there = ap (history h.catalogue) (sym (take-next h.log k e there))
 
 -- what a copy takes in next
-pub next-taken : (h : History) (kept : Kept) (k : ℕ) (e : Entry) → IsLegal limit h → IsCopy h kept → kept.count ≡ k → slice_get h.log k ≡ Some e → IsNext limit kept e
+pub next-taken : (h : History) (kept : Kept) (k : ℕ) (e : Entry) → IsLegal most_operations h → IsCopy h kept → kept.count ≡ k → slice_get h.log k ≡ Some e → IsNext most_operations kept e
 next-taken h kept k e legal copy is there =
     let here : slice_get h.log kept.count ≡ Some e = ap (slice_get h.log) is ∙ there in
     record {
       history = first kept.count h;
       stands = copy;
-      legal = subst (IsLegal limit) (sym (first-more kept.count h e here))
-          (legal-beginning limit h legal (take (kept.count + 1) h.log) (drop (kept.count + 1) h.log) (sym (take-append-drop (kept.count + 1) h.log)));
+      legal = subst (IsLegal most_operations) (sym (first-more kept.count h e here))
+          (legal-beginning most_operations h legal (take (kept.count + 1) h.log) (drop (kept.count + 1) h.log) (sym (take-append-drop (kept.count + 1) h.log)));
     }
 
 -- it is a copy then, of one operation more
@@ -64,8 +60,8 @@ taken-more h kept new e copy there stands =
     (count, subst (λ n. StandsFor new (first n h)) (sym count) more)
 
 -- the first operations of a legal history are legal
-pub legal-first : (k : ℕ) (h : History) → IsLegal limit h → IsLegal limit (first k h)
-legal-first k h legal = legal-beginning limit h legal (take k h.log) (drop k h.log) (sym (take-append-drop k h.log))
+pub legal-first : (k : ℕ) (h : History) → IsLegal most_operations h → IsLegal most_operations (first k h)
+legal-first k h legal = legal-beginning most_operations h legal (take k h.log) (drop k h.log) (sym (take-append-drop k h.log))
 
 -- where there is no operation, the history has ended
 pub ended-at : (log : List Entry) (k : ℕ) → slice_get log k ≡ None → length log ≤ k

@@ -7,7 +7,7 @@ use Rattle.std.proofs.lemmas.List.{append-nil, append_assoc}
 use Rattle.std.proofs.lemmas.List.Elements.{filter-append}
 use Rattle.batch_ids.specs.declared.refusal.Refusal.{Refusal}
 use Rattle.jsl_model.specs.Jobs.{JobTree}
-use Rattle.batch_history.specs.Legal.{IsLegal, grown}
+use Rattle.batch_history.specs.Legal.{IsLegal, entries_by, grown, history_after, most_operations}
 use Rattle.batch_history.specs.Replies.{reply, is_nothing}
 use Rattle.batch_history.specs.Rows.{History}
 use Rattle.batch_history.specs.declared.call.Call.{Call}
@@ -15,9 +15,9 @@ use Rattle.batch_history.specs.declared.call.Entry.{Entry}
 use Rattle.batch_history.specs.declared.call.Reply.{Reply}
 use Rattle.batch_history.specs.declared.query.Query.{Query}
 use Rattle.history_laws.proofs.Restarts.{one_unfinished, restart_follows}
-use Rattle.event_core.specs.Headline.{entry_with, accepted_call, accepted_calls, operations_by, HasSeen, IsRepliedAtEnd, IsAnsweredAfterFirst, IsShownAll, HaveMet, Continues, HoldsAfter, HoldsAt, FollowOneHistory}
+use Rattle.event_core.specs.Headline.{entry_with, accepted_call, accepted_calls, HasSeen, IsRepliedAtEnd, IsAnsweredAfterFirst, IsShownAll, HaveMet, Continues, HoldsAfter, HoldsAt, FollowOneHistory}
 use Rattle.event_core.specs.Seeing.{seen_by}
-use Rattle.event_core.specs.Worlds.{State, Step, limit, empty_world, operations, skipped, if_there, replied, answered_after, read_after, met, step, state_after, outcomes, IsSound, history_after, glanced}
+use Rattle.event_core.specs.Worlds.{State, Step, empty_world, operations, skipped, if_there, replied, answered_after, read_after, met, step, state_after, outcomes, IsSound, glanced}
 use Rattle.event_core.specs.declared.event.Event.{Event}
 use Rattle.event_core.specs.declared.event.Event.TheVariants.{Call as Calls, Publish, Read, Ask, Meet, Glance}
 use Rattle.event_core.specs.declared.sessions.Seen.{Seen}
@@ -29,8 +29,8 @@ use Rattle.event_core.proofs.Stepping.{there}
 
 pub continues-step : (s : State) (e : Event) → Continues s.history (step s e).after.history
 continues-step s (Calls who call at) =
-    there-cases (λ t. Continues s.history t.after.history) s (seen_by s.sessions who) (λ seen. replied s who call at seen (reply limit s.history who call))
-    (continues-same s.history) (λ seen is. continues-after s.history who call at (reply limit s.history who call))
+    there-cases (λ t. Continues s.history t.after.history) s (seen_by s.sessions who) (λ seen. replied s who call at seen (reply most_operations s.history who call))
+    (continues-same s.history) (λ seen is. continues-after s.history who call at (reply most_operations s.history who call))
 continues-step s (Publish copy upto) =
     there-cases (λ t. Continues s.history t.after.history) s (slice_get s.copies copy) _ (continues-same s.history) (λ n is. continues-same s.history)
 continues-step s (Read who copy query) =
@@ -51,16 +51,16 @@ continues-step s (Glance who) =
 
 -- a session's operations after an event are those before it, and the event's entry if it is an accepted call of the session
 abbrev GrowsBy : ℕ → State → Event → Step → Type 0
-GrowsBy who s e t = operations_by who t.after.history ≡ operations_by who s.history ++ cons_option (accepted_call who e t.outcome) []
+GrowsBy who s e t = entries_by who t.after.history.log ≡ entries_by who s.history.log ++ cons_option (accepted_call who e t.outcome) []
 
-none-more : (who : ℕ) (h : History) → operations_by who h ≡ operations_by who h ++ []
-none-more who h = sym (append-nil (operations_by who h))
+none-more : (who : ℕ) (h : History) → entries_by who h.log ≡ entries_by who h.log ++ []
+none-more who h = sym (append-nil (entries_by who h.log))
 
 -- one operation more
-one-more : (who : ℕ) (h : History) (e : Entry) → operations_by who (grown h e) ≡ operations_by who h ++ cons_option (cond (e.who == who) (Some e) None) []
+one-more : (who : ℕ) (h : History) (e : Entry) → entries_by who (grown h e).log ≡ entries_by who h.log ++ cons_option (cond (e.who == who) (Some e) None) []
 one-more who h e =
     filter-append (λ (e : Entry). e.who == who) h.log (e ∷ [])
-    ∙ ap (λ l. operations_by who h ++ l)
+    ∙ ap (λ l. entries_by who h.log ++ l)
     (elim (e.who == who) as (λ b. cond b (e ∷ []) [] ≡ cons_option (cond b (Some e) None) []) [ true ↦ refl | false ↦ refl ])
 
 own-replied : (who caller : ℕ) (s : State) (call : Call) (at : ℕ) (seen : Seen) (given : Result Reply Refusal)
@@ -68,16 +68,16 @@ own-replied : (who caller : ℕ) (s : State) (call : Call) (at : ℕ) (seen : Se
 own-replied who caller s call at seen (Err refusal) = none-more who s.history
 own-replied who caller s call at seen (Ok given) =
     let e : Entry = record { who = caller; call = call; at = at; reply = given } in
-    elim (is_nothing given) as (λ b. operations_by who (cond b s.history (grown s.history e))
-    ≡ operations_by who s.history ++ cons_option (entry_with who caller call at (cond b None (Some given))) []) [
+    elim (is_nothing given) as (λ b. entries_by who (cond b s.history (grown s.history e)).log
+    ≡ entries_by who s.history.log ++ cons_option (entry_with who caller call at (cond b None (Some given))) []) [
       | true ↦ none-more who s.history
       | false ↦ one-more who s.history e
     ]
 
 own-step : (who : ℕ) (s : State) (e : Event) → GrowsBy who s e (step s e)
 own-step who s (Calls caller call at) =
-    there-cases (GrowsBy who s (Calls caller call at)) s (seen_by s.sessions caller) (λ seen. replied s caller call at seen (reply limit s.history caller call))
-    (none-more who s.history) (λ seen is. own-replied who caller s call at seen (reply limit s.history caller call))
+    there-cases (GrowsBy who s (Calls caller call at)) s (seen_by s.sessions caller) (λ seen. replied s caller call at seen (reply most_operations s.history caller call))
+    (none-more who s.history) (λ seen is. own-replied who caller s call at seen (reply most_operations s.history caller call))
 own-step who s (Publish copy upto) =
     there-cases (GrowsBy who s (Publish copy upto)) s (slice_get s.copies copy) _ (none-more who s.history) (λ n is. none-more who s.history)
 own-step who s (Read reader copy query) =
@@ -101,14 +101,14 @@ first-of (Some e) l = refl
 
 -- a session's operations after some events are those before, and its accepted calls among the events
 own-after : (who : ℕ) (s : State) (events : List Event)
-    → operations_by who (state_after s events).history ≡ operations_by who s.history ++ accepted_calls who events (outcomes s events)
+    → entries_by who (state_after s events).history.log ≡ entries_by who s.history.log ++ accepted_calls who events (outcomes s events)
 own-after who s [] = none-more who s.history
 own-after who s (e ∷ events) =
     let t : Step = step s e in
     own-after who t.after events
     ∙ (ap (λ l. l ++ accepted_calls who events (outcomes t.after events)) (own-step who s e)
-    ∙ (append_assoc (operations_by who s.history) (cons_option (accepted_call who e t.outcome) []) (accepted_calls who events (outcomes t.after events))
-    ∙ ap (λ l. operations_by who s.history ++ l) (first-of (accepted_call who e t.outcome) (accepted_calls who events (outcomes t.after events)))))
+    ∙ (append_assoc (entries_by who s.history.log) (cons_option (accepted_call who e t.outcome) []) (accepted_calls who events (outcomes t.after events))
+    ∙ ap (λ l. entries_by who s.history.log ++ l) (first-of (accepted_call who e t.outcome) (accepted_calls who events (outcomes t.after events)))))
 
 -- ---- What an event is answered
 
@@ -116,9 +116,9 @@ replied-at : (s : State) (e : Event) (who : ℕ) (call : Call) (at : ℕ) (seen 
     → IsRepliedAtEnd s e who call seen
 replied-at s e who call at seen sound is found =
     let within = seen-within s who seen sound found in
-    let h : History = history_after s.history who call at (reply limit s.history who call) in
-    let done : step s e ≡ replied s who call at seen (reply limit s.history who call) =
-    ap (step s) is ∙ there s (seen_by s.sessions who) seen (λ seen. replied s who call at seen (reply limit s.history who call)) (sym found) in
+    let h : History = history_after s.history who call at (reply most_operations s.history who call) in
+    let done : step s e ≡ replied s who call at seen (reply most_operations s.history who call) =
+    ap (step s) is ∙ there s (seen_by s.sessions who) seen (λ seen. replied s who call at seen (reply most_operations s.history who call)) (sym found) in
     record {
       outcome = ap (λ (t : Step). t.outcome) done;
       front = within.0;
@@ -196,12 +196,12 @@ holds-at s e sound = record {
 holds-after : (catalogue : List JobTree) (sessions copies : ℕ) (before : List Event) → HoldsAfter (empty_world catalogue sessions copies) before
 holds-after catalogue sessions copies before =
     let start : State = empty_world catalogue sessions copies in
-    let legal : IsLegal limit (state_after start before).history = (sound-after start before (sound-empty catalogue sessions copies)).legal in
+    let legal : IsLegal most_operations (state_after start before).history = (sound-after start before (sound-empty catalogue sessions copies)).legal in
     record {
       legal = legal;
       own = λ who. own-after who start before;
-      unfinished = one_unfinished limit (state_after start before).history legal;
-      restarts = restart_follows limit (state_after start before).history legal;
+      unfinished = one_unfinished most_operations (state_after start before).history legal;
+      restarts = restart_follows most_operations (state_after start before).history legal;
     }
 
 -- THE LAW: the events of a world follow one growing history

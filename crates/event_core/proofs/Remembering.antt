@@ -2,11 +2,12 @@
 use Rattle.std.proofs.Common.{◌≡◌, ℕ, zero, suc, ◌-◌, ◌≤◌, ◌==◌, ◌&&◌, nat_le, Bool, true, false, cond, None, Some, List, [], ◌∷◌, set, ◌⊎◌, inl, inr, refl, ap, arith}
 use Rattle.std.specs.Prelude.{slice_get}
 use Rattle.std.proofs.lemmas.Bool.{leb-true}
+use Rattle.batch_history.specs.Legal.{history_after, most_operations}
 use Rattle.batch_history.specs.Replies.{reply}
 use Rattle.batch_history.specs.Rows.{History}
 use Rattle.event_core.specs.Headline.{HasSeen}
 use Rattle.event_core.specs.Seeing.{seen_by, with_seen, joined, has_seen_no_more}
-use Rattle.event_core.specs.Worlds.{State, limit, operations, skipped, if_there, after_seeing, history_after, replied, read_after, met, step, IsSound}
+use Rattle.event_core.specs.Worlds.{State, operations, skipped, if_there, after_seeing, replied, read_after, met, step, IsSound}
 use Rattle.event_core.specs.declared.event.Event.{Event}
 use Rattle.event_core.specs.declared.event.Event.TheVariants.{Call as Calls, Publish, Read, Ask, Meet, Glance}
 use Rattle.event_core.specs.declared.sessions.Seen.{Seen}
@@ -142,11 +143,11 @@ keeps-answered s reader who old seen k found front there =
 -- THE LAW: after every event each session has seen what it had
 pub keeps-step : (s : State) (e : Event) (who : ℕ) (seen : Seen) → IsSound s → seen_by s.sessions who ≡ Some seen → HasSeen (step s e).after who seen
 keeps-step s (Calls caller call at) who seen sound there =
-    there-cases (λ t. HasSeen t.after who seen) s (seen_by s.sessions caller) (λ seen. replied s caller call at seen (reply limit s.history caller call))
+    there-cases (λ t. HasSeen t.after who seen) s (seen_by s.sessions caller) (λ seen. replied s caller call at seen (reply most_operations s.history caller call))
     (keeps-same s who seen there)
     (λ old found.
-    let h : History = history_after s.history caller call at (reply limit s.history caller call) in
-    let more : operations s.history ≤ operations h = operations-continue s.history h (continues-after s.history caller call at (reply limit s.history caller call)) in
+    let h : History = history_after s.history caller call at (reply most_operations s.history caller call) in
+    let more : operations s.history ≤ operations h = operations-continue s.history h (continues-after s.history caller call at (reply most_operations s.history caller call)) in
     let front : old.front ≤ operations s.history = (seen-within s caller old sound found).0 in
     keeps-answered (record s { history = h }) caller who old seen (operations h) found (omega arith) there)
 keeps-step s (Publish copy upto) who seen sound there =

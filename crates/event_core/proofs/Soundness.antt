@@ -1,13 +1,13 @@
 -- A world stays sound through every event: its history is legal, and nobody has seen more than there is.
-use Rattle.std.proofs.Common.{◌≡◌, ℕ, ◌-◌, ◌≤◌, ◌==◌, max, true, false, cond, Option, None, Some, Result, Ok, Err, List, [], ◌∷◌, ◌++◌, length, refl, sym, ap, subst, arith}
+use Rattle.std.proofs.Common.{◌≡◌, ℕ, ◌-◌, ◌≤◌, ◌==◌, max, true, false, cond, Option, None, Some, Result, Ok, Err, List, [], ◌∷◌, refl, sym, ap, subst, arith}
 use Rattle.std.specs.Prelude.{All, slice_get}
 use Rattle.std.proofs.lemmas.List.{append-nil, length-append}
 use Rattle.std.proofs.lemmas.List.Elements.{All-set, All-replicate}
 use Rattle.std.proofs.lemmas.Option.{get_or_from_slice_get, slice_get_within}
 use Rattle.jsl_model.specs.Jobs.{JobTree}
 use Rattle.batch_ids.specs.declared.refusal.Refusal.{Refusal}
-use Rattle.batch_history.proofs.Legal.{legal_grown}
-use Rattle.batch_history.specs.Legal.{IsLegal, grown}
+use Rattle.batch_history.proofs.Legal.{legal_grown, legal-nothing}
+use Rattle.batch_history.specs.Legal.{IsLegal, grown, history_after, most_operations}
 use Rattle.batch_history.specs.Replies.{reply, is_nothing}
 use Rattle.batch_history.specs.Rows.{History}
 use Rattle.batch_history.specs.declared.call.Call.{Call}
@@ -16,7 +16,7 @@ use Rattle.batch_history.specs.declared.call.Reply.{Reply}
 use Rattle.batch_history.specs.declared.query.Query.{Query}
 use Rattle.event_core.specs.Headline.{Continues}
 use Rattle.event_core.specs.Seeing.{nothing_seen, seen_by, joined, has_seen_no_more}
-use Rattle.event_core.specs.Worlds.{State, Step, limit, empty_world, operations, skipped, if_there, after_seeing, history_after, replied, published, with_copy, answered_after, read_after, met, step, state_after, IsSound}
+use Rattle.event_core.specs.Worlds.{State, Step, empty_world, operations, skipped, if_there, after_seeing, replied, published, with_copy, answered_after, read_after, met, step, state_after, IsSound}
 use Rattle.event_core.specs.declared.event.Event.{Event}
 use Rattle.event_core.specs.declared.event.Event.TheVariants.{Call as Calls, Publish, Read, Ask, Meet, Glance}
 use Rattle.event_core.specs.declared.sessions.Seen.{Seen}
@@ -70,7 +70,7 @@ sound-seeing s who seen sound front least = record {
   lengths = sound.lengths;
 }
 
-pub sound-longer : (s : State) (h : History) → IsSound s → IsLegal limit h → operations s.history ≤ operations h → IsSound (record s { history = h })
+pub sound-longer : (s : State) (h : History) → IsSound s → IsLegal most_operations h → operations s.history ≤ operations h → IsSound (record s { history = h })
 sound-longer s h sound legal more = record {
   legal = legal;
   fronts = λ k d lt. omega (arith, sound.fronts k d lt, more);
@@ -87,14 +87,14 @@ sound-copy s copy n sound le = record {
 }
 
 -- a legal history stays so by what a call is answered
-pub legal-after : (h : History) (who : ℕ) (call : Call) (at : ℕ) (given : Result Reply Refusal) → IsLegal limit h → reply limit h who call ≡ given
-    → IsLegal limit (history_after h who call at given)
+pub legal-after : (h : History) (who : ℕ) (call : Call) (at : ℕ) (given : Result Reply Refusal) → IsLegal most_operations h → reply most_operations h who call ≡ given
+    → IsLegal most_operations (history_after h who call at given)
 legal-after h who call at (Err refusal) legal due = legal
 legal-after h who call at (Ok given) legal due =
     let e : Entry = record { who = who; call = call; at = at; reply = given } in
-    (elim (is_nothing given) as (λ b. is_nothing given ≡ b → IsLegal limit (cond b h (grown h e))) [
+    (elim (is_nothing given) as (λ b. is_nothing given ≡ b → IsLegal most_operations (cond b h (grown h e))) [
       | true ↦ λ n. legal
-      | false ↦ λ n. legal_grown limit h e legal due n
+      | false ↦ λ n. legal_grown most_operations h e legal due n
     ]) refl
 
 -- ---- Steps
@@ -107,7 +107,7 @@ there-cases P s (Some a) f none some = some a refl
 SoundAfter : Step → Type 0
 SoundAfter t = IsSound t.after
 
-sound-replied : (s : State) (who : ℕ) (call : Call) (at : ℕ) (seen : Seen) (given : Result Reply Refusal) → IsSound s → reply limit s.history who call ≡ given
+sound-replied : (s : State) (who : ℕ) (call : Call) (at : ℕ) (seen : Seen) (given : Result Reply Refusal) → IsSound s → reply most_operations s.history who call ≡ given
     → seen_by s.sessions who ≡ Some seen → IsSound (replied s who call at seen given).after
 sound-replied s who call at seen given sound due there =
     let h : History = history_after s.history who call at given in
@@ -140,8 +140,8 @@ sound-met s one other a b sound there too =
 -- THE LAW: a sound world is sound after every event
 pub sound-step : (s : State) (e : Event) → IsSound s → IsSound (step s e).after
 sound-step s (Calls who call at) sound =
-    there-cases (λ t. IsSound t.after) s (seen_by s.sessions who) (λ seen. replied s who call at seen (reply limit s.history who call)) sound
-    (λ seen there. sound-replied s who call at seen (reply limit s.history who call) sound refl there)
+    there-cases (λ t. IsSound t.after) s (seen_by s.sessions who) (λ seen. replied s who call at seen (reply most_operations s.history who call)) sound
+    (λ seen there. sound-replied s who call at seen (reply most_operations s.history who call) sound refl there)
 sound-step s (Publish copy upto) sound =
     there-cases (λ t. IsSound t.after) s (slice_get s.copies copy) _ sound
     (λ n there. sound-copy s copy (published s.history upto n) sound
@@ -172,12 +172,8 @@ sound-after s (e ∷ events) sound = sound-after (step s e).after events (sound-
 -- a world before the first event is sound
 pub sound-empty : (catalogue : List JobTree) (sessions copies : ℕ) → IsSound (empty_world catalogue sessions copies)
 sound-empty catalogue sessions copies = record {
-  legal = record { within = omega arith; due = λ before e after cut. cut-empty before e after cut };
+  legal = legal-nothing most_operations catalogue;
   fronts = All-replicate (λ (seen : Seen). seen.front ≤ 0) sessions nothing_seen (omega arith);
   leasts = All-replicate (λ (seen : Seen). seen.least ≤ 0) sessions nothing_seen (omega arith);
   lengths = All-replicate (λ n. n ≤ 0) copies 0 (omega arith);
 }
-  where
-    cut-empty : (before : List Entry) (e : Entry) (after : List Entry) → [] ≡ before ++ e ∷ after
-        → (reply limit record { catalogue = catalogue; log = before } e.who e.call ≡ Ok e.reply) × (is_nothing e.reply ≡ false)
-    cut-empty before e after cut = absurd (omega (arith, ap length cut, length-append before (e ∷ after)))

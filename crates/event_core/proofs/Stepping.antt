@@ -6,6 +6,7 @@ use Rattle.std.proofs.lemmas.List.{map-set}
 use Rattle.std.proofs.lemmas.Option.{slice_get-map}
 use Rattle.batch_ids.specs.declared.refusal.Refusal.{Refusal}
 use Rattle.batch_history.specs.Answers.{answer}
+use Rattle.batch_history.specs.Legal.{history_after, most_operations}
 use Rattle.batch_history.specs.Replies.{reply}
 use Rattle.batch_history.specs.Rows.{History}
 use Rattle.batch_history.specs.declared.call.Call.{Call}
@@ -15,7 +16,7 @@ use Rattle.batch_history.specs.declared.query.Query.{Query}
 use Rattle.seq_repository.specs.Kept.{Kept}
 use Rattle.event_core.specs.Copies.{lengths}
 use Rattle.event_core.specs.Seeing.{seen_by, with_seen, joined, has_seen_no_more}
-use Rattle.event_core.specs.Worlds.{State, Step, limit, operations, first, skipped, if_there, history_after, replied, published, with_copy, answered_after, met, step, IsSound}
+use Rattle.event_core.specs.Worlds.{State, Step, operations, first, skipped, if_there, replied, published, with_copy, answered_after, met, step, IsSound}
 use Rattle.event_core.specs.declared.event.Event.{Event}
 use Rattle.event_core.specs.declared.event.Event.TheVariants.{Call as Calls, Publish, Read, Ask, Meet}
 use Rattle.event_core.specs.declared.event.Outcome.TheVariants.{Replied, Answered, Published, Met}
@@ -28,14 +29,14 @@ there s o a f is = ap (λ o. if_there s o f) (sym is)
 
 -- a call that the book was asked
 pub called : (s : State) (who : ℕ) (call : Call) (at : ℕ) (seen : Seen) (given : Result Reply Refusal) (history : History) (sessions : List Seen)
-    → Some seen ≡ seen_by s.sessions who → given ≡ reply limit s.history who call → history ≡ history_after s.history who call at given
+    → Some seen ≡ seen_by s.sessions who → given ≡ reply most_operations s.history who call → history ≡ history_after s.history who call at given
     → sessions ≡ with_seen s.sessions who (record seen { front = operations history })
     → step s (Calls who call at) ≡ record { outcome = Replied given; after = record { history = history; sessions = sessions; copies = s.copies } }
 called s who call at seen given history sessions is due grown put =
     let now : State = record { history = history; sessions = with_seen s.sessions who (record seen { front = operations history }); copies = s.copies } in
     let put_so : record { outcome = Replied given; after = now } ≡ record { outcome = Replied given; after = record now { sessions = sessions } } =
     ap (λ (l : List Seen). record { outcome = Replied given; after = record now { sessions = l } }) (sym put) in
-    there s (seen_by s.sessions who) seen (λ seen. replied s who call at seen (reply limit s.history who call)) is
+    there s (seen_by s.sessions who) seen (λ seen. replied s who call at seen (reply most_operations s.history who call)) is
     ∙ (ap (replied s who call at seen) (sym due)
     ∙ (ap (λ (h : History). record { outcome = Replied given; after = record { history = h; sessions = with_seen s.sessions who (record seen { front = operations h }); copies = s.copies } }) (sym grown)
     ∙ put_so))

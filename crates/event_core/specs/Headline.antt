@@ -1,20 +1,16 @@
 -- What holds of every list of events, whatever sessions and copies do: they follow one growing history.
-use Rattle.std.specs.Prelude.{ℕ, ◌≡◌, ◌≢◌, ◌≤◌, ◌==◌, true, Option, None, Some, Ok, Err, List, ◌∷◌, ◌++◌, filter, filter_map, zip, slice_get, if◌then◌else◌}
-use Rattle.batch_ids.specs.Parameters.{Pair}
-use Rattle.batch_ids.specs.Statuses.{is_unfinished}
+use Rattle.std.specs.Prelude.{ℕ, ◌≡◌, ◌≢◌, ◌≤◌, ◌==◌, Option, None, Some, Ok, Err, List, ◌∷◌, ◌++◌, filter_map, zip, slice_get, if◌then◌else◌}
 use Rattle.batch_history.specs.Answers.{answer}
-use Rattle.batch_history.specs.Legal.{IsLegal}
-use Rattle.batch_history.specs.Replies.{reply, is_nothing, row_status}
+use Rattle.batch_history.specs.Legal.{IsLegal, entries_by, most_operations}
+use Rattle.batch_history.specs.Replies.{reply, is_nothing}
 use Rattle.batch_history.specs.Rows.{History}
 use Rattle.batch_history.specs.declared.call.Call.{Call}
-use Rattle.batch_history.specs.declared.call.Call.TheVariants.{Restart}
 use Rattle.batch_history.specs.declared.call.Entry.{Entry}
 use Rattle.batch_history.specs.declared.call.Reply.{Reply}
 use Rattle.batch_history.specs.declared.query.Query.{Query}
-use Rattle.batch_history.specs.declared.rows.ExecutionRow.{ExecutionRow}
-use Rattle.history_laws.specs.Laws.{beginning, row_in, MayGoOn}
+use Rattle.history_laws.specs.Laws.{HasOneUnfinishedEach, RestartsFollow}
 use Rattle.event_core.specs.Seeing.{seen_by}
-use Rattle.event_core.specs.Worlds.{State, limit, operations, first, step, state_after, outcomes}
+use Rattle.event_core.specs.Worlds.{State, operations, first, step, state_after, outcomes}
 use Rattle.event_core.specs.declared.event.Event.{Event}
 use Rattle.event_core.specs.declared.event.Event.TheVariants.{Call as Calls, Publish, Read, Ask, Meet, Glance}
 use Rattle.event_core.specs.declared.event.Outcome.{Outcome}
@@ -52,26 +48,6 @@ accepted_call who (Glance reader) outcome = None
 abbrev pub accepted_calls : ℕ → List Event → List Outcome → List Entry
 accepted_calls who events answered = filter_map (λ p. accepted_call who p.0 p.1) (zip events answered)
 
--- the operations of a history that a session made
-abbrev pub operations_by : ℕ → History → List Entry
-operations_by who h = filter (λ e. e.who == who) h.log
-
--- ---- Job executions, after any number of operations
-
--- after any first operations, a job instance has at most one unfinished job execution
-abbrev pub HasOneUnfinishedEach : History → Type 0
-HasOneUnfinishedEach h =
-    (before after : List Entry) → h.log ≡ before ++ after → (x y : ℕ) (one other : ExecutionRow)
-    → row_in (beginning h before) x ≡ Some one → row_in (beginning h before) y ≡ Some other
-    → one.instance ≡ other.instance → is_unfinished (row_status one) ≡ true
-    → is_unfinished (row_status other) ≡ true → x ≡ y
-
--- each restart follows the most recent job execution of its job instance, which is STOPPED or FAILED
-abbrev pub RestartsFollow : History → Type 0
-RestartsFollow h =
-    (before : List Entry) (e : Entry) (after : List Entry) → h.log ≡ before ++ e ∷ after
-    → (y : ℕ) (parameters : List Pair) → e.call ≡ Restart y parameters → MayGoOn (beginning h before) y
-
 -- ---- What each event is answered
 
 -- a session has seen this at least
@@ -83,7 +59,7 @@ pub record HasSeen (s : State) (who : ℕ) (seen : Seen) : Type 0 where
 
 -- a call is answered by the whole history, and its session had seen no more than that; it has seen what there is now
 pub record IsRepliedAtEnd (s : State) (e : Event) (who : ℕ) (call : Call) (seen : Seen) : Type 0 where
-  pub outcome : (step s e).outcome ≡ Replied (reply limit s.history who call)
+  pub outcome : (step s e).outcome ≡ Replied (reply most_operations s.history who call)
   pub front : seen.front ≤ operations s.history
   pub least : seen.least ≤ operations s.history
   pub seen_now : seen_by (step s e).after.sessions who
@@ -120,9 +96,9 @@ pub record Continues (before after : History) : Type 0 where
 -- what holds after some events: the history is legal, each session's accepted calls stand in it in order, no job instance
 -- ever had two unfinished job executions, and each restart followed the most recent one
 pub record HoldsAfter (start : State) (before : List Event) : Type 0 where
-  pub legal : IsLegal limit (state_after start before).history
+  pub legal : IsLegal most_operations (state_after start before).history
   pub own : (who : ℕ)
-      → operations_by who (state_after start before).history ≡ accepted_calls who before (outcomes start before)
+      → entries_by who (state_after start before).history.log ≡ accepted_calls who before (outcomes start before)
   pub unfinished : HasOneUnfinishedEach (state_after start before).history
   pub restarts : RestartsFollow (state_after start before).history
 

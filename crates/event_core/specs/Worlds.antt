@@ -1,11 +1,11 @@
 -- The state of a world, and what each event does to it.
-use Rattle.std.specs.Prelude.{ℕ, ◌≡◌, ◌≤◌, ◌==◌, min, max, Option, None, Some, Result, Ok, Err, List, [], ◌∷◌, All, length, replicate, take, slice_get, slice_set, if◌then◌else◌}
+use Rattle.std.specs.Prelude.{ℕ, ◌≡◌, ◌≤◌, ◌==◌, min, max, Option, None, Some, Result, List, [], ◌∷◌, All, length, replicate, take, slice_get, slice_set, if◌then◌else◌}
 use Rattle.batch_ids.specs.declared.refusal.Refusal.{Refusal}
 use Rattle.jsl_model.specs.Jobs.{JobTree}
 use Rattle.batch_history.specs.Answers.{answer}
-use Rattle.batch_history.specs.Legal.{IsLegal, after_call}
+use Rattle.batch_history.specs.Legal.{IsLegal, history_after, most_operations}
 use Rattle.batch_history.specs.Replies.{reply}
-use Rattle.batch_history.specs.Rows.{History}
+use Rattle.batch_history.specs.Rows.{History, history}
 use Rattle.batch_history.specs.declared.call.Call.{Call}
 use Rattle.batch_history.specs.declared.call.Reply.{Reply}
 use Rattle.batch_history.specs.declared.query.Query.{Query}
@@ -19,10 +19,6 @@ use Rattle.event_core.specs.declared.sessions.Seen.{Seen}
 
 -- ---- States
 
--- how many operations a world's history has at most
-abbrev pub limit : ℕ
-limit = 1000000
-
 -- a world: its history, what each session has seen, and how many operations of the history each copy has
 pub record State : Type 0 where
   pub history : History
@@ -33,7 +29,7 @@ pub record State : Type 0 where
 abbrev pub empty_world : List JobTree → ℕ → ℕ → State
 empty_world catalogue sessions copies =
     record {
-      history = record { catalogue = catalogue; log = [] };
+      history = history catalogue [];
       sessions = replicate sessions nothing_seen;
       copies = replicate copies 0;
     }
@@ -65,11 +61,6 @@ if_there s (Some there) step = step there
 -- the world where a session has seen this
 abbrev pub after_seeing : State → ℕ → Seen → State
 after_seeing s who seen = record s { sessions = with_seen s.sessions who seen }
-
--- the history after a call that was answered this: it grows by the call's entry, if it has one
-abbrev pub history_after : History → ℕ → Call → ℕ → Result Reply Refusal → History
-history_after h who call at (Err refusal) = h
-history_after h who call at (Ok given) = after_call h who call at given
 
 -- a call that was answered this: its session has then seen the whole history
 abbrev pub replied : State → ℕ → Call → ℕ → Seen → Result Reply Refusal → Step
@@ -116,7 +107,7 @@ glanced s who seen =
 -- THE STEP: what an event is answered, and the world after it
 abbrev pub step : State → Event → Step
 step s (Calls who call at) =
-    if_there s (seen_by s.sessions who) (λ seen. replied s who call at seen (reply limit s.history who call))
+    if_there s (seen_by s.sessions who) (λ seen. replied s who call at seen (reply most_operations s.history who call))
 step s (Publish copy upto) =
     if_there s (slice_get s.copies copy)
     (λ n. record { outcome = Published (published s.history upto n); after = with_copy s copy (published s.history upto n) })
@@ -144,7 +135,7 @@ outcomes s (e ∷ events) = (step s e).outcome ∷ outcomes (step s e).after eve
 
 -- a world's history is legal, and no session has seen more than there is, nor has a copy more
 pub record IsSound (s : State) : Type 0 where
-  pub legal : IsLegal limit s.history
+  pub legal : IsLegal most_operations s.history
   pub fronts : All (λ seen. seen.front ≤ operations s.history) s.sessions
   pub leasts : All (λ seen. seen.least ≤ operations s.history) s.sessions
   pub lengths : All (λ n. n ≤ operations s.history) s.copies

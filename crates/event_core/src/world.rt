@@ -1,8 +1,9 @@
 ghost use Rattle.std.specs.Prelude.{◌≡◌, Err, IfOk, OnErr, Result};
 ghost use Rattle.batch_history.specs.Due.{IsDue};
+ghost use Rattle.batch_history.specs.Legal.{history_after, most_operations};
 ghost use Rattle.batch_history.specs.Replies.{reply};
 ghost use Rattle.event_core.specs.Headline.{FollowOneHistory};
-ghost use Rattle.event_core.specs.Worlds.{empty_world, history_after, IsCutShort, limit, outcomes, step};
+ghost use Rattle.event_core.specs.Worlds.{empty_world, IsCutShort, outcomes, step};
 
 use crate::copies::{LIMIT, copy_at, empty_copies, take_in};
 use crate::event::{Event, Outcome};
@@ -200,7 +201,7 @@ fn act(
     call: &Call,
     at: Moment,
 ) -> Result<Result<Reply, Refusal>, OutOfMemory>
-    ensures reply { IfOk result (λ given. given ≡ reply limit book.old who call.now) }
+    ensures reply { IfOk result (λ given. given ≡ reply most_operations book.old who call.now) }
     ensures after { IfOk result (λ given. book.new
         ≡ history_after book.old who call.now at given) }
     ensures refused { OnErr result (book.new ≡ book.old) }

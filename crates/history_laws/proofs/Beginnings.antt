@@ -1,7 +1,6 @@
--- The rows of a beginning of a legal history, and of its past.
-use Rattle.std.proofs.Common.{◌≡◌, ℕ, Some, List, [], ◌∷◌, ◌++◌, length, find, reverse, refl, sym, ◌∙◌, ap, arith}
+-- The rows of a legal history, and of its past.
+use Rattle.std.proofs.Common.{◌≡◌, ℕ, Some, List, [], ◌∷◌, ◌++◌, find, reverse, refl, sym, ◌∙◌, ap}
 use Rattle.std.specs.Option.{option_map}
-use Rattle.std.proofs.lemmas.List.{length-append, append_assoc}
 use Rattle.std.proofs.lemmas.Bool.{eqb-true}
 use Rattle.jsl_model.specs.Jobs.{JobTree}
 use Rattle.job_walk.proofs.Following.{find-map}
@@ -10,30 +9,27 @@ use Rattle.batch_history.proofs.Folds.{made, is_made, works_of, folded_rows, exe
 use Rattle.batch_history.specs.Executions.{Made}
 use Rattle.batch_history.specs.Legal.{IsLegal}
 use Rattle.batch_history.specs.Replies.{is_execution}
-use Rattle.batch_history.specs.Rows.{History, Rows, rows}
+use Rattle.batch_history.specs.Rows.{History}
 use Rattle.batch_history.specs.Works.{is_work}
 use Rattle.batch_history.specs.declared.rows.ExecutionRow.{ExecutionRow}
-use Rattle.history_laws.specs.Laws.{beginning, row_in}
+use Rattle.history_laws.specs.Laws.{row_in, work_in}
 use Rattle.batch_history.proofs.Finding.{found-passes}
-use Rattle.batch_history.proofs.Legality.{rows_folded}
+use Rattle.batch_history.proofs.Agreeing.{execution-law}
+use Rattle.batch_history.proofs.Items.{works-law}
+use Rattle.batch_history.proofs.Legality.{past-due}
+use Rattle.batch_history.proofs.Plans.{due-all-fit}
 use Rattle.batch_history.proofs.Told.{AllDue, IsRowOf, row-of}
 
--- ---- Rows of a legal history
+-- ---- What stands in the log of a legal history
 
--- a beginning of a legal history is legal
-pub legal-beginning : (limit : ℕ) (h : History) → IsLegal limit h → (before after : List Entry) → h.log ≡ before ++ after → IsLegal limit (beginning h before)
-legal-beginning limit h legal before after cut = record {
-  within = omega (arith, legal.within, ap length cut, length-append before after);
-  due = λ b e a is. legal.due b e (a ++ after) (cut ∙ (ap (λ l. l ++ after) is ∙ append_assoc b (e ∷ a) after));
-}
-
--- the row of a job execution is the one that the fold has
+-- the record of a job execution is the row that the fold has
 pub row-folded : (limit : ℕ) (h : History) → IsLegal limit h → (x : ℕ) → row_in h x ≡ find (is_execution x) (folded_rows h.catalogue (reverse h.log)).executions
-row-folded limit h legal x = ap (λ (r : Rows). find (is_execution x) r.executions) (rows_folded limit h legal)
+row-folded limit h legal x = execution-law limit h.catalogue (reverse h.log) x (past-due limit h legal)
 
--- so is that of a work item
-pub work-folded : (limit : ℕ) (h : History) → IsLegal limit h → (w : ℕ) → find (is_work w) (rows h).works ≡ find (is_work w) (works_of (reverse h.log))
-work-folded limit h legal w = ap (λ (r : Rows). find (is_work w) r.works) (rows_folded limit h legal)
+-- so is a work item
+pub work-folded : (limit : ℕ) (h : History) → IsLegal limit h → (w : ℕ) → work_in h w ≡ find (is_work w) (works_of (reverse h.log))
+work-folded limit h legal w =
+    ap (find (is_work w)) (works-law (reverse h.log) (due-all-fit limit h.catalogue (reverse h.log) (past-due limit h legal)))
 
 -- ---- Rows of a past
 

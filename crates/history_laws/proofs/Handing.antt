@@ -1,5 +1,5 @@
 -- What is handed out.
-use Rattle.std.proofs.Common.{◌≡◌, ℕ, Bool, true, false, Option, None, Some, Ok, List, ◌∷◌, ◌++◌, find, reverse, refl, sym, ◌∙◌, ap, subst}
+use Rattle.std.proofs.Common.{◌≡◌, ℕ, ◌+◌, ◌<◌, Bool, true, false, Option, None, Some, Ok, List, ◌∷◌, ◌++◌, find, reverse, refl, sym, ◌∙◌, ap, subst}
 use Rattle.jsl_model.specs.Jobs.{JobTree}
 use Rattle.batch_history.specs.declared.call.Entry.{Entry}
 use Rattle.batch_history.specs.declared.call.WorkItem.{WorkItem}
@@ -11,8 +11,11 @@ use Rattle.batch_history.specs.Replies.{reply, first_ready, walk_in_rows, runnab
 use Rattle.batch_history.specs.Rows.{History, Rows, rows}
 use Rattle.batch_history.specs.Walks.{job_named, element_facts, carried_exit, unless_barred, step_fact, runnable_fact}
 use Rattle.batch_history.specs.declared.rows.ExecutionRow.{ExecutionRow}
-use Rattle.history_laws.specs.Laws.{beginning, row_in, WasReady, IsOpen, IsOfOpenStep, GoesOnFrom, checkpoint_in}
-use Rattle.batch_history.proofs.Legality.{past-due, rows_folded}
+use Rattle.history_laws.specs.Laws.{beginning, row_in, works_in, walk_in, WasReady, IsOpen, IsOfOpenStep, GoesOnFrom, checkpoint_in}
+use Rattle.batch_history.proofs.Legal.{legal-beginning}
+use Rattle.batch_history.proofs.Finding.{found-passes}
+use Rattle.batch_history.proofs.Items.{works-counted}
+use Rattle.batch_history.proofs.Legality.{past-due, rows_folded, least_found}
 use Rattle.batch_history.proofs.Told.{IsRowOf, row-of, ToldClaim, work-told}
 use Rattle.batch_history.proofs.Sights.{ready_sight}
 use Rattle.batch_history.proofs.Runs.{walk-runs}
@@ -29,7 +32,7 @@ use Rattle.job_walk.specs.declared.runnable.Runnable.TheVariants.{Step as RunsSt
 use Rattle.batch_history.specs.Restarts.{plan_of}
 use Rattle.batch_history.specs.declared.call.WorkTask.TheVariants.{Chunk}
 use Rattle.batch_history.proofs.Plans.{plan-law}
-use Rattle.history_laws.proofs.Beginnings.{legal-beginning, row-folded, row-there}
+use Rattle.history_laws.proofs.Beginnings.{row-folded, row-there}
 
 -- ---- What is handed out
 
@@ -84,28 +87,31 @@ handed limit h legal before e after cut item is =
     was-handed limit (beginning h before) (legal-beginning limit h legal before (e ∷ after) cut) item
     (work-told limit (rows (beginning h before)) e.who e.call item there)
 
-was-ready : (h : History) (item : WorkItem) → HandedOut h item → WasReady h item
-was-ready h item out =
+-- its job execution, by the number that it has
+owner-found : (h : History) (item : WorkItem) (out : HandedOut h item) → row_in h item.execution ≡ Some out.row
+owner-found h item out = ap (λ (i : WorkItem). row_in h i.execution) out.is ∙ out.owner.found
+
+was-ready : (limit : ℕ) (h : History) → IsLegal limit h → (item : WorkItem) → HandedOut h item → WasReady h item
+was-ready limit h legal item out =
+    let number : item.execution ≡ out.row.execution = ap (λ (i : WorkItem). i.execution) out.is in
     record {
       owner = out.row;
-      least = out.least;
-      execution = ap (λ (i : WorkItem). i.execution) out.is;
-      plan = out.owner.plan;
+      found = owner-found h item out;
+      something = found-passes (has_something (rows h)) (rows h).executions out.row out.least;
+      least = λ x other there lt. least_found limit h legal (has_something (rows h)) out.row out.least x other there (subst (λ n. x < n) number lt);
+      plan = out.owner.plan ∙ ap (plan_of h.catalogue (reverse h.log)) (sym number);
       ready = out.ready;
-      runs = walk-runs ready_sight item.element out.row.plan (element_facts out.row.execution (rows h).works) (job_named h.catalogue out.row.job)
-          (first-seen item.element (walk_in_rows (rows h) out.row) out.ready);
+      runs = walk-runs ready_sight item.element out.row.plan (element_facts out.row.execution (works_in h)) (job_named h.catalogue out.row.job)
+          (first-seen item.element (walk_in h out.row) out.ready);
       task = ap (λ (i : WorkItem). i.task) out.is;
-      number = ap (λ (i : WorkItem). i.work) out.is;
+      number = ap (λ (i : WorkItem). i.work) out.is ∙ ap (λ n. n + 1) (works-counted (reverse h.log));
     }
 
 -- what a claim hands out was ready
 pub handed_ready : (limit : ℕ) (h : History) → IsLegal limit h → (before : List Entry) (e : Entry) (after : List Entry) → h.log ≡ before ++ e ∷ after
     → (item : WorkItem) → e.reply ≡ Work item → WasReady (beginning h before) item
-handed_ready limit h legal before e after cut item is = was-ready (beginning h before) item (handed limit h legal before e after cut item is)
-
--- its job execution, by the number that it has
-owner-found : (h : History) (item : WorkItem) (out : HandedOut h item) → row_in h item.execution ≡ Some out.row
-owner-found h item out = ap (λ (i : WorkItem). row_in h i.execution) out.is ∙ out.owner.found
+handed_ready limit h legal before e after cut item is =
+    was-ready limit (beginning h before) (legal-beginning limit h legal before (e ∷ after) cut) item (handed limit h legal before e after cut item is)
 
 -- ---- Carried and barred steps
 
@@ -135,7 +141,7 @@ handed_open limit h legal before e after cut item is =
     let then : History = beginning h before in
     let out : HandedOut then item = handed limit h legal before e after cut item is in
     let row : ExecutionRow = out.row in
-    let worked : List ℕ → Fact = element_facts row.execution (rows then).works in
+    let worked : List ℕ → Fact = element_facts row.execution (works_in then) in
     let unknown : IsUnknown row.plan worked (job_named h.catalogue row.job) item.element = ready-unknown row.plan worked (job_named h.catalogue row.job) item.element out.ready in
     record {
       owner = row;

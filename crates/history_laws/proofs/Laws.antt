@@ -1,5 +1,5 @@
 -- The laws over whole histories.
-use Rattle.std.proofs.Common.{◌≡◌, ◌≢◌, ℕ, ◌+◌, ◌==◌, Bool, true, false, cond, None, Some, is_some, Ok, List, [], ◌∷◌, ◌++◌, length, map, find, reverse, refl, sym, ◌∙◌, ap, subst}
+use Rattle.std.proofs.Common.{◌≡◌, ◌≢◌, ℕ, ◌+◌, ◌==◌, Bool, true, false, cond, None, Some, is_some, List, [], ◌∷◌, ◌++◌, length, map, find, reverse, refl, sym, ◌∙◌, ap, subst}
 use Rattle.std.proofs.lemmas.List.{append_assoc, reverse-append, reverse-reverse, map-append}
 use Rattle.std.proofs.lemmas.Bool.{eqb-true}
 use Rattle.batch_ids.specs.Statuses.{is_unfinished}
@@ -10,22 +10,20 @@ use Rattle.jsl_model.specs.Names.{has_twice, distinct}
 use Rattle.batch_history.specs.declared.call.Call.{Call}
 use Rattle.batch_history.specs.declared.call.Call.TheVariants.{Start, Restart, Stop, Abandon, Claim, Checkpoint, Finish, Lose}
 use Rattle.batch_history.specs.declared.call.Entry.{Entry}
-use Rattle.batch_history.specs.declared.query.Query.TheVariants.{JobNames}
-use Rattle.batch_history.specs.declared.query.Answer.TheVariants.{JobNames as AreNames}
 use Rattle.batch_history.proofs.Folds.{made, is_made, works_of, instances_of, instances_after, stop_of, start_of, abandoned_of, end_of, bare_of, value_after, folded_rows, execution_row}
-use Rattle.batch_history.specs.Answers.{answer}
-use Rattle.batch_history.specs.Executions.{Made}
+use Rattle.batch_history.specs.Executions.{Made, job_instances}
 use Rattle.batch_history.specs.Legal.{grown, IsLegal}
 use Rattle.batch_history.specs.Replies.{row_status, is_execution}
-use Rattle.batch_history.specs.Rows.{History, Rows, rows, IsAsBefore}
+use Rattle.batch_history.specs.Rows.{History, IsAsBefore}
 use Rattle.batch_history.specs.Statuses.{is_finished}
 use Rattle.batch_history.specs.Walks.{job_named}
 use Rattle.batch_history.specs.Works.{is_work}
 use Rattle.batch_history.specs.declared.rows.ExecutionRow.{ExecutionRow}
 use Rattle.batch_history.specs.declared.rows.WorkRow.{WorkRow}
 use Rattle.batch_history.specs.declared.rows.JobInstance.{JobInstance}
-use Rattle.history_laws.specs.Laws.{beginning, row_in, StaysFinished, EndedAt, BelongsTo, HasInstance, with_name}
-use Rattle.batch_history.proofs.Legality.{past-due, rows_folded}
+use Rattle.history_laws.specs.Laws.{beginning, row_in, work_in, names_in, StaysFinished, EndedAt, BelongsTo, HasInstance, with_name}
+use Rattle.batch_history.proofs.Legal.{legal-beginning}
+use Rattle.batch_history.proofs.Legality.{past-due}
 use Rattle.batch_history.proofs.Origins.{instances-law}
 use Rattle.batch_history.proofs.WorkLists.{each-found, Apart, AllApart}
 use Rattle.batch_history.proofs.Told.{AllDue, made-number, made-more}
@@ -34,7 +32,7 @@ use Rattle.batch_history.proofs.Finished.{on-it, busy-unfinished, finished-statu
 use Rattle.history_laws.proofs.Moments.{abandoned-finished, EndedPast, ended-past, over-ended}
 use Rattle.batch_history.proofs.Owners.{InstanceOf, instances-kept, jobs-kept}
 use Rattle.history_laws.proofs.Names.{distinct-more, distinct-once}
-use Rattle.history_laws.proofs.Beginnings.{legal-beginning, row-folded, work-folded, row-there, IsRowAt, row-at, due-older}
+use Rattle.history_laws.proofs.Beginnings.{row-folded, work-folded, row-there, IsRowAt, row-at, due-older}
 
 -- ---- What is over
 
@@ -169,7 +167,7 @@ shown-unfinished : (abandoned : Bool) (bare : BatchStatus) → (abandoned ≡ tr
 shown-unfinished true bare before h = let over : is_finished bare ≡ true = before refl in let bad : true ≡ false = sym over ∙ h in cc
 shown-unfinished false bare before h = unfinished-status bare h
 
-pub belongs : (limit : ℕ) (h : History) → IsLegal limit h → (w : ℕ) (work : WorkRow) → find (is_work w) (rows h).works ≡ Some work → BelongsTo h work
+pub belongs : (limit : ℕ) (h : History) → IsLegal limit h → (w : ℕ) (work : WorkRow) → work_in h w ≡ Some work → BelongsTo h work
 belongs limit h legal w work found =
     let past : List Entry = reverse h.log in
     let due : AllDue limit h.catalogue past = past-due limit h legal in
@@ -207,8 +205,8 @@ apart-found (r ∷ rs) v w one other apart e1 e2 differ same el =
     (λ off2. apart-found rs v w one other apart.1 here (sym (ap (λ b. cond b (Some r) (find (is_work w) rs)) off2) ∙ e2) differ same el))
 
 -- no element of a job execution has two work items
-pub once_each : (limit : ℕ) (h : History) → IsLegal limit h → (v w : ℕ) (one other : WorkRow) → find (is_work v) (rows h).works ≡ Some one
-    → find (is_work w) (rows h).works ≡ Some other → v ≢ w → one.execution ≡ other.execution → one.element ≢ other.element
+pub once_each : (limit : ℕ) (h : History) → IsLegal limit h → (v w : ℕ) (one other : WorkRow) → work_in h v ≡ Some one
+    → work_in h w ≡ Some other → v ≢ w → one.execution ≡ other.execution → one.element ≢ other.element
 once_each limit h legal v w one other e1 e2 differ same =
     apart-found (works_of (reverse h.log)) v w one other (kept limit h.catalogue (reverse h.log) (past-due limit h legal)).apart
     (sym (work-folded limit h legal v) ∙ e1) (sym (work-folded limit h legal w) ∙ e2) differ same
@@ -223,7 +221,7 @@ has_instance limit h legal x row found =
     let i : InstanceOf past m = each-found (InstanceOf past) (is_made m.execution) (made past) m (instances-kept limit h.catalogue past (past-due limit h legal)) from.found in
     subst (HasInstance h) (sym from.is_row) (record {
       instance = i.instance;
-      found = ap (λ (r : Rows). find (λ j. j.instance == m.instance) r.instances) (rows_folded limit h legal) ∙ i.found;
+      found = ap (find (λ (j : JobInstance). j.instance == m.instance)) (instances-law past) ∙ i.found;
       job = i.job;
     })
 
@@ -252,23 +250,17 @@ names-call (Checkpoint w mark step) instances = refl
 names-call (Finish w o t step) instances = refl
 names-call (Lose w) instances = refl
 
--- the names that a query is answered with
-names-answered : (h : History) → answer h JobNames ≡ Ok (AreNames (distinct (map (λ (i : JobInstance). i.job) (instances_of (reverse h.log)))))
-names-answered h = ap (λ (l : List JobInstance). Ok (AreNames (distinct (map (λ (i : JobInstance). i.job) l)))) (instances-law (reverse h.log))
+names-listed : (h : History) → names_in h ≡ distinct (map (λ (i : JobInstance). i.job) (instances_of (reverse h.log)))
+names-listed h = ap (λ (l : List JobInstance). distinct (map (λ (i : JobInstance). i.job) l)) (instances-law (reverse h.log))
 
 -- the names after an operation more
-pub names_grow : (h : History) (e : Entry) (names : List (List ℕ)) → answer h JobNames ≡ Ok (AreNames names) → answer (grown h e) JobNames ≡ Ok (AreNames (with_name names e.call))
-names_grow h e names is =
-    let both : Ok (AreNames (distinct (map (λ (i : JobInstance). i.job) (instances_of (reverse h.log))))) ≡ Ok (AreNames names) = sym (names-answered h) ∙ is in
-    let before : distinct (map (λ (i : JobInstance). i.job) (instances_of (reverse h.log))) ≡ names = cc in
+pub names_grow : (h : History) (e : Entry) → names_in (grown h e) ≡ with_name (names_in h) e.call
+names_grow h e =
     let past : reverse (h.log ++ e ∷ []) ≡ e ∷ reverse h.log = reverse-append h.log (e ∷ []) in
-    names-answered (grown h e)
-    ∙ (ap (λ l. Ok (AreNames (distinct (map (λ (i : JobInstance). i.job) (instances_of l))))) past
-    ∙ (ap (λ ns. Ok (AreNames ns)) (names-call e.call (instances_of (reverse h.log))) ∙ ap (λ ns. Ok (AreNames (with_name ns e.call))) before))
+    names-listed (grown h e)
+    ∙ (ap (λ (l : List Entry). distinct (map (λ (i : JobInstance). i.job) (instances_of l))) past
+    ∙ (names-call e.call (instances_of (reverse h.log)) ∙ ap (λ ns. with_name ns e.call) (sym (names-listed h))))
 
 -- no name stands twice
-pub names_once : (h : History) (names : List (List ℕ)) → answer h JobNames ≡ Ok (AreNames names) → has_twice names ≡ false
-names_once h names is =
-    let both : Ok (AreNames (distinct (map (λ (i : JobInstance). i.job) (instances_of (reverse h.log))))) ≡ Ok (AreNames names) = sym (names-answered h) ∙ is in
-    let before : distinct (map (λ (i : JobInstance). i.job) (instances_of (reverse h.log))) ≡ names = cc in
-    ap has_twice (sym before) ∙ distinct-once (map (λ i. i.job) (instances_of (reverse h.log)))
+pub names_once : (h : History) → has_twice (names_in h) ≡ false
+names_once h = distinct-once (map (λ i. i.job) (job_instances (reverse h.log)))

@@ -1,8 +1,9 @@
 -- Restarts: each follows the most recent job execution of its job instance, and what it gives a job execution stays.
-use Rattle.std.proofs.Common.{◌≡◌, ℕ, ◌+◌, ◌==◌, ◌&&◌, ◌<◌, ◌≤◌, nat_lt, Bool, true, false, cond, Option, None, Some, Ok, List, [], ◌∷◌, ◌++◌, length, find, reverse, refl, sym, ◌∙◌, ap, subst, arith}
+use mathlib.Core.Path.{fun_ext}
+use Rattle.std.proofs.Common.{◌≡◌, ℕ, ◌+◌, ◌==◌, ◌&&◌, ◌<◌, ◌≤◌, nat_lt, Bool, true, false, cond, Option, None, Some, is_some, Ok, List, [], ◌∷◌, ◌++◌, length, filter, find, reverse, refl, sym, ◌∙◌, ap, subst, arith}
 use Rattle.std.specs.Option.{option_map, option_or}
 use Rattle.std.proofs.lemmas.List.{append_assoc, reverse-append, length-map}
-use Rattle.std.proofs.lemmas.Bool.{eqb-true, eq-eqb, ltb-false}
+use Rattle.std.proofs.lemmas.Bool.{eq-eqb, ltb-false}
 use Rattle.batch_ids.specs.Statuses.{is_unfinished}
 use Rattle.batch_ids.specs.declared.status.BatchStatus.{BatchStatus}
 use Rattle.batch_ids.specs.declared.status.BatchStatus.TheVariants.{Starting, Started, Stopping, Stopped, Failed, Completed, Abandoned}
@@ -11,15 +12,19 @@ use Rattle.job_walk.proofs.Following.{find-map}
 use Rattle.batch_history.specs.declared.call.Call.TheVariants.{Restart}
 use Rattle.batch_history.specs.declared.call.Entry.{Entry}
 use Rattle.batch_history.proofs.Folds.{made, is_made, abandoned_of, bare_of, folded_rows, execution_row, plan_kept, works_after}
-use Rattle.batch_history.specs.Executions.{Made}
+use Rattle.batch_history.specs.Executions.{Made, Origin, origin_of}
 use Rattle.batch_history.specs.Legal.{grown, IsLegal}
 use Rattle.batch_history.specs.Replies.{row_status, is_execution, reply, is_later_than, accepted, unless, reply_to_restart, restart_refusal, restart_plan}
-use Rattle.batch_history.specs.Rows.{History, Rows, rows}
+use Rattle.batch_history.specs.Rows.{History, Rows, rows, row_of_origin}
 use Rattle.batch_history.specs.Statuses.{is_finished}
+use Rattle.batch_history.specs.Lists.{is_at}
+use Rattle.batch_history.specs.Restarts.{plan_by, restart_point}
+use Rattle.batch_history.specs.Walks.{job_named}
+use Rattle.batch_history.specs.declared.rows.WorkRow.{WorkRow}
 use Rattle.batch_history.specs.declared.rows.ExecutionRow.{ExecutionRow}
-use Rattle.history_laws.specs.Laws.{beginning, row_in, MayGoOn, FollowsFrom, KeepsPlan}
-use Rattle.batch_history.proofs.Finding.{found-passes, any-none}
-use Rattle.batch_history.proofs.Legality.{past-due, rows_folded, rows_grown}
+use Rattle.history_laws.specs.Laws.{beginning, row_in, works_in, walk_in, plan_again_in, MayGoOn, RestartsFollow, HasOneUnfinishedEach, FollowsFrom, KeepsPlan}
+use Rattle.batch_history.proofs.Finding.{any-none}
+use Rattle.batch_history.proofs.Legality.{past-due, rows_folded, rows_grown, execution_found, instance_found}
 use Rattle.batch_history.proofs.Finished.{finished-status, made-after}
 use Rattle.batch_ids.specs.Parameters.{Pair}
 use Rattle.batch_history.proofs.Singles.{earlier-over}
@@ -29,38 +34,45 @@ use Rattle.std.proofs.lemmas.List.Folds.{find-append}
 use Rattle.batch_ids.specs.declared.refusal.Refusal.{Refusal}
 use Rattle.batch_history.specs.declared.call.Reply.{Reply}
 use Rattle.batch_history.specs.declared.call.Reply.TheVariants.{Execution as IsExecution}
-use Rattle.batch_history.proofs.Legal.{entered-is}
+use Rattle.batch_history.proofs.Legal.{entered-is, legal-beginning}
 use Rattle.batch_history.proofs.Origins.{find-past}
 use Rattle.batch_history.proofs.Steps.{fresh_row, again_row, executions_after}
-use Rattle.history_laws.proofs.Beginnings.{legal-beginning, row-folded, row-there, IsRowAt, row-at}
+use Rattle.history_laws.proofs.Beginnings.{row-folded, row-there, IsRowAt, row-at}
 
 -- ---- The job execution that a restart names
 
+row-numbered : (catalogue : List JobTree) (past : List Entry) (x : ℕ) (row : ExecutionRow) (o : Option Origin)
+    → option_map (row_of_origin catalogue past x) o ≡ Some row → row.execution ≡ x
+row-numbered catalogue past x row None e = cc
+row-numbered catalogue past x row (Some o) e =
+    let is : row_of_origin catalogue past x o ≡ row = cc in
+    sym (ap (λ (r : ExecutionRow). r.execution) is)
+
 row-number : (h : History) (x : ℕ) (row : ExecutionRow) → row_in h x ≡ Some row → row.execution ≡ x
-row-number h x row found = eqb-true row.execution x (found-passes (is_execution x) (rows h).executions row found)
+row-number h x row found = row-numbered h.catalogue (reverse h.log) x row (origin_of (reverse h.log) x) found
 
 not-later : (a b : ℕ) (same : Bool) → same ≡ true → (same && nat_lt a b) ≡ false → b ≤ a
 not-later a b true is h = ltb-false a b h
 not-later a b false is h = cc
 
-may-go-on : (h : History) (y : ℕ) → ToldRestart (rows h) y → MayGoOn h y
-may-go-on h y told =
+may-go-on : (limit : ℕ) (h : History) → IsLegal limit h → (y : ℕ) → ToldRestart (rows h) y → MayGoOn h y
+may-go-on limit h legal y told =
+    let there : row_in h y ≡ Some told.row = sym (execution_found limit h legal y) ∙ told.found in
     record {
       row = told.row;
-      found = told.found;
+      found = there;
       latest = λ x other found same.
-          let none : is_later_than told.row other ≡ false = any-none (is_later_than told.row) (is_execution x) (rows h).executions other told.newest found in
+          let none : is_later_than told.row other ≡ false = any-none (is_later_than told.row) (is_execution x) (rows h).executions other told.newest (execution_found limit h legal x ∙ found) in
           let le : other.execution ≤ told.row.execution = not-later told.row.execution other.execution (other.instance == told.row.instance) (eq-eqb other.instance told.row.instance same) none in
-          omega (arith, le, row-number h x other found, row-number h y told.row told.found);
+          omega (arith, le, row-number h x other found, row-number h y told.row there);
       over = told.over;
     }
 
-pub restart_follows : (limit : ℕ) (h : History) → IsLegal limit h → (before : List Entry) (e : Entry) (after : List Entry) → h.log ≡ before ++ e ∷ after
-    → (y : ℕ) (parameters : List Pair) → e.call ≡ Restart y parameters → MayGoOn (beginning h before) y
+pub restart_follows : (limit : ℕ) (h : History) → IsLegal limit h → RestartsFollow h
 restart_follows limit h legal before e after cut y parameters is =
     let due = legal.due before e after cut in
     let there : reply limit (beginning h before) e.who (Restart y parameters) ≡ Ok e.reply = sym (ap (reply limit (beginning h before) e.who) is) ∙ due.0 in
-    may-go-on (beginning h before) y (restart-told limit (rows (beginning h before)) y e.reply there)
+    may-go-on limit (beginning h before) (legal-beginning limit h legal before (e ∷ after) cut) y (restart-told limit (rows (beginning h before)) y e.reply there)
 
 -- ---- Unfinished job executions
 
@@ -90,9 +102,7 @@ not-earlier limit h legal x y one other found_one found_other same unfinished lt
     ∙ finished-status (abandoned_of past first.one.execution) (bare_of h.catalogue past first.one) over in
     over-both (row_status one) shown unfinished
 
-pub one_unfinished : (limit : ℕ) (h : History) → IsLegal limit h → (before after : List Entry) → h.log ≡ before ++ after → (x y : ℕ) (one other : ExecutionRow)
-    → row_in (beginning h before) x ≡ Some one → row_in (beginning h before) y ≡ Some other → one.instance ≡ other.instance
-    → is_unfinished (row_status one) ≡ true → is_unfinished (row_status other) ≡ true → x ≡ y
+pub one_unfinished : (limit : ℕ) (h : History) → IsLegal limit h → HasOneUnfinishedEach h
 one_unfinished limit h legal before after cut x y one other found_one found_other same unfinished_one unfinished_other =
     let begun : IsLegal limit (beginning h before) = legal-beginning limit h legal before after cut in
     let not_below : x < y → ⊥ = not-earlier limit (beginning h before) begun x y one other found_one found_other same unfinished_one in
@@ -100,6 +110,13 @@ one_unfinished limit h legal before after cut x y one other found_one found_othe
     omega (arith, not_below, not_above)
 
 -- ---- What a restart makes
+
+-- the plan by the rows is the one by the log
+plan-searched : (limit : ℕ) (h : History) → IsLegal limit h → (row : ExecutionRow) → restart_plan (rows h) row ≡ plan_again_in h row
+plan-searched limit h legal row =
+    ap (λ (instance : ℕ → Option ℕ). plan_by (restart_point (is_some row.start) (walk_in h row) row.plan.from)
+    (filter (λ (work : WorkRow). is_at row.instance (instance work.execution)) (works_in h)) (job_named h.catalogue row.job))
+    (fun_ext (instance_found limit h legal))
 
 -- the row with the next number
 new-found : (catalogue : List JobTree) (past : List Entry) (new : ExecutionRow) → new.execution ≡ length (folded_rows catalogue past).executions + 1
@@ -147,12 +164,13 @@ restart_gives limit h legal before e after cut y x parameters call is =
     (sym (rows_folded limit then begun)) (new-found h.catalogue (reverse before)) in
     record {
       named = told.row;
-      found = told.found;
+      found = sym (execution_found limit then begun y) ∙ told.found;
       row = new;
-      made = ap (find (is_execution x)) more ∙ (ap (λ n. find (is_execution n) (r.executions ++ new ∷ [])) number ∙ last new refl);
+      made = sym (execution_found limit (grown then e) with_it x)
+          ∙ (ap (find (is_execution x)) more ∙ (ap (λ n. find (is_execution n) (r.executions ++ new ∷ [])) number ∙ last new refl));
       instance = refl;
       job = refl;
-      plan = refl;
+      plan = plan-searched limit then begun told.row;
     }
 
 -- ---- Plans

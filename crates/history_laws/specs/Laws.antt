@@ -1,13 +1,19 @@
 -- What every legal history keeps, in the words of its subject.
-use Rattle.std.specs.Prelude.{ℕ, ◌≡◌, ◌⊎◌, ◌≤◌, ◌+◌, ◌==◌, true, false, Option, None, Some, is_some, List, [], ◌∷◌, ◌++◌, length, find, reverse, if◌then◌else◌}
+use Rattle.std.specs.Prelude.{ℕ, ◌≡◌, ◌⊎◌, ◌≤◌, ◌+◌, ◌==◌, ◌<◌, Bool, true, false, Option, None, Some, is_some, List, [], ◌∷◌, ◌++◌, filter, find, map, reverse, if◌then◌else◌}
+use Rattle.batch_ids.specs.Parameters.{Pair}
 use Rattle.batch_ids.specs.Statuses.{is_unfinished}
 use Rattle.batch_ids.specs.declared.status.BatchStatus.TheVariants.{Stopped, Failed}
+use Rattle.job_walk.specs.declared.facts.Value.{Value}
 use Rattle.job_walk.specs.declared.plan.Plan.{Plan}
 use Rattle.job_walk.specs.declared.runnable.Runnable.{Runnable}
 use Rattle.job_walk.specs.declared.runnable.Runnable.TheVariants.{Step as RunsStep}
-use Rattle.jsl_model.specs.Names.{is_among}
+use Rattle.jsl_model.specs.Names.{distinct, is_among}
 use Rattle.jsl_model.specs.declared.element.Task.{Task}
 use Rattle.batch_history.specs.declared.call.Call.{Call}
+use Rattle.batch_history.specs.declared.call.Call.TheVariants.{Restart}
+use Rattle.batch_history.specs.Checkpoints.{checkpoint_of}
+use Rattle.batch_history.specs.Executions.{instance_of_execution, job_instances}
+use Rattle.batch_history.specs.Lists.{is_at}
 use Rattle.batch_history.specs.Operations.{Making, begins, restarts, effects}
 use Rattle.batch_history.specs.declared.call.WorkItem.{WorkItem}
 use Rattle.batch_history.specs.declared.call.Entry.{Entry}
@@ -16,19 +22,38 @@ use Rattle.batch_history.specs.declared.rows.WorkRow.{WorkRow}
 use Rattle.batch_history.specs.declared.rows.WorkState.TheVariants.{Busy}
 use Rattle.batch_history.specs.declared.rows.JobInstance.{JobInstance}
 use Rattle.batch_history.specs.Legal.{grown}
-use Rattle.batch_history.specs.Replies.{row_status, is_execution, has_something, first_ready, walk_in_rows, work_task, runnable_of_job, restart_plan}
-use Rattle.batch_history.specs.Restarts.{plan_of}
-use Rattle.batch_history.specs.Rows.{History, rows, IsAsBefore}
+use Rattle.batch_history.specs.Replies.{row_status, has_something_by, first_ready, work_task, runnable_of_job}
+use Rattle.batch_history.specs.Restarts.{plan_by, plan_of, restart_point}
+use Rattle.batch_history.specs.Rows.{History, history, job_execution, IsAsBefore}
 use Rattle.batch_history.specs.Statuses.{is_finished}
-use Rattle.batch_history.specs.Walks.{job_named, carried_exit}
+use Rattle.batch_history.specs.Walks.{job_named, carried_exit, walk_value}
+use Rattle.batch_history.specs.Works.{is_work, work_items, work_item_count}
 
 -- the history as it was after its first operations
 abbrev pub beginning : History → List Entry → History
-beginning h before = record { catalogue = h.catalogue; log = before }
+beginning h before = history h.catalogue before
 
--- the row of a job execution, if it was made
+-- ---- What stands in the log
+
+-- the record of a job execution, if it was made
 abbrev pub row_in : History → ℕ → Option ExecutionRow
-row_in h x = find (is_execution x) (rows h).executions
+row_in h x = job_execution h.catalogue (reverse h.log) x
+
+-- the work items that were handed out
+abbrev pub works_in : History → List WorkRow
+works_in h = work_items (reverse h.log)
+
+-- the work item of a number, if it was handed out
+abbrev pub work_in : History → ℕ → Option WorkRow
+work_in h w = find (is_work w) (works_in h)
+
+-- what the walk of a job execution comes to, by its plan and the work items
+abbrev pub walk_in : History → ExecutionRow → Value
+walk_in h row = walk_value h.catalogue (works_in h) row.execution row.job row.plan
+
+-- whether a job execution has something to do
+abbrev pub has_something_in : History → ExecutionRow → Bool
+has_something_in h row = has_something_by (row_status row) (walk_in h row)
 
 -- ---- A job execution that is over
 
@@ -66,19 +91,21 @@ run_for h row id = runnable_of_job (job_named h.catalogue row.job) id
 
 -- the checkpoint of a step in the job instance of a job execution
 abbrev pub checkpoint_in : History → ExecutionRow → List ℕ → Option (List ℕ)
-checkpoint_in h row id = (rows h).checkpoint record { instance = row.instance; step = id }
+checkpoint_in h row id = checkpoint_of (reverse h.log) record { instance = row.instance; step = id }
 
--- a work item is the first ready element of the least job execution with something to do, a step or a decision of its
--- job; the walk goes by the plan of the job execution, and a chunk goes on from the checkpoint of its step
+-- a work item is the first ready element of the job execution with the least number that has something to do, a step or a
+-- decision of its job; the walk goes by the plan of the job execution, and a chunk goes on from the checkpoint of its step
 pub record WasReady (h : History) (item : WorkItem) : Type 0 where
   pub owner : ExecutionRow
-  pub least : find (has_something (rows h)) (rows h).executions ≡ Some owner
-  pub execution : item.execution ≡ owner.execution
-  pub plan : owner.plan ≡ plan_of h.catalogue (reverse h.log) owner.execution
-  pub ready : first_ready (walk_in_rows (rows h) owner) ≡ Some item.element
+  pub found : row_in h item.execution ≡ Some owner
+  pub something : has_something_in h owner ≡ true
+  pub least : (x : ℕ) (other : ExecutionRow) → row_in h x ≡ Some other → x < item.execution
+      → has_something_in h other ≡ false
+  pub plan : owner.plan ≡ plan_of h.catalogue (reverse h.log) item.execution
+  pub ready : first_ready (walk_in h owner) ≡ Some item.element
   pub runs : is_some (run_for h owner item.element) ≡ true
   pub task : item.task ≡ work_task (checkpoint_in h owner item.element) (run_for h owner item.element)
-  pub number : item.work ≡ length (rows h).works + 1
+  pub number : item.work ≡ work_item_count (reverse h.log) + 1
 
 -- a plan neither carries nor bars a step
 abbrev pub IsOpen : Plan → List ℕ → Type 0
@@ -106,6 +133,31 @@ pub record MayGoOn (h : History) (y : ℕ) : Type 0 where
       → other.instance ≡ row.instance → x ≤ y
   pub over : (row_status row ≡ Stopped) ⊎ (row_status row ≡ Failed)
 
+-- each restart follows the most recent job execution of its job instance, which is STOPPED or FAILED
+abbrev pub RestartsFollow : History → Type 0
+RestartsFollow h =
+    (before : List Entry) (e : Entry) (after : List Entry) → h.log ≡ before ++ e ∷ after
+    → (y : ℕ) (parameters : List Pair) → e.call ≡ Restart y parameters → MayGoOn (beginning h before) y
+
+-- after any first operations, a job instance has at most one unfinished job execution
+abbrev pub HasOneUnfinishedEach : History → Type 0
+HasOneUnfinishedEach h =
+    (before after : List Entry) → h.log ≡ before ++ after → (x y : ℕ) (one other : ExecutionRow)
+    → row_in (beginning h before) x ≡ Some one → row_in (beginning h before) y ≡ Some other
+    → one.instance ≡ other.instance → is_unfinished (row_status one) ≡ true
+    → is_unfinished (row_status other) ≡ true → x ≡ y
+
+-- the work items of a job instance
+abbrev pub works_of_instance_in : History → ℕ → List WorkRow
+works_of_instance_in h i = filter (λ work. is_at i (instance_of_execution (reverse h.log) work.execution)) (works_in h)
+
+-- the plan that a restart of a job execution gives: it begins at the restart point, and what is carried and barred follows
+-- from the work items of the job instance
+abbrev pub plan_again_in : History → ExecutionRow → Plan
+plan_again_in h row =
+    plan_by (restart_point (is_some row.start) (walk_in h row) row.plan.from) (works_of_instance_in h row.instance)
+    (job_named h.catalogue row.job)
+
 -- what a restart makes: a job execution of the job instance and the job of the one that it names, with the plan of a
 -- restart of that one
 pub record FollowsFrom (h : History) (e : Entry) (y x : ℕ) : Type 0 where
@@ -115,7 +167,7 @@ pub record FollowsFrom (h : History) (e : Entry) (y x : ℕ) : Type 0 where
   pub made : row_in (grown h e) x ≡ Some row
   pub instance : row.instance ≡ named.instance
   pub job : row.job ≡ named.job
-  pub plan : row.plan ≡ restart_plan (rows h) named
+  pub plan : row.plan ≡ plan_again_in h named
 
 -- a job execution goes by the plan that it had
 pub record KeepsPlan (h : History) (x : ℕ) (before : ExecutionRow) : Type 0 where
@@ -128,8 +180,12 @@ pub record KeepsPlan (h : History) (x : ℕ) (before : ExecutionRow) : Type 0 wh
 -- the job instance of a job execution, and it is of the same job
 pub record HasInstance (h : History) (row : ExecutionRow) : Type 0 where
   pub instance : JobInstance
-  pub found : find (λ i. i.instance == row.instance) (rows h).instances ≡ Some instance
+  pub found : find (λ i. i.instance == row.instance) (job_instances (reverse h.log)) ≡ Some instance
   pub job : instance.job ≡ row.job
+
+-- the names of the jobs that have a job instance, each once, in the order of their first start
+abbrev pub names_in : History → List (List ℕ)
+names_in h = distinct (map (λ i. i.job) (job_instances (reverse h.log)))
 
 -- the names with that of a job whose job instance is begun: a job that is started for the first time comes last
 abbrev pub with_begun : List (List ℕ) → Option Making → List (List ℕ)

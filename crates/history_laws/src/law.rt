@@ -1,6 +1,5 @@
-ghost use Rattle.std.specs.Prelude.{ℕ, ◌≡◌, ◌≢◌, Option, ◌++◌, ◌∷◌, [], List, Some, Ok, true, false, is_some, find};
+ghost use Rattle.std.specs.Prelude.{ℕ, ◌≡◌, ◌≢◌, Option, ◌++◌, ◌∷◌, List, Some, Ok, true, false, is_some};
 ghost use Rattle.batch_ids.specs.Parameters.{Pair};
-ghost use Rattle.batch_ids.specs.Statuses.{is_unfinished};
 ghost use Rattle.jsl_model.specs.Names.{has_twice};
 ghost use Rattle.batch_history.specs.declared.call.Call.TheVariants.{Restart};
 ghost use Rattle.batch_history.specs.declared.call.Entry.{Entry};
@@ -15,10 +14,9 @@ ghost use Rattle.batch_history.specs.Answers.{answer};
 ghost use Rattle.batch_history.specs.Legal.{IsLegal, grown};
 ghost use Rattle.batch_history.specs.Replies.{row_status};
 ghost use Rattle.batch_history.specs.Walks.{job_named};
-ghost use Rattle.batch_history.specs.Rows.{History, rows};
+ghost use Rattle.batch_history.specs.Rows.{History};
 ghost use Rattle.batch_history.specs.Statuses.{is_finished};
-ghost use Rattle.batch_history.specs.Works.{is_work};
-ghost use Rattle.history_laws.specs.Laws.{beginning, row_in, StaysFinished, EndedAt, BelongsTo, WasReady, IsOfOpenStep, GoesOnFrom, MayGoOn, FollowsFrom, KeepsPlan, HasInstance, with_name};
+ghost use Rattle.history_laws.specs.Laws.{beginning, row_in, work_in, names_in, StaysFinished, EndedAt, BelongsTo, WasReady, IsOfOpenStep, GoesOnFrom, RestartsFollow, HasOneUnfinishedEach, FollowsFrom, KeepsPlan, HasInstance, with_name};
 
 /// A job execution that is over stays so: whatever is accepted later, all of it stays as it was, its
 /// exit status, start and end among it, but for whether it is abandoned and the moment of the last
@@ -53,10 +51,10 @@ pub fn ends_are_moments_of_operations()
 #[tactic(auto, using(crate::proofs::Laws::belongs, crate::proofs::Laws::once_each))]
 pub fn work_belongs_to_unfinished_job_executions()
     ensures belongs { (limit : ℕ) (h : History) → IsLegal limit h → (w : ℕ) (work : WorkRow)
-        → find (is_work w) (rows h).works ≡ Some work → BelongsTo h work }
+        → work_in h w ≡ Some work → BelongsTo h work }
     ensures once { (limit : ℕ) (h : History) → IsLegal limit h → (v w : ℕ) (one other : WorkRow)
-        → find (is_work v) (rows h).works ≡ Some one → find (is_work w) (rows h).works ≡ Some other
-        → v ≢ w → one.execution ≡ other.execution → one.element ≢ other.element }
+        → work_in h v ≡ Some one → work_in h w ≡ Some other → v ≢ w
+        → one.execution ≡ other.execution → one.element ≢ other.element }
 {}
 
 /// What is handed out was ready: a reply of work names the first ready element of the least job
@@ -102,10 +100,7 @@ pub fn chunks_go_on_from_their_checkpoints()
 /// It does nothing: its contract is the law, of every entry of a legal history.
 #[tactic(auto, using(crate::proofs::Restarts::restart_follows))]
 pub fn restarts_follow_the_most_recent_job_execution()
-    ensures { (limit : ℕ) (h : History) → IsLegal limit h
-        → (before : List Entry) (e : Entry) (after : List Entry) → h.log ≡ before ++ e ∷ after
-        → (y : ℕ) (parameters : List Pair) → e.call ≡ Restart y parameters
-        → MayGoOn (beginning h before) y }
+    ensures { (limit : ℕ) (h : History) → IsLegal limit h → RestartsFollow h }
 {}
 
 /// At every moment a job instance has at most one unfinished job execution.
@@ -113,11 +108,7 @@ pub fn restarts_follow_the_most_recent_job_execution()
 /// It does nothing: its contract is the law, of every legal history and each of its beginnings.
 #[tactic(auto, using(crate::proofs::Restarts::one_unfinished))]
 pub fn job_instances_have_at_most_one_unfinished_job_execution()
-    ensures { (limit : ℕ) (h : History) → IsLegal limit h → (before after : List Entry)
-        → h.log ≡ before ++ after → (x y : ℕ) (one other : ExecutionRow)
-        → row_in (beginning h before) x ≡ Some one → row_in (beginning h before) y ≡ Some other
-        → one.instance ≡ other.instance → is_unfinished (row_status one) ≡ true
-        → is_unfinished (row_status other) ≡ true → x ≡ y }
+    ensures { (limit : ℕ) (h : History) → IsLegal limit h → HasOneUnfinishedEach h }
 {}
 
 /// A job execution goes by the plan that its restart gave it, which comes from the job execution
@@ -154,14 +145,13 @@ pub fn jobs_of_job_executions_are_in_the_catalogue()
 {}
 
 /// The job names stand once each, in the order of their first start: a start of a job that is not
-/// among them appends it, and nothing else changes them.
+/// among them appends it, and nothing else changes them. They are what the query is answered.
 ///
 /// It does nothing: its contract is the law.
 #[tactic(auto, using(crate::proofs::Laws::names_once, crate::proofs::Laws::names_grow))]
 pub fn job_names_stand_once_in_order_of_first_start()
-    ensures once { (h : History) (names : List (List ℕ)) → answer h JobNames ≡ Ok (AreNames names)
-        → has_twice names ≡ false }
-    ensures order { (h : History) (e : Entry) (names : List (List ℕ))
-        → answer h JobNames ≡ Ok (AreNames names)
-        → answer (grown h e) JobNames ≡ Ok (AreNames (with_name names e.call)) }
+    ensures once { (h : History) → has_twice (names_in h) ≡ false }
+    ensures order { (h : History) (e : Entry)
+        → names_in (grown h e) ≡ with_name (names_in h) e.call }
+    ensures answered { (h : History) → answer h JobNames ≡ Ok (AreNames (names_in h)) }
 {}

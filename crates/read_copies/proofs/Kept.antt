@@ -2,15 +2,17 @@
 use Rattle.std.proofs.Common.{◌≡◌, ℕ, ◌≤◌, List, [], ◌∷◌, take, length, refl, sym, subst, arith}
 use Rattle.std.proofs.lemmas.List.{length-take-le}
 use mathlib.Core.List.{IsPrefix}
+use Rattle.batch_history.proofs.Legal.{legal-nothing}
+use Rattle.batch_history.specs.Legal.{most_operations}
 use Rattle.batch_history.specs.declared.call.Entry.{Entry}
 use Rattle.jsl_model.specs.Jobs.{JobTree}
 use Rattle.seat_rules.specs.Places.{IsLegalLog}
-use Rattle.seat_rules.proofs.Prefixes.{prefix_take, prefix_shorter, legal_prefix, legal_nothing}
+use Rattle.seat_rules.proofs.Prefixes.{prefix_take, prefix_shorter, legal_prefix}
 use Rattle.seat_rules.specs.Views.{Each, list_of}
 use Rattle.read_copies.specs.Copies.{IsCopied}
 
 pub copied_new : (stands : List JobTree → List Entry → Type 0) (catalogue : List JobTree) (seat : List (List Entry)) → seat ≡ [] ∷ [] → stands catalogue [] → IsCopied stands catalogue 0 seat
-copied_new stands catalogue seat is s = subst (IsCopied stands catalogue 0) (sym is) (record { one = refl; entries_is = refl; legal = legal_nothing catalogue; stood = s })
+copied_new stands catalogue seat is s = subst (IsCopied stands catalogue 0) (sym is) (record { one = refl; entries_is = refl; legal = legal-nothing most_operations catalogue; stood = s })
 
 pub copied_is : (stands : List JobTree → List Entry → Type 0) (catalogue : List JobTree) (entries : ℕ) (seat : List (List Entry)) (log : List Entry) → seat ≡ take entries log ∷ [] → entries ≤ length log → IsLegalLog catalogue log → stands catalogue (take entries log) → IsCopied stands catalogue entries seat
 copied_is stands catalogue entries seat log is le legal s =

@@ -1,3 +1,2 @@
 mod Counting
 pub mod Kept
-mod Taking

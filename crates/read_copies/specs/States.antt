@@ -1,7 +1,7 @@
 -- What the states of read copies stand for, and what they are asked.
 use Rattle.std.specs.Prelude.{◌≡◌, List, Result, Ok}
 use Rattle.batch_history.specs.Answers.{answer, counts_of}
-use Rattle.batch_history.specs.Rows.{rows}
+use Rattle.batch_history.specs.Rows.{rows, history}
 use Rattle.batch_history.specs.declared.call.Entry.{Entry}
 use Rattle.batch_history.specs.declared.query.Answer.{Answer}
 use Rattle.batch_history.specs.declared.query.CountsByStatus.{CountsByStatus}
@@ -9,7 +9,6 @@ use Rattle.batch_history.specs.declared.query.Query.{Query}
 use Rattle.batch_ids.specs.declared.refusal.Refusal.{Refusal}
 use Rattle.jsl_model.specs.Jobs.{JobTree}
 use Rattle.seq_repository.specs.Kept.{Kept, StandsFor}
-use Rattle.sessions.specs.Answered.{history}
 
 -- a repository stands for a log over a catalogue
 abbrev pub StandsForLog : Kept → List JobTree → List Entry → Type 0

@@ -2,7 +2,8 @@ ghost use Rattle.std.specs.Prelude.{◌≡◌, ◌<◌, ◌≤◌, ◌⊎◌, []
 ghost use mathlib.Core.List.{IsPrefix};
 ghost use Rattle.batch_history.specs.Due.{IsDue};
 ghost use Rattle.seat_rules.specs.Places.{IsLegalLog};
-ghost use Rattle.seat_rules.specs.Views.{Each, HasStop, entries_by, informed};
+ghost use Rattle.batch_history.specs.Legal.{entries_by};
+ghost use Rattle.seat_rules.specs.Views.{Each, HasStop, informed};
 
 use crate::absorb::Absorb;
 use batch_ids::{OutOfMemory, Refusal};

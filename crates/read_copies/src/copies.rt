@@ -3,7 +3,8 @@ ghost use Rattle.std.specs.List.{All};
 ghost use mathlib.Core.List.{IsPrefix};
 ghost use Rattle.batch_history.specs.Due.{IsDue};
 ghost use Rattle.seat_rules.specs.Places.{IsLegalLog};
-ghost use Rattle.seat_rules.specs.Views.{Each, HasStop, entries_by, informed};
+ghost use Rattle.batch_history.specs.Legal.{entries_by};
+ghost use Rattle.seat_rules.specs.Views.{Each, HasStop, informed};
 
 use crate::absorb::Absorb;
 use crate::copied::Copied;

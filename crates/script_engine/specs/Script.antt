@@ -1,14 +1,11 @@
 -- The text that a script is answered with.
 use Rattle.std.specs.Prelude.{ℕ, ◌==◌, List, [], ◌∷◌, ◌++◌, length, nat_lt, Result, Ok, Err, if◌then◌else◌}
-use Rattle.batch_ids.specs.declared.refusal.Refusal.{Refusal}
 use Rattle.batch_ids.specs.declared.refusal.Refusal.TheVariants as refusals
 use Rattle.jsl_model.specs.Jobs.{JobTree}
-use Rattle.batch_history.specs.declared.call.Call.{Call}
-use Rattle.batch_history.specs.declared.call.Reply.{Reply}
 use Rattle.batch_history.specs.Answers.{answer}
-use Rattle.batch_history.specs.Legal.{after_call}
+use Rattle.batch_history.specs.Legal.{history_after, most_operations}
 use Rattle.batch_history.specs.Replies.{reply}
-use Rattle.batch_history.specs.Rows.{History}
+use Rattle.batch_history.specs.Rows.{History, history}
 use Rattle.script_lines.specs.declared.line.TheConstants.{MAX_LINE}
 use Rattle.script_lines.specs.Cut.{script_lines}
 use Rattle.script_text.specs.declared.command.Command.{Command}
@@ -20,10 +17,6 @@ use Rattle.jsl_json.specs.Catalogues.{catalogue_of}
 use Rattle.script_text.specs.Answers.{answer_text}
 use Rattle.script_text.specs.Replies.{reply_text, bad_line_text}
 use Rattle.script_text.specs.Faults.{fault_text}
-
--- how many operations a log may have
-abbrev pub limit : ℕ
-limit = 1000000
 
 -- Lines
 
@@ -39,19 +32,14 @@ catalogue_at line = if nat_lt MAX_LINE (length line) then Err NotACatalogue else
 abbrev pub text_for : History → Command → List ℕ
 text_for h BadLine = bad_line_text
 text_for h TextTooLong = reply_text (Err refusals.TextTooLong)
-text_for h (Act by at call) = reply_text (reply limit h by call)
+text_for h (Act by at call) = reply_text (reply most_operations h by call)
 text_for h (Ask query) = answer_text (answer h query)
-
--- the history after a call that is answered so: a refused call changes nothing
-abbrev pub history_with : History → ℕ → ℕ → Call → Result Reply Refusal → History
-history_with h by at call (Ok answered) = after_call h by call at answered
-history_with h by at call (Err refusal) = h
 
 -- the history after a command: only a call changes it
 abbrev pub history_for : History → Command → History
 history_for h BadLine = h
 history_for h TextTooLong = h
-history_for h (Act by at call) = history_with h by at call (reply limit h by call)
+history_for h (Act by at call) = history_after h by call at (reply most_operations h by call)
 history_for h (Ask query) = h
 
 -- the reply to a line after a history; an empty line has none
@@ -76,7 +64,7 @@ history_past h (line ∷ lines) = history_past (line_after h line) lines
 
 -- a catalogue's history before the first operation
 abbrev pub begin : List JobTree → History
-begin catalogue = record { catalogue = catalogue; log = [] }
+begin catalogue = history catalogue []
 
 -- the text for the lines behind the first: a fault of the catalogue is all that is told
 abbrev pub opened : Result (List JobTree) ReadFault → List (List ℕ) → List ℕ

@@ -4,6 +4,7 @@ use Rattle.batch_ids.specs.declared.refusal.Refusal.{Refusal}
 use Rattle.jsl_model.specs.Jobs.{JobTree}
 use Rattle.jsl_json.specs.declared.fault.ReadFault.{ReadFault}
 use Rattle.batch_history.specs.Answers.{answer}
+use Rattle.batch_history.specs.Legal.{most_operations}
 use Rattle.batch_history.specs.Replies.{reply}
 use Rattle.batch_history.specs.Rows.{History}
 use Rattle.script_text.specs.declared.command.Command.{Command}
@@ -11,7 +12,7 @@ use Rattle.script_text.specs.declared.command.Command.TheVariants.{BadLine, Text
 use Rattle.script_engine.specs.declared.summary.Kind.{Kind}
 use Rattle.script_engine.specs.declared.summary.Kind.TheVariants.{Empty, Accepted, Refused, Bad}
 use Rattle.script_engine.specs.declared.summary.Summary.{Summary}
-use Rattle.script_engine.specs.Script.{limit, command_at, line_after, begin, catalogue_at, entries_of_lines}
+use Rattle.script_engine.specs.Script.{command_at, line_after, begin, catalogue_at, entries_of_lines}
 
 -- What becomes of lines
 
@@ -24,7 +25,7 @@ kind_of (Err refusal) = Refused
 abbrev pub kind_for : History → Command → Kind
 kind_for h BadLine = Bad
 kind_for h TextTooLong = Refused
-kind_for h (Act by at call) = kind_of (reply limit h by call)
+kind_for h (Act by at call) = kind_of (reply most_operations h by call)
 kind_for h (Ask query) = kind_of (answer h query)
 
 -- a line after a history

@@ -13,7 +13,8 @@ use Rattle.jsl_model.specs.Jobs.{JobTree}
 use Rattle.seat_rules.specs.Places.{IsLegalLog, Known, known}
 use Rattle.seat_rules.specs.Rule.{IsBookOf, IsSessionOf, IsShown, Kept}
 use Rattle.seat_rules.specs.Steps.{Appended, appended}
-use Rattle.seat_rules.specs.Views.{HasStop, desk_view, entries_by, known_in, times, with_entry}
+use Rattle.batch_history.specs.Legal.{entries_by}
+use Rattle.seat_rules.specs.Views.{HasStop, desk_view, known_in, times, with_entry}
 use Rattle.seat_rules.proofs.Prefixes.{prefix_self, prefix_push}
 use Rattle.seat_rules.specs.declared.view.SessionView.{SessionView}
 use Rattle.seat_rules.specs.declared.view.SeatView.{SeatView}

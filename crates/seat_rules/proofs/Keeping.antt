@@ -10,7 +10,8 @@ use Rattle.batch_history.specs.declared.call.Entry.{Entry}
 use Rattle.jsl_model.specs.Jobs.{JobTree}
 use Rattle.seat_rules.specs.Rule.{IsKept, IsShown}
 use Rattle.seat_rules.specs.Views.{HasStop, first_view, times, total}
-use Rattle.seat_rules.proofs.Prefixes.{legal_nothing}
+use Rattle.batch_history.proofs.Legal.{legal-nothing}
+use Rattle.batch_history.specs.Legal.{most_operations}
 use Rattle.seat_rules.specs.declared.view.SeatView.{SeatView}
 use Rattle.seat_rules.proofs.Sums.{sum_at, sum_two, total-snoc}
 
@@ -53,7 +54,7 @@ begins catalogue ws some_word zeros = record {
   some_word = some_word;
   stop_words = λ k pos. inl (zeros_at ws zeros k);
   counted = zeros_at ws zeros 0;
-  legal = legal_nothing catalogue;
+  legal = legal-nothing most_operations catalogue;
   unused = λ n h. refl;
   shown = one;
   one_book = omega arith;

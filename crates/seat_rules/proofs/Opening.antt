@@ -11,7 +11,8 @@ use Rattle.jsl_model.specs.Jobs.{JobTree}
 use Rattle.seat_rules.specs.Places.{known}
 use Rattle.seat_rules.specs.Rule.{IsBookOf, IsSessionOf, IsShown, Kept}
 use Rattle.seat_rules.specs.Steps.{newcomer, opened}
-use Rattle.seat_rules.specs.Views.{desk_view, entries_by, new_session}
+use Rattle.batch_history.specs.Legal.{entries_by}
+use Rattle.seat_rules.specs.Views.{desk_view, new_session}
 use Rattle.seat_rules.proofs.Prefixes.{prefix_self}
 use Rattle.seat_rules.specs.declared.view.SeatView.{SeatView}
 use Rattle.seat_rules.proofs.Sums.{sum_set, sum_zero, each-imp, each-none, times_high, times_own, times_not}

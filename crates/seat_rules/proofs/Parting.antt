@@ -8,7 +8,8 @@ use Rattle.jsl_model.specs.Jobs.{JobTree}
 use Rattle.seat_rules.specs.Places.{Known, known}
 use Rattle.seat_rules.specs.Rule.{IsSessionOf, IsShown, Kept}
 use Rattle.seat_rules.specs.Steps.{caught_up, copy_read, emptied, leaver, new_copy, one_met, other_met, released, same_view, without_copy}
-use Rattle.seat_rules.specs.Views.{HasStop, desk_view, entries_by, informed, session_view, times, view_of}
+use Rattle.batch_history.specs.Legal.{entries_by}
+use Rattle.seat_rules.specs.Views.{HasStop, desk_view, informed, session_view, times, view_of}
 use Rattle.seat_rules.proofs.Prefixes.{prefix_self, prefix_take, prefix_shorter, entries_between}
 use Rattle.seat_rules.specs.declared.view.SessionView.{SessionView}
 use Rattle.seat_rules.specs.declared.view.BookView.{BookView}

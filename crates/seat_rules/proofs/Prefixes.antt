@@ -1,14 +1,15 @@
 -- Beginnings of one log.
-use Rattle.std.proofs.Common.{◌≡◌, ℕ, suc, ◌≤◌, Ok, lit≤, List, [], ◌∷◌, ◌++◌, length, take, drop, refl, ap, sym, ◌∙◌, arith, append_assoc, length-append}
+use Rattle.std.proofs.Common.{◌≡◌, ℕ, suc, ◌≤◌, List, [], ◌∷◌, ◌++◌, length, take, drop, refl, ap, sym, ◌∙◌, arith, append_assoc, length-append}
 use Rattle.std.proofs.lemmas.List.{append-nil, take-append-drop}
 use Rattle.std.proofs.lemmas.List.Elements.{filter-append}
 use Rattle.std.specs.Prelude.{◌==◌, filter, Bool, true, false, cond}
 use mathlib.Core.List.{IsPrefix}
-use Rattle.batch_history.specs.Replies.{is_nothing, reply}
+use Rattle.batch_history.proofs.Legal.{legal-beginning}
+use Rattle.batch_history.specs.Legal.{entries_by, most_operations}
+use Rattle.batch_history.specs.Rows.{history}
 use Rattle.batch_history.specs.declared.call.Entry.{Entry}
 use Rattle.jsl_model.specs.Jobs.{JobTree}
 use Rattle.seat_rules.specs.Places.{IsLegalLog}
-use Rattle.seat_rules.specs.Views.{entries_by}
 
 -- each list begins with itself
 pub prefix_self : {A : Type 0} (xs : List A) → IsPrefix xs xs
@@ -64,18 +65,6 @@ prefix_take n xs = (drop n xs, take-append-drop n xs)
 
 -- ---- Legal logs
 
--- an empty log is legal
-pub legal_nothing : (catalogue : List JobTree) → IsLegalLog catalogue []
-legal_nothing catalogue = record { within = lit≤ tt; due = cut }
-  where
-    cut : (before : List Entry) (e : Entry) (after : List Entry) → [] ≡ before ++ e ∷ after
-        → (reply 1000000 record { catalogue = catalogue; log = before } e.who e.call ≡ Ok e.reply) × (is_nothing e.reply ≡ false)
-    cut [] e after h = absurd cc
-    cut (x ∷ xs) e after h = absurd cc
-
 -- a beginning of a legal log is legal
 pub legal_prefix : (catalogue : List JobTree) (xs ys : List Entry) → IsPrefix xs ys → IsLegalLog catalogue ys → IsLegalLog catalogue xs
-legal_prefix catalogue xs ys p legal = record {
-  within = omega (arith, legal.within, ap length p.1, length-append xs p.0);
-  due = λ before e after is. legal.due before e (after ++ p.0) (sym p.1 ∙ (ap (λ l. l ++ p.0) is ∙ append_assoc before (e ∷ after) p.0));
-}
+legal_prefix catalogue xs ys p legal = legal-beginning most_operations (history catalogue ys) legal xs p.0 (sym p.1)

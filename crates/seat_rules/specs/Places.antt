@@ -1,7 +1,8 @@
 -- What contracts see of a table and of a desk's seat.
 use Rattle.std.specs.Prelude.{ℕ, List, []}
 use Rattle.atomic_table.specs.Seated.{TableId}
-use Rattle.batch_history.specs.Legal.{IsLegal}
+use Rattle.batch_history.specs.Legal.{IsLegal, most_operations}
+use Rattle.batch_history.specs.Rows.{history}
 use Rattle.batch_history.specs.declared.call.Entry.{Entry}
 use Rattle.jsl_model.specs.Jobs.{JobTree}
 use Rattle.seat_rules.specs.declared.view.SessionView.{SessionView}
@@ -15,13 +16,9 @@ pub record Place : Type 0 where
 abbrev pub no_place : Place
 no_place = record { table = record { words = 0; slots = 0; views_name = 0; atom = 0; block = 0; offset = 0; slot_names = [] }; catalogue = [] }
 
--- how many operations a log has at most
-abbrev pub most_operations : ℕ
-most_operations = 1000000
-
 -- a log is legal over a catalogue: each operation in it has the reply that was due after those before it
 abbrev pub IsLegalLog : List JobTree → List Entry → Type 0
-IsLegalLog catalogue log = IsLegal most_operations record { catalogue = catalogue; log = log }
+IsLegalLog catalogue log = IsLegal most_operations (history catalogue log)
 
 -- what a desk's seat knows: the log, the last session number, and the sessions and the copies that it hosts
 pub record Known : Type 0 where

@@ -10,7 +10,8 @@ use Rattle.seat_rules.specs.declared.view.SessionView.{SessionView}
 use Rattle.seat_rules.specs.declared.view.BookView.{BookView}
 use Rattle.seat_rules.specs.declared.view.SeatView.{SeatView}
 use Rattle.seat_rules.specs.Places.{IsLegalLog}
-use Rattle.seat_rules.specs.Views.{Each, HasStop, entries_by, times, total}
+use Rattle.batch_history.specs.Legal.{entries_by}
+use Rattle.seat_rules.specs.Views.{Each, HasStop, times, total}
 
 -- what the rule says of a session: it has seen a beginning of the log, in which all its operations stand; the count that
 -- it was shown is at most the log's length; the stops that it found stand among so many operations, or in the log

@@ -1,5 +1,5 @@
 -- What seats know, and words for it.
-use Rattle.std.specs.Prelude.{ℕ, ◌≡◌, ◌+◌, ◌<◌, ◌==◌, zero, suc, Bool, true, false, max, nat_lt, if◌then◌else◌, List, [], ◌∷◌, ◌++◌, filter, length}
+use Rattle.std.specs.Prelude.{ℕ, ◌≡◌, ◌+◌, ◌<◌, ◌==◌, zero, suc, Bool, true, false, max, nat_lt, if◌then◌else◌, List, [], ◌∷◌, ◌++◌, length}
 use Rattle.atomic_table.specs.Seated.{TableId}
 use Rattle.batch_history.specs.declared.call.Call.TheVariants.{Stop}
 use Rattle.batch_history.specs.declared.call.Entry.{Entry}
@@ -25,10 +25,6 @@ one_if true = 1
 one_if false = 0
 
 -- ---- Sessions
-
--- the operations of a session, in their order
-abbrev pub entries_by : ℕ → List Entry → List Entry
-entries_by who log = filter (λ e. e.who == who) log
 
 -- an accepted stop of job execution x stands among the first n operations
 pub record HasStop (log : List Entry) (n x : ℕ) : Type 0 where

@@ -8,7 +8,8 @@ use Rattle.jsl_model.specs.Jobs.{JobTree}
 use Rattle.seat_rules.specs.Places.{IsLegalLog}
 use Rattle.seat_rules.specs.Steps.{met_one, met_other}
 use Rattle.seat_rules.specs.Rule.{IsSessionOf}
-use Rattle.seat_rules.specs.Views.{Each, HasStop, entries_by, informed, list_of, met, times}
+use Rattle.batch_history.specs.Legal.{entries_by}
+use Rattle.seat_rules.specs.Views.{Each, HasStop, informed, list_of, met, times}
 use Rattle.sessions.specs.Sessions.{IsSession, Meets, one_of}
 use Rattle.seat_rules.proofs.Prefixes.{prefix_shorter, prefix_whole, entries_between, entries_short}
 use Rattle.seat_rules.specs.declared.view.SessionView.{SessionView}

@@ -10,7 +10,7 @@ use Rattle.batch_ids.specs.declared.status.WorkOutcome.{WorkOutcome}
 use Rattle.batch_ids.specs.declared.status.WorkOutcome.TheVariants.{Completed, Failed, Stopped}
 use Rattle.batch_history.specs.Legal.{IsLegal}
 use Rattle.batch_history.specs.Replies.{accepted, go_or_stop, has_something, is_execution, is_running_in, loss_refusal, reply_by, reply_to_abandon, reply_to_checkpoint, reply_to_claim, reply_to_end, reply_to_finish, reply_to_kept_checkpoint, reply_to_loss, reply_to_restart, reply_to_stop, reply_to_stopped_step, reply_to_stopped_work, report_refusal, restart_refusal, row_status, stop_requested_of, unless}
-use Rattle.batch_history.specs.Rows.{Rows, rows}
+use Rattle.batch_history.specs.Rows.{Rows, rows, history}
 use Rattle.batch_history.specs.Statuses.{is_finished}
 use Rattle.batch_history.specs.Walks.{job_named}
 use Rattle.batch_history.specs.Works.{is_work}
@@ -25,7 +25,6 @@ use Rattle.batch_history.specs.declared.rows.ExecutionRow.{ExecutionRow}
 use Rattle.batch_history.specs.declared.rows.WorkRow.{WorkRow}
 use Rattle.jsl_model.specs.Jobs.{JobTree}
 use Rattle.seat_rules.specs.Places.{IsLegalLog}
-use Rattle.sessions.specs.Answered.{history}
 
 -- ---- The same reply where there is room under both bounds, or under neither
 

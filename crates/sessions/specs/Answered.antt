@@ -1,18 +1,12 @@
 -- What a call leaves.
 use Rattle.std.specs.Prelude.{ℕ, List, [], ◌∷◌, ◌++◌, Result, Ok, Err, if◌then◌else◌}
 use Rattle.batch_history.specs.Replies.{is_nothing}
-use Rattle.batch_history.specs.Rows.{History}
 use Rattle.batch_history.specs.declared.call.Call.{Call}
 use Rattle.batch_history.specs.declared.call.Entry.{Entry}
 use Rattle.batch_history.specs.declared.call.Reply.{Reply}
 use Rattle.batch_ids.specs.declared.refusal.Refusal.{Refusal}
-use Rattle.jsl_model.specs.Jobs.{JobTree}
 use Rattle.seat_rules.specs.Views.{session_view}
 use Rattle.seat_rules.specs.declared.view.SessionView.{SessionView}
-
--- the operations of this log, over a catalogue
-abbrev pub history : List JobTree → List Entry → History
-history catalogue log = record { catalogue = catalogue; log = log }
 
 abbrev pub operation : ℕ → Call → ℕ → Reply → Entry
 operation who call at reply = record { who = who; call = call; at = at; reply = reply }

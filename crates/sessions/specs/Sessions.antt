@@ -37,13 +37,13 @@ pub record Meets (before other after : SessionView) : Type 0 where
 -- ---- A desk
 
 -- the log, the last session number, and the read copy that it hosts, if any
-pub record Stand : Type 0 where
+pub record DeskState : Type 0 where
   pub log : List Entry
   pub last : ℕ
   pub hosted : List (List Entry)
 
-abbrev pub stand : List Entry → ℕ → List (List Entry) → Stand
-stand log last hosted = record { log = log; last = last; hosted = hosted }
+abbrev pub desk_state : List Entry → ℕ → List (List Entry) → DeskState
+desk_state log last hosted = record { log = log; last = last; hosted = hosted }
 
 -- the book's log is the log that the seat knows
 pub record IsDesk (limit : ℕ) (catalogue : List JobTree) (book : History) (seat : Known) (last : ℕ) : Type 0 where

@@ -5,9 +5,11 @@ ghost use Rattle.batch_history.specs.Answers.{answer};
 ghost use Rattle.batch_history.specs.Due.{IsDue};
 ghost use Rattle.batch_history.specs.Replies.{reply};
 ghost use Rattle.seat_rules.specs.Places.{IsLegalLog};
-ghost use Rattle.seat_rules.specs.Views.{Each, HasStop, entries_by, informed, new_session};
-ghost use Rattle.sessions.specs.Answered.{entered, history, moved_on};
-ghost use Rattle.sessions.specs.Sessions.{stand};
+ghost use Rattle.batch_history.specs.Legal.{entries_by};
+ghost use Rattle.seat_rules.specs.Views.{Each, HasStop, informed, new_session};
+ghost use Rattle.batch_history.specs.Rows.{history};
+ghost use Rattle.sessions.specs.Answered.{entered, moved_on};
+ghost use Rattle.sessions.specs.Sessions.{desk_state};
 
 use crate::book::{append_last, length_of};
 use crate::session::Session;
@@ -31,9 +33,9 @@ pub struct Desk<N: Site, const LIMIT: u64> {
 }
 
 impl<N: Site, const LIMIT: u64> Model for Desk<N, LIMIT> {
-    ghost use Rattle.sessions.specs.Sessions.{Stand, IsDesk};
+    ghost use Rattle.sessions.specs.Sessions.{DeskState, IsDesk};
 
-    ghost Value = { Stand };
+    ghost Value = { DeskState };
 
     ghost view = { λ d. record { log = d.book.log; last = d.last; hosted = d.seat.copies } };
 
@@ -56,7 +58,7 @@ impl<N: Site, const LIMIT: u64> Desk<N, LIMIT> {
         requires limit { LIMIT ≤ 1000000 }
         requires seat { seat ≡ N.place.table }
         requires catalogue { catalogue ≡ N.place.catalogue }
-        ensures { IfOk result (λ desk. desk ≡ stand [] 0 []) }
+        ensures { IfOk result (λ desk. desk ≡ desk_state [] 0 []) }
     {
         let book = Book::new(alloc, catalogue)?;
         Ok(Desk {
@@ -91,7 +93,7 @@ impl<N: Site, const LIMIT: u64> Desk<N, LIMIT> {
     pub fn open(&mut self, table: &SeatTable) -> Result<Session<N>, Refusal>
         requires table { table.now ≡ N.place }
         requires alone { self.old.hosted ≡ [] }
-        ensures opened { IfOk result (λ s. (s ≡ new_session (self.old.last + 1) self.old.log) × (self.new ≡ stand self.old.log (self.old.last + 1) [])) }
+        ensures opened { IfOk result (λ s. (s ≡ new_session (self.old.last + 1) self.old.log) × (self.new ≡ desk_state self.old.log (self.old.last + 1) [])) }
         ensures refused { IfErr result (λ refusal. (refusal ≡ Refusal.RepositoryFull) × (self.old.last ≡ 18446744073709551615) × (self.new ≡ self.old)) }
         ensures legal { IsLegalLog N.place.catalogue self.new.log }
     {
@@ -217,7 +219,7 @@ impl<N: Site, const LIMIT: u64> Desk<N, LIMIT> {
         requires table { table.now ≡ N.place }
         requires alone { self.old.hosted ≡ [] }
         requires one { 0 < length copy }
-        ensures desk { self.new ≡ stand self.old.log self.old.last copy }
+        ensures desk { self.new ≡ desk_state self.old.log self.old.last copy }
         ensures learnt { Each (λ l. IsPrefix l self.old.log) copy }
     {
         self.seat.host_copy(copy, table);
@@ -229,7 +231,7 @@ impl<N: Site, const LIMIT: u64> Desk<N, LIMIT> {
         requires table { table.now ≡ N.place }
         requires long { (l : _) × (self.old.hosted ≡ l ∷ []) × (length l ≤ absorbed) }
         requires short { absorbed ≤ length self.old.log }
-        ensures desk { self.new ≡ stand self.old.log self.old.last [] }
+        ensures desk { self.new ≡ desk_state self.old.log self.old.last [] }
         ensures copy { result ≡ take absorbed self.old.log ∷ [] }
     {
         self.seat.part_copy(absorbed, table)

@@ -1,7 +1,8 @@
 ghost use Rattle.std.specs.Prelude.{◌≡◌, ◌≤◌, [], ◌∷◌, length};
 ghost use mathlib.Core.List.{IsPrefix};
 ghost use Rattle.seat_rules.specs.Places.{IsLegalLog};
-ghost use Rattle.seat_rules.specs.Views.{Each, HasStop, entries_by, glanced_at, informed, list_of, stopped_at};
+ghost use Rattle.batch_history.specs.Legal.{entries_by};
+ghost use Rattle.seat_rules.specs.Views.{Each, HasStop, glanced_at, informed, list_of, stopped_at};
 
 use batch_ids::ExecutionId;
 use seat_rules::{CopySeat, SeatTable, SessionSeat, Site};

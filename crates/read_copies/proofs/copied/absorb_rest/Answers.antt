@@ -1,7 +1,7 @@
-use Rattle.std.proofs.Common.{◌+◌, ◌++◌, ◌∷◌, [], take, List, ◌≡◌, ℕ, refl, sym, subst, arith}
+use Rattle.std.proofs.Common.{◌+◌, ◌-◌, ◌++◌, ◌∷◌, [], take, slice_get, List, ◌≡◌, ℕ, refl, sym, ◌∙◌, ap, subst, arith}
 use Rattle.batch_history.specs.declared.call.Entry.{Entry}
 use Rattle.jsl_model.specs.Jobs.{JobTree}
-use Rattle.read_copies.proofs.Taking.{take_next}
+use Rattle.op_log.proofs.Taking.{take-next}
 use Rattle.seat_rules.specs.Places.{IsLegalLog}
 use Rattle.seat_rules.proofs.Prefixes.{prefix_take, legal_prefix}
 use Rattle.read_copies.proofs.copied.absorb_rest.Goals as goal
@@ -14,7 +14,8 @@ pub absorb-requires : goal.absorb-requires
 absorb-requires g c =
     let log = c.args.desk.now.log in
     let n = c.loop-number.number in
-    let next = take_next log n _ (sym (c.in-Some.ensures.some (omega arith))) in
+    let back : n ≡ n + 1 - 1 = omega arith in
+    let next = take-next log n _ (ap (slice_get log) back ∙ sym (c.in-Some.ensures.some (omega arith))) in
     record { next = (g.N.Site.place.catalogue, take n log, c.loop-number.invariant.stands, next_legal _ log n _ c.len-end.ensures.legal next) }
 
 pub loop-number-preserved : goal.loop-number-preserved
@@ -24,7 +25,8 @@ loop-number-preserved g c =
     let catalogue = g.N.Site.place.catalogue in
     let i = c.loop-number.invariant in
     let m = i.more in
-    let next = take_next log n _ (sym (c.in-Some.ensures.some (omega arith))) in
+    let back : n ≡ n + 1 - 1 = omega arith in
+    let next = take-next log n _ (ap (slice_get log) back ∙ sym (c.in-Some.ensures.some (omega arith))) in
     let s = c.in_ok-absorb.ensures.absorbed catalogue (take n log) i.stands (next_legal catalogue log n _ c.len-end.ensures.legal next) in
     record {
       stands = subst (g.S.Absorb.stands c.absorb.new.self catalogue) (sym next) s;

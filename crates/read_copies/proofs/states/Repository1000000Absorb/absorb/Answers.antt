@@ -1,6 +1,6 @@
 use Rattle.std.proofs.Common.{◌∷◌, ◌++◌, [], refl}
 use Rattle.seat_rules.proofs.Prefixes.{legal_prefix}
-use Rattle.sessions.specs.Answered.{history}
+use Rattle.batch_history.specs.Rows.{history}
 use Rattle.read_copies.proofs.states.Repository1000000Absorb.absorb.Goals as goal
 
 pub returns-clause-absorbed : goal.returns-clause-absorbed

@@ -1,4 +1,4 @@
-use Rattle.sessions.specs.Answered.{history}
+use Rattle.batch_history.specs.Rows.{history}
 use Rattle.read_copies.proofs.states.Repository1000000Absorb.tell.Goals as goal
 
 pub returns : goal.returns

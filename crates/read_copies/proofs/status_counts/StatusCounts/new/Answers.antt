@@ -1,5 +1,5 @@
 use Rattle.std.proofs.Common.{[]}
-use Rattle.sessions.specs.Answered.{history}
+use Rattle.batch_history.specs.Rows.{history}
 use Rattle.read_copies.proofs.Counting.{counts_are}
 use Rattle.read_copies.proofs.status_counts.StatusCounts.new.Goals as goal
 

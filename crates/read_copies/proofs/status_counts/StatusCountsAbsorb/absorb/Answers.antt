@@ -1,6 +1,6 @@
 use Rattle.std.proofs.Common.{◌∷◌, ◌++◌, [], refl, sym, subst, lit<}
 use Rattle.seat_rules.proofs.Prefixes.{legal_prefix}
-use Rattle.sessions.specs.Answered.{history}
+use Rattle.batch_history.specs.Rows.{history}
 use Rattle.read_copies.proofs.Counting.{counts_are}
 use Rattle.read_copies.specs.States.{Counted, StandsForLog}
 use Rattle.read_copies.proofs.status_counts.StatusCountsAbsorb.absorb.Goals as goal

@@ -1,16 +1,17 @@
 use Rattle.std.proofs.Common.{refl, ◌≡◌, ◌≤◌, false, [], ◌∷◌, ◌++◌, ℕ, List, length, length-append, ap, sym, subst, ◌∙◌, arith, Err, lit<}
 use Rattle.batch_history.specs.Replies.{is_nothing, reply}
-use Rattle.batch_history.specs.Rows.{History}
+use Rattle.batch_history.specs.Rows.{History, history}
 use Rattle.batch_history.specs.declared.call.Entry.{Entry}
 use Rattle.jsl_model.specs.Jobs.{JobTree}
 use Rattle.seat_rules.proofs.Appending.{entries_more}
 use Rattle.seat_rules.specs.Places.{IsLegalLog, Known}
-use Rattle.seat_rules.specs.Views.{Each, HasStop, entries_by}
+use Rattle.batch_history.specs.Legal.{entries_by}
+use Rattle.seat_rules.specs.Views.{Each, HasStop}
 use Rattle.seat_rules.specs.declared.view.SessionView.{SessionView}
 use Rattle.sessions.proofs.Calls.{book_after, entered_is, log_after, seat_after}
 use Rattle.sessions.proofs.Desks.{alone, few, still_stopped}
-use Rattle.sessions.specs.Answered.{history, operation}
-use Rattle.sessions.specs.Sessions.{Stand, one_of}
+use Rattle.sessions.specs.Answered.{operation}
+use Rattle.sessions.specs.Sessions.{DeskState, one_of}
 use Rattle.sessions.proofs.desk.Desk.act.Goals as goal
 
 pub append_last-requires : goal.append_last-requires
@@ -85,6 +86,6 @@ returns-else-is_nothing-clause-stops g c =
 pub returns-in-Err-clause-reply : goal.returns-in-Err-clause-reply
 returns-in-Err-clause-reply g c m =
     let number = c.session.invariant.number_is ∙ ap (λ (s : SessionView). s.number) c.session.view_is in
-    let log = ap (λ (d : Stand). d.log) c.self.view_is in
+    let log = ap (λ (d : DeskState). d.log) c.self.view_is in
     subst (λ (x : History × ℕ). reply g.row.LIMIT x.0 x.1 c.args.call ≡ Err c.in-Err.refusal)
     (λ i. (history (c.self.invariant.catalogue_is i) (log i), number i)) (c.in-Err.ensures.reply m)
