@@ -97,6 +97,9 @@ def copy_of(crate: str, folder: Path) -> Path:
 def plants_of(crate: str) -> list[Plant]:
     with (ROOT / "plants" / f"{crate}.toml").open("rb") as file:
         entries = tomllib.load(file)["plant"]
+    names = [entry["name"] for entry in entries]
+    if twice := sorted({name for name in names if names.count(name) > 1}):
+        sys.exit(f"plants/{crate}.toml: two plants have the name {' or '.join(twice)}, and a name has one verdict")
     return [Plant(**{**entry, "more": tuple(map(tuple, entry.get("more", [])))}) for entry in entries]
 
 
