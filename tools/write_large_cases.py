@@ -109,6 +109,27 @@ def jobs_of_a_catalogue() -> tuple[list[str], list[str]]:
     return script, ['{"execution":1}', '{"names":["255"]}', "", '{"fault":"TooMany","job":256}']
 
 
+def sixty_four_partitions() -> tuple[list[str], list[str]]:
+    """A step of the most partitions: each is handed out once, by rising number, and a restart runs the last one again."""
+    numbers = range(64)
+    step = '{"kind":"step","id":"s","partitions":64,"batchlet":{"ref":"ok"}}'
+    work = '{"work":{"element":"s","execution":%d,"kind":"batchlet","partition":%d,"ref":"ok","work":%d}}'
+    finish = '{"do":"finish","by":1,"at":%d,"work":%d,"outcome":"%s"}'
+    ended = (
+        '{"step_executions":[{"end":%d,"execution":%d,"exit":"%s","metrics":{},"start":0,"status":"%s",'
+        '"step":"s","work":%d}]}'
+    )
+    script = ['{"jobs":[{"id":"a","elements":[%s]}]}' % step, START] + [CLAIM for _ in numbers] + [CLAIM]
+    replies = ['{"execution":1}'] + [work % (1, n, n + 1) for n in numbers] + ['{"nothing":true}']
+    script += [finish % (n, n + 1, "COMPLETED") for n in numbers[:63]] + [finish % (63, 64, "FAILED")]
+    replies += ['{"done":true}' for _ in numbers]
+    script += ['{"ask":"step_executions","execution":1}', '{"do":"restart","by":1,"at":0,"execution":1}', CLAIM, CLAIM]
+    replies += [ended % (63, 1, "FAILED", "FAILED", 1), '{"execution":2}', work % (2, 63, 65), '{"nothing":true}']
+    script += [finish % (9, 65, "COMPLETED"), '{"ask":"step_executions","execution":2}']
+    replies += ['{"done":true}', ended % (9, 2, "COMPLETED", "COMPLETED", 65)]
+    return script, replies
+
+
 CASES = {
     "three_hundred_executions.script": three_hundred_executions,
     "parameters_at_their_bounds.script": parameters_at_their_bounds,
@@ -116,6 +137,7 @@ CASES = {
     "catalogues_of_many_lengths.scripts": catalogues_of_many_lengths,
     "a_thousand_elements.scripts": a_thousand_elements,
     "jobs_of_a_catalogue.scripts": jobs_of_a_catalogue,
+    "sixty_four_partitions.script": sixty_four_partitions,
 }
 
 

@@ -1,6 +1,6 @@
 -- What the earlier job executions of a job instance left does not change: no work item is handed out for one that is over,
 -- and none is reported of.
-use Rattle.std.proofs.Common.{◌≡◌, ℕ, ◌==◌, ◌&&◌, ◌<◌, Bool, true, false, cond, nat_lt, Option, None, Some, List, [], ◌∷◌, ◌++◌, length, find, filter, refl, sym, ◌∙◌, ap, subst}
+use Rattle.std.proofs.Common.{◌≡◌, ℕ, ◌+◌, ◌==◌, ◌&&◌, ◌<◌, Bool, true, false, cond, nat_lt, Option, None, Some, List, [], ◌∷◌, ◌++◌, length, find, filter, refl, sym, ◌∙◌, ap, subst}
 use Rattle.std.specs.Option.{option_map}
 use Rattle.std.proofs.lemmas.Bool.{eqb-true, eq-eqb, ltb-true}
 use Rattle.batch_ids.specs.Metrics.{zero_step}
@@ -165,9 +165,9 @@ earlier-call limit catalogue past who at Claim reply m due there =
 earlier-call limit catalogue past who at (Checkpoint w mark step) reply m due there =
     report-late limit catalogue past w m (reported step) due.1 there (checkpoint-told limit (folded_rows catalogue past) who w reply due.0.0) (λ r. refl)
 earlier-call limit catalogue past who at (Finish w o t step) reply m due there =
-    report-late limit catalogue past w m (over o t step at) due.1 there (finish-told limit (folded_rows catalogue past) who w o reply due.0.0) (λ r. refl)
+    report-late limit catalogue past w m (over o t step at (length past + 1)) due.1 there (finish-told limit (folded_rows catalogue past) who w o reply due.0.0) (λ r. refl)
 earlier-call limit catalogue past who at (Lose w) reply m due there =
-    report-late limit catalogue past w m (over Failed None zero_step at) due.1 there (loss-told limit (length past) (works_of past) w reply due.0.0) (λ r. refl)
+    report-late limit catalogue past w m (over Failed None zero_step at (length past + 1)) due.1 there (loss-told limit (length past) (works_of past) w reply due.0.0) (λ r. refl)
 
 -- and after any operations more
 pub earlier-stays : (limit : ℕ) (catalogue : List JobTree) (more past : List Entry) (m : Made) → AllDue limit catalogue (more ++ past)
@@ -192,16 +192,16 @@ known-call limit catalogue past who at (Abandon y) reply m due found over = refl
 known-call limit catalogue past who at Claim reply m due found over =
     on-it (is_at m.execution (taken_up_by reply))
     (λ on. absurd (not-both _ over (claim-unfinished catalogue past m reply (claim-told limit (folded_rows catalogue past) reply due.0.0 due.0.1) found on)))
-    (λ off. known-same m.execution who at Claim reply (works_of past) off)
+    (λ off. known-same m.execution (length past + 1) who at Claim reply (works_of past) off)
 known-call limit catalogue past who at (Checkpoint w mark step) reply m due found over = known-reported m.execution (is_work w) step (works_of past)
 known-call limit catalogue past who at (Finish w o t step) reply m due found over =
     on-it (is_at m.execution (execution_of_work (works_of past) w))
     (λ on. absurd (not-both _ over (owner-unfinished catalogue past w m (kept limit catalogue past due.1) (finish-told limit (folded_rows catalogue past) who w o reply due.0.0) found on)))
-    (λ off. known-same m.execution who at (Finish w o t step) reply (works_of past) off)
+    (λ off. known-same m.execution (length past + 1) who at (Finish w o t step) reply (works_of past) off)
 known-call limit catalogue past who at (Lose w) reply m due found over =
     on-it (is_at m.execution (execution_of_work (works_of past) w))
     (λ on. absurd (not-both _ over (owner-unfinished catalogue past w m (kept limit catalogue past due.1) (loss-told limit (length past) (works_of past) w reply due.0.0) found on)))
-    (λ off. known-same m.execution who at (Lose w) reply (works_of past) off)
+    (λ off. known-same m.execution (length past + 1) who at (Lose w) reply (works_of past) off)
 
 pub over-stays : (limit : ℕ) (catalogue : List JobTree) (more past : List Entry) (m : Made) → AllDue limit catalogue (more ++ past)
     → find (is_made m.execution) (made past) ≡ Some m → is_finished (bare_of catalogue past m) ≡ true → is_finished (bare_of catalogue (more ++ past) m) ≡ true

@@ -12,7 +12,7 @@ use Rattle.batch_history.specs.Moments.{first_moment, start_moment, status_unles
 use Rattle.batch_history.specs.Operations.{stop_request}
 use Rattle.batch_history.specs.Restarts.{job_of_origin, plan_of, walk_of_execution}
 use Rattle.batch_history.specs.Statuses.{batch_status, is_finished, stop_requested}
-use Rattle.batch_history.specs.Walks.{walk_of, job_named, element_facts}
+use Rattle.batch_history.specs.Walks.{walk_of, job_named, facts_by_work}
 use Rattle.batch_history.specs.Works.{work_items}
 use Rattle.batch_history.proofs.Items.{works-law}
 use Rattle.batch_history.proofs.Origins.{making, origin-law}
@@ -37,9 +37,9 @@ planned-law limit catalogue past x o due is =
 pub walk-law : (limit : ℕ) (catalogue : List JobTree) (past : List Entry) (x : ℕ) (o : Origin) → AllDue limit catalogue past → origin_of past x ≡ Some o
     → walk_of_execution catalogue past x ≡ value_after catalogue past (made_as x o)
 walk-law limit catalogue past x o due is =
-    ap (λ p. walk_of p (element_facts x (work_items past)) (job_of_origin catalogue (origin_of past x))) (planned-law limit catalogue past x o due is)
-    ∙ (ap (λ (f : Option Origin). walk_of (plan_kept catalogue past x) (element_facts x (work_items past)) (job_of_origin catalogue f)) is
-    ∙ ap (λ (rows : List WorkRow). walk_of (plan_kept catalogue past x) (element_facts x rows) (job_named catalogue o.job)) (works-law past (due-all-fit limit catalogue past due)))
+    ap (λ p. walk_of p (facts_by_work x (work_items past)) (job_of_origin catalogue (origin_of past x))) (planned-law limit catalogue past x o due is)
+    ∙ (ap (λ (f : Option Origin). walk_of (plan_kept catalogue past x) (facts_by_work x (work_items past)) (job_of_origin catalogue f)) is
+    ∙ ap (λ (rows : List WorkRow). walk_of (plan_kept catalogue past x) (facts_by_work x rows) (job_named catalogue o.job)) (works-law past (due-all-fit limit catalogue past due)))
 
 -- the status is the one that the rows have
 bare-law : (limit : ℕ) (catalogue : List JobTree) (past : List Entry) (x : ℕ) (o : Origin) → AllDue limit catalogue past → origin_of past x ≡ Some o

@@ -1,6 +1,6 @@
 -- A job execution that is over: no operation changes it, but for its abandonment.
 use mathlib.Core.Bool.{or-false}
-use Rattle.std.proofs.Common.{◌≡◌, ◌≢◌, ℕ, ◌==◌, ◌||◌, Bool, true, false, cond, Option, None, Some, is_some, List, [], ◌∷◌, ◌++◌, length, find, refl, sym, ◌∙◌, ap, subst}
+use Rattle.std.proofs.Common.{◌≡◌, ◌≢◌, ℕ, ◌+◌, ◌==◌, ◌||◌, Bool, true, false, cond, Option, None, Some, is_some, List, [], ◌∷◌, ◌++◌, length, find, refl, sym, ◌∙◌, ap, subst}
 use Rattle.std.specs.Option.{option_map}
 use Rattle.std.proofs.lemmas.Bool.{eqb-true}
 use Rattle.batch_ids.specs.declared.status.BatchStatus.{BatchStatus}
@@ -22,9 +22,10 @@ use Rattle.batch_history.specs.Operations.{taken_up, taken_up_by, stop_request}
 use Rattle.batch_history.specs.Replies.{row_status, first_ready, walk_in_rows, has_something_by, has_something, claim_reply}
 use Rattle.batch_history.specs.Rows.{Rows, IsAsBefore}
 use Rattle.batch_history.specs.Statuses.{batch_status, is_finished}
-use Rattle.batch_history.specs.Walks.{element_facts, job_named, walk_of}
+use Rattle.batch_history.specs.Walks.{facts_by_work, job_named, walk_of}
 use Rattle.batch_history.proofs.Knowing.{known_elements, facts-same}
-use Rattle.batch_history.specs.Works.{is_work, execution_of_operation, execution_of_work}
+use Rattle.job_walk.specs.declared.work_key.WorkKey.{WorkKey}
+use Rattle.batch_history.specs.Works.{work_key, is_work, execution_of_operation, execution_of_work}
 use Rattle.batch_history.proofs.Stepping.{known-same, begun-by, named-by, ended-by, same_row, same_status, settled, earliest-false, taken-touched, asked-touched, planned-by}
 use Rattle.batch_history.proofs.Sights.{busy_sight, seen}
 use Rattle.batch_history.proofs.Finding.{found-passes}
@@ -47,7 +48,7 @@ row-kept catalogue past e m made_no not_asked not_taken known =
     begun-by past e x made_no ∙ (ap (λ b. first_moment (start_of past x) b e.at) not_taken ∙ earliest-false (start_of past x) e.at) in
     let k : plan_kept catalogue (e ∷ past) x ≡ plan_kept catalogue past x = planned-by catalogue past e x made_no in
     let v : value_after catalogue (e ∷ past) m ≡ value_after catalogue past m =
-    ap (λ p. walk_of p (element_facts x (works_of (e ∷ past))) (job_named catalogue m.job)) k
+    ap (λ p. walk_of p (facts_by_work x (works_of (e ∷ past))) (job_named catalogue m.job)) k
     ∙ ap (λ f. walk_of (plan_kept catalogue past x) f (job_named catalogue m.job)) (facts-same x _ _ known) in
     let n : end_of catalogue (e ∷ past) m ≡ end_of catalogue past m =
     ended-by catalogue past e m made_no
@@ -57,13 +58,13 @@ row-kept catalogue past e m made_no not_asked not_taken known =
 -- ---- An operation that is on it
 
 -- a walk that shows something busy, of a job execution that was taken up, is not over
-pub busy-unfinished : (id : List ℕ) (stop : Bool) (start : Option ℕ) (v : Value) → seen busy_sight id v ≡ true → is_some start ≡ true → is_finished (batch_status stop start v) ≡ false
-busy-unfinished id stop None v shown begun = cc
-busy-unfinished id false (Some t) (Open ready busy) shown begun = refl
-busy-unfinished id true (Some t) (Open ready []) shown begun = cc
-busy-unfinished id true (Some t) (Open ready (b ∷ bs)) shown begun = refl
-busy-unfinished id stop (Some t) (IsDone exit) shown begun = cc
-busy-unfinished id stop (Some t) (Ended status exit point) shown begun = cc
+pub busy-unfinished : (key : WorkKey) (stop : Bool) (start : Option ℕ) (v : Value) → seen busy_sight key v ≡ true → is_some start ≡ true → is_finished (batch_status stop start v) ≡ false
+busy-unfinished key stop None v shown begun = cc
+busy-unfinished key false (Some t) (Open ready busy) shown begun = refl
+busy-unfinished key true (Some t) (Open ready []) shown begun = cc
+busy-unfinished key true (Some t) (Open ready (b ∷ bs)) shown begun = refl
+busy-unfinished key stop (Some t) (IsDone exit) shown begun = cc
+busy-unfinished key stop (Some t) (Ended status exit point) shown begun = cc
 
 -- the job execution of a busy work item is not over
 pub owner-unfinished : (catalogue : List JobTree) (past : List Entry) (w : ℕ) (m : Made) → IsKept catalogue past → ToldReport (works_of past) w
@@ -74,9 +75,9 @@ owner-unfinished catalogue past w m k told found on =
     let here : (c.execution == m.execution) ≡ true = sym (ap (λ (o : Option WorkRow). is_at m.execution (option_map (λ (row : WorkRow). row.execution) o)) told.found) ∙ on in
     let same : c.execution ≡ m.execution = eqb-true c.execution m.execution here in
     let one : held.one ≡ m = let both : Some held.one ≡ Some m = sym held.found ∙ (ap (λ x. find (is_made x) (made past)) same ∙ found) in cc in
-    let shown : seen busy_sight c.element (value_after catalogue past m) ≡ true = subst (λ n. seen busy_sight c.element (value_after catalogue past n) ≡ true) one (held.under_way told.busy) in
+    let shown : seen busy_sight (work_key c) (value_after catalogue past m) ≡ true = subst (λ n. seen busy_sight (work_key c) (value_after catalogue past n) ≡ true) one (held.under_way told.busy) in
     let begun : is_some (start_of past m.execution) ≡ true = subst (λ x. is_some (start_of past x) ≡ true) same held.begun in
-    busy-unfinished c.element (stop_of past m.execution) (start_of past m.execution) (value_after catalogue past m) shown begun
+    busy-unfinished (work_key c) (stop_of past m.execution) (start_of past m.execution) (value_after catalogue past m) shown begun
 
 -- a job execution with something to do is not over
 has-unfinished : (abandoned : Bool) (bare : BatchStatus) (v : Value) → has_something_by (cond abandoned Abandoned bare) v ≡ true → is_finished bare ≡ false
@@ -89,9 +90,9 @@ has-unfinished false Failed v h = cc
 has-unfinished false Completed v h = cc
 has-unfinished false Abandoned v h = cc
 
-pub claimed-execution : (r : Rows) (row : ExecutionRow) (ready : Option (List ℕ)) → taken_up_by (claim_reply r row ready) ≡ Some row.execution
+pub claimed-execution : (r : Rows) (row : ExecutionRow) (ready : Option WorkKey) → taken_up_by (claim_reply r row ready) ≡ Some row.execution
 claimed-execution r row None = refl
-claimed-execution r row (Some id) = refl
+claimed-execution r row (Some key) = refl
 
 -- the job execution of a claim is not over
 pub claim-unfinished : (catalogue : List JobTree) (past : List Entry) (m : Made) (reply : Reply) → ToldClaim (folded_rows catalogue past) reply
@@ -129,7 +130,7 @@ away : (catalogue : List JobTree) (past : List Entry) (e : Entry) (m : Made) →
     → is_at m.execution (execution_of_operation (works_of past) e.call e.reply) ≡ false → IsAsBefore (execution_row catalogue past m) (execution_row catalogue (e ∷ past) m)
 away catalogue past e m made_no off =
     row-kept catalogue past e m made_no (asked-touched m.execution e.call e.reply (works_of past) off) (taken-touched m.execution e.call e.reply (works_of past) off)
-    (known-same m.execution e.who e.at e.call e.reply (works_of past) off)
+    (known-same m.execution (length past + 1) e.who e.at e.call e.reply (works_of past) off)
 
 abbrev entry : ℕ → ℕ → Call → Reply → Entry
 entry who at call reply = record { who = who; call = call; at = at; reply = reply }

@@ -84,12 +84,12 @@ makes count x (Lose w) = false
 abbrev pub reported : MetricStep → WorkRow → WorkRow
 reported step row = record row { metrics = added row.metrics step }
 
--- a work item that is over
-abbrev pub over_as : WorkOutcome → List ℕ → MetricStep → ℕ → WorkRow → WorkRow
-over_as outcome exit step at row = record (reported step row) { state = Over outcome exit; end = Some at }
+-- a work item that is over, by the operation of this number
+abbrev pub over_as : WorkOutcome → List ℕ → MetricStep → ℕ → ℕ → WorkRow → WorkRow
+over_as outcome exit step at n row = record (reported step row) { state = Over outcome exit; end = Some at; ended = Some n }
 
-abbrev pub over : WorkOutcome → Option (List ℕ) → MetricStep → ℕ → WorkRow → WorkRow
-over outcome exit step at = over_as outcome (exit_or_name outcome exit) step at
+abbrev pub over : WorkOutcome → Option (List ℕ) → MetricStep → ℕ → ℕ → WorkRow → WorkRow
+over outcome exit step at n = over_as outcome (exit_or_name outcome exit) step at n
 
 abbrev pub with_handed_out : ℕ → ℕ → Reply → List WorkRow → List WorkRow
 with_handed_out who at (Work item) rows = rows ++ busy_work who at item ∷ []
@@ -100,20 +100,21 @@ with_handed_out who at Done rows = rows
 with_handed_out who at Go rows = rows
 with_handed_out who at StopAsked rows = rows
 
-abbrev pub works_after : ℕ → ℕ → Call → Reply → List WorkRow → List WorkRow
-works_after who at (Start job parameters) reply rows = rows
-works_after who at (Restart y parameters) reply rows = rows
-works_after who at (Stop y) reply rows = rows
-works_after who at (Abandon y) reply rows = rows
-works_after who at Claim reply rows = with_handed_out who at reply rows
-works_after who at (Checkpoint w mark step) reply rows = change_first (is_work w) (reported step) rows
-works_after who at (Finish w outcome exit step) reply rows = change_first (is_work w) (over outcome exit step at) rows
-works_after who at (Lose w) reply rows = change_first (is_work w) (over Failed None zero_step at) rows
+-- the work items after operation n
+abbrev pub works_after : ℕ → ℕ → ℕ → Call → Reply → List WorkRow → List WorkRow
+works_after n who at (Start job parameters) reply rows = rows
+works_after n who at (Restart y parameters) reply rows = rows
+works_after n who at (Stop y) reply rows = rows
+works_after n who at (Abandon y) reply rows = rows
+works_after n who at Claim reply rows = with_handed_out who at reply rows
+works_after n who at (Checkpoint w mark step) reply rows = change_first (is_work w) (reported step) rows
+works_after n who at (Finish w outcome exit step) reply rows = change_first (is_work w) (over outcome exit step at n) rows
+works_after n who at (Lose w) reply rows = change_first (is_work w) (over Failed None zero_step at n) rows
 
 -- the work items of a past
 abbrev pub works_of : List Entry → List WorkRow
 works_of [] = []
-works_of (e ∷ older) = works_after e.who e.at e.call e.reply (works_of older)
+works_of (e ∷ older) = works_after (length older + 1) e.who e.at e.call e.reply (works_of older)
 
 -- the job instance of a job execution
 abbrev pub instance_made : List Made → ℕ → Option ℕ

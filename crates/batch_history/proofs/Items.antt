@@ -17,7 +17,7 @@ use Rattle.batch_history.specs.declared.rows.WorkRow.{WorkRow}
 use Rattle.batch_history.proofs.Folds.{made, works_of, works_after, reported, over}
 use Rattle.batch_history.specs.Lists.{change_first}
 use Rattle.batch_history.specs.Operations.{taken_up_by, hands_out_work}
-use Rattle.batch_history.specs.Works.{is_work, busy_work, work_item_count, item_handed_out, items_handed_out, ending_entry, with_counts, metrics_of, Progress, progress_by, progress_of, with_progress_of, work_items}
+use Rattle.batch_history.specs.Works.{is_work, busy_work, work_item_count, item_handed_out, items_handed_out, ending_entry, ending_operation, with_counts, metrics_of, Progress, progress_by, progress_of, with_progress_of, work_items}
 use Rattle.batch_history.proofs.Adding.{counted, one-more, some-map}
 use Rattle.batch_history.proofs.Pasts.{Fits, FitsClaim, AllFit}
 
@@ -88,7 +88,7 @@ handed-none w who at StopAsked none = refl
 
 -- a work item with this progress
 abbrev with_progress : WorkRow → Progress → WorkRow
-with_progress row p = record row { state = p.state; end = p.end; metrics = p.metrics }
+with_progress row p = record row { state = p.state; end = p.end; ended = p.ended; metrics = p.metrics }
 
 progress-above : (s t : ℕ → Progress) (v k : ℕ) (rows : List WorkRow) → AreRows k rows → v < k
     → ((w : ℕ) → (v == w) ≡ false → s w ≡ t w) → map (with_progress_of s) rows ≡ map (with_progress_of t) rows
@@ -118,7 +118,7 @@ progress-change s t v f k (row ∷ rows) h same here =
 
 -- the progress of a work item that was just handed out
 abbrev fresh : Progress
-fresh = progress_by None zero_metrics
+fresh = progress_by None None zero_metrics
 
 -- a past whose work items are those of the rows, and in which no entry names one that was not handed out
 record WorksAgree (past : List Entry) : Type 0 where
@@ -143,7 +143,7 @@ same-handed older e none =
     ∙ ap (map (with_progress_of (progress_of (e ∷ older)))) (append-nil (items_handed_out older))
 
 claim-works : (older : List Entry) (who at : ℕ) (reply : Reply) → FitsClaim (length (works_of older)) (length (made older)) reply → WorksAgree older
-    → work_items (record { who = who; call = Claim; at = at; reply = reply } ∷ older) ≡ works_after who at Claim reply (works_of older)
+    → work_items (record { who = who; call = Claim; at = at; reply = reply } ∷ older) ≡ works_after (length older + 1) who at Claim reply (works_of older)
 claim-works older who at (Work item) fits before =
     let count : length (works_of older) ≡ work_item_count older =
     ap length (sym before.same) ∙ (length-map (items_handed_out older) (with_progress_of (progress_of older)) ∙ handed-length older) in
@@ -169,34 +169,34 @@ checkpoint-works : (older : List Entry) (who at v : ℕ) (mark : List ℕ) (step
     → work_items (record { who = who; call = Checkpoint v mark step; at = at; reply = reply } ∷ older) ≡ change_first (is_work v) (reported step) (works_of older)
 checkpoint-works older who at v mark step reply none before =
     let e : Entry = record { who = who; call = Checkpoint v mark step; at = at; reply = reply } in
-    let p : ℕ → Bool → Progress = λ w b. progress_by (ending_entry older w) (with_counts (counts_of step b) (metrics_of older w)) in
+    let p : ℕ → Bool → Progress = λ w b. progress_by (ending_entry older w) (ending_operation older w) (with_counts (counts_of step b) (metrics_of older w)) in
     same-handed older e none
     ∙ (progress-change (progress_of (e ∷ older)) (progress_of older) v (reported step) 1 (items_handed_out older) (handed-numbered older)
     (λ w off. ap (p w) off) (λ row on. ap (λ b. with_progress row (p row.work b)) on)
     ∙ ap (change_first (is_work v) (reported step)) before.same)
 
 finish-works : (older : List Entry) (who at v : ℕ) (o : WorkOutcome) (exit : Option (List ℕ)) (step : MetricStep) (reply : Reply) → taken_up_by reply ≡ None → WorksAgree older
-    → work_items (record { who = who; call = Finish v o exit step; at = at; reply = reply } ∷ older) ≡ change_first (is_work v) (over o exit step at) (works_of older)
+    → work_items (record { who = who; call = Finish v o exit step; at = at; reply = reply } ∷ older) ≡ change_first (is_work v) (over o exit step at (length older + 1)) (works_of older)
 finish-works older who at v o exit step reply none before =
     let e : Entry = record { who = who; call = Finish v o exit step; at = at; reply = reply } in
-    let p : ℕ → Bool → Progress = λ w b. progress_by (cond b (Some e) (ending_entry older w)) (with_counts (counts_of step b) (metrics_of older w)) in
+    let p : ℕ → Bool → Progress = λ w b. progress_by (cond b (Some e) (ending_entry older w)) (cond b (Some (length older + 1)) (ending_operation older w)) (with_counts (counts_of step b) (metrics_of older w)) in
     same-handed older e none
-    ∙ (progress-change (progress_of (e ∷ older)) (progress_of older) v (over o exit step at) 1 (items_handed_out older) (handed-numbered older)
+    ∙ (progress-change (progress_of (e ∷ older)) (progress_of older) v (over o exit step at (length older + 1)) 1 (items_handed_out older) (handed-numbered older)
     (λ w off. ap (p w) off) (λ row on. ap (λ b. with_progress row (p row.work b)) on)
-    ∙ ap (change_first (is_work v) (over o exit step at)) before.same)
+    ∙ ap (change_first (is_work v) (over o exit step at (length older + 1))) before.same)
 
 loss-works : (older : List Entry) (who at v : ℕ) (reply : Reply) → taken_up_by reply ≡ None → WorksAgree older
-    → work_items (record { who = who; call = Lose v; at = at; reply = reply } ∷ older) ≡ change_first (is_work v) (over Failed None zero_step at) (works_of older)
+    → work_items (record { who = who; call = Lose v; at = at; reply = reply } ∷ older) ≡ change_first (is_work v) (over Failed None zero_step at (length older + 1)) (works_of older)
 loss-works older who at v reply none before =
     let e : Entry = record { who = who; call = Lose v; at = at; reply = reply } in
-    let p : ℕ → Bool → Progress = λ w b. progress_by (cond b (Some e) (ending_entry older w)) (with_counts (counts_of zero_step b) (metrics_of older w)) in
+    let p : ℕ → Bool → Progress = λ w b. progress_by (cond b (Some e) (ending_entry older w)) (cond b (Some (length older + 1)) (ending_operation older w)) (with_counts (counts_of zero_step b) (metrics_of older w)) in
     same-handed older e none
-    ∙ (progress-change (progress_of (e ∷ older)) (progress_of older) v (over Failed None zero_step at) 1 (items_handed_out older) (handed-numbered older)
+    ∙ (progress-change (progress_of (e ∷ older)) (progress_of older) v (over Failed None zero_step at (length older + 1)) 1 (items_handed_out older) (handed-numbered older)
     (λ w off. ap (p w) off) (λ row on. ap (λ b. with_progress row (p row.work b)) on)
-    ∙ ap (change_first (is_work v) (over Failed None zero_step at)) before.same)
+    ∙ ap (change_first (is_work v) (over Failed None zero_step at (length older + 1))) before.same)
 
 works-step : (older : List Entry) (who at : ℕ) (call : Call) (reply : Reply) → Fits older call reply → WorksAgree older
-    → work_items (record { who = who; call = call; at = at; reply = reply } ∷ older) ≡ works_after who at call reply (works_of older)
+    → work_items (record { who = who; call = call; at = at; reply = reply } ∷ older) ≡ works_after (length older + 1) who at call reply (works_of older)
 works-step older who at (Start job parameters) reply fits before =
     same-handed older (record { who = who; call = Start job parameters; at = at; reply = reply }) fits ∙ before.same
 works-step older who at (Restart y parameters) reply fits before =
@@ -223,17 +223,17 @@ later-step older who at (Abandon y) reply fits before w lt = before.later w lt
 later-step older who at Claim reply fits before w lt = before.later w lt
 later-step older who at (Checkpoint v mark step) reply fits before w lt =
     let there : v ≤ work_item_count older = within older v before.same fits.1 in
-    ap (λ b. progress_by (ending_entry older w) (with_counts (counts_of step b) (metrics_of older w))) (ne_eqb v w (λ is. omega arith))
+    ap (λ b. progress_by (ending_entry older w) (ending_operation older w) (with_counts (counts_of step b) (metrics_of older w))) (ne_eqb v w (λ is. omega arith))
     ∙ before.later w lt
 later-step older who at (Finish v o exit step) reply fits before w lt =
     let e : Entry = record { who = who; call = Finish v o exit step; at = at; reply = reply } in
     let there : v ≤ work_item_count older = within older v before.same fits.1 in
-    ap (λ b. progress_by (cond b (Some e) (ending_entry older w)) (with_counts (counts_of step b) (metrics_of older w))) (ne_eqb v w (λ is. omega arith))
+    ap (λ b. progress_by (cond b (Some e) (ending_entry older w)) (cond b (Some (length older + 1)) (ending_operation older w)) (with_counts (counts_of step b) (metrics_of older w))) (ne_eqb v w (λ is. omega arith))
     ∙ before.later w lt
 later-step older who at (Lose v) reply fits before w lt =
     let e : Entry = record { who = who; call = Lose v; at = at; reply = reply } in
     let there : v ≤ work_item_count older = within older v before.same fits.1 in
-    ap (λ b. progress_by (cond b (Some e) (ending_entry older w)) (with_counts (counts_of zero_step b) (metrics_of older w))) (ne_eqb v w (λ is. omega arith))
+    ap (λ b. progress_by (cond b (Some e) (ending_entry older w)) (cond b (Some (length older + 1)) (ending_operation older w)) (with_counts (counts_of zero_step b) (metrics_of older w))) (ne_eqb v w (λ is. omega arith))
     ∙ before.later w lt
 
 works-agree : (past : List Entry) → AllFit past → WorksAgree past

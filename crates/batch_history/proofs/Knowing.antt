@@ -1,39 +1,41 @@
--- What is known of the elements of a job execution, gathered in a list.
+-- What is known of the work keys of a job execution, gathered in a list.
 use mathlib.Core.Path.{fun_ext}
 use Rattle.std.proofs.Common.{◌≡◌, ℕ, ◌==◌, ◌&&◌, true, false, cond, Some, List, [], ◌∷◌, find, refl, sym, ◌∙◌, ap}
-use Rattle.std.specs.Str.{bytes_eq}
 use Rattle.jsl_model.specs.Jobs.{JobTree}
+use Rattle.job_walk.specs.Keys.{is_same_key}
 use Rattle.job_walk.specs.Walk.{fact_of}
+use Rattle.job_walk.specs.declared.work_key.WorkKey.{WorkKey}
 use Rattle.job_walk.specs.declared.facts.Known.{Known}
 use Rattle.job_walk.specs.declared.plan.Plan.{Plan}
-use Rattle.batch_history.specs.Walks.{fact_of_state, is_work_of, fact_by_work, element_facts, walk_of, walk_value, job_named}
+use Rattle.batch_history.specs.Walks.{fact_of_state, is_work_of, fact_by_work, facts_by_work, walk_of, walk_value, job_named}
+use Rattle.batch_history.specs.Works.{work_key}
 use Rattle.batch_history.specs.declared.rows.WorkRow.{WorkRow}
 
--- what is known of the elements of a job execution, by its work items
+-- what is known of the work keys of a job execution, by its work items
 abbrev pub known_elements : ℕ → List WorkRow → List Known
 known_elements x [] = []
 known_elements x (row ∷ rest) =
-    cond (row.execution == x) (record { id = row.element; fact = fact_of_state row.state } ∷ known_elements x rest) (known_elements x rest)
+    cond (row.execution == x) (record { key = work_key row; fact = fact_of_state row.state } ∷ known_elements x rest) (known_elements x rest)
 
--- the list tells what the work item of an element tells
-pub known-fact : (x : ℕ) (works : List WorkRow) (id : List ℕ) → element_facts x works id ≡ fact_of (known_elements x works) id
-known-fact x [] id = refl
-known-fact x (r ∷ rs) id =
-    let k : Known = record { id = r.element; fact = fact_of_state r.state } in
-    elim (r.execution == x) as (λ b. fact_by_work (cond (b && bytes_eq r.element id) (Some r) (find (is_work_of x id) rs))
-    ≡ fact_of (cond b (k ∷ known_elements x rs) (known_elements x rs)) id) [
-      | true ↦ elim (bytes_eq r.element id) as (λ b. fact_by_work (cond b (Some r) (find (is_work_of x id) rs)) ≡ cond b k.fact (fact_of (known_elements x rs) id)) [
+-- the list tells what the work item of a work key tells
+pub known-fact : (x : ℕ) (works : List WorkRow) (key : WorkKey) → facts_by_work x works key ≡ fact_of (known_elements x works) key
+known-fact x [] key = refl
+known-fact x (r ∷ rs) key =
+    let k : Known = record { key = work_key r; fact = fact_of_state r.state } in
+    elim (r.execution == x) as (λ b. fact_by_work (cond (b && is_same_key (work_key r) key) (Some r) (find (is_work_of x key) rs))
+    ≡ fact_of (cond b (k ∷ known_elements x rs) (known_elements x rs)) key) [
+      | true ↦ elim (is_same_key (work_key r) key) as (λ b. fact_by_work (cond b (Some r) (find (is_work_of x key) rs)) ≡ cond b k.fact (fact_of (known_elements x rs) key)) [
         | true ↦ refl
-        | false ↦ known-fact x rs id
+        | false ↦ known-fact x rs key
       ]
-      | false ↦ known-fact x rs id
+      | false ↦ known-fact x rs key
     ]
 
-pub known-facts : (x : ℕ) (works : List WorkRow) → element_facts x works ≡ fact_of (known_elements x works)
+pub known-facts : (x : ℕ) (works : List WorkRow) → facts_by_work x works ≡ fact_of (known_elements x works)
 known-facts x works = fun_ext (known-fact x works)
 
 -- the same is known where the lists are the same
-pub facts-same : (x : ℕ) (one two : List WorkRow) → known_elements x one ≡ known_elements x two → element_facts x one ≡ element_facts x two
+pub facts-same : (x : ℕ) (one two : List WorkRow) → known_elements x one ≡ known_elements x two → facts_by_work x one ≡ facts_by_work x two
 facts-same x one two same = known-facts x one ∙ (ap fact_of same ∙ sym (known-facts x two))
 
 -- the walk by the list

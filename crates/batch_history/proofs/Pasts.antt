@@ -8,6 +8,7 @@ use Rattle.batch_ids.specs.declared.refusal.Refusal.TheVariants.{JobStartExcepti
 use Rattle.batch_ids.specs.declared.status.WorkOutcome.{WorkOutcome}
 use Rattle.batch_ids.specs.declared.status.WorkOutcome.TheVariants.{Completed, Failed, Stopped}
 use Rattle.jsl_model.specs.Jobs.{JobTree}
+use Rattle.job_walk.specs.declared.work_key.WorkKey.{WorkKey}
 use Rattle.batch_history.specs.declared.call.Call.{Call}
 use Rattle.batch_history.specs.declared.call.Call.TheVariants.{Start, Restart, Stop, Abandon, Claim, Checkpoint, Finish, Lose}
 use Rattle.batch_history.specs.declared.call.Reply.{Reply}
@@ -89,10 +90,10 @@ found-within f p k (m ∷ ms) row h named e =
       | false ↦ λ s. omega (arith, found-within f p (k + 1) ms row h.1 named s)
     ]) e
 
-claim-fits : (r : Rows) (executions : ℕ) (row : ExecutionRow) (ready : Option (List ℕ)) → row.execution ≤ executions
+claim-fits : (r : Rows) (executions : ℕ) (row : ExecutionRow) (ready : Option WorkKey) → row.execution ≤ executions
     → FitsClaim (length r.works) executions (claim_reply r row ready)
 claim-fits r executions row None le = le
-claim-fits r executions row (Some id) le = (refl, le)
+claim-fits r executions row (Some key) le = (refl, le)
 
 claimed-fits : (limit : ℕ) (r : Rows) (executions : ℕ) (found : Option ExecutionRow) (given : Reply) → reply_to_claim limit r found ≡ Ok given
     → ((row : ExecutionRow) → found ≡ Some row → row.execution ≤ executions) → FitsClaim (length r.works) executions given

@@ -1,20 +1,30 @@
--- What is known of the steps and decisions of a job by a plan, after what their work items tell.
-use Rattle.std.proofs.Common.{◌≡◌, ℕ, Bool, true, Option, None, Some, is_some, List, refl, ap}
+-- What is known of the work keys of a job by a plan, after what their work items tell.
+use Rattle.std.proofs.Common.{◌≡◌, ℕ, Bool, true, false, Option, None, Some, is_some, List, refl, ap}
 use Rattle.jsl_model.specs.Names.{is_among}
-use Rattle.job_walk.specs.Keys.{WorkKey}
-use Rattle.job_walk.specs.Runnables.{Leaf, runnable_in}
+use Rattle.job_walk.specs.Plans.{unless_barred, step_fact, carried_exit, is_kept}
+use Rattle.job_walk.specs.Runnables.{Leaf, runnable_with}
+use Rattle.job_walk.specs.Walk.{is_barred}
 use Rattle.job_walk.specs.declared.facts.Fact.{Fact}
 use Rattle.job_walk.specs.declared.facts.Fact.TheVariants.{Nothing, Carried, Busy, Over, Barred}
 use Rattle.job_walk.specs.declared.plan.Plan.{Plan}
 use Rattle.job_walk.specs.declared.runnable.Runnable.{Runnable}
 use Rattle.job_walk.specs.declared.runnable.Runnable.TheVariants.{Step as RunsStep, Decision as RunsDecision}
-use Rattle.batch_history.specs.Walks.{unless_barred, step_fact, carried_exit, runnable_fact, planned_facts}
+use Rattle.job_walk.specs.declared.work_key.WorkKey.{WorkKey}
+use Rattle.batch_history.specs.Walks.{runnable_fact, planned_facts}
 use Rattle.batch_history.proofs.Sights.{DifferAt}
 
--- facts that differ at one element alone
-pub planned-differ : (plan : Plan) (leaves : List Leaf) (id : List ℕ) (worked later : WorkKey → Fact) → DifferAt id worked later
-    → DifferAt id (planned_facts plan leaves worked) (planned_facts plan leaves later)
-planned-differ plan leaves id worked later differ i other = ap (λ f. runnable_fact plan i f (runnable_in leaves i)) (differ i other)
+-- whether a work item is over
+abbrev pub is_over : Fact → Bool
+is_over (Over outcome exit) = true
+is_over Nothing = false
+is_over Busy = false
+is_over (Carried exit) = false
+is_over Barred = false
+
+-- facts that differ at one work key alone
+pub planned-differ : (plan : Plan) (leaves : List Leaf) (key : WorkKey) (worked later : WorkKey → Fact) → DifferAt key worked later
+    → DifferAt key (planned_facts plan leaves worked) (planned_facts plan leaves later)
+planned-differ plan leaves key worked later differ i other = ap (λ f. runnable_fact plan i f (runnable_with leaves i)) (differ i other)
 
 unbarred-nothing : (worked : Fact) (barred : Bool) → unless_barred worked barred ≡ Nothing → worked ≡ Nothing
 unbarred-nothing Nothing barred h = refl
@@ -23,31 +33,68 @@ unbarred-nothing (Over outcome exit) barred h = cc
 unbarred-nothing (Carried exit) barred h = cc
 unbarred-nothing Barred barred h = cc
 
-step-nothing : (carried : Option (List ℕ)) (worked : Fact) (barred : Bool) → step_fact carried worked barred ≡ Nothing → worked ≡ Nothing
-step-nothing (Some exit) worked barred h = cc
-step-nothing None worked barred h = unbarred-nothing worked barred h
+step-nothing : (carried : Option (List ℕ)) (kept : Bool) (worked : Fact) (barred : Bool) → step_fact carried kept worked barred ≡ Nothing → worked ≡ Nothing
+step-nothing (Some exit) kept worked barred h = cc
+step-nothing None true worked barred h = cc
+step-nothing None false worked barred h = unbarred-nothing worked barred h
 
-runnable-nothing : (plan : Plan) (id : List ℕ) (worked : Fact) (runs : Option Runnable) → is_some runs ≡ true → runnable_fact plan id worked runs ≡ Nothing → worked ≡ Nothing
-runnable-nothing plan id worked None some h = cc
-runnable-nothing plan id worked (Some (RunsStep task)) some h = step-nothing (carried_exit plan.carried id) worked (is_among plan.barred id) h
-runnable-nothing plan id worked (Some (RunsDecision artifact)) some h = h
+runnable-nothing : (plan : Plan) (key : WorkKey) (worked : Fact) (runs : Option Runnable) → is_some runs ≡ true → runnable_fact plan key worked runs ≡ Nothing → worked ≡ Nothing
+runnable-nothing plan key worked None some h = cc
+runnable-nothing plan key worked (Some (RunsStep task)) some h =
+    step-nothing (carried_exit plan.carried key.element) (is_kept plan key) worked (is_among plan.barred key.element) h
+runnable-nothing plan key worked (Some (RunsDecision artifact)) some h = h
 
 -- where nothing is known of what is run, there is no work item of it
-pub planned-nothing : (plan : Plan) (leaves : List Leaf) (worked : WorkKey → Fact) (id : List ℕ) → is_some (runnable_in leaves id) ≡ true
-    → planned_facts plan leaves worked id ≡ Nothing → worked id ≡ Nothing
-planned-nothing plan leaves worked id some h = runnable-nothing plan id (worked id) (runnable_in leaves id) some h
+pub planned-nothing : (plan : Plan) (leaves : List Leaf) (worked : WorkKey → Fact) (key : WorkKey) → is_some (runnable_with leaves key) ≡ true
+    → planned_facts plan leaves worked key ≡ Nothing → worked key ≡ Nothing
+planned-nothing plan leaves worked key some h = runnable-nothing plan key (worked key) (runnable_with leaves key) some h
 
-step-busy : (carried : Option (List ℕ)) (worked later : Fact) (barred : Bool) → step_fact carried worked barred ≡ Nothing → later ≡ Busy → step_fact carried later barred ≡ Busy
-step-busy (Some exit) worked later barred h is = cc
-step-busy None worked later barred h is = ap (λ f. unless_barred f barred) is
+step-busy : (carried : Option (List ℕ)) (kept : Bool) (worked later : Fact) (barred : Bool) → step_fact carried kept worked barred ≡ Nothing → later ≡ Busy
+    → step_fact carried kept later barred ≡ Busy
+step-busy (Some exit) kept worked later barred h is = cc
+step-busy None true worked later barred h is = cc
+step-busy None false worked later barred h is = ap (λ f. unless_barred f barred) is
 
-runnable-busy : (plan : Plan) (id : List ℕ) (worked later : Fact) (runs : Option Runnable) → is_some runs ≡ true → runnable_fact plan id worked runs ≡ Nothing → later ≡ Busy
-    → runnable_fact plan id later runs ≡ Busy
-runnable-busy plan id worked later None some h is = cc
-runnable-busy plan id worked later (Some (RunsStep task)) some h is = step-busy (carried_exit plan.carried id) worked later (is_among plan.barred id) h is
-runnable-busy plan id worked later (Some (RunsDecision artifact)) some h is = is
+runnable-busy : (plan : Plan) (key : WorkKey) (worked later : Fact) (runs : Option Runnable) → is_some runs ≡ true → runnable_fact plan key worked runs ≡ Nothing → later ≡ Busy
+    → runnable_fact plan key later runs ≡ Busy
+runnable-busy plan key worked later None some h is = cc
+runnable-busy plan key worked later (Some (RunsStep task)) some h is =
+    step-busy (carried_exit plan.carried key.element) (is_kept plan key) worked later (is_among plan.barred key.element) h is
+runnable-busy plan key worked later (Some (RunsDecision artifact)) some h is = is
 
 -- where nothing was known of what is run, and a work item of it is busy now, it is busy
-pub planned-busy : (plan : Plan) (leaves : List Leaf) (worked later : WorkKey → Fact) (id : List ℕ) → is_some (runnable_in leaves id) ≡ true
-    → planned_facts plan leaves worked id ≡ Nothing → later id ≡ Busy → planned_facts plan leaves later id ≡ Busy
-planned-busy plan leaves worked later id some h is = runnable-busy plan id (worked id) (later id) (runnable_in leaves id) some h is
+pub planned-busy : (plan : Plan) (leaves : List Leaf) (worked later : WorkKey → Fact) (key : WorkKey) → is_some (runnable_with leaves key) ≡ true
+    → planned_facts plan leaves worked key ≡ Nothing → later key ≡ Busy → planned_facts plan leaves later key ≡ Busy
+planned-busy plan leaves worked later key some h is = runnable-busy plan key (worked key) (later key) (runnable_with leaves key) some h is
+
+unbarred-over : (later : Fact) (barred : Bool) → is_over later ≡ true → is_barred (unless_barred later barred) ≡ false
+unbarred-over Nothing barred h = cc
+unbarred-over Busy barred h = cc
+unbarred-over (Over outcome exit) barred h = refl
+unbarred-over (Carried exit) barred h = cc
+unbarred-over Barred barred h = cc
+
+step-over : (carried : Option (List ℕ)) (kept : Bool) (worked later : Fact) (barred : Bool) → step_fact carried kept worked barred ≡ Busy → is_over later ≡ true
+    → is_barred (step_fact carried kept later barred) ≡ false
+step-over (Some exit) kept worked later barred h over = cc
+step-over None true worked later barred h over = cc
+step-over None false worked later barred h over = unbarred-over later barred over
+
+over-unbarred : (later : Fact) → is_over later ≡ true → is_barred later ≡ false
+over-unbarred Nothing h = cc
+over-unbarred Busy h = cc
+over-unbarred (Over outcome exit) h = refl
+over-unbarred (Carried exit) h = cc
+over-unbarred Barred h = cc
+
+runnable-over : (plan : Plan) (key : WorkKey) (worked later : Fact) (runs : Option Runnable) → runnable_fact plan key worked runs ≡ Busy → is_over later ≡ true
+    → is_barred (runnable_fact plan key later runs) ≡ false
+runnable-over plan key worked later None h over = cc
+runnable-over plan key worked later (Some (RunsStep task)) h over =
+    step-over (carried_exit plan.carried key.element) (is_kept plan key) worked later (is_among plan.barred key.element) h over
+runnable-over plan key worked later (Some (RunsDecision artifact)) h over = over-unbarred later over
+
+-- a work item that was busy, and is over now, is not barred
+pub planned-reported : (plan : Plan) (leaves : List Leaf) (worked later : WorkKey → Fact) (key : WorkKey) → planned_facts plan leaves worked key ≡ Busy
+    → is_over (later key) ≡ true → is_barred (planned_facts plan leaves later key) ≡ false
+planned-reported plan leaves worked later key h over = runnable-over plan key (worked key) (later key) (runnable_with leaves key) h over

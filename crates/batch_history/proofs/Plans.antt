@@ -18,10 +18,13 @@ use Rattle.batch_history.specs.JobSteps.{JobStep, all_steps}
 use Rattle.batch_history.specs.Lists.{is_at}
 use Rattle.batch_history.specs.Moments.{first_moment, start_moment}
 use Rattle.batch_history.specs.Operations.{effects, taken_up_by}
-use Rattle.batch_history.specs.Restarts.{is_same_number, is_earlier_work, carried_step, is_barred, plan_by, first_plan, restart_point, is_taken_up, job_of_origin, plan_from, walk_from, beginning_by_making, beginning_among, plan_of}
+use Rattle.batch_history.specs.Partitions.{is_kept_after, partitions_kept}
+use Rattle.job_walk.specs.Keys.{numbers_to}
+use Rattle.std.specs.List.{flat_map}
+use Rattle.batch_history.specs.Restarts.{exit_carried, kept_partitions, starts_of, is_same_number, is_earlier_work, carried_step, is_barred, plan_by, first_plan, restart_point, is_taken_up, job_of_origin, plan_from, walk_from, beginning_by_making, beginning_among, plan_of}
 use Rattle.batch_history.specs.Rows.{IsAsBefore}
 use Rattle.batch_history.specs.Statuses.{is_finished}
-use Rattle.batch_history.specs.Walks.{element_facts, first_of_job, job_named, walk_of, walk_value}
+use Rattle.batch_history.specs.Walks.{facts_by_work, first_of_job, job_named, walk_of, walk_value}
 use Rattle.batch_history.specs.Works.{work_items}
 use Rattle.batch_history.proofs.Earlier.{filter-same, filter-none, earlier_kept, instance-found, earlier-stays, known-stays}
 use Rattle.batch_history.proofs.Finished.{finished-stays, made-after, on-it}
@@ -54,13 +57,30 @@ plan-begins : (from : List ℕ) (earlier : List WorkRow) (job : Option JobTree) 
 plan-begins from earlier None = refl
 plan-begins from earlier (Some tree) = refl
 
+-- nothing was completed by no work
+never-carried : (partitions : Option ℕ) → exit_carried partitions [] ≡ None
+never-carried None = refl
+never-carried (Some n) = refl
+
+never-completed : (numbers : List ℕ) → filter (is_kept_after [] []) numbers ≡ []
+never-completed [] = refl
+never-completed (p ∷ numbers) = never-completed numbers
+
+never-kept : (partitions : Option ℕ) → partitions_kept partitions [] ≡ []
+never-kept None = refl
+never-kept (Some n) = never-completed (numbers_to n)
+
 none-carried : (steps : List JobStep) → filter_map (carried_step []) steps ≡ []
 none-carried [] = refl
 none-carried (s ∷ rest) =
     (elim s.step.allow_start_if_complete as (λ b. s.step.allow_start_if_complete ≡ b → filter_map (carried_step []) (s ∷ rest) ≡ []) [
       | true ↦ λ is. rw is (none-carried rest)
-      | false ↦ λ is. rw is (none-carried rest)
+      | false ↦ λ is. rw is (rw (never-carried s.step.partitions) (none-carried rest))
     ]) refl
+
+none-kept : (steps : List JobStep) → flat_map (kept_partitions []) steps ≡ []
+none-kept [] = refl
+none-kept (s ∷ rest) = rw (never-kept s.step.partitions) (none-kept rest)
 
 both-false : (a b : Bool) → (b ≡ true → a ≡ false) → (a && b) ≡ false
 both-false a true h = ap (λ c. c && true) (h refl)
@@ -70,17 +90,23 @@ both-false false false h = refl
 never-barred : (n : ℕ) → (nat_lt 0 n && nat_le n 0) ≡ false
 never-barred n = both-false (nat_lt 0 n) (nat_le n 0) (λ le. le-ltb 0 n (leb-true n 0 le))
 
+never-started : (n : ℕ) (partitions : Option ℕ) → (nat_lt 0 n && nat_le n (starts_of partitions [])) ≡ false
+never-started n None = never-barred n
+never-started n (Some k) = never-barred n
+
 none-barred : (steps : List JobStep) → filter (is_barred []) steps ≡ []
 none-barred [] = refl
-none-barred (s ∷ rest) = ap (λ b. cond b (s ∷ filter (is_barred []) rest) (filter (is_barred []) rest)) (never-barred s.step.start_limit) ∙ none-barred rest
+none-barred (s ∷ rest) = ap (λ b. cond b (s ∷ filter (is_barred []) rest) (filter (is_barred []) rest)) (never-started s.step.start_limit s.step.partitions) ∙ none-barred rest
 
 -- without earlier work it is that of a first job execution
 plan-first : (job : Option JobTree) → plan_by (first_of_job job) [] job ≡ first_plan job
 plan-first None = refl
 plan-first (Some tree) =
     let from : List ℕ = first_of_job (Some tree) in
-    ap (λ c. record { from = from; carried = c; barred = map (λ (s : JobStep). s.id) (filter (is_barred []) (all_steps tree.elements)) }) (none-carried (all_steps tree.elements))
-    ∙ ap (λ (b : List JobStep). record { from = from; carried = []; barred = map (λ (s : JobStep). s.id) b }) (none-barred (all_steps tree.elements))
+    let steps : List JobStep = all_steps tree.elements in
+    ap (λ c. record { from = from; carried = c; kept = flat_map (kept_partitions []) steps; barred = map (λ (s : JobStep). s.id) (filter (is_barred []) steps) }) (none-carried steps)
+    ∙ (ap (λ k. record { from = from; carried = []; kept = k; barred = map (λ (s : JobStep). s.id) (filter (is_barred []) steps) }) (none-kept steps)
+    ∙ ap (λ (b : List JobStep). record { from = from; carried = []; kept = []; barred = map (λ (s : JobStep). s.id) b }) (none-barred steps))
 
 -- ---- Searches and folds
 
@@ -198,14 +224,14 @@ point-kept limit catalogue past more older e one cut due found over before =
     let starts : start_of past y ≡ start_of older y = ap (λ (row : ExecutionRow). row.start) stays in
     let taken : is_taken_up past y ≡ is_some (start_of older y) = taken-law past y ∙ (ap is_some (start-law past fits y) ∙ ap is_some starts) in
     let planned : plan_from catalogue past y b ≡ plan = plan-searched catalogue past y one b fits there ∙ before in
-    let known : element_facts y (works_of past) ≡ element_facts y (works_of older) =
-    subst (λ (p : List Entry). element_facts y (works_of p) ≡ element_facts y (works_of older)) (sym longer)
+    let known : facts_by_work y (works_of past) ≡ facts_by_work y (works_of older) =
+    subst (λ (p : List Entry). facts_by_work y (works_of p) ≡ facts_by_work y (works_of older)) (sym longer)
     (facts-same y _ _ (known-stays limit catalogue (more ++ e ∷ []) older one due_longer found over)) in
     let walk : walk_from catalogue past y b ≡ walk_value catalogue (works_of older) y one.job plan =
-    ap (λ p. walk_of p (element_facts y (work_items past)) (job_of_origin catalogue (origin_of past y))) planned
-    ∙ (ap (λ (works : List WorkRow). walk_of plan (element_facts y works) (job_of_origin catalogue (origin_of past y))) (works-law past fits)
+    ap (λ p. walk_of p (facts_by_work y (work_items past)) (job_of_origin catalogue (origin_of past y))) planned
+    ∙ (ap (λ (works : List WorkRow). walk_of plan (facts_by_work y works) (job_of_origin catalogue (origin_of past y))) (works-law past fits)
     ∙ (ap (λ f. walk_of plan f (job_of_origin catalogue (origin_of past y))) known
-    ∙ ap (walk_of plan (element_facts y (works_of older))) (found-job catalogue past y one fits there))) in
+    ∙ ap (walk_of plan (facts_by_work y (works_of older))) (found-job catalogue past y one fits there))) in
     let from : b ≡ plan.from = sym (plan-begins b (earlier_kept past y) (job_named catalogue one.job)) ∙ ap (λ (p : Plan). p.from) before in
     same-point _ _ _ _ _ _ taken walk from
 

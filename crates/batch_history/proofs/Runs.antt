@@ -1,24 +1,23 @@
--- What a walk shows as ready or busy is a step or a decision of the job.
-use Rattle.std.proofs.Common.{◌≡◌, ◌⊎◌, inl, inr, ℕ, Bool, true, false, cond, ◌||◌, ◌&&◌, Option, None, Some, is_some, List, [], ◌∷◌, find, refl, ◌∙◌, ap}
-use Rattle.std.specs.Option.{option_map}
-use Rattle.std.specs.Str.{bytes_eq}
+-- What a walk shows as ready or busy is a work key of a step or a decision of the job.
+use Rattle.std.proofs.Common.{◌≡◌, ◌⊎◌, inl, inr, ℕ, Bool, true, false, cond, ◌||◌, ◌&&◌, Option, None, Some, is_some, unwrap_or, List, [], ◌∷◌, ◌++◌, map, find, refl, sym, ◌∙◌, ap}
+use Rattle.std.specs.Option.{option_map, option_and_then}
+use Rattle.std.proofs.lemmas.List.Folds.{list_any-append}
 use Rattle.jsl_model.specs.Jobs.{JobTree}
-use Rattle.jsl_model.specs.Names.{is_among}
 use Rattle.jsl_model.specs.declared.element.Element.{Element}
-use Rattle.jsl_model.proofs.Among.{bytes_eq-sym}
-use Rattle.job_walk.specs.Keys.{WorkKey}
+use Rattle.job_walk.specs.Cursors.{ready_of, busy_of}
+use Rattle.job_walk.specs.Keys.{has_key, is_same_key, key_of, keys_of_step, numbers_to}
+use Rattle.job_walk.specs.Runnables.{Leaf, all_leaves, keys_of, all_keys, leaf_with, runnable_with, partitions_with}
+use Rattle.job_walk.specs.Walk.{value_of}
 use Rattle.job_walk.specs.declared.facts.Fact.{Fact}
 use Rattle.job_walk.specs.declared.facts.Value.{Value}
 use Rattle.job_walk.specs.declared.facts.Value.TheVariants.{Open, Done, Ended}
 use Rattle.job_walk.specs.declared.plan.Plan.{Plan}
-use Rattle.job_walk.specs.Cursors.{ready_of, busy_of}
-use Rattle.job_walk.specs.Lists.{ids_of}
-use Rattle.job_walk.specs.Runnables.{Leaf, all_leaves, runnable_in}
-use Rattle.job_walk.specs.Walk.{value_of}
+use Rattle.job_walk.specs.declared.work_key.WorkKey.{WorkKey}
+use Rattle.job_walk.proofs.SameKeys.{same-one}
 use Rattle.job_walk.proofs.Shown.{ready-leaf, busy-leaf}
-use Rattle.batch_history.specs.Replies.{runnable_of_job}
+use Rattle.batch_history.specs.Replies.{partition_named, partitions_of_job}
 use Rattle.batch_history.specs.Walks.{planned_facts, walk_of}
-use Rattle.batch_history.proofs.Sights.{Sight, seen}
+use Rattle.batch_history.proofs.Sights.{Sight, seen, own-key}
 
 -- what is looked at both ways is found by one of them
 one-way : (r b ready busy : Bool) → ((r && ready) || (b && busy)) ≡ true → (ready ≡ true) ⊎ (busy ≡ true)
@@ -31,35 +30,62 @@ one-way false true ready false h = cc
 one-way false false ready busy h = cc
 
 -- what is seen is ready or busy
-seen-so : (s : Sight) (id : List ℕ) (value : Value) → seen s id value ≡ true → (is_among (ready_of value) id ≡ true) ⊎ (is_among (busy_of value) id ≡ true)
-seen-so s id (Open ready busy) h = one-way s.of_ready s.of_busy (is_among ready id) (is_among busy id) h
-seen-so s id (Done exit) h = cc
-seen-so s id (Ended status exit point) h = cc
+seen-so : (s : Sight) (key : WorkKey) (value : Value) → seen s key value ≡ true → (has_key (ready_of value) key ≡ true) ⊎ (has_key (busy_of value) key ≡ true)
+seen-so s key (Open ready busy) h = one-way s.of_ready s.of_busy (has_key ready key) (has_key busy key) h
+seen-so s key (Done exit) h = cc
+seen-so s key (Ended status exit point) h = cc
 
-seen-leaf : (s : Sight) (id : List ℕ) (facts : WorkKey → Fact) (elements : List Element) (from : List ℕ) → seen s id (value_of facts elements from) ≡ true
-    → is_among (ids_of (all_leaves elements)) id ≡ true
-seen-leaf s id facts elements from h =
-    elim (seen-so s id (value_of facts elements from) h) [
-      | inl ready ↦ ready-leaf facts elements from id ready
-      | inr busy ↦ busy-leaf facts elements from id busy
+seen-leaf : (s : Sight) (key : WorkKey) (facts : WorkKey → Fact) (elements : List Element) (from : List ℕ) → seen s key (value_of facts elements from) ≡ true
+    → has_key (all_keys (all_leaves elements)) key ≡ true
+seen-leaf s key facts elements from h =
+    elim (seen-so s key (value_of facts elements from) h) [
+      | inl ready ↦ ready-leaf facts elements from key ready
+      | inr busy ↦ busy-leaf facts elements from key busy
     ]
 
--- what has one of these ids is run
-leaf-runs : (all : List Leaf) (id : List ℕ) → is_among (ids_of all) id ≡ true → is_some (runnable_in all id) ≡ true
-leaf-runs [] id h = cc
-leaf-runs (leaf ∷ rest) id h =
-    (elim (bytes_eq leaf.id id) as (λ b. (b || is_among (ids_of rest) id) ≡ true → is_some (option_map (λ (l : Leaf). l.runs) (cond b (Some leaf) (find (λ (l : Leaf). bytes_eq l.id id) rest))) ≡ true) [
+-- what has one of these work keys is run
+leaf-runs : (all : List Leaf) (key : WorkKey) → has_key (all_keys all) key ≡ true → is_some (runnable_with all key) ≡ true
+leaf-runs [] key h = cc
+leaf-runs (leaf ∷ rest) key h =
+    (elim (has_key (keys_of leaf) key) as (λ b. (b || has_key (all_keys rest) key) ≡ true
+    → is_some (option_map (λ (l : Leaf). l.runs) (cond b (Some leaf) (find (λ (l : Leaf). has_key (keys_of l) key) rest))) ≡ true) [
       | true ↦ λ e. refl
-      | false ↦ λ e. leaf-runs rest id e
-    ]) (ap (λ b. b || is_among (ids_of rest) id) (bytes_eq-sym leaf.id id) ∙ h)
+      | false ↦ λ e. leaf-runs rest key e
+    ]) (sym (list_any-append (is_same_key key) (keys_of leaf) (all_keys rest)) ∙ h)
 
 -- what a list of elements shows is run
-pub elements-run : (s : Sight) (id : List ℕ) (facts : WorkKey → Fact) (elements : List Element) (from : List ℕ) → seen s id (value_of facts elements from) ≡ true
-    → is_some (runnable_in (all_leaves elements) id) ≡ true
-elements-run s id facts elements from h = leaf-runs (all_leaves elements) id (seen-leaf s id facts elements from h)
+pub elements-run : (s : Sight) (key : WorkKey) (facts : WorkKey → Fact) (elements : List Element) (from : List ℕ) → seen s key (value_of facts elements from) ≡ true
+    → is_some (runnable_with (all_leaves elements) key) ≡ true
+elements-run s key facts elements from h = leaf-runs (all_leaves elements) key (seen-leaf s key facts elements from h)
 
 -- what a job execution's walk shows is run
-pub walk-runs : (s : Sight) (id : List ℕ) (plan : Plan) (worked : WorkKey → Fact) (job : Option JobTree) → seen s id (walk_of plan worked job) ≡ true
-    → is_some (runnable_of_job job id) ≡ true
-walk-runs s id plan worked None h = cc
-walk-runs s id plan worked (Some job) h = elements-run s id (planned_facts plan (all_leaves job.elements) worked) job.elements plan.from h
+pub walk-runs : (s : Sight) (key : WorkKey) (plan : Plan) (worked : WorkKey → Fact) (job : JobTree) → seen s key (walk_of plan worked (Some job)) ≡ true
+    → is_some (runnable_with (all_leaves job.elements) key) ≡ true
+walk-runs s key plan worked job h = elements-run s key (planned_facts plan (all_leaves job.elements) worked) job.elements plan.from h
+
+-- ---- By the number of the partition
+
+named-key : (id : List ℕ) (partitions : Option ℕ) (key : WorkKey) → has_key (keys_of_step id partitions) key ≡ true
+    → unwrap_or (partition_named key.partition partitions) 0 ≡ key.partition
+named-key id None key h =
+    (elim (is_same_key key (key_of id 0)) as (λ b. is_same_key key (key_of id 0) ≡ b → (b || false) ≡ true → 0 ≡ key.partition) [
+      | true ↦ λ e _. sym (ap (λ (k : WorkKey). k.partition) (same-one key (key_of id 0) e))
+      | false ↦ λ e some. cc
+    ]) refl h
+named-key id (Some n) key h = refl
+
+leaf-named : (all : List Leaf) (key : WorkKey) → is_some (runnable_with all key) ≡ true
+    → unwrap_or (partition_named key.partition (partitions_with all key)) 0 ≡ key.partition
+leaf-named [] key h = cc
+leaf-named (leaf ∷ rest) key h =
+    (elim (has_key (keys_of leaf) key) as (λ b. has_key (keys_of leaf) key ≡ b
+    → is_some (option_map (λ (l : Leaf). l.runs) (cond b (Some leaf) (leaf_with rest key))) ≡ true
+    → unwrap_or (partition_named key.partition (option_and_then (λ (l : Leaf). l.partitions) (cond b (Some leaf) (leaf_with rest key)))) 0 ≡ key.partition) [
+      | true ↦ λ e _. named-key leaf.id leaf.partitions key e
+      | false ↦ λ e some. leaf-named rest key some
+    ]) refl h
+
+-- a work key is named again by the partition that a work item of it has
+pub key-named : (job : JobTree) (key : WorkKey) → is_some (runnable_with (all_leaves job.elements) key) ≡ true
+    → record { element = key.element; partition = unwrap_or (partition_named key.partition (partitions_of_job (Some job) key)) 0 } ≡ key
+key-named job key h = ap (λ p. record { element = key.element; partition = p }) (leaf-named (all_leaves job.elements) key h)

@@ -33,28 +33,28 @@ use Rattle.batch_history.specs.Replies.{instance_in, is_execution}
 use Rattle.batch_history.specs.Restarts.{first_plan, plan_by, restart_point}
 use Rattle.batch_history.specs.Rows.{Rows, execution_row_with}
 use Rattle.batch_history.specs.Statuses.{batch_status, is_finished}
-use Rattle.batch_history.specs.Walks.{element_facts, fact_of_state, walk_of, walk_value, job_named}
+use Rattle.batch_history.specs.Walks.{facts_by_work, fact_of_state, walk_of, walk_value, job_named}
 use Rattle.batch_history.proofs.Knowing.{known_elements, facts-same}
-use Rattle.batch_history.specs.Works.{execution_of_operation, is_work}
+use Rattle.batch_history.specs.Works.{execution_of_operation, is_work, work_key}
 
 -- What an operation that is not on an execution leaves of it
 
 pub known-append : (x : ℕ) (works : List WorkRow) (r : WorkRow) → (r.execution == x) ≡ false → known_elements x (works ++ r ∷ []) ≡ known_elements x works
 known-append x [] r h = rw h refl
 known-append x (w ∷ ws) r h =
-    let k : Known = record { id = w.element; fact = fact_of_state w.state } in
+    let k : Known = record { key = work_key w; fact = fact_of_state w.state } in
     ap (λ (ks : List Known). cond (w.execution == x) (k ∷ ks) ks) (known-append x ws r h)
 
-pub known-change : (x : ℕ) (p : WorkRow → Bool) (o : WorkOutcome) (t : Option (List ℕ)) (step : MetricStep) (at : ℕ) (works : List WorkRow)
+pub known-change : (x : ℕ) (p : WorkRow → Bool) (o : WorkOutcome) (t : Option (List ℕ)) (step : MetricStep) (at n : ℕ) (works : List WorkRow)
     → is_at x (option_map (λ row. row.execution) (find p works)) ≡ false
-    → known_elements x (change_first p (over o t step at) works) ≡ known_elements x works
-known-change x p o t step at [] h = refl
-known-change x p o t step at (w ∷ ws) h =
-    let k : Known = record { id = w.element; fact = fact_of_state w.state } in
+    → known_elements x (change_first p (over o t step at n) works) ≡ known_elements x works
+known-change x p o t step at n [] h = refl
+known-change x p o t step at n (w ∷ ws) h =
+    let k : Known = record { key = work_key w; fact = fact_of_state w.state } in
     (elim (p w) as (λ b. is_at x (option_map (λ row. row.execution) (cond b (Some w) (find p ws))) ≡ false
-    → known_elements x (cond b (over o t step at w ∷ ws) (w ∷ change_first p (over o t step at) ws)) ≡ known_elements x (w ∷ ws)) [
+    → known_elements x (cond b (over o t step at n w ∷ ws) (w ∷ change_first p (over o t step at n) ws)) ≡ known_elements x (w ∷ ws)) [
       | true ↦ λ e. rw e refl
-      | false ↦ λ e. ap (λ (ks : List Known). cond (w.execution == x) (k ∷ ks) ks) (known-change x p o t step at ws e)
+      | false ↦ λ e. ap (λ (ks : List Known). cond (w.execution == x) (k ∷ ks) ks) (known-change x p o t step at n ws e)
     ]) h
 
 -- what is reported of a work item says nothing of its element
@@ -62,7 +62,7 @@ pub known-reported : (x : ℕ) (p : WorkRow → Bool) (step : MetricStep) (works
     → known_elements x (change_first p (reported step) works) ≡ known_elements x works
 known-reported x p step [] = refl
 known-reported x p step (w ∷ ws) =
-    let k : Known = record { id = w.element; fact = fact_of_state w.state } in
+    let k : Known = record { key = work_key w; fact = fact_of_state w.state } in
     elim (p w) as (λ b. known_elements x (cond b (reported step w ∷ ws) (w ∷ change_first p (reported step) ws)) ≡ known_elements x (w ∷ ws)) [
       | true ↦ refl
       | false ↦ ap (λ (ks : List Known). cond (w.execution == x) (k ∷ ks) ks) (known-reported x p step ws)
@@ -79,16 +79,16 @@ known-handed x who at Go works h = refl
 known-handed x who at StopAsked works h = refl
 
 -- its work is as it was
-pub known-same : (x who at : ℕ) (call : Call) (reply : Reply) (works : List WorkRow) → is_at x (execution_of_operation works call reply) ≡ false
-    → known_elements x (works_after who at call reply works) ≡ known_elements x works
-known-same x who at (Start job parameters) reply works h = refl
-known-same x who at (Restart y parameters) reply works h = refl
-known-same x who at (Stop y) reply works h = refl
-known-same x who at (Abandon y) reply works h = refl
-known-same x who at Claim reply works h = known-handed x who at reply works h
-known-same x who at (Checkpoint w mark step) reply works h = known-reported x _ step works
-known-same x who at (Finish w o t step) reply works h = known-change x _ o t step at works h
-known-same x who at (Lose w) reply works h = known-change x _ Failed None zero_step at works h
+pub known-same : (x n who at : ℕ) (call : Call) (reply : Reply) (works : List WorkRow) → is_at x (execution_of_operation works call reply) ≡ false
+    → known_elements x (works_after n who at call reply works) ≡ known_elements x works
+known-same x n who at (Start job parameters) reply works h = refl
+known-same x n who at (Restart y parameters) reply works h = refl
+known-same x n who at (Stop y) reply works h = refl
+known-same x n who at (Abandon y) reply works h = refl
+known-same x n who at Claim reply works h = known-handed x who at reply works h
+known-same x n who at (Checkpoint w mark step) reply works h = known-reported x _ step works
+known-same x n who at (Finish w o t step) reply works h = known-change x _ o t step at n works h
+known-same x n who at (Lose w) reply works h = known-change x _ Failed None zero_step at n works h
 
 -- who is taken up is touched
 pub taken-touched : (x : ℕ) (call : Call) (reply : Reply) (works : List WorkRow) → is_at x (execution_of_operation works call reply) ≡ false
@@ -205,8 +205,8 @@ untouched catalogue past e m made_no off =
     begun-by past e x made_no
     ∙ (ap (λ b. first_moment (start_of past x) b e.at) (taken-touched x e.call e.reply works off) ∙ earliest-false (start_of past x) e.at) in
     let v : value_after catalogue (e ∷ past) m ≡ value_after catalogue past m =
-    ap (λ k. walk_of k (element_facts x (works_of (e ∷ past))) (job_named catalogue m.job)) k
-    ∙ ap (λ f. walk_of (plan_kept catalogue past x) f (job_named catalogue m.job)) (facts-same x _ works (known-same x e.who e.at e.call e.reply works off)) in
+    ap (λ k. walk_of k (facts_by_work x (works_of (e ∷ past))) (job_named catalogue m.job)) k
+    ∙ ap (λ f. walk_of (plan_kept catalogue past x) f (job_named catalogue m.job)) (facts-same x _ works (known-same x (length past + 1) e.who e.at e.call e.reply works off)) in
     let n : end_of catalogue (e ∷ past) m ≡ end_of catalogue past m =
     ended-by catalogue past e m made_no
     ∙ (ap (λ b. first_moment (end_of catalogue past m) (is_finished b) e.at) (same_status _ _ _ _ _ _ p s v)
@@ -224,7 +224,7 @@ refreshed-by catalogue past e m made_no on =
     let k : plan_kept catalogue (e ∷ past) x ≡ plan_kept catalogue past x = planned-by catalogue past e x made_no in
     let value : Value = walk_value catalogue (works_of (e ∷ past)) x m.job (plan_kept catalogue past x) in
     let v : value_after catalogue (e ∷ past) m ≡ value =
-    ap (λ k. walk_of k (element_facts x (works_of (e ∷ past))) (job_named catalogue m.job)) k in
+    ap (λ k. walk_of k (facts_by_work x (works_of (e ∷ past))) (job_named catalogue m.job)) k in
     let begun : Option ℕ = first_moment (start_of past x) (is_at x (taken_up e.call e.reply)) e.at in
     let stop : Bool = stop_of past x || is_at x (stop_request e.call) in
     let p : stop_of (e ∷ past) x ≡ stop = named-by stop_request past e x made_no in
@@ -359,7 +359,7 @@ remade-create x at parameters (Some m) = refl
 
 executions-step : (catalogue : List JobTree) (past : List Entry) (who at : ℕ) (call : Call) (reply : Reply)
     → (folded_rows catalogue (record { who = who; call = call; at = at; reply = reply } ∷ past)).executions
-    ≡ executions_after (folded_rows catalogue past) (works_after who at call reply (works_of past)) at call reply
+    ≡ executions_after (folded_rows catalogue past) (works_after (length past + 1) who at call reply (works_of past)) at call reply
 executions-step catalogue past who at (Start job parameters) reply =
     let e : Entry = record { who = who; call = Start job parameters; at = at; reply = reply } in
     let n : ℕ = length (made past) in
@@ -400,7 +400,7 @@ executions-step catalogue past who at (Lose w) reply =
 pub place-by-same : (one other : ℕ → Option ℕ) (row : Option WorkRow) → ((x : ℕ) → one x ≡ other x) → instance_step_by one row ≡ instance_step_by other row
 place-by-same one other None same = refl
 place-by-same one other (Some row) same =
-    ap (λ (i : Option ℕ). option_map (λ n. record { instance = n; step = row.element }) i) (same row.execution)
+    ap (λ (i : Option ℕ). option_map (λ n. record { instance = n; step = work_key row }) i) (same row.execution)
 
 pub place-in : (catalogue : List JobTree) (past : List Entry) (w : ℕ) → place_of past w ≡ place_in (folded_rows catalogue past) w
 place-in catalogue past w =

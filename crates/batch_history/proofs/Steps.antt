@@ -111,7 +111,7 @@ place_in r w = instance_step_by (instance_in r.executions) (find (is_work w) r.w
 -- the rows after an operation
 abbrev pub rows_after : Rows → Entry → Rows
 rows_after r e =
-    let works = works_after e.who e.at e.call e.reply r.works in
+    let works = works_after (r.count + 1) e.who e.at e.call e.reply r.works in
     record {
       catalogue = r.catalogue;
       count = r.count + 1;

@@ -24,6 +24,7 @@ use Rattle.batch_history.specs.declared.rows.WorkState.{WorkState}
 use Rattle.batch_history.specs.declared.rows.WorkState.TheVariants.{Busy, Over}
 use Rattle.batch_history.specs.Replies.{is_execution, row_status}
 use Rattle.batch_history.specs.Rows.{History, Rows, rows}
+use Rattle.batch_history.specs.StepExecutions.{step_executions}
 
 -- ---- Records as they are shown
 
@@ -41,38 +42,6 @@ record_of row =
       exit = row.exit;
       updated = row.updated;
     }
-
--- a step execution is STARTED until it is over, and then its outcome
-abbrev pub state_status : WorkState → BatchStatus
-state_status Busy = Started
-state_status (Over outcome exit) = outcome_status outcome
-
-abbrev pub state_exit : WorkState → Option (List ℕ)
-state_exit Busy = None
-state_exit (Over outcome exit) = Some exit
-
-abbrev pub shown_step : WorkRow → StepExecution
-shown_step row =
-    record {
-      work = row.work;
-      execution = row.execution;
-      step = row.element;
-      status = state_status row.state;
-      start = row.start;
-      end = row.end;
-      exit = state_exit row.state;
-      metrics = row.metrics;
-    }
-
--- a decision is no step
-abbrev pub if_step : WorkKind → StepExecution → Option StepExecution
-if_step Batchlet step = Some step
-if_step Chunk step = Some step
-if_step Decision step = None
-
--- the step execution that a work item is, if it is a step's
-abbrev pub step_execution : WorkRow → Option StepExecution
-step_execution row = if_step row.kind (shown_step row)
 
 -- ---- Answers by the rows
 
@@ -107,10 +76,6 @@ instance_shown row = record { instance = row.instance; job = row.job }
 -- the records of the job executions of a job instance, the newest first
 abbrev pub records_of : ℕ → List ExecutionRow → List JobExecution
 records_of i executions = map record_of (reverse (filter (λ row. row.instance == i) executions))
-
--- the records of the step executions of a job execution
-abbrev pub steps_of : ℕ → List WorkRow → List StepExecution
-steps_of x works = filter_map step_execution (filter (λ row. row.execution == x) works)
 
 abbrev pub no_counts : CountsByStatus
 no_counts = record { starting = 0; started = 0; stopping = 0; stopped = 0; failed = 0; completed = 0; abandoned = 0 }
@@ -149,7 +114,7 @@ answer_by r (JobExecutions i) =
     then Ok (AreJobExecutions (records_of i r.executions))
     else Err NoSuchJobInstanceException
 answer_by r (AskJobExecution x) = if_execution_known (find (is_execution x) r.executions) (λ row. IsJobExecution (record_of row))
-answer_by r (StepExecutions x) = if_execution_known (find (is_execution x) r.executions) (λ row. AreStepExecutions (steps_of x r.works))
+answer_by r (StepExecutions x) = if_execution_known (find (is_execution x) r.executions) (λ row. AreStepExecutions (step_executions r row))
 answer_by r StatusCounts = Ok (AreCounts (counts_of r.executions))
 
 -- THE ANSWER: what a query is answered after a history

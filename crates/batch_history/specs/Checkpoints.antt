@@ -3,24 +3,25 @@
 use Rattle.std.specs.Option.{option_map}
 use Rattle.std.specs.Prelude.{ℕ, ◌==◌, ◌&&◌, Bool, false, Option, Some, None, List, [], ◌∷◌, find, if◌then◌else◌}
 use Rattle.batch_history.specs.Executions.{instance_of_execution}
-use Rattle.batch_history.specs.Works.{is_work, work_items}
+use Rattle.batch_history.specs.Works.{is_work, work_key, work_items}
 use Rattle.batch_history.specs.declared.call.Call.{Call}
 use Rattle.batch_history.specs.Operations.{Ending, Report, effects}
 use Rattle.batch_history.specs.declared.call.Entry.{Entry}
 use Rattle.batch_history.specs.declared.rows.WorkRow.{WorkRow}
-use Rattle.std.specs.Str.{bytes_eq}
+use Rattle.job_walk.specs.declared.work_key.WorkKey.{WorkKey}
+use Rattle.job_walk.specs.Keys.{is_same_key}
 use Rattle.batch_ids.specs.declared.status.WorkOutcome.{WorkOutcome}
 use Rattle.batch_ids.specs.declared.status.WorkOutcome.TheVariants.{Completed, Failed, Stopped}
 
--- a step of a job instance
+-- a step of a job instance, or a partition of it
 pub record InstanceStep : Type 0 where
   pub instance : ℕ
-  pub step : List ℕ
+  pub step : WorkKey
 
 -- the step of a work item in its job instance, by the job instance of each job execution
 abbrev pub instance_step_by : (ℕ → Option ℕ) → Option WorkRow → Option InstanceStep
 instance_step_by instance_of None = None
-instance_step_by instance_of (Some row) = option_map (λ i. record { instance = i; step = row.element }) (instance_of row.execution)
+instance_step_by instance_of (Some row) = option_map (λ i. record { instance = i; step = work_key row }) (instance_of row.execution)
 
 -- the step of work item w in its job instance
 abbrev pub instance_step_of : List Entry → ℕ → Option InstanceStep
@@ -29,7 +30,7 @@ instance_step_of past w = instance_step_by (instance_of_execution past) (find (i
 -- whether it is this step of this job instance
 abbrev pub is_same_step : InstanceStep → Option InstanceStep → Bool
 is_same_step p None = false
-is_same_step p (Some q) = q.instance == p.instance && bytes_eq q.step p.step
+is_same_step p (Some q) = q.instance == p.instance && is_same_key q.step p.step
 
 -- a work item that completes leaves no checkpoint
 abbrev pub checkpoint_left : WorkOutcome → Option (List ℕ) → Option (List ℕ)

@@ -28,8 +28,8 @@ use Rattle.batch_ids.specs.declared.status.BatchStatus.{BatchStatus}
 use Rattle.batch_ids.specs.declared.status.BatchStatus.TheVariants.{Starting, Started, Stopping, Stopped as IsStopped, Failed as IsFailed, Completed as IsCompleted, Abandoned}
 use Rattle.batch_ids.specs.declared.status.WorkOutcome.{WorkOutcome}
 use Rattle.batch_ids.specs.declared.status.WorkOutcome.TheVariants.{Completed, Failed, Stopped}
-use Rattle.job_walk.specs.Keys.{WorkKey}
-use Rattle.job_walk.specs.Runnables.{all_leaves, runnable_in}
+use Rattle.job_walk.specs.Runnables.{all_leaves, partitions_with, runnable_with}
+use Rattle.job_walk.specs.declared.work_key.WorkKey.{WorkKey}
 use Rattle.job_walk.specs.declared.facts.Value.{Value}
 use Rattle.job_walk.specs.declared.facts.Value.TheVariants.{Open, Done as IsDone, Ended}
 use Rattle.job_walk.specs.declared.plan.Plan.{Plan}
@@ -48,6 +48,7 @@ is_nothing Done = false
 is_nothing Go = false
 is_nothing StopAsked = false
 
+-- the first work key that may be run now: in written order, the least partition of its step
 abbrev pub first_ready : Value → Option WorkKey
 first_ready (Open (key ∷ ready) busy) = Some key
 first_ready (Open [] busy) = None
@@ -93,19 +94,31 @@ work_task mark (Some (RunsStep (Chunk reader processor writer count))) = ChunkTa
 work_task mark (Some (RunsDecision artifact)) = DecisionTask artifact
 work_task mark None = DecisionTask []
 
--- what is run for an element of a job
-abbrev pub runnable_of_job : Option JobTree → List ℕ → Option Runnable
-runnable_of_job None id = None
-runnable_of_job (Some job) id = runnable_in (all_leaves job.elements) id
+-- what is run for a work key of a job
+abbrev pub runnable_of_job : Option JobTree → WorkKey → Option Runnable
+runnable_of_job None key = None
+runnable_of_job (Some job) key = runnable_with (all_leaves job.elements) key
 
--- the next work item of a job execution, of this work key
+-- in how many partitions, where it is of a partitioned step
+abbrev pub partitions_of_job : Option JobTree → WorkKey → Option ℕ
+partitions_of_job None key = None
+partitions_of_job (Some job) key = partitions_with (all_leaves job.elements) key
+
+-- the number that a work item of a partitioned step names: that of its partition
+abbrev pub partition_named : ℕ → Option ℕ → Option ℕ
+partition_named p partitions = option_map (λ n. p) partitions
+
+-- the work item of a work key of a job execution
 abbrev pub next_work_item : Rows → ExecutionRow → WorkKey → WorkItem
 next_work_item r row key =
     record {
       work = length r.works + 1;
       execution = row.execution;
-      element = key;
-      task = work_task (r.checkpoint record { instance = row.instance; step = key }) (runnable_of_job (job_named r.catalogue row.job) key);
+      element = key.element;
+      partition = partition_named key.partition (partitions_of_job (job_named r.catalogue row.job) key);
+      task =
+          work_task (r.checkpoint record { instance = row.instance; step = key })
+          (runnable_of_job (job_named r.catalogue row.job) key);
     }
 
 -- a claim of a job execution hands out its first ready element, or closes it where it has none

@@ -1,15 +1,16 @@
 -- Restarts (Jakarta Batch 2.1, "Job Restart Processing"): what a job execution takes over from the earlier job executions
 -- of its job instance, and the element at which it begins.
-use Rattle.std.specs.List.{list_any, filter_map, last_or}
+use Rattle.std.specs.List.{list_any, filter_map, flat_map, last_or}
 use Rattle.std.specs.Option.{option_map, option_and_then}
 use Rattle.std.specs.Prelude.{ℕ, ◌&&◌, nat_lt, nat_le, Bool, true, false, Option, Some, None, List, [], ◌∷◌, length, map, filter, if◌then◌else◌}
 use Rattle.std.specs.Str.{bytes_eq}
 use Rattle.batch_history.specs.Executions.{Origin, origin_of, instance_of_execution, makes_job_execution}
 use Rattle.batch_history.specs.JobSteps.{JobStep, all_steps}
 use Rattle.batch_history.specs.Lists.{is_at}
+use Rattle.batch_history.specs.Partitions.{executions_with, done_executions, is_first_done, partitions_kept}
 use Rattle.batch_history.specs.Operations.{Making, begins, restarts, effects, taken_up_by}
-use Rattle.batch_history.specs.Walks.{element_facts, first_of_job, job_named, walk_of}
-use Rattle.batch_history.specs.Works.{work_items}
+use Rattle.batch_history.specs.Walks.{facts_by_work, first_of_job, job_named, walk_of}
+use Rattle.batch_history.specs.Works.{completed_exit, work_items}
 use Rattle.batch_history.specs.declared.call.Entry.{Entry}
 use Rattle.batch_history.specs.declared.rows.WorkRow.{WorkRow}
 use Rattle.batch_history.specs.declared.rows.WorkState.{WorkState}
@@ -19,6 +20,10 @@ use Rattle.batch_ids.specs.declared.status.WorkOutcome.TheVariants.{Completed, F
 use Rattle.job_walk.specs.declared.facts.Value.{Value}
 use Rattle.job_walk.specs.declared.facts.Value.TheVariants.{Open, Done as IsDone, Ended}
 use Rattle.job_walk.specs.declared.plan.Plan.{Plan}
+use Rattle.job_walk.specs.Keys.{key_of}
+use Rattle.job_walk.specs.declared.work_key.WorkKey.{WorkKey}
+use Rattle.batch_ids.specs.Statuses.{status_name}
+use Rattle.batch_ids.specs.declared.status.BatchStatus.TheVariants.{Completed as IsCompleted}
 use Rattle.jsl_model.specs.Jobs.{JobTree}
 
 -- ---- Work of earlier job executions
@@ -32,46 +37,65 @@ is_same_number (Some i) other = is_at i other
 abbrev pub is_earlier_work : (ℕ → Option ℕ) → ℕ → WorkRow → Bool
 is_earlier_work instance_of x row = nat_lt row.execution x && is_same_number (instance_of x) (instance_of row.execution)
 
--- the newest of these work items that is of a step
-abbrev pub newest_work : List ℕ → List WorkRow → Option WorkRow
-newest_work id works = last_or None (filter (λ row. bytes_eq row.element id) works)
+-- the work items of a step among these
+abbrev pub works_of_step : List ℕ → List WorkRow → List WorkRow
+works_of_step id works = filter (λ row. bytes_eq row.element id) works
 
--- the exit status of a work item that is COMPLETED
-abbrev pub exit_if_completed : WorkOutcome → List ℕ → Option (List ℕ)
-exit_if_completed Completed exit = Some exit
-exit_if_completed Failed exit = None
-exit_if_completed Stopped exit = None
+-- the newest of these work items
+abbrev pub newest_work : List WorkRow → Option WorkRow
+newest_work works = last_or None works
 
-abbrev pub completed_exit : WorkState → Option (List ℕ)
-completed_exit Busy = None
-completed_exit (Over outcome exit) = exit_if_completed outcome exit
+-- ---- What is carried, kept and barred, by the work items of the earlier job executions
 
--- ---- What is carried and what is barred, by the work items of the earlier job executions
+-- the exit status with which a step is carried that is not partitioned: that of its newest work item, if it is COMPLETED
+abbrev pub exit_of_newest : List WorkRow → Option (List ℕ)
+exit_of_newest works = option_and_then (λ row. completed_exit row.state) (newest_work works)
 
--- a step is carried, with its exit status, where its newest work item is COMPLETED and it does not allow a start if complete
+-- the same of a step of n partitions: COMPLETED, if the newest job execution with work of it is done with it
+abbrev pub exit_if_done : ℕ → List WorkRow → Option (List ℕ)
+exit_if_done n works =
+    if is_first_done (done_executions n works) (executions_with works) then Some (status_name IsCompleted) else None
+
+-- the exit status with which a step is carried, by its work items
+abbrev pub exit_carried : Option ℕ → List WorkRow → Option (List ℕ)
+exit_carried None works = exit_of_newest works
+exit_carried (Some n) works = exit_if_done n works
+
+-- a step is carried, with its exit status, unless it allows a start if complete
 abbrev pub carried_step : List WorkRow → JobStep → Option (List ℕ × List ℕ)
 carried_step earlier s =
     if s.step.allow_start_if_complete then None
-    else option_map (λ exit. (s.id, exit)) (option_and_then (λ row. completed_exit row.state) (newest_work s.id earlier))
+    else option_map (λ exit. (s.id, exit)) (exit_carried s.step.partitions (works_of_step s.id earlier))
 
--- a step is barred where it has a start limit and as many work items
+-- how often a step was started: its work items, or the job executions with work of it where it is partitioned
+abbrev pub starts_of : Option ℕ → List WorkRow → ℕ
+starts_of None works = length works
+starts_of (Some n) works = length (executions_with works)
+
+-- a step is barred where it has a start limit and was started as often
 abbrev pub is_barred : List WorkRow → JobStep → Bool
 is_barred earlier s =
-    nat_lt 0 s.step.start_limit && nat_le s.step.start_limit (length (filter (λ row. bytes_eq row.element s.id) earlier))
+    nat_lt 0 s.step.start_limit && nat_le s.step.start_limit (starts_of s.step.partitions (works_of_step s.id earlier))
 
--- what a job execution of a job goes by that begins at this element: the carried and the barred steps, in written order
+-- the partitions of a step that are kept
+abbrev pub kept_partitions : List WorkRow → JobStep → List WorkKey
+kept_partitions earlier s = map (key_of s.id) (partitions_kept s.step.partitions (works_of_step s.id earlier))
+
+-- what a job execution of a job goes by that begins at this element: the carried steps, the kept partitions and the barred
+-- steps, in written order
 abbrev pub plan_by : List ℕ → List WorkRow → Option JobTree → Plan
-plan_by from earlier None = record { from = from; carried = []; barred = [] }
+plan_by from earlier None = record { from = from; carried = []; kept = []; barred = [] }
 plan_by from earlier (Some job) =
     record {
       from = from;
       carried = filter_map (carried_step earlier) (all_steps job.elements);
+      kept = flat_map (kept_partitions earlier) (all_steps job.elements);
       barred = map (λ s. s.id) (filter (is_barred earlier) (all_steps job.elements));
     }
 
--- the plan of a job's first job execution: from its first element on, with nothing carried and nothing barred
+-- the plan of a job's first job execution: from its first element on, with nothing carried, kept or barred
 abbrev pub first_plan : Option JobTree → Plan
-first_plan job = record { from = first_of_job job; carried = []; barred = [] }
+first_plan job = record { from = first_of_job job; carried = []; kept = []; barred = [] }
 
 -- ---- Where a job execution begins
 
@@ -101,7 +125,7 @@ plan_from catalogue past x from =
 -- what the walk of job execution x comes to where it begins at this element
 abbrev pub walk_from : List JobTree → List Entry → ℕ → List ℕ → Value
 walk_from catalogue past x from =
-    walk_of (plan_from catalogue past x from) (element_facts x (work_items past)) (job_of_origin catalogue (origin_of past x))
+    walk_of (plan_from catalogue past x from) (facts_by_work x (work_items past)) (job_of_origin catalogue (origin_of past x))
 
 -- the element at which a job execution begins that is made so: a job begins at its first element
 abbrev pub beginning_by_making : List JobTree → List Entry → (ℕ → List ℕ) → Option Making → List ℕ
@@ -122,7 +146,7 @@ beginning_among catalogue past (e ∷ older) x =
 abbrev pub beginning_of : List JobTree → List Entry → ℕ → List ℕ
 beginning_of catalogue past x = beginning_among catalogue past past x
 
--- THE PLAN of job execution x: where it begins, and its carried and barred steps
+-- THE PLAN of job execution x: where it begins, its carried steps, its kept partitions and its barred steps
 abbrev pub plan_of : List JobTree → List Entry → ℕ → Plan
 plan_of catalogue past x = plan_from catalogue past x (beginning_of catalogue past x)
 

@@ -8,6 +8,7 @@ use Rattle.batch_history.specs.declared.call.Entry.{Entry}
 use Rattle.batch_ids.specs.Statuses.{status_name, is_unfinished}
 use Rattle.batch_ids.specs.declared.status.BatchStatus.{BatchStatus}
 use Rattle.batch_ids.specs.declared.status.BatchStatus.TheVariants.{Starting, Started, Stopping, Stopped as IsStopped, Completed as IsCompleted}
+use Rattle.job_walk.specs.declared.work_key.WorkKey.{WorkKey}
 use Rattle.job_walk.specs.declared.facts.Value.{Value}
 use Rattle.job_walk.specs.declared.facts.Value.TheVariants.{Open, Done as IsDone, Ended}
 
@@ -20,9 +21,9 @@ abbrev pub is_abandoned : List Entry → ℕ → Bool
 is_abandoned past x = list_any (λ e. is_at x (abandonment e.call)) past
 
 -- a job execution whose stop was requested is STOPPING while something is being run
-abbrev pub stopping_status : List (List ℕ) → BatchStatus
+abbrev pub stopping_status : List WorkKey → BatchStatus
 stopping_status [] = IsStopped
-stopping_status (id ∷ busy) = Stopping
+stopping_status (key ∷ busy) = Stopping
 
 -- the batch status of a job execution that is taken up, whose walk comes to this
 abbrev pub status_of_walk : Bool → Value → BatchStatus
@@ -40,9 +41,9 @@ abbrev pub stopped_exit : Option (List ℕ)
 stopped_exit = Some (status_name IsStopped)
 
 -- the exit status of a job execution whose stop was requested: none while something is being run
-abbrev pub stopping_exit_status : List (List ℕ) → Option (List ℕ)
+abbrev pub stopping_exit_status : List WorkKey → Option (List ℕ)
 stopping_exit_status [] = stopped_exit
-stopping_exit_status (id ∷ busy) = None
+stopping_exit_status (key ∷ busy) = None
 
 -- the exit status of a job execution that is taken up, whose walk comes to this
 abbrev pub exit_of_walk : Bool → Value → Option (List ℕ)

@@ -6,17 +6,19 @@ use Rattle.batch_history.specs.declared.rows.WorkRow.{WorkRow}
 use Rattle.batch_history.specs.declared.rows.WorkState.{WorkState}
 use Rattle.batch_history.specs.declared.rows.WorkState.TheVariants.{Busy, Over}
 use Rattle.std.specs.Str.{bytes_eq}
-use Rattle.job_walk.specs.Keys.{WorkKey}
-use Rattle.job_walk.specs.Runnables.{Leaf, all_leaves, runnable_in}
+use Rattle.job_walk.specs.Runnables.{Leaf, all_leaves, runnable_with}
+use Rattle.job_walk.specs.Keys.{is_same_key}
+use Rattle.job_walk.specs.Plans.{planned_fact}
 use Rattle.job_walk.specs.Walk.{value_of}
+use Rattle.job_walk.specs.declared.work_key.WorkKey.{WorkKey}
+use Rattle.batch_history.specs.Works.{work_key}
 use Rattle.job_walk.specs.declared.facts.Fact.{Fact}
-use Rattle.job_walk.specs.declared.facts.Fact.TheVariants.{Nothing as FactNothing, Busy as FactBusy, Over as FactOver, Carried as FactCarried, Barred as FactBarred}
+use Rattle.job_walk.specs.declared.facts.Fact.TheVariants.{Nothing as FactNothing, Busy as FactBusy, Over as FactOver}
 use Rattle.job_walk.specs.declared.facts.Value.{Value}
 use Rattle.job_walk.specs.declared.facts.Value.TheVariants.{Done as IsDone}
 use Rattle.job_walk.specs.declared.plan.Plan.{Plan}
 use Rattle.job_walk.specs.declared.runnable.Runnable.{Runnable}
 use Rattle.job_walk.specs.declared.runnable.Runnable.TheVariants.{Step as RunsStep, Decision as RunsDecision}
-use Rattle.jsl_model.specs.Names.{is_among}
 use Rattle.jsl_model.specs.Jobs.{JobTree}
 use Rattle.jsl_model.specs.declared.element.Element.{Element}
 
@@ -25,9 +27,9 @@ abbrev pub fact_of_state : WorkState → Fact
 fact_of_state Busy = FactBusy
 fact_of_state (Over outcome exit) = FactOver outcome exit
 
--- whether a work item of job execution x has this work key
+-- whether a work item is that of this work key in job execution x
 abbrev pub is_work_of : ℕ → WorkKey → WorkRow → Bool
-is_work_of x key row = row.execution == x && bytes_eq row.element key
+is_work_of x key row = row.execution == x && is_same_key (work_key row) key
 
 -- what is known of a work key by its work item: nothing without one
 abbrev pub fact_by_work : Option WorkRow → Fact
@@ -35,36 +37,18 @@ fact_by_work None = FactNothing
 fact_by_work (Some row) = fact_of_state row.state
 
 -- what is known of each work key of job execution x by its work items
-abbrev pub element_facts : ℕ → List WorkRow → WorkKey → Fact
-element_facts x works key = fact_by_work (find (is_work_of x key) works)
+abbrev pub facts_by_work : ℕ → List WorkRow → WorkKey → Fact
+facts_by_work x works key = fact_by_work (find (is_work_of x key) works)
 
--- a step without a work item may have reached its start limit
-abbrev pub unless_barred : Fact → Bool → Fact
-unless_barred FactNothing true = FactBarred
-unless_barred FactNothing false = FactNothing
-unless_barred FactBusy barred = FactBusy
-unless_barred (FactOver outcome exit) barred = FactOver outcome exit
-unless_barred (FactCarried exit) barred = FactCarried exit
-unless_barred FactBarred barred = FactBarred
-
--- a step: that it is carried counts before its work item, and its work item before its start limit
-abbrev pub step_fact : Option (List ℕ) → Fact → Bool → Fact
-step_fact (Some exit) worked barred = FactCarried exit
-step_fact None worked barred = unless_barred worked barred
-
--- the exit status with which a step is carried, if it is
-abbrev pub carried_exit : List (List ℕ × List ℕ) → List ℕ → Option (List ℕ)
-carried_exit carried id = option_map (λ (step : List ℕ × List ℕ). step.1) (find (λ (step : List ℕ × List ℕ). bytes_eq step.0 id) carried)
-
--- what is known of what is run under an id, by the plan and by its work item; a decision is taken anew in each job execution
+-- what is known of a work key of what is run, by the plan and by its work item; a decision is taken anew in each job execution
 abbrev pub runnable_fact : Plan → WorkKey → Fact → Option Runnable → Fact
-runnable_fact plan id worked (Some (RunsStep task)) = step_fact (carried_exit plan.carried id) worked (is_among plan.barred id)
-runnable_fact plan id worked (Some (RunsDecision artifact)) = worked
-runnable_fact plan id worked None = FactNothing
+runnable_fact plan key worked (Some (RunsStep task)) = planned_fact plan key worked
+runnable_fact plan key worked (Some (RunsDecision artifact)) = worked
+runnable_fact plan key worked None = FactNothing
 
--- what is known of each step and decision of a job
+-- what is known of each work key of a job
 abbrev pub planned_facts : Plan → List Leaf → (WorkKey → Fact) → WorkKey → Fact
-planned_facts plan leaves worked key = runnable_fact plan key (worked key) (runnable_in leaves key)
+planned_facts plan leaves worked key = runnable_fact plan key (worked key) (runnable_with leaves key)
 
 -- the id of the first element of a list
 abbrev pub first_element : List Element → List ℕ
@@ -80,11 +64,11 @@ first_of_job (Some job) = first_element job.elements
 abbrev pub job_named : List JobTree → List ℕ → Option JobTree
 job_named catalogue name = find (λ job. bytes_eq job.id name) catalogue
 
--- what a job comes to by a plan, and by what its work items tell of its elements
+-- what a job comes to by a plan, and by what its work items tell of its work keys
 abbrev pub walk_of : Plan → (WorkKey → Fact) → Option JobTree → Value
 walk_of plan worked None = IsDone []
 walk_of plan worked (Some job) = value_of (planned_facts plan (all_leaves job.elements) worked) job.elements plan.from
 
 -- what the walk of a job execution of this job comes to by its plan, after this work
 abbrev pub walk_value : List JobTree → List WorkRow → ℕ → List ℕ → Plan → Value
-walk_value catalogue works x job plan = walk_of plan (element_facts x works) (job_named catalogue job)
+walk_value catalogue works x job plan = walk_of plan (facts_by_work x works) (job_named catalogue job)

@@ -1,7 +1,7 @@
 -- Work items, the step executions among them (Jakarta Batch 2.1, "StepExecution"): work item w is what the w-th reply of
 -- work hands out, and it is busy until a Finish names it.
 use Rattle.std.specs.Option.{option_map}
-use Rattle.std.specs.Prelude.{ℕ, ◌+◌, ◌==◌, Bool, Option, Some, None, unwrap_or, List, [], ◌∷◌, ◌++◌, find, map, count_by}
+use Rattle.std.specs.Prelude.{ℕ, ◌+◌, ◌==◌, Bool, Option, Some, None, unwrap_or, List, [], ◌∷◌, ◌++◌, length, find, map, count_by, if◌then◌else◌}
 use Rattle.batch_history.specs.Operations.{claim_effects, Ending, Report, effects, taken_up, ends_work, counts_reported, hands_out_work}
 use Rattle.batch_history.specs.declared.call.Call.{Call}
 use Rattle.batch_history.specs.declared.call.Entry.{Entry}
@@ -14,11 +14,21 @@ use Rattle.batch_history.specs.declared.call.WorkTask.TheVariants.{Batchlet as B
 use Rattle.batch_history.specs.declared.rows.WorkRow.{WorkRow}
 use Rattle.batch_history.specs.declared.rows.WorkState.{WorkState}
 use Rattle.batch_history.specs.declared.rows.WorkState.TheVariants.{Busy, Over}
+use Rattle.job_walk.specs.declared.work_key.WorkKey.{WorkKey}
 use Rattle.batch_ids.specs.Metrics.{zero_metrics, added}
 use Rattle.batch_ids.specs.Statuses.{outcome_name}
 use Rattle.batch_ids.specs.declared.metric_step.MetricStep.{MetricStep}
 use Rattle.batch_ids.specs.declared.metrics.Metrics.{Metrics}
 use Rattle.batch_ids.specs.declared.status.WorkOutcome.{WorkOutcome}
+use Rattle.batch_ids.specs.declared.status.WorkOutcome.TheVariants.{Completed, Failed, Stopped}
+
+-- what names a work item inside its job execution: the step or decision, and the partition, 0 where it is not partitioned
+abbrev pub work_key : WorkRow → WorkKey
+work_key row = record { element = row.element; partition = unwrap_or row.partition 0 }
+
+-- the same of a work item as it is handed out
+abbrev pub item_key : WorkItem → WorkKey
+item_key item = record { element = item.element; partition = unwrap_or item.partition 0 }
 
 -- whether it is the work item of this number
 abbrev pub is_work : ℕ → WorkRow → Bool
@@ -37,11 +47,13 @@ busy_work who at item =
       work = item.work;
       execution = item.execution;
       element = item.element;
+      partition = item.partition;
       kind = work_kind item.task;
       claimer = who;
       state = Busy;
       start = at;
       end = None;
+      ended = None;
       metrics = zero_metrics;
     }
 
@@ -70,6 +82,21 @@ exit_or_name outcome exit = unwrap_or exit (outcome_name outcome)
 -- the entry that finishes a work item, if there is one
 abbrev pub ending_entry : List Entry → ℕ → Option Entry
 ending_entry past w = find (λ e. ends_work w e.call) past
+
+-- the number of the operation that finishes a work item, if there is one
+abbrev pub ending_operation : List Entry → ℕ → Option ℕ
+ending_operation [] w = None
+ending_operation (e ∷ older) w = if ends_work w e.call then Some (length older + 1) else ending_operation older w
+
+-- the exit status of a work item that is COMPLETED
+abbrev pub exit_if_completed : WorkOutcome → List ℕ → Option (List ℕ)
+exit_if_completed Completed exit = Some exit
+exit_if_completed Failed exit = None
+exit_if_completed Stopped exit = None
+
+abbrev pub completed_exit : WorkState → Option (List ℕ)
+completed_exit Busy = None
+completed_exit (Over outcome exit) = exit_if_completed outcome exit
 
 -- how far a work item is by its end
 abbrev pub state_ended : Option Ending → WorkState
@@ -104,20 +131,27 @@ metrics_of (e ∷ older) w = with_counts (counts_reported w e.call) (metrics_of 
 pub record Progress : Type 0 where
   pub state : WorkState
   pub end : Option ℕ
+  pub ended : Option ℕ
   pub metrics : Metrics
 
--- the progress of a work item by the entry that finishes it, if there is one, and its metrics
-abbrev pub progress_by : Option Entry → Metrics → Progress
-progress_by finish metrics = record { state = state_by_entry finish; end = option_map (λ e. e.at) finish; metrics = metrics }
+-- the progress of a work item by the entry that finishes it and its number, if there is one, and its metrics
+abbrev pub progress_by : Option Entry → Option ℕ → Metrics → Progress
+progress_by finish number metrics =
+    record { state = state_by_entry finish; end = option_map (λ e. e.at) finish; ended = number; metrics = metrics }
 
 -- the progress of work item w
 abbrev pub progress_of : List Entry → ℕ → Progress
-progress_of past w = progress_by (ending_entry past w) (metrics_of past w)
+progress_of past w = progress_by (ending_entry past w) (ending_operation past w) (metrics_of past w)
 
 -- a work item with the progress of its number
 abbrev pub with_progress_of : (ℕ → Progress) → WorkRow → WorkRow
 with_progress_of progress row =
-    record row { state = (progress row.work).state; end = (progress row.work).end; metrics = (progress row.work).metrics }
+    record row {
+      state = (progress row.work).state;
+      end = (progress row.work).end;
+      ended = (progress row.work).ended;
+      metrics = (progress row.work).metrics;
+    }
 
 -- the work items, in order, each with its progress
 abbrev pub work_items : List Entry → List WorkRow

@@ -1,11 +1,12 @@
 ghost use Rattle.std.specs.Prelude.{◌≡◌, IfOk};
 ghost use Rattle.batch_history.specs.Replies.{is_nothing};
-ghost use Rattle.batch_history.specs.Works.{work_kind};
+ghost use Rattle.batch_history.specs.Works.{item_key, work_kind};
 
 use batch_ids::{
     ExecutionId, MetricStep, Moment, OutOfMemory, Parameters, T256, Text, WorkId, WorkOutcome,
     try_clone_option,
 };
+use job_walk::WorkKey;
 
 /// An operation on the job repository (Jakarta Batch 2.1, "JobOperator"; claim, checkpoint, finish
 /// and lose are this service's own, for its workers).
@@ -113,6 +114,9 @@ pub struct WorkItem {
     pub execution: ExecutionId,
     /// The id of the step or decision.
     pub element: T256,
+    /// Which partition of the step it is, from 0, where the step is partitioned (Jakarta Batch 2.1,
+    /// "Step Partitioning").
+    pub partition: Option<u32>,
     /// What is to be run.
     pub task: WorkTask,
 }
@@ -273,6 +277,20 @@ impl WorkTask {
 }
 
 impl WorkItem {
+    /// What names it inside its job execution.
+    ///
+    /// # Errors
+    ///
+    /// `OutOfMemory` where memory is refused.
+    pub fn key(&self) -> Result<WorkKey, OutOfMemory>
+        ensures { IfOk result (λ key. key ≡ item_key self.now) }
+    {
+        Ok(WorkKey {
+            element: self.element.try_clone()?,
+            partition: self.partition.unwrap_or(0),
+        })
+    }
+
     /// An equal work item.
     ///
     /// # Errors
@@ -287,6 +305,7 @@ impl WorkItem {
             work: self.work,
             execution: self.execution,
             element,
+            partition: self.partition,
             task,
         })
     }

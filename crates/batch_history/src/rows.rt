@@ -1,6 +1,8 @@
 ghost use Rattle.std.specs.Prelude.{◌≡◌, IfOk};
-ghost use Rattle.batch_history.specs.Answers.{record_of, step_execution, shown_step, state_status};
+ghost use Rattle.batch_history.specs.Answers.{record_of};
+ghost use Rattle.batch_history.specs.StepExecutions.{shown_step, state_status};
 ghost use Rattle.batch_history.specs.Replies.{row_status};
+ghost use Rattle.batch_history.specs.Works.{work_key};
 
 use crate::call::WorkKind;
 use crate::query::{JobExecution, StepExecution};
@@ -8,7 +10,7 @@ use batch_ids::{
     BatchStatus, ExecutionId, InstanceId, Metrics, Moment, OutOfMemory, Parameters, T256, Text,
     WorkId, WorkOutcome, try_clone_option,
 };
-use job_walk::Plan;
+use job_walk::{Plan, WorkKey};
 
 /// A job instance (Jakarta Batch 2.1, "JobInstance").
 #[derive(PartialEq, Eq, Debug, Drop)]
@@ -69,6 +71,8 @@ pub struct WorkRow {
     pub execution: ExecutionId,
     /// The id of the step or decision.
     pub element: T256,
+    /// Which partition of the step it is, from 0, where the step is partitioned.
+    pub partition: Option<u32>,
     /// What kind of work it is.
     pub kind: WorkKind,
     /// The number of the session that claimed it.
@@ -79,17 +83,20 @@ pub struct WorkRow {
     pub start: Moment,
     /// The moment of the finish or of the loss that ended it, if it is over.
     pub end: Option<Moment>,
+    /// Which operation of the history ended it, counted from 1, if it is over.
+    pub ended: Option<u64>,
     /// What was reported of it so far.
     pub metrics: Metrics,
 }
 
-/// What a repository keeps of a step of a job instance that has a checkpoint.
+/// What a repository keeps of a step of a job instance, or of a partition of it, that has a
+/// checkpoint.
 #[derive(PartialEq, Eq, Debug, Drop)]
 pub struct CheckpointRow {
     /// The job instance.
     pub instance: InstanceId,
-    /// The id of the step.
-    pub step: T256,
+    /// The step, or the partition of it.
+    pub step: WorkKey,
     /// Where its reader goes on.
     pub mark: Text<65536>,
 }
@@ -147,22 +154,12 @@ impl ExecutionRow {
 }
 
 impl WorkRow {
-    /// The step execution that it is, if it is a step's.
+    /// The step execution that it is, where its step is not partitioned.
     ///
     /// # Errors
     ///
     /// `OutOfMemory` where memory is refused.
-    pub fn step_execution(&self) -> Result<Option<StepExecution>, OutOfMemory>
-        ensures { IfOk result (λ shown. shown ≡ step_execution self.now) }
-    {
-        match self.kind {
-            WorkKind::Decision => Ok(None),
-            WorkKind::Batchlet => Ok(Some(self.shown()?)),
-            WorkKind::Chunk => Ok(Some(self.shown()?)),
-        }
-    }
-
-    fn shown(&self) -> Result<StepExecution, OutOfMemory>
+    pub fn step_execution(&self) -> Result<StepExecution, OutOfMemory>
         ensures { IfOk result (λ shown. shown ≡ shown_step self.now) }
     {
         let step = self.element.try_clone()?;
@@ -179,6 +176,22 @@ impl WorkRow {
             end: self.end,
             exit,
             metrics: self.metrics,
+        })
+    }
+}
+
+impl WorkRow {
+    /// What names it inside its job execution.
+    ///
+    /// # Errors
+    ///
+    /// `OutOfMemory` where memory is refused.
+    pub fn key(&self) -> Result<WorkKey, OutOfMemory>
+        ensures { IfOk result (λ key. key ≡ work_key self.now) }
+    {
+        Ok(WorkKey {
+            element: self.element.try_clone()?,
+            partition: self.partition.unwrap_or(0),
         })
     }
 }

@@ -68,6 +68,35 @@ added metrics step = record {
   write_skip_count = metrics.write_skip_count + step.write_skip_count;
 }
 
+-- the sums of two metrics
+abbrev pub both_metrics : Metrics → Metrics → Metrics
+both_metrics one other = record {
+  read_count = one.read_count + other.read_count;
+  write_count = one.write_count + other.write_count;
+  commit_count = one.commit_count + other.commit_count;
+  rollback_count = one.rollback_count + other.rollback_count;
+  read_skip_count = one.read_skip_count + other.read_skip_count;
+  process_skip_count = one.process_skip_count + other.process_skip_count;
+  filter_count = one.filter_count + other.filter_count;
+  write_skip_count = one.write_skip_count + other.write_skip_count;
+}
+
+-- the sums of all these
+abbrev pub sum_of_metrics : List Metrics → Metrics
+sum_of_metrics [] = zero_metrics
+sum_of_metrics (metrics ∷ rest) = both_metrics metrics (sum_of_metrics rest)
+
+-- each sum of the two is a number of 64 bits
+pub record HaveRoom (one other : Metrics) : Type 0 where
+  pub read : one.read_count + other.read_count < 2 ^ 64
+  pub write : one.write_count + other.write_count < 2 ^ 64
+  pub commit : one.commit_count + other.commit_count < 2 ^ 64
+  pub rollback : one.rollback_count + other.rollback_count < 2 ^ 64
+  pub read_skip : one.read_skip_count + other.read_skip_count < 2 ^ 64
+  pub process_skip : one.process_skip_count + other.process_skip_count < 2 ^ 64
+  pub filter : one.filter_count + other.filter_count < 2 ^ 64
+  pub write_skip : one.write_skip_count + other.write_skip_count < 2 ^ 64
+
 -- each sum is a number of 64 bits
 pub record HasRoom (metrics : Metrics) (step : MetricStep) : Type 0 where
   pub read : metrics.read_count + step.read_count < 2 ^ 64

@@ -1,5 +1,5 @@
 ghost use Rattle.std.specs.Prelude.{◌≡◌};
-ghost use Rattle.batch_ids.specs.Metrics.{zero_metrics, added, metric_count, HasRoom};
+ghost use Rattle.batch_ids.specs.Metrics.{zero_metrics, added, both_metrics, metric_count, HasRoom, HaveRoom};
 
 use crate::{Metric, MetricStep};
 
@@ -54,6 +54,21 @@ impl Metrics {
         self.process_skip_count += u64::from(step.process_skip_count);
         self.filter_count += u64::from(step.filter_count);
         self.write_skip_count += u64::from(step.write_skip_count);
+    }
+
+    /// Adds the counts of others. The caller sees to it that no sum passes `u64::MAX`.
+    pub fn join(&mut self, other: &Metrics)
+        requires { HaveRoom self.old other.now }
+        ensures { self.new ≡ both_metrics self.old other.now }
+    {
+        self.read_count += other.read_count;
+        self.write_count += other.write_count;
+        self.commit_count += other.commit_count;
+        self.rollback_count += other.rollback_count;
+        self.read_skip_count += other.read_skip_count;
+        self.process_skip_count += other.process_skip_count;
+        self.filter_count += other.filter_count;
+        self.write_skip_count += other.write_skip_count;
     }
 
     /// The count of this metric.

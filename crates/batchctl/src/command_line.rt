@@ -27,7 +27,7 @@ brackets may be left out):
                                    asks an unfinished execution to stop
   {"do":"abandon","by":N,"at":N,"execution":N}
                                    gives a finished execution up
-  {"do":"claim","by":N,"at":N}     asks for a work item
+  {"do":"claim","by":N,"at":N}     asks for a work item: a step, a partition of one, or a decision
   {"do":"checkpoint","by":N,"at":N,"work":N,"data":T[,"metrics":{M:N,..}]}
                                    keeps where the chunk of a work item goes on
   {"do":"finish","by":N,"at":N,"work":N,"outcome":O[,"exit":T][,"metrics":{M:N,..}]}

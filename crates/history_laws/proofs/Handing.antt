@@ -7,23 +7,24 @@ use Rattle.batch_history.specs.declared.call.Reply.TheVariants.{Work}
 use Rattle.batch_history.proofs.Folds.{folded_rows, execution_row}
 use Rattle.batch_history.specs.Executions.{Made}
 use Rattle.batch_history.specs.Legal.{IsLegal}
-use Rattle.batch_history.specs.Replies.{reply, first_ready, walk_in_rows, runnable_of_job, claim_reply, next_work_item, has_something, work_task}
+use Rattle.batch_history.specs.Replies.{reply, runnable_of_job, has_something, work_task}
 use Rattle.batch_history.specs.Rows.{History, Rows, rows}
-use Rattle.batch_history.specs.Walks.{job_named, element_facts, carried_exit, unless_barred, step_fact, runnable_fact}
+use Rattle.batch_history.specs.Walks.{job_named, facts_by_work, runnable_fact}
 use Rattle.batch_history.specs.declared.rows.ExecutionRow.{ExecutionRow}
-use Rattle.history_laws.specs.Laws.{beginning, row_in, works_in, walk_in, WasReady, IsOpen, IsOfOpenStep, GoesOnFrom, checkpoint_in}
+use Rattle.history_laws.specs.Laws.{beginning, row_in, WasReady, IsOpen, IsOfOpenStep, GoesOnFrom, checkpoint_in}
+use Rattle.batch_history.specs.Works.{item_key}
 use Rattle.batch_history.proofs.Legal.{legal-beginning}
 use Rattle.batch_history.proofs.Finding.{found-passes}
 use Rattle.batch_history.proofs.Items.{works-counted}
 use Rattle.batch_history.proofs.Legality.{past-due, rows_folded, least_found}
 use Rattle.batch_history.proofs.Told.{IsRowOf, row-of, ToldClaim, work-told}
-use Rattle.batch_history.proofs.Sights.{ready_sight}
-use Rattle.batch_history.proofs.Runs.{walk-runs}
-use Rattle.batch_history.proofs.Kept.{first-seen, IsUnknown, ready-unknown}
+use Rattle.batch_history.proofs.Kept.{IsUnknown}
 use Rattle.jsl_model.specs.Names.{is_among}
 use Rattle.jsl_model.specs.declared.element.Task.{Task}
 use Rattle.jsl_model.specs.declared.element.Task.TheVariants.{Batchlet as BatchletStep, Chunk as ChunkStep}
-use Rattle.job_walk.specs.Runnables.{all_leaves, runnable_in}
+use Rattle.job_walk.specs.Runnables.{all_leaves, runnable_with}
+use Rattle.job_walk.specs.Plans.{carried_exit, is_kept, unless_barred, step_fact}
+use Rattle.job_walk.specs.declared.work_key.WorkKey.{WorkKey}
 use Rattle.job_walk.specs.declared.facts.Fact.{Fact}
 use Rattle.job_walk.specs.declared.facts.Fact.TheVariants.{Nothing as FactNothing, Busy as FactBusy, Over as FactOver, Carried as FactCarried, Barred as FactBarred}
 use Rattle.job_walk.specs.declared.plan.Plan.{Plan}
@@ -33,6 +34,7 @@ use Rattle.batch_history.specs.Restarts.{plan_of}
 use Rattle.batch_history.specs.declared.call.WorkTask.TheVariants.{Chunk}
 use Rattle.batch_history.proofs.Plans.{plan-law}
 use Rattle.history_laws.proofs.Beginnings.{row-folded, row-there}
+use Rattle.history_laws.proofs.Claims.{IsHandedOf, handed-of, handed-runs}
 
 -- ---- What is handed out
 
@@ -59,25 +61,17 @@ is-owner limit h legal row found =
 record HandedOut (h : History) (item : WorkItem) : Type 0 where
   row : ExecutionRow
   least : find (has_something (rows h)) (rows h).executions ≡ Some row
-  ready : first_ready (walk_in_rows (rows h) row) ≡ Some item.element
-  is : item ≡ next_work_item (rows h) row item.element
+  by : IsHandedOf (rows h) row item
   owner : IsOwner h row
 
 was-handed : (limit : ℕ) (h : History) → IsLegal limit h → (item : WorkItem) → ToldClaim (rows h) (Work item) → HandedOut h item
 was-handed limit h legal item told =
-    (elim (first_ready (walk_in_rows (rows h) told.row)) as (λ o. first_ready (walk_in_rows (rows h) told.row) ≡ o → Work item ≡ claim_reply (rows h) told.row o → HandedOut h item) [
-      | None ↦ λ ready is. cc
-      | Some id ↦ λ ready is.
-          let same : item ≡ next_work_item (rows h) told.row id = cc in
-          let element : item.element ≡ id = ap (λ (i : WorkItem). i.element) same in
-          record {
-            row = told.row;
-            least = told.found;
-            ready = ready ∙ ap (λ (i : List ℕ). Some i) (sym element);
-            is = same ∙ ap (next_work_item (rows h) told.row) (sym element);
-            owner = is-owner limit h legal told.row told.found;
-          }
-    ]) refl told.answered
+    record {
+      row = told.row;
+      least = told.found;
+      by = handed-of (rows h) told.row item told.answered;
+      owner = is-owner limit h legal told.row told.found;
+    }
 
 handed : (limit : ℕ) (h : History) → IsLegal limit h → (before : List Entry) (e : Entry) (after : List Entry) → h.log ≡ before ++ e ∷ after
     → (item : WorkItem) → e.reply ≡ Work item → HandedOut (beginning h before) item
@@ -89,22 +83,22 @@ handed limit h legal before e after cut item is =
 
 -- its job execution, by the number that it has
 owner-found : (h : History) (item : WorkItem) (out : HandedOut h item) → row_in h item.execution ≡ Some out.row
-owner-found h item out = ap (λ (i : WorkItem). row_in h i.execution) out.is ∙ out.owner.found
+owner-found h item out = ap (λ (i : WorkItem). row_in h i.execution) out.by.is ∙ out.owner.found
 
 was-ready : (limit : ℕ) (h : History) → IsLegal limit h → (item : WorkItem) → HandedOut h item → WasReady h item
 was-ready limit h legal item out =
-    let number : item.execution ≡ out.row.execution = ap (λ (i : WorkItem). i.execution) out.is in
+    let number : item.execution ≡ out.row.execution = ap (λ (i : WorkItem). i.execution) out.by.is in
     record {
       owner = out.row;
       found = owner-found h item out;
       something = found-passes (has_something (rows h)) (rows h).executions out.row out.least;
       least = λ x other there lt. least_found limit h legal (has_something (rows h)) out.row out.least x other there (subst (λ n. x < n) number lt);
       plan = out.owner.plan ∙ ap (plan_of h.catalogue (reverse h.log)) (sym number);
-      ready = out.ready;
-      runs = walk-runs ready_sight item.element out.row.plan (element_facts out.row.execution (works_in h)) (job_named h.catalogue out.row.job)
-          (first-seen item.element (walk_in h out.row) out.ready);
-      task = ap (λ (i : WorkItem). i.task) out.is;
-      number = ap (λ (i : WorkItem). i.work) out.is ∙ ap (λ n. n + 1) (works-counted (reverse h.log));
+      ready = out.by.ready;
+      runs = handed-runs (rows h) out.row item out.by;
+      task = ap (λ (i : WorkItem). i.task) out.by.is;
+      partition = ap (λ (i : WorkItem). i.partition) out.by.is;
+      number = ap (λ (i : WorkItem). i.work) out.by.is ∙ ap (λ n. n + 1) (works-counted (reverse h.log));
     }
 
 -- what a claim hands out was ready
@@ -113,27 +107,30 @@ pub handed_ready : (limit : ℕ) (h : History) → IsLegal limit h → (before :
 handed_ready limit h legal before e after cut item is =
     was-ready limit (beginning h before) (legal-beginning limit h legal before (e ∷ after) cut) item (handed limit h legal before e after cut item is)
 
--- ---- Carried and barred steps
+-- ---- What is carried, kept and barred
 
-unbarred : (worked : Fact) (barred : Bool) → unless_barred worked barred ≡ FactNothing → barred ≡ false
-unbarred FactNothing true h = cc
-unbarred FactNothing false h = refl
-unbarred FactBusy barred h = cc
-unbarred (FactOver outcome exit) barred h = cc
-unbarred (FactCarried exit) barred h = cc
-unbarred FactBarred barred h = cc
+not-barred : (worked : Fact) (barred : Bool) → unless_barred worked barred ≡ FactNothing → barred ≡ false
+not-barred FactNothing true h = cc
+not-barred FactNothing false h = refl
+not-barred FactBusy barred h = cc
+not-barred (FactOver outcome exit) barred h = cc
+not-barred (FactCarried exit) barred h = cc
+not-barred FactBarred barred h = cc
 
-step-open : (carried : Option (List ℕ)) (worked : Fact) (barred : Bool) → step_fact carried worked barred ≡ FactNothing → (carried ≡ None) × (barred ≡ false)
-step-open (Some exit) worked barred h = cc
-step-open None worked barred h = (refl, unbarred worked barred h)
+step-open : (carried : Option (List ℕ)) (kept : Bool) (worked : Fact) (barred : Bool) → step_fact carried kept worked barred ≡ FactNothing
+    → (carried ≡ None) × (kept ≡ false) × (barred ≡ false)
+step-open (Some exit) kept worked barred h = cc
+step-open None true worked barred h = cc
+step-open None false worked barred h = (refl, refl, not-barred worked barred h)
 
--- a step of which nothing is known is neither carried nor barred
-unknown-open : (plan : Plan) (worked : List ℕ → Fact) (job : Option JobTree) (id : List ℕ) (task : Task) → IsUnknown plan worked job id
-    → runnable_of_job job id ≡ Some (RunsStep task) → IsOpen plan id
-unknown-open plan worked job id task u runs =
-    let here : runnable_in (all_leaves u.tree.elements) id ≡ Some (RunsStep task) = sym (ap (λ j. runnable_of_job j id) u.is) ∙ runs in
-    step-open (carried_exit plan.carried id) (worked id) (is_among plan.barred id)
-    (sym (ap (runnable_fact plan id (worked id)) here) ∙ u.unknown)
+-- a work key of a step of which nothing is known: the step is neither carried nor barred, its partition is not kept
+unknown-open : (plan : Plan) (worked : WorkKey → Fact) (job : Option JobTree) (key : WorkKey) (task : Task) → IsUnknown plan worked job key
+    → runnable_of_job job key ≡ Some (RunsStep task) → IsOpen plan key
+unknown-open plan worked job key task u runs =
+    let here : runnable_with (all_leaves u.tree.elements) key ≡ Some (RunsStep task) = sym (ap (λ j. runnable_of_job j key) u.is) ∙ runs in
+    let parts = step-open (carried_exit plan.carried key.element) (is_kept plan key) (worked key) (is_among plan.barred key.element)
+    (sym (ap (runnable_fact plan key (worked key)) here) ∙ u.unknown) in
+    record { uncarried = parts.0; unkept = parts.1; unbarred = parts.2 }
 
 pub handed_open : (limit : ℕ) (h : History) → IsLegal limit h → (before : List Entry) (e : Entry) (after : List Entry) → h.log ≡ before ++ e ∷ after
     → (item : WorkItem) → e.reply ≡ Work item → IsOfOpenStep (beginning h before) item
@@ -141,12 +138,10 @@ handed_open limit h legal before e after cut item is =
     let then : History = beginning h before in
     let out : HandedOut then item = handed limit h legal before e after cut item is in
     let row : ExecutionRow = out.row in
-    let worked : List ℕ → Fact = element_facts row.execution (works_in then) in
-    let unknown : IsUnknown row.plan worked (job_named h.catalogue row.job) item.element = ready-unknown row.plan worked (job_named h.catalogue row.job) item.element out.ready in
     record {
       owner = row;
       found = owner-found then item out;
-      step = λ task runs. unknown-open row.plan worked (job_named h.catalogue row.job) item.element task unknown runs;
+      step = λ task runs. unknown-open row.plan (facts_by_work row.execution (rows then).works) (job_named then.catalogue row.job) (item_key item) task out.by.unknown runs;
     }
 
 -- ---- Checkpoints
@@ -164,10 +159,10 @@ pub handed_from : (limit : ℕ) (h : History) → IsLegal limit h → (before : 
 handed_from limit h legal before e after cut item is reader writer processor count mark task =
     let then : History = beginning h before in
     let out : HandedOut then item = handed limit h legal before e after cut item is in
-    let given : work_task (checkpoint_in then out.row item.element) (runnable_of_job (job_named h.catalogue out.row.job) item.element) ≡ Chunk reader processor writer count mark =
-    sym (ap (λ (i : WorkItem). i.task) out.is) ∙ task in
+    let given : work_task (checkpoint_in then out.row (item_key item)) (runnable_of_job (job_named h.catalogue out.row.job) (item_key item)) ≡ Chunk reader processor writer count mark =
+    sym (ap (λ (i : WorkItem). i.task) out.by.is) ∙ task in
     record {
       owner = out.row;
       found = owner-found then item out;
-      checkpoint = chunk-from (checkpoint_in then out.row item.element) (runnable_of_job (job_named h.catalogue out.row.job) item.element) reader writer processor count mark given;
+      checkpoint = chunk-from (checkpoint_in then out.row (item_key item)) (runnable_of_job (job_named h.catalogue out.row.job) (item_key item)) reader writer processor count mark given;
     }

@@ -13,11 +13,11 @@ use Rattle.batch_history.specs.declared.call.Entry.{Entry}
 use Rattle.batch_history.proofs.Folds.{made, is_made, works_of, instances_of, instances_after, stop_of, start_of, abandoned_of, end_of, bare_of, value_after, folded_rows, execution_row}
 use Rattle.batch_history.specs.Executions.{Made, job_instances}
 use Rattle.batch_history.specs.Legal.{grown, IsLegal}
-use Rattle.batch_history.specs.Replies.{row_status, is_execution}
+use Rattle.batch_history.specs.Replies.{row_status, is_execution, runnable_of_job, partitions_of_job, partition_named}
 use Rattle.batch_history.specs.Rows.{History, IsAsBefore}
 use Rattle.batch_history.specs.Statuses.{is_finished}
 use Rattle.batch_history.specs.Walks.{job_named}
-use Rattle.batch_history.specs.Works.{is_work}
+use Rattle.batch_history.specs.Works.{is_work, work_key}
 use Rattle.batch_history.specs.declared.rows.ExecutionRow.{ExecutionRow}
 use Rattle.batch_history.specs.declared.rows.WorkRow.{WorkRow}
 use Rattle.batch_history.specs.declared.rows.JobInstance.{JobInstance}
@@ -32,6 +32,7 @@ use Rattle.batch_history.proofs.Finished.{on-it, busy-unfinished, finished-statu
 use Rattle.history_laws.proofs.Moments.{abandoned-finished, EndedPast, ended-past, over-ended}
 use Rattle.batch_history.proofs.Owners.{InstanceOf, instances-kept, jobs-kept}
 use Rattle.history_laws.proofs.Names.{distinct-more, distinct-once}
+use Rattle.history_laws.proofs.Claims.{IsPlaced, all-placed}
 use Rattle.history_laws.proofs.Beginnings.{row-folded, work-folded, row-there, IsRowAt, row-at, due-older}
 
 -- ---- What is over
@@ -172,8 +173,10 @@ belongs limit h legal w work found =
     let past : List Entry = reverse h.log in
     let due : AllDue limit h.catalogue past = past-due limit h legal in
     let k : IsKept h.catalogue past = kept limit h.catalogue past due in
+    let placed : IsPlaced h.catalogue past work = each-found (IsPlaced h.catalogue past) (is_work w) (works_of past) work (all-placed limit h.catalogue past due) (sym (work-folded limit h legal w) ∙ found) in
     let held : IsHeld h.catalogue past work = each-found (IsHeld h.catalogue past) (is_work w) (works_of past) work k.held (sym (work-folded limit h legal w) ∙ found) in
     let m : Made = held.one in
+    let same : placed.one ≡ m = let both : Some placed.one ≡ Some m = sym placed.found ∙ held.found in cc in
     let number : m.execution ≡ work.execution = made-number work.execution past m held.found in
     let made_so : find (is_made m.execution) (made past) ≡ Some m = ap (λ n. find (is_made n) (made past)) number ∙ held.found in
     let begun : is_some (start_of past m.execution) ≡ true = ap (λ n. is_some (start_of past n)) number ∙ held.begun in
@@ -182,11 +185,13 @@ belongs limit h legal w work found =
       found = row-folded limit h legal work.execution ∙ row-there h.catalogue past work.execution m held.found;
       begun = begun;
       unfinished = λ busy. shown-unfinished (abandoned_of past m.execution) (bare_of h.catalogue past m) (abandoned-finished limit h.catalogue past m due made_so)
-          (busy-unfinished work.element (stop_of past m.execution) (start_of past m.execution) (value_after h.catalogue past m) (held.under_way busy) begun);
+          (busy-unfinished (work_key work) (stop_of past m.execution) (start_of past m.execution) (value_after h.catalogue past m) (held.under_way busy) begun);
+      runs = subst (λ (n : Made). is_some (runnable_of_job (job_named h.catalogue n.job) (work_key work)) ≡ true) same placed.runs;
+      partition = subst (λ (n : Made). work.partition ≡ partition_named (work_key work).partition (partitions_of_job (job_named h.catalogue n.job) (work_key work))) same placed.partition;
     }
 
 apart-found : (rows : List WorkRow) (v w : ℕ) (one other : WorkRow) → AllApart rows → find (is_work v) rows ≡ Some one → find (is_work w) rows ≡ Some other → v ≢ w
-    → one.execution ≡ other.execution → one.element ≢ other.element
+    → one.execution ≡ other.execution → work_key one ≢ work_key other
 apart-found [] v w one other apart e1 e2 differ same el = cc
 apart-found (r ∷ rs) v w one other apart e1 e2 differ same el =
     on-it (r.work == v)
@@ -195,18 +200,18 @@ apart-found (r ∷ rs) v w one other apart e1 e2 differ same el =
     (λ off.
     let is : r ≡ one = let s : Some r ≡ Some one = sym (ap (λ b. cond b (Some r) (find (is_work v) rs)) first) ∙ e1 in cc in
     let later : find (is_work w) rs ≡ Some other = sym (ap (λ b. cond b (Some r) (find (is_work w) rs)) off) ∙ e2 in
-    each-found (Apart r) (is_work w) rs other apart.0 later (sym same ∙ ap (λ (z : WorkRow). z.execution) (sym is)) (sym el ∙ ap (λ (z : WorkRow). z.element) (sym is))))
+    each-found (Apart r) (is_work w) rs other apart.0 later (sym same ∙ ap (λ (z : WorkRow). z.execution) (sym is)) (sym el ∙ ap work_key (sym is))))
     (λ off.
     let here : find (is_work v) rs ≡ Some one = sym (ap (λ b. cond b (Some r) (find (is_work v) rs)) off) ∙ e1 in
     on-it (r.work == w)
     (λ second.
     let is : r ≡ other = let s : Some r ≡ Some other = sym (ap (λ b. cond b (Some r) (find (is_work w) rs)) second) ∙ e2 in cc in
-    each-found (Apart r) (is_work v) rs one apart.0 here (same ∙ ap (λ (z : WorkRow). z.execution) (sym is)) (el ∙ ap (λ (z : WorkRow). z.element) (sym is)))
+    each-found (Apart r) (is_work v) rs one apart.0 here (same ∙ ap (λ (z : WorkRow). z.execution) (sym is)) (el ∙ ap work_key (sym is)))
     (λ off2. apart-found rs v w one other apart.1 here (sym (ap (λ b. cond b (Some r) (find (is_work w) rs)) off2) ∙ e2) differ same el))
 
--- no element of a job execution has two work items
+-- no work key of a job execution has two work items
 pub once_each : (limit : ℕ) (h : History) → IsLegal limit h → (v w : ℕ) (one other : WorkRow) → work_in h v ≡ Some one
-    → work_in h w ≡ Some other → v ≢ w → one.execution ≡ other.execution → one.element ≢ other.element
+    → work_in h w ≡ Some other → v ≢ w → one.execution ≡ other.execution → work_key one ≢ work_key other
 once_each limit h legal v w one other e1 e2 differ same =
     apart-found (works_of (reverse h.log)) v w one other (kept limit h.catalogue (reverse h.log) (past-due limit h legal)).apart
     (sym (work-folded limit h legal v) ∙ e1) (sym (work-folded limit h legal w) ∙ e2) differ same

@@ -1,6 +1,7 @@
 pub mod Names
 pub mod Moments
 pub mod Beginnings
+pub mod Claims
 pub mod Laws
 pub mod Handing
 pub mod Restarts

@@ -157,7 +157,7 @@ restart_gives limit h legal before e after cut y x parameters call is =
     let new : ExecutionRow = fresh_row (length r.executions + 1) told.row.instance e.at told.row.job parameters (restart_plan r told.row) in
     let more : (rows (grown then e)).executions ≡ r.executions ++ new ∷ [] =
     ap (λ (z : Rows). z.executions) (rows_grown limit then e with_it)
-    ∙ (ap (λ c. executions_after r (works_after e.who e.at c e.reply r.works) e.at c e.reply) call
+    ∙ (ap (λ c. executions_after r (works_after (r.count + 1) e.who e.at c e.reply r.works) e.at c e.reply) call
     ∙ ap (λ o. r.executions ++ again_row r (length r.executions + 1) e.at parameters o ∷ []) told.found) in
     let last : (row : ExecutionRow) → row.execution ≡ length r.executions + 1 → find (is_execution (length r.executions + 1)) (r.executions ++ row ∷ []) ≡ Some row =
     subst (λ (z : Rows). (row : ExecutionRow) → row.execution ≡ length z.executions + 1 → find (is_execution (length z.executions + 1)) (z.executions ++ row ∷ []) ≡ Some row)

@@ -1,5 +1,5 @@
 -- What every legal history keeps, in the words of its subject.
-use Rattle.std.specs.Prelude.{ℕ, ◌≡◌, ◌⊎◌, ◌≤◌, ◌+◌, ◌==◌, ◌<◌, Bool, true, false, Option, None, Some, is_some, List, [], ◌∷◌, ◌++◌, filter, find, map, reverse, if◌then◌else◌}
+use Rattle.std.specs.Prelude.{ℕ, ◌≡◌, ◌⊎◌, ◌≤◌, ◌+◌, ◌==◌, ◌<◌, Bool, true, false, Option, None, Some, is_some, List, [], ◌∷◌, ◌++◌, filter, find, map, reverse, unwrap_or, if◌then◌else◌}
 use Rattle.batch_ids.specs.Parameters.{Pair}
 use Rattle.batch_ids.specs.Statuses.{is_unfinished}
 use Rattle.batch_ids.specs.declared.status.BatchStatus.TheVariants.{Stopped, Failed}
@@ -7,6 +7,8 @@ use Rattle.job_walk.specs.declared.facts.Value.{Value}
 use Rattle.job_walk.specs.declared.plan.Plan.{Plan}
 use Rattle.job_walk.specs.declared.runnable.Runnable.{Runnable}
 use Rattle.job_walk.specs.declared.runnable.Runnable.TheVariants.{Step as RunsStep}
+use Rattle.job_walk.specs.declared.work_key.WorkKey.{WorkKey}
+use Rattle.job_walk.specs.Plans.{carried_exit, is_kept}
 use Rattle.jsl_model.specs.Names.{distinct, is_among}
 use Rattle.jsl_model.specs.declared.element.Task.{Task}
 use Rattle.batch_history.specs.declared.call.Call.{Call}
@@ -22,12 +24,12 @@ use Rattle.batch_history.specs.declared.rows.WorkRow.{WorkRow}
 use Rattle.batch_history.specs.declared.rows.WorkState.TheVariants.{Busy}
 use Rattle.batch_history.specs.declared.rows.JobInstance.{JobInstance}
 use Rattle.batch_history.specs.Legal.{grown}
-use Rattle.batch_history.specs.Replies.{row_status, has_something_by, first_ready, work_task, runnable_of_job}
+use Rattle.batch_history.specs.Replies.{row_status, has_something_by, first_ready, work_task, runnable_of_job, partitions_of_job, partition_named}
 use Rattle.batch_history.specs.Restarts.{plan_by, plan_of, restart_point}
 use Rattle.batch_history.specs.Rows.{History, history, job_execution, IsAsBefore}
 use Rattle.batch_history.specs.Statuses.{is_finished}
-use Rattle.batch_history.specs.Walks.{job_named, carried_exit, walk_value}
-use Rattle.batch_history.specs.Works.{is_work, work_items, work_item_count}
+use Rattle.batch_history.specs.Walks.{job_named, walk_value}
+use Rattle.batch_history.specs.Works.{item_key, is_work, work_key, work_items, work_item_count}
 
 -- the history as it was after its first operations
 abbrev pub beginning : History → List Entry → History
@@ -78,23 +80,31 @@ pub record EndedAt (h : History) (x t : ℕ) : Type 0 where
 
 -- ---- Work
 
--- the job execution of a work item: it was taken up, and goes on while the work item is busy
+-- what is run for a work key of the job of a job execution
+abbrev pub run_for : History → ExecutionRow → WorkKey → Option Runnable
+run_for h row key = runnable_of_job (job_named h.catalogue row.job) key
+
+-- in how many partitions, where it is of a partitioned step
+abbrev pub partitions_for : History → ExecutionRow → WorkKey → Option ℕ
+partitions_for h row key = partitions_of_job (job_named h.catalogue row.job) key
+
+-- the job execution of a work item: it was taken up, and goes on while the work item is busy; the work item is of a step or a
+-- decision of its job, and names a partition exactly where that step is partitioned
 pub record BelongsTo (h : History) (work : WorkRow) : Type 0 where
   pub owner : ExecutionRow
   pub found : row_in h work.execution ≡ Some owner
   pub begun : is_some owner.start ≡ true
   pub unfinished : work.state ≡ Busy → is_unfinished (row_status owner) ≡ true
+  pub runs : is_some (run_for h owner (work_key work)) ≡ true
+  pub partition : work.partition ≡ partition_named (work_key work).partition (partitions_for h owner (work_key work))
 
--- what is run for an element of the job of a job execution
-abbrev pub run_for : History → ExecutionRow → List ℕ → Option Runnable
-run_for h row id = runnable_of_job (job_named h.catalogue row.job) id
+-- the checkpoint of a step, or of a partition of it, in the job instance of a job execution
+abbrev pub checkpoint_in : History → ExecutionRow → WorkKey → Option (List ℕ)
+checkpoint_in h row key = checkpoint_of (reverse h.log) record { instance = row.instance; step = key }
 
--- the checkpoint of a step in the job instance of a job execution
-abbrev pub checkpoint_in : History → ExecutionRow → List ℕ → Option (List ℕ)
-checkpoint_in h row id = checkpoint_of (reverse h.log) record { instance = row.instance; step = id }
-
--- a work item is the first ready element of the job execution with the least number that has something to do, a step or a
--- decision of its job; the walk goes by the plan of the job execution, and a chunk goes on from the checkpoint of its step
+-- a work item is the first ready work key of the job execution with the least number that has something to do, of a step or
+-- a decision of its job; the walk goes by the plan of the job execution, a chunk goes on from the checkpoint of its step or
+-- partition, and a partition is named exactly where the step is partitioned
 pub record WasReady (h : History) (item : WorkItem) : Type 0 where
   pub owner : ExecutionRow
   pub found : row_in h item.execution ≡ Some owner
@@ -102,26 +112,29 @@ pub record WasReady (h : History) (item : WorkItem) : Type 0 where
   pub least : (x : ℕ) (other : ExecutionRow) → row_in h x ≡ Some other → x < item.execution
       → has_something_in h other ≡ false
   pub plan : owner.plan ≡ plan_of h.catalogue (reverse h.log) item.execution
-  pub ready : first_ready (walk_in h owner) ≡ Some item.element
-  pub runs : is_some (run_for h owner item.element) ≡ true
-  pub task : item.task ≡ work_task (checkpoint_in h owner item.element) (run_for h owner item.element)
+  pub ready : first_ready (walk_in h owner) ≡ Some (item_key item)
+  pub runs : is_some (run_for h owner (item_key item)) ≡ true
+  pub task : item.task ≡ work_task (checkpoint_in h owner (item_key item)) (run_for h owner (item_key item))
+  pub partition : item.partition ≡ partition_named (item_key item).partition (partitions_for h owner (item_key item))
   pub number : item.work ≡ work_item_count (reverse h.log) + 1
 
--- a plan neither carries nor bars a step
-abbrev pub IsOpen : Plan → List ℕ → Type 0
-IsOpen plan id = (carried_exit plan.carried id ≡ None) × (is_among plan.barred id ≡ false)
+-- a plan neither carries nor bars the step of a work key, nor keeps its partition
+pub record IsOpen (plan : Plan) (key : WorkKey) : Type 0 where
+  pub uncarried : carried_exit plan.carried key.element ≡ None
+  pub unkept : is_kept plan key ≡ false
+  pub unbarred : is_among plan.barred key.element ≡ false
 
--- where a work item is of a step, its job execution neither carries nor bars that
+-- where a work item is of a step, its job execution neither carries nor bars that, nor keeps its partition
 pub record IsOfOpenStep (h : History) (item : WorkItem) : Type 0 where
   pub owner : ExecutionRow
   pub found : row_in h item.execution ≡ Some owner
-  pub step : (task : Task) → run_for h owner item.element ≡ Some (RunsStep task) → IsOpen owner.plan item.element
+  pub step : (task : Task) → run_for h owner (item_key item) ≡ Some (RunsStep task) → IsOpen owner.plan (item_key item)
 
--- a chunk goes on from the checkpoint of its step in the job instance
+-- a chunk goes on from the checkpoint of its step or partition in the job instance
 pub record GoesOnFrom (h : History) (item : WorkItem) (mark : Option (List ℕ)) : Type 0 where
   pub owner : ExecutionRow
   pub found : row_in h item.execution ≡ Some owner
-  pub checkpoint : mark ≡ checkpoint_in h owner item.element
+  pub checkpoint : mark ≡ checkpoint_in h owner (item_key item)
 
 -- ---- Restarts
 
@@ -151,8 +164,8 @@ HasOneUnfinishedEach h =
 abbrev pub works_of_instance_in : History → ℕ → List WorkRow
 works_of_instance_in h i = filter (λ work. is_at i (instance_of_execution (reverse h.log) work.execution)) (works_in h)
 
--- the plan that a restart of a job execution gives: it begins at the restart point, and what is carried and barred follows
--- from the work items of the job instance
+-- the plan that a restart of a job execution gives: it begins at the restart point, and what is carried, kept and barred
+-- follows from the work items of the job instance
 abbrev pub plan_again_in : History → ExecutionRow → Plan
 plan_again_in h row =
     plan_by (restart_point (is_some row.start) (walk_in h row) row.plan.from) (works_of_instance_in h row.instance)

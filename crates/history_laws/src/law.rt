@@ -14,6 +14,7 @@ ghost use Rattle.batch_history.specs.Answers.{answer};
 ghost use Rattle.batch_history.specs.Legal.{IsLegal, grown};
 ghost use Rattle.batch_history.specs.Replies.{row_status};
 ghost use Rattle.batch_history.specs.Walks.{job_named};
+ghost use Rattle.batch_history.specs.Works.{work_key};
 ghost use Rattle.batch_history.specs.Rows.{History};
 ghost use Rattle.batch_history.specs.Statuses.{is_finished};
 ghost use Rattle.history_laws.specs.Laws.{beginning, row_in, work_in, names_in, StaysFinished, EndedAt, BelongsTo, WasReady, IsOfOpenStep, GoesOnFrom, RestartsFollow, HasOneUnfinishedEach, FollowsFrom, KeepsPlan, HasInstance, with_name};
@@ -45,7 +46,9 @@ pub fn ends_are_moments_of_operations()
 }
 
 /// Each work item belongs to a job execution that was taken up, and that is unfinished while the work
-/// item is busy; no element of a job execution has two work items.
+/// item is busy; it is of a step or a decision of its job, and names a partition exactly where that
+/// step is partitioned. No work key of a job execution has two work items: no decision and no step
+/// that is not partitioned has two, and no partition of a step.
 ///
 /// It does nothing: its contract is the law, of every legal history.
 #[tactic(auto, using(crate::proofs::Laws::belongs, crate::proofs::Laws::once_each))]
@@ -54,12 +57,13 @@ pub fn work_belongs_to_unfinished_job_executions()
         → work_in h w ≡ Some work → BelongsTo h work }
     ensures once { (limit : ℕ) (h : History) → IsLegal limit h → (v w : ℕ) (one other : WorkRow)
         → work_in h v ≡ Some one → work_in h w ≡ Some other → v ≢ w
-        → one.execution ≡ other.execution → one.element ≢ other.element }
+        → one.execution ≡ other.execution → work_key one ≢ work_key other }
 {}
 
-/// What is handed out was ready: a reply of work names the first ready element of the least job
+/// What is handed out was ready: a reply of work names the first ready work key of the least job
 /// execution with something to do, by the operations before it, and the next number. The walk
-/// begins where the job execution begins, and a chunk goes on from the checkpoint of its step.
+/// begins where the job execution begins, a chunk goes on from the checkpoint of its step or
+/// partition, and a partition is named exactly where the step is partitioned.
 ///
 /// It does nothing: its contract is the law, of every entry of a legal history.
 #[tactic(auto, using(crate::proofs::Handing::handed_ready))]
@@ -70,7 +74,8 @@ pub fn what_is_handed_out_was_ready()
 {}
 
 /// No work is handed out of a step that the job execution carries from an earlier one, or that has
-/// reached its start limit (Jakarta Batch 2.1, "Job Restart Processing").
+/// reached its start limit, nor of a partition that it keeps from an earlier one (Jakarta Batch 2.1,
+/// "Job Restart Processing").
 ///
 /// It does nothing: its contract is the law, of every entry of a legal history.
 #[tactic(auto, using(crate::proofs::Handing::handed_open))]
@@ -80,8 +85,8 @@ pub fn no_work_is_of_a_carried_or_barred_step()
         → (item : WorkItem) → e.reply ≡ Work item → IsOfOpenStep (beginning h before) item }
 {}
 
-/// Each chunk goes on from the checkpoint of its step: the one that the operations before it left
-/// in the job instance (Jakarta Batch 2.1, "Checkpoint Algorithm").
+/// Each chunk goes on from the checkpoint of its step, or of its partition: the one that the
+/// operations before it left in the job instance (Jakarta Batch 2.1, "Checkpoint Algorithm").
 ///
 /// It does nothing: its contract is the law, of every entry of a legal history.
 #[tactic(auto, using(crate::proofs::Handing::handed_from))]
@@ -113,7 +118,8 @@ pub fn job_instances_have_at_most_one_unfinished_job_execution()
 
 /// A job execution goes by the plan that its restart gave it, which comes from the job execution
 /// that the restart names and from the work of its job instance so far. Whatever is accepted later,
-/// the element at which it begins, its carried steps and its barred steps stay the same.
+/// the element at which it begins, its carried steps, its kept partitions and its barred steps stay
+/// the same.
 ///
 /// It does nothing: its contract is the law, of every legal history and each of its beginnings.
 #[tactic(auto, using(crate::proofs::Restarts::restart_gives, crate::proofs::Restarts::plan_stays))]

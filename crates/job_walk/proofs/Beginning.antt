@@ -1,78 +1,131 @@
 -- What is known at first, element by element.
 use Rattle.std.proofs.Common.{◌≡◌, ℕ, zero, suc, ◌+◌, ◌<◌, ◌≤◌, ◌||◌, true, false, cond, List, [], ◌∷◌, ◌++◌, length, map, drop, get_or, refl, sym, ◌∙◌, ap, arith}
-use Rattle.std.specs.Cmp.Lexicographic.{bytes_decides}
-use Rattle.std.specs.List.{All, list_any}
-use Rattle.std.specs.Str.{bytes_eq}
+use Rattle.std.specs.List.{All, flat_map}
+use Rattle.std.proofs.lemmas.Grind.{flat_map-append}
 use Rattle.std.proofs.lemmas.List.{append_assoc, at_drop_more, drop_all, map-append}
+use Rattle.std.proofs.lemmas.List.Elements.{All-head}
+use Rattle.std.proofs.lemmas.List.Folds.{list_any-append}
+use Rattle.std.proofs.lemmas.List.FromFn.{map-range_with_len_more}
 use Rattle.jsl_model.specs.Jobs.{JobTree}
 use Rattle.jsl_model.specs.Trees.{joined}
-use Rattle.job_walk.specs.Keys.{WorkKey}
 use Rattle.job_walk.specs.declared.facts.Fact.{Fact}
 use Rattle.job_walk.specs.declared.facts.Known.{Known}
+use Rattle.job_walk.specs.declared.work_key.WorkKey.{WorkKey}
 use Rattle.job_walk.specs.declared.plan.Plan.{Plan}
-use Rattle.job_walk.specs.Cursors.{known_ids, known_at_first, fact_at_first, resumed, value_in}
-use Rattle.job_walk.specs.Lists.{ids_of}
-use Rattle.job_walk.specs.Runnables.{Leaf, all_leaves}
-use Rattle.job_walk.specs.Walk.{fact_of, value_of}
+use Rattle.job_walk.specs.Cursors.{known_keys, known_at_first, fact_at_first, resumed, value_in}
+use Rattle.job_walk.specs.Keys.{key_of, numbers_to, is_same_key, has_key}
+use Rattle.job_walk.specs.Runnables.{Leaf, all_leaves, keys_of, all_keys}
+use Rattle.job_walk.specs.Walk.{fact_of, known_of, value_of}
 use Rattle.job_walk.proofs.Agreeing.{value-same}
 use Rattle.job_walk.proofs.Alls.{All-tail}
+use Rattle.job_walk.proofs.SameKeys.{same-one, same-self, same-sym}
 
--- one fact for each step and decision
-pub first-ids : (plan : Plan) (known : List Known) (all : List Leaf) → known_ids (map (known_at_first plan known) all) ≡ ids_of all
-first-ids plan known [] = refl
-first-ids plan known (leaf ∷ rest) = ap (λ ids. leaf.id ∷ ids) (first-ids plan known rest)
+-- ---- One fact for each work key
+
+pub keys-known : (facts : WorkKey → Fact) (keys : List WorkKey) → known_keys (known_of facts keys) ≡ keys
+keys-known facts [] = refl
+keys-known facts (key ∷ keys) = ap (λ others. key ∷ others) (keys-known facts keys)
+
+pub first-keys : (plan : Plan) (known : List Known) (all : List Leaf) → known_keys (flat_map (known_at_first plan known) all) ≡ all_keys all
+first-keys plan known [] = refl
+first-keys plan known (leaf ∷ rest) =
+    map-append (λ (one : Known). one.key) (known_at_first plan known leaf) (flat_map (known_at_first plan known) rest)
+    ∙ (ap (λ keys. keys ++ known_keys (flat_map (known_at_first plan known) rest)) (keys-known (λ key. fact_at_first plan known key leaf.runs) (keys_of leaf))
+    ∙ ap (λ keys. keys_of leaf ++ keys) (first-keys plan known rest))
+
+-- ---- One more
 
 no-more : (xs : List Known) → xs ++ [] ≡ xs
 no-more [] = refl
 no-more (x ∷ xs) = ap (λ (ys : List Known). x ∷ ys) (no-more xs)
 
 -- what this one has is added, and less is left
-pub added-next : {X : Type 0} (at_first : Leaf → Known) (held : X → List Leaf) (xs : List X) (i : ℕ) (x : X) (before after whole : List Known)
-    → i < length xs → x ≡ get_or xs i x → after ≡ before ++ map at_first (held x)
-    → before ++ map at_first (joined (map held (drop i xs))) ≡ whole → after ++ map at_first (joined (map held (drop (i + 1) xs))) ≡ whole
+pub added-next : {X : Type 0} (at_first : Leaf → List Known) (held : X → List Leaf) (xs : List X) (i : ℕ) (x : X) (before after whole : List Known)
+    → i < length xs → x ≡ get_or xs i x → after ≡ before ++ flat_map at_first (held x)
+    → before ++ flat_map at_first (joined (map held (drop i xs))) ≡ whole → after ++ flat_map at_first (joined (map held (drop (i + 1) xs))) ≡ whole
 added-next at_first held xs i x before after whole lt is added left =
     let rest : List Leaf = joined (map held (drop (i + 1) xs)) in
-    ap (λ (ks : List Known). ks ++ map at_first rest) added
-    ∙ (append_assoc before (map at_first (held x)) (map at_first rest)
-    ∙ (ap (λ (ks : List Known). before ++ ks) (sym (map-append at_first (held x) rest))
-    ∙ (ap (λ y. before ++ map at_first (held y ++ rest)) is
-    ∙ (sym (at_drop_more (λ ys. before ++ map at_first (joined (map held ys))) xs i x lt) ∙ left))))
+    ap (λ (ks : List Known). ks ++ flat_map at_first rest) added
+    ∙ (append_assoc before (flat_map at_first (held x)) (flat_map at_first rest)
+    ∙ (ap (λ (ks : List Known). before ++ ks) (sym (flat_map-append at_first (held x) rest))
+    ∙ (ap (λ y. before ++ flat_map at_first (held y ++ rest)) is
+    ∙ (sym (at_drop_more (λ ys. before ++ flat_map at_first (joined (map held ys))) xs i x lt) ∙ left))))
 
 -- nothing is left
-pub added-all : {X : Type 0} (at_first : Leaf → Known) (held : X → List Leaf) (xs : List X) (i : ℕ) (before whole : List Known)
-    → length xs ≤ i → before ++ map at_first (joined (map held (drop i xs))) ≡ whole → before ≡ whole
+pub added-all : {X : Type 0} (at_first : Leaf → List Known) (held : X → List Leaf) (xs : List X) (i : ℕ) (before whole : List Known)
+    → length xs ≤ i → before ++ flat_map at_first (joined (map held (drop i xs))) ≡ whole → before ≡ whole
 added-all at_first held xs i before whole past left =
-    sym (no-more before) ∙ (ap (λ ys. before ++ map at_first (joined (map held ys))) (sym (drop_all i xs past)) ∙ left)
+    sym (no-more before) ∙ (ap (λ ys. before ++ flat_map at_first (joined (map held ys))) (sym (drop_all i xs past)) ∙ left)
+
+-- what is known of one partition more
+pub known-more : (facts : WorkKey → Fact) (id : List ℕ) (n : ℕ)
+    → known_of facts (map (key_of id) (numbers_to (n + 1))) ≡ known_of facts (map (key_of id) (numbers_to n)) ++ known_of facts (key_of id n ∷ [])
+known-more facts id n =
+    ap (known_of facts) (map-range_with_len_more (key_of id) 0 n n (omega arith))
+    ∙ map-append (λ (key : WorkKey). record { key = key; fact = facts key }) (map (key_of id) (numbers_to n)) (key_of id n ∷ [])
+
+-- the partition is added to those before it
+pub partition-next : (facts : WorkKey → Fact) (id : List ℕ) (n : ℕ) (first before after : List Known)
+    → before ≡ first ++ known_of facts (map (key_of id) (numbers_to n)) → after ≡ before ++ known_of facts (key_of id n ∷ [])
+    → after ≡ first ++ known_of facts (map (key_of id) (numbers_to (n + 1)))
+partition-next facts id n first before after was added =
+    added
+    ∙ (ap (λ (ks : List Known). ks ++ known_of facts (key_of id n ∷ [])) was
+    ∙ (append_assoc first (known_of facts (map (key_of id) (numbers_to n))) (known_of facts (key_of id n ∷ []))
+    ∙ ap (λ (ks : List Known). first ++ ks) (sym (known-more facts id n))))
+
+-- what is pushed is known of the partition
+pub partition-pushed : (facts : WorkKey → Fact) (id : List ℕ) (n : ℕ) (before after : List Known) (key : WorkKey) (fact : Fact)
+    → before ≡ known_of facts (map (key_of id) (numbers_to n)) → after ≡ before ++ record { key = key; fact = fact } ∷ [] → key ≡ key_of id n → fact ≡ facts (key_of id n)
+    → after ≡ known_of facts (map (key_of id) (numbers_to (n + 1)))
+partition-pushed facts id n before after key fact was pushed named says =
+    pushed
+    ∙ (ap (λ k. before ++ record { key = k; fact = fact } ∷ []) named
+    ∙ (ap (λ f. before ++ record { key = key_of id n; fact = f } ∷ []) says
+    ∙ (ap (λ ks. ks ++ known_of facts (key_of id n ∷ [])) was ∙ sym (known-more facts id n))))
 
 -- ---- What facts say of it
 
--- of an id that is among these, facts that say what is known at first of each say what is known of it
-found-first : (plan : Plan) (known : List Known) (facts : WorkKey → Fact) (all : List Leaf) → All (λ leaf. facts leaf.id ≡ fact_at_first plan known leaf.id leaf.runs) all
-    → (id : List ℕ) → list_any (λ leaf. bytes_eq leaf.id id) all ≡ true → fact_of (map (known_at_first plan known) all) id ≡ facts id
-found-first plan known facts [] h id among = cc
-found-first plan known facts (leaf ∷ rest) h id among =
-    (elim (bytes_eq leaf.id id) as (λ b. bytes_eq leaf.id id ≡ b → (b || list_any (λ (l : Leaf). bytes_eq l.id id) rest) ≡ true
-    → cond b (fact_at_first plan known leaf.id leaf.runs) (fact_of (map (known_at_first plan known) rest) id) ≡ facts id) [
-      | true ↦ λ e a. sym (h 0 leaf (omega arith)) ∙ ap facts ((bytes_decides leaf.id id).0 e)
-      | false ↦ λ e a. found-first plan known facts rest (All-tail (λ (l : Leaf). facts l.id ≡ fact_at_first plan known l.id l.runs) leaf rest h) id a
-    ]) refl among
+-- of a work key that is among these, or else is said of others, facts say what is known of it
+found-key : (at_first facts : WorkKey → Fact) (keys : List WorkKey) (rest : List Known) (key : WorkKey) → All (λ one. facts one ≡ at_first one) keys
+    → (has_key keys key ≡ false → fact_of rest key ≡ facts key) → fact_of (known_of at_first keys ++ rest) key ≡ facts key
+found-key at_first facts [] rest key h others = others refl
+found-key at_first facts (one ∷ keys) rest key h others =
+    (elim (is_same_key one key) as (λ b. is_same_key one key ≡ b → cond b (at_first one) (fact_of (known_of at_first keys ++ rest) key) ≡ facts key) [
+      | true ↦ λ e. sym (All-head (λ k. facts k ≡ at_first k) one keys h) ∙ ap facts (same-one one key e)
+      | false ↦ λ e. found-key at_first facts keys rest key (All-tail (λ k. facts k ≡ at_first k) one keys h)
+          (λ none. others (ap (λ b. b || has_key keys key) (same-sym key one ∙ e) ∙ none))
+    ]) refl
 
-among-itself : (all : List Leaf) (k : ℕ) (d : Leaf) → k < length all → list_any (λ leaf. bytes_eq leaf.id (get_or all k d).id) all ≡ true
+-- facts that say what is known at first of each work key of these
+abbrev SayAtFirst : Plan → List Known → (WorkKey → Fact) → Leaf → Type 0
+SayAtFirst plan known facts leaf = All (λ key. facts key ≡ fact_at_first plan known key leaf.runs) (keys_of leaf)
+
+-- of a work key that is among these, facts that say what is known at first of each say what is known of it
+found-first : (plan : Plan) (known : List Known) (facts : WorkKey → Fact) (all : List Leaf) → All (SayAtFirst plan known facts) all
+    → (key : WorkKey) → has_key (all_keys all) key ≡ true → fact_of (flat_map (known_at_first plan known) all) key ≡ facts key
+found-first plan known facts [] h key among = cc
+found-first plan known facts (leaf ∷ rest) h key among =
+    found-key (λ key. fact_at_first plan known key leaf.runs) facts (keys_of leaf) (flat_map (known_at_first plan known) rest) key (All-head (SayAtFirst plan known facts) leaf rest h)
+    (λ none. found-first plan known facts rest (All-tail (SayAtFirst plan known facts) leaf rest h) key
+    (ap (λ b. b || has_key (all_keys rest) key) (sym none) ∙ (sym (list_any-append (is_same_key key) (keys_of leaf) (all_keys rest)) ∙ among)))
+
+among-itself : (keys : List WorkKey) (k : ℕ) (d : WorkKey) → k < length keys → has_key keys (get_or keys k d) ≡ true
 among-itself [] k d lt = absurd (omega arith)
-among-itself (leaf ∷ rest) zero d lt =
-    let here : bytes_eq leaf.id leaf.id ≡ true = (bytes_decides leaf.id leaf.id).1 refl in rw here refl
-among-itself (leaf ∷ rest) (suc k) d lt =
+among-itself (key ∷ rest) zero d lt =
+    let here : is_same_key key key ≡ true = same-self key key refl in rw here refl
+among-itself (key ∷ rest) (suc k) d lt =
     let later = among-itself rest k d (omega arith) in
-    elim (bytes_eq leaf.id (get_or rest k d).id) as (λ b. (b || list_any (λ (l : Leaf). bytes_eq l.id (get_or rest k d).id) rest) ≡ true) [
+    elim (is_same_key (get_or rest k d) key) as (λ b. (b || has_key rest (get_or rest k d)) ≡ true) [
       | true ↦ refl
       | false ↦ later
     ]
 
--- where facts say of each step and decision what is known of it at first, the walk comes to what the job comes to by these facts
+-- where facts say of each work key what is known of it at first, the walk comes to what the job comes to by these facts
 pub resumed-value : (job : JobTree) (plan : Plan) (known : List Known) (facts : WorkKey → Fact)
-    → All (λ leaf. facts leaf.id ≡ fact_at_first plan known leaf.id leaf.runs) (all_leaves job.elements)
+    → All (λ leaf. All (λ key. facts key ≡ fact_at_first plan known key leaf.runs) (keys_of leaf)) (all_leaves job.elements)
     → value_in (resumed job plan known) ≡ value_of facts job.elements plan.from
 resumed-value job plan known facts h =
     let all : List Leaf = all_leaves job.elements in
-    value-same (fact_of (map (known_at_first plan known) all)) facts job.elements
-    (λ k d lt. found-first plan known facts all h (get_or all k d).id (among-itself all k d lt)) plan.from
+    value-same (fact_of (flat_map (known_at_first plan known) all)) facts job.elements
+    (λ k d lt. found-first plan known facts all h (get_or (all_keys all) k d) (among-itself (all_keys all) k d lt)) plan.from

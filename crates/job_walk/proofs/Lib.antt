@@ -9,4 +9,5 @@ pub mod Ordered
 pub mod Passing
 pub mod Points
 pub mod Ranks
+pub mod SameKeys
 pub mod Shown

@@ -1,6 +1,6 @@
--- What a walk shows and where it lets a restart begin: ids that stand in the tree.
-use Rattle.std.proofs.Common.{◌≡◌, ℕ, zero, suc, Bool, true, false, cond, ◌&&◌, Option, None, Some, List, [], ◌∷◌, ◌++◌, map, find, refl, sym, ◌∙◌, ap, subst}
-use Rattle.std.specs.List.{list_all, cons_option}
+-- What a walk shows and where it lets a restart begin: work keys of the tree, and ids that stand in it.
+use Rattle.std.proofs.Common.{◌≡◌, ℕ, zero, suc, Bool, true, false, cond, ◌&&◌, ◌||◌, not, Option, None, Some, List, [], ◌∷◌, ◌++◌, map, find, refl, sym, ◌∙◌, ap, subst}
+use Rattle.std.specs.List.{list_all, filter, cons_option}
 use Rattle.std.specs.Str.{bytes_eq}
 use Rattle.std.proofs.lemmas.List.Folds.{list_all-append}
 use Rattle.batch_ids.specs.declared.status.BatchStatus.TheVariants.{Failed as StatusFailed, Stopped as StatusStopped, Completed as StatusCompleted}
@@ -16,24 +16,26 @@ use Rattle.jsl_model.specs.declared.element.Body.TheOpen.{Step, Flow, Split, Dec
 use Rattle.jsl_model.specs.Trees.{joined, Node, BodyNodes, body_nodes, element_nodes, flow_nodes, nodes_of, in_body, nodes_of_flow, nodes}
 use Rattle.jsl_model.specs.Faults.{restart_at, restarts_in, restarts}
 use Rattle.transitions.specs.Transitions.{matches_on, matching_transition}
-use Rattle.job_walk.specs.Keys.{WorkKey}
-use Rattle.job_walk.specs.Lists.{ids_of}
+use Rattle.job_walk.specs.declared.work_key.WorkKey.{WorkKey}
 use Rattle.job_walk.specs.declared.facts.Fact.{Fact}
 use Rattle.job_walk.specs.declared.facts.Fact.TheVariants.{Nothing, Carried, Busy, Over, Barred}
 use Rattle.job_walk.specs.declared.facts.Value.{Value}
 use Rattle.job_walk.specs.declared.facts.Value.TheVariants.{Open, Done, Ended}
 use Rattle.job_walk.specs.declared.element_result.ElementResult.{ElementResult}
 use Rattle.job_walk.specs.declared.element_result.ElementResult.TheVariants.{ListValue, Outcome}
-use Rattle.job_walk.specs.Walk.{WalkedElement, BodyResult, IsStep, IsDecision, HasResult, runnable_result, value_by_transition, value_after_outcome, value_by_result, value_at, follow, list_value, whole_value, flow_result, all_ready, all_busy, any_open, ended_as, strongest_end, split_result, body_result, element_result, element_with_result, flow_value, walked_element, walked_body, value_of_flow, value_of}
-use Rattle.std.proofs.lemmas.List.{map-append}
-use Rattle.job_walk.specs.Runnables.{Leaf, Inside, IsRun, Holds, body_leaves, leaves_at, element_leaves, flow_leaves, leaves, leaves_of_flow, all_leaves}
-use Rattle.job_walk.proofs.Agreeing.{leaves_in_body}
+use Rattle.job_walk.specs.Walk.{WalkedElement, BodyResult, IsStep, IsDecision, HasResult, known_of, is_left, is_busy, is_barred, has_fact, keys_with, strongest_outcome, named_outcome, open_or_over, step_result, runnable_result, value_by_transition, value_after_outcome, value_by_result, value_at, follow, list_value, whole_value, flow_result, all_ready, all_busy, any_open, ended_as, strongest_end, split_result, body_result, element_result, element_with_result, flow_value, walked_element, walked_body, value_of_flow, value_of}
+use Rattle.std.proofs.lemmas.Grind.{flat_map-append}
+use Rattle.batch_ids.specs.Statuses.{status_name}
+use Rattle.job_walk.specs.declared.facts.Known.{Known}
+use Rattle.job_walk.specs.Keys.{key_of, keys_of_step}
+use Rattle.job_walk.specs.Runnables.{keys_of, all_keys, Leaf, Inside, IsRun, Holds, body_leaves, leaves_at, element_leaves, flow_leaves, leaves, leaves_in_body, leaves_of_flow, all_leaves}
+use Rattle.job_walk.proofs.Agreeing.{RunsAs, runs-step}
 
 -- ---- Values that pass tests
 
--- tests of the ids that a value shows, and of its restart point
+-- tests of the work keys that a value shows, and of its restart point
 pub record Tests : Type 0 where
-  pub shown : List ℕ → Bool
+  pub shown : WorkKey → Bool
   pub point : List ℕ → Bool
 
 -- what is there passes
@@ -162,7 +164,7 @@ strongest-passes tests None None None h1 h2 h3 = tt
 abbrev split_ended : List Value → ElementResult
 split_ended flows = strongest_end (find (ended_as StatusFailed) flows) (find (ended_as StatusStopped) flows) (find (ended_as StatusCompleted) flows)
 
-both-pass : (test : List ℕ → Bool) (xs ys : List (List ℕ)) → list_all test xs ≡ true → list_all test ys ≡ true → list_all test (xs ++ ys) ≡ true
+both-pass : (test : WorkKey → Bool) (xs ys : List WorkKey) → list_all test xs ≡ true → list_all test ys ≡ true → list_all test (xs ++ ys) ≡ true
 both-pass test xs ys h k = list_all-append test xs ys ∙ (ap (λ b. b && list_all test ys) h ∙ k)
 
 all-shown : (tests : Tests) (flows : List Value) → ValuesPass tests flows → (list_all tests.shown (all_ready flows) ≡ true) × (list_all tests.shown (all_busy flows) ≡ true)
@@ -186,9 +188,9 @@ split-passes tests flows h =
 abbrev pub PointsPass : (List ℕ → Bool) → List Node → Type 0
 PointsPass test all = list_all test (restarts all) ≡ true
 
--- the ids of these steps and decisions pass
-abbrev pub LeavesPass : (List ℕ → Bool) → List Leaf → Type 0
-LeavesPass test all = list_all test (ids_of all) ≡ true
+-- the work keys of these steps and decisions pass
+abbrev pub LeavesPass : (WorkKey → Bool) → List Leaf → Type 0
+LeavesPass test all = list_all test (all_keys all) ≡ true
 
 and-assoc : (a b c : Bool) → (a && (b && c)) ≡ ((a && b) && c)
 and-assoc true b c = refl
@@ -205,18 +207,16 @@ restarts-append test (x ∷ xs) ys =
 points-append : (test : List ℕ → Bool) (xs ys : List Node) → PointsPass test (xs ++ ys) → PointsPass test xs × PointsPass test ys
 points-append test xs ys h = both-true (list_all test (restarts xs)) (list_all test (restarts ys)) (sym (restarts-append test xs ys) ∙ h)
 
-leaves-append : (test : List ℕ → Bool) (xs ys : List Leaf) → LeavesPass test (xs ++ ys) → LeavesPass test xs × LeavesPass test ys
+leaves-append : (test : WorkKey → Bool) (xs ys : List Leaf) → LeavesPass test (xs ++ ys) → LeavesPass test xs × LeavesPass test ys
 leaves-append test xs ys h =
-    both-true (list_all test (ids_of xs)) (list_all test (ids_of ys))
-    (sym (list_all-append test (ids_of xs) (ids_of ys)) ∙ (ap (list_all test) (sym (map-append (λ (leaf : Leaf). leaf.id) xs ys)) ∙ h))
+    both-true (list_all test (all_keys xs)) (list_all test (all_keys ys))
+    (sym (list_all-append test (all_keys xs) (all_keys ys)) ∙ (ap (list_all test) (sym (flat_map-append keys_of xs ys)) ∙ h))
 
 -- ---- Elements
 
--- what a body comes to: a step or a decision is shown as itself alone, and what holds others as they are
+-- what a body comes to: a step or a decision shows work keys of its own alone, and what holds others shows theirs
 abbrev PartPasses : Tests → Inside → BodyResult → Type 0
-PartPasses tests (IsRun runs) (IsStep step) = Unit {0}
-PartPasses tests (IsRun runs) IsDecision = Unit {0}
-PartPasses tests (IsRun runs) (HasResult own_result) = ⊥
+PartPasses tests (IsRun runs partitions) part = RunsAs partitions part
 PartPasses tests (Holds inside) (IsStep step) = ⊥
 PartPasses tests (Holds inside) IsDecision = ⊥
 PartPasses tests (Holds inside) (HasResult own_result) = LeavesPass tests.shown inside → ResultPasses tests own_result
@@ -267,24 +267,58 @@ body-passes : (tests : Tests) (facts : WorkKey → Fact) (y : Body-F ((b : Body)
     → PointsPass tests.point (nodes_at (map-Body _ _ _ Body Element SplitFlow (λ e. e.0) (λ e. e.0) (λ e. e.0) y)).nodes
     → PartPasses tests (inside_at (map-Body _ _ _ Body Element SplitFlow (λ e. e.0) (λ e. e.0) (λ e. e.0) y))
     (part_at facts (map-Body _ _ _ Body Element SplitFlow (λ e. e.0) (λ e. e.0) (λ e. e.0) y))
-body-passes tests facts (Step step) h = tt
-body-passes tests facts (Decision artifact) h = tt
+body-passes tests facts (Step step) h = refl
+body-passes tests facts (Decision artifact) h = refl
 body-passes tests facts (Flow es) h =
     λ k. flow-passes tests _ (list-passes tests (map (walked_element facts) (map (λ (e : Passing tests facts). e.0) es)) (rows-pass tests facts es h k) _)
 body-passes tests facts (Split fs) h = λ k. split-passes tests _ (values-pass tests facts fs h k)
 
-runnable-passes : (tests : Tests) (id : List ℕ) (fact : Fact) → list_all tests.shown (id ∷ []) ≡ true → ResultPasses tests (runnable_result id fact)
+runnable-passes : (tests : Tests) (id : WorkKey) (fact : Fact) → list_all tests.shown (id ∷ []) ≡ true → ResultPasses tests (runnable_result id fact)
 runnable-passes tests id (Carried exit) h = tt
 runnable-passes tests id Busy h = (refl, h)
 runnable-passes tests id (Over outcome exit) h = tt
 runnable-passes tests id Barred h = tt
 runnable-passes tests id Nothing h = (h, refl)
 
+with-passes : (test : WorkKey → Bool) (wanted : Fact → Bool) (facts : WorkKey → Fact) (keys : List WorkKey) → list_all test keys ≡ true
+    → list_all test (keys_with wanted (known_of facts keys)) ≡ true
+with-passes test wanted facts [] h = refl
+with-passes test wanted facts (key ∷ keys) h =
+    let parts = both-true (test key) (list_all test keys) h in
+    let one : Known = record { key = key; fact = facts key } in
+    let rest = with-passes test wanted facts keys parts.1 in
+    elim (wanted (facts key)) as (λ b. list_all test (map (λ (k : Known). k.key) (cond b (one ∷ filter (λ (k : Known). wanted k.fact) (known_of facts keys))
+    (filter (λ (k : Known). wanted k.fact) (known_of facts keys)))) ≡ true) [
+      | true ↦ rw parts.0 rest
+      | false ↦ rest
+    ]
+
+open-passes : (tests : Tests) (facts : WorkKey → Fact) (keys : List WorkKey) → list_all tests.shown keys ≡ true → ResultPasses tests (open_or_over (known_of facts keys))
+open-passes tests facts keys h =
+    let known : List Known = known_of facts keys in
+    elim (has_fact is_left known || has_fact is_busy known) as
+    (λ b. ResultPasses tests (cond b (ListValue (Open (keys_with is_left known) (keys_with is_busy known))) (named_outcome (strongest_outcome known)))) [
+      | true ↦ (with-passes tests.shown is_left facts keys h, with-passes tests.shown is_busy facts keys h)
+      | false ↦ tt
+    ]
+
+step-passes : (tests : Tests) (facts : WorkKey → Fact) (id : List ℕ) (partitions : Option ℕ) → list_all tests.shown (keys_of_step id partitions) ≡ true
+    → ResultPasses tests (step_result facts id partitions)
+step-passes tests facts id None h = runnable-passes tests (key_of id 0) (facts (key_of id 0)) h
+step-passes tests facts id (Some count) h =
+    let known : List Known = known_of facts (keys_of_step id (Some count)) in
+    elim (has_fact is_barred known) as
+    (λ b. ResultPasses tests (cond b (ListValue (Ended StatusFailed (status_name StatusFailed) None)) (open_or_over known))) [
+      | true ↦ tt
+      | false ↦ open-passes tests facts (keys_of_step id (Some count)) h
+    ]
+
 part-passes : (tests : Tests) (facts : WorkKey → Fact) (id : List ℕ) (inside : Inside) (part : BodyResult) → PartPasses tests inside part → LeavesPass tests.shown (leaves_at id inside)
     → ResultPasses tests (element_result facts id part)
-part-passes tests facts id (IsRun runs) (IsStep step) p h = runnable-passes tests id (facts id) h
-part-passes tests facts id (IsRun runs) IsDecision p h = runnable-passes tests id (facts id) h
-part-passes tests facts id (IsRun runs) (HasResult own_result) p h = absurd p
+part-passes tests facts id (IsRun runs partitions) part p h =
+    subst (ResultPasses tests) (sym (runs-step facts id partitions part p))
+    (step-passes tests facts id partitions
+    (both-true (list_all tests.shown (keys_of_step id partitions)) true (sym (list_all-append tests.shown (keys_of_step id partitions) []) ∙ h)).0)
 part-passes tests facts id (Holds inside) (IsStep step) p h = absurd p
 part-passes tests facts id (Holds inside) IsDecision p h = absurd p
 part-passes tests facts id (Holds inside) (HasResult own_result) p h = p h
@@ -321,12 +355,12 @@ elements-pass tests facts (e ∷ es) h k =
     let shown = leaves-append tests.shown (leaves e) (all_leaves es) k in
     (element-passes tests facts e points.0 shown.0, elements-pass tests facts es points.1 shown.1)
 
--- where all restart points that are written in a tree, and the ids of its steps and decisions, pass tests, so do those of its walk
+-- where all restart points that are written in a tree, and the work keys of its steps and decisions, pass tests, so do those of its walk
 pub walk-passes : (tests : Tests) (facts : WorkKey → Fact) (elements : List Element) (from : List ℕ) → PointsPass tests.point (nodes elements) → LeavesPass tests.shown (all_leaves elements)
     → Passes tests (value_of facts elements from)
 walk-passes tests facts elements from h k = list-passes tests (map (walked_element facts) elements) (elements-pass tests facts elements h k) from
 
--- every id passes this test
-pub all-true : (xs : List (List ℕ)) → list_all (λ x. true) xs ≡ true
+-- all pass this test
+pub all-true : {X : Type 0} (xs : List X) → list_all (λ x. true) xs ≡ true
 all-true [] = refl
 all-true (x ∷ xs) = all-true xs

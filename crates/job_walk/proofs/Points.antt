@@ -10,10 +10,10 @@ use Rattle.jsl_model.specs.Targets.{outline, ids, lacks_some_target, has_some_lo
 use Rattle.jsl_model.specs.Jobs.{JobTree}
 use Rattle.jsl_model.specs.Faults.{has_restarts, has_long_text, has_empty, is_too_deep, has_too_many, has_duplicate, tree_fault, IsChecked}
 use Rattle.jsl_model.proofs.Among.{bytes_eq-sym}
-use Rattle.job_walk.specs.Keys.{WorkKey}
-use Rattle.job_walk.specs.Lists.{has_element, ids_of}
+use Rattle.job_walk.specs.declared.work_key.WorkKey.{WorkKey}
+use Rattle.job_walk.specs.Lists.{has_element}
 use Rattle.job_walk.proofs.Passing.{Passes, walk-passes, all-true}
-use Rattle.job_walk.specs.Runnables.{all_leaves}
+use Rattle.job_walk.specs.Runnables.{all_leaves, all_keys}
 use Rattle.job_walk.specs.declared.facts.Fact.{Fact}
 use Rattle.job_walk.specs.declared.facts.Value.TheVariants.{Ended}
 use Rattle.job_walk.specs.Walk.{value_of}
@@ -31,7 +31,7 @@ pub own-point : (job : JobTree) → has_restarts job ≡ true → (facts : WorkK
 own-point job own facts from status exit point is =
     sym (among-own job.elements point)
     ∙ subst (Passes record { shown = λ id. true; point = is_among (ids (outline job.elements)) }) is
-    (walk-passes record { shown = λ id. true; point = is_among (ids (outline job.elements)) } facts job.elements from own (all-true (ids_of (all_leaves job.elements))))
+    (walk-passes record { shown = λ id. true; point = is_among (ids (outline job.elements)) } facts job.elements from own (all-true (all_keys (all_leaves job.elements))))
 
 pub no-fault : (b : Bool) (fault : JobFault) (rest : Option JobFault) → cond b (Some fault) rest ≡ None → rest ≡ None
 no-fault true fault rest h = cc

@@ -12,7 +12,7 @@ use Rattle.jsl_model.specs.declared.element.Then.{Then}
 use Rattle.jsl_model.specs.declared.element.Then.TheVariants.{Next, End, Fail, Stop}
 use Rattle.jsl_model.specs.Targets.{Item, named_by, named_in, outline, ids, place_in, graph_of, HasRanks}
 use Rattle.transitions.specs.Transitions.{matches_on, matching_transition}
-use Rattle.job_walk.specs.Keys.{WorkKey}
+use Rattle.job_walk.specs.declared.work_key.WorkKey.{WorkKey}
 use Rattle.job_walk.specs.declared.facts.Fact.{Fact}
 use Rattle.job_walk.specs.declared.facts.Value.{Value}
 use Rattle.job_walk.specs.declared.facts.Value.TheVariants.{Done}

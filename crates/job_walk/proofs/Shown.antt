@@ -1,71 +1,69 @@
--- What a walk shows as ready or busy: steps and decisions of its job.
+-- What a walk shows as ready or busy: work keys of its job.
 use Rattle.std.proofs.Common.{◌≡◌, ℕ, Bool, true, false, ◌||◌, List, [], ◌∷◌, refl, ◌∙◌, ap}
 use Rattle.std.specs.List.{list_all}
-use Rattle.std.specs.Str.{bytes_eq}
-use Rattle.std.specs.Cmp.Lexicographic.{bytes_decides}
 use Rattle.jsl_model.specs.declared.element.Element.{Element}
-use Rattle.jsl_model.specs.Names.{is_among}
-use Rattle.job_walk.specs.Keys.{WorkKey}
+use Rattle.job_walk.specs.Keys.{is_same_key, has_key}
+use Rattle.job_walk.specs.declared.work_key.WorkKey.{WorkKey}
 use Rattle.job_walk.specs.declared.facts.Fact.{Fact}
 use Rattle.job_walk.specs.declared.facts.Value.{Value}
 use Rattle.job_walk.specs.declared.facts.Value.TheVariants.{Open, Done, Ended}
 use Rattle.job_walk.specs.Walk.{value_of}
-use Rattle.job_walk.specs.Runnables.{all_leaves}
+use Rattle.job_walk.specs.Runnables.{all_leaves, all_keys}
 use Rattle.job_walk.specs.Cursors.{ready_of, busy_of}
-use Rattle.job_walk.specs.Lists.{ids_of}
+use Rattle.job_walk.proofs.SameKeys.{same-one, same-self}
 use Rattle.job_walk.proofs.Passing.{Tests, Passes, both-true, walk-passes, all-true}
 use Rattle.jsl_model.specs.Trees.{nodes}
 use Rattle.jsl_model.specs.Faults.{restarts}
 
-any-pass : (test : List ℕ → Bool) (ids : List (List ℕ)) (id : List ℕ) → list_all test ids ≡ true → is_among ids id ≡ true → test id ≡ true
-any-pass test [] id h k = cc
-any-pass test (x ∷ xs) id h k =
+any-pass : (test : WorkKey → Bool) (keys : List WorkKey) (key : WorkKey) → list_all test keys ≡ true → has_key keys key ≡ true → test key ≡ true
+any-pass test [] key h k = cc
+any-pass test (x ∷ xs) key h k =
     let parts = both-true (test x) (list_all test xs) h in
-    (elim (bytes_eq id x) as (λ b. bytes_eq id x ≡ b → test id ≡ true) [
-      | true ↦ λ e. ap test ((bytes_decides id x).0 e) ∙ parts.0
-      | false ↦ λ e. any-pass test xs id parts.1 (let rest : is_among xs id ≡ true = cc in rest)
+    (elim (is_same_key key x) as (λ b. is_same_key key x ≡ b → test key ≡ true) [
+      | true ↦ λ e. ap test (same-one key x e) ∙ parts.0
+      | false ↦ λ e. any-pass test xs key parts.1 (let rest : has_key xs key ≡ true = cc in rest)
     ]) refl
 
-more-among : (held : List (List ℕ)) (x : List ℕ) (ids : List (List ℕ)) → list_all (is_among held) ids ≡ true → list_all (is_among (x ∷ held)) ids ≡ true
+more-among : (held : List WorkKey) (x : WorkKey) (keys : List WorkKey) → list_all (has_key held) keys ≡ true → list_all (has_key (x ∷ held)) keys ≡ true
 more-among held x [] h = refl
 more-among held x (y ∷ ys) h =
-    let parts = both-true (is_among held y) (list_all (is_among held) ys) h in
-    let here : is_among (x ∷ held) y ≡ true = elim (bytes_eq y x) as (λ b. (b || is_among held y) ≡ true) [ true ↦ refl | false ↦ parts.0 ] in
-    let rest : list_all (is_among (x ∷ held)) ys ≡ true = more-among held x ys parts.1 in
+    let parts = both-true (has_key held y) (list_all (has_key held) ys) h in
+    let here : has_key (x ∷ held) y ≡ true = elim (is_same_key y x) as (λ b. (b || has_key held y) ≡ true) [ true ↦ refl | false ↦ parts.0 ] in
+    let rest : list_all (has_key (x ∷ held)) ys ≡ true = more-among held x ys parts.1 in
     cc
 
-all-among : (ids : List (List ℕ)) → list_all (is_among ids) ids ≡ true
+all-among : (keys : List WorkKey) → list_all (has_key keys) keys ≡ true
 all-among [] = refl
 all-among (x ∷ xs) =
-    let here : bytes_eq x x ≡ true = (bytes_decides x x).1 refl in
-    let rest : list_all (is_among (x ∷ xs)) xs ≡ true = more-among xs x xs (all-among xs) in
+    let here : is_same_key x x ≡ true = same-self x x refl in
+    let rest : list_all (has_key (x ∷ xs)) xs ≡ true = more-among xs x xs (all-among xs) in
     cc
 
 -- tests of what is shown alone
 abbrev of_leaves : List Element → Tests
-of_leaves elements = record { shown = is_among (ids_of (all_leaves elements)); point = λ id. true }
+of_leaves elements = record { shown = has_key (all_keys (all_leaves elements)); point = λ id. true }
 
--- all that a walk shows is a step or a decision
+-- all that a walk shows is a work key of a step or a decision
 pub shown-leaves : (facts : WorkKey → Fact) (elements : List Element) (from : List ℕ) → Passes (of_leaves elements) (value_of facts elements from)
 shown-leaves facts elements from =
-    walk-passes (of_leaves elements) facts elements from (all-true (restarts (nodes elements))) (all-among (ids_of (all_leaves elements)))
+    walk-passes (of_leaves elements) facts elements from (all-true (restarts (nodes elements))) (all-among (all_keys (all_leaves elements)))
 
-ready-passes : (tests : Tests) (value : Value) (id : List ℕ) → Passes tests value → is_among (ready_of value) id ≡ true → tests.shown id ≡ true
-ready-passes tests (Open ready busy) id h k = any-pass tests.shown ready id h.0 k
-ready-passes tests (Done exit) id h k = cc
-ready-passes tests (Ended status exit point) id h k = cc
+ready-passes : (tests : Tests) (value : Value) (key : WorkKey) → Passes tests value → has_key (ready_of value) key ≡ true → tests.shown key ≡ true
+ready-passes tests (Open ready busy) key h k = any-pass tests.shown ready key h.0 k
+ready-passes tests (Done exit) key h k = cc
+ready-passes tests (Ended status exit point) key h k = cc
 
-busy-passes : (tests : Tests) (value : Value) (id : List ℕ) → Passes tests value → is_among (busy_of value) id ≡ true → tests.shown id ≡ true
-busy-passes tests (Open ready busy) id h k = any-pass tests.shown busy id h.1 k
-busy-passes tests (Done exit) id h k = cc
-busy-passes tests (Ended status exit point) id h k = cc
+busy-passes : (tests : Tests) (value : Value) (key : WorkKey) → Passes tests value → has_key (busy_of value) key ≡ true → tests.shown key ≡ true
+busy-passes tests (Open ready busy) key h k = any-pass tests.shown busy key h.1 k
+busy-passes tests (Done exit) key h k = cc
+busy-passes tests (Ended status exit point) key h k = cc
 
--- what is ready is a step or a decision
-pub ready-leaf : (facts : WorkKey → Fact) (elements : List Element) (from id : List ℕ) → is_among (ready_of (value_of facts elements from)) id ≡ true
-    → is_among (ids_of (all_leaves elements)) id ≡ true
-ready-leaf facts elements from id h = ready-passes (of_leaves elements) (value_of facts elements from) id (shown-leaves facts elements from) h
+-- what is ready is a work key of a step or a decision
+pub ready-leaf : (facts : WorkKey → Fact) (elements : List Element) (from : List ℕ) (key : WorkKey) → has_key (ready_of (value_of facts elements from)) key ≡ true
+    → has_key (all_keys (all_leaves elements)) key ≡ true
+ready-leaf facts elements from key h = ready-passes (of_leaves elements) (value_of facts elements from) key (shown-leaves facts elements from) h
 
--- what is busy is a step or a decision
-pub busy-leaf : (facts : WorkKey → Fact) (elements : List Element) (from id : List ℕ) → is_among (busy_of (value_of facts elements from)) id ≡ true
-    → is_among (ids_of (all_leaves elements)) id ≡ true
-busy-leaf facts elements from id h = busy-passes (of_leaves elements) (value_of facts elements from) id (shown-leaves facts elements from) h
+-- what is busy is a work key of a step or a decision
+pub busy-leaf : (facts : WorkKey → Fact) (elements : List Element) (from : List ℕ) (key : WorkKey) → has_key (busy_of (value_of facts elements from)) key ≡ true
+    → has_key (all_keys (all_leaves elements)) key ≡ true
+busy-leaf facts elements from key h = busy-passes (of_leaves elements) (value_of facts elements from) key (shown-leaves facts elements from) h

@@ -1,5 +1,5 @@
 -- The lists of a job, as a walk goes over them, and what is known of their steps and decisions.
-use Rattle.std.specs.Prelude.{◌≡◌, ℕ, Bool, false, List, map, All, Contains}
+use Rattle.std.specs.Prelude.{◌≡◌, ℕ, Bool, false, List, All, Contains}
 use Rattle.std.specs.List.{list_any}
 use Rattle.std.specs.Str.{bytes_eq}
 use Rattle.jsl_model.specs.declared.element.Element.{Element}
@@ -8,8 +8,8 @@ use Rattle.jsl_model.specs.declared.element.Body.TheVariants.{Flow, Split}
 use Rattle.jsl_model.specs.Targets.{Item, lacks_target, HasRanks}
 use Rattle.job_walk.specs.declared.facts.Fact.{Fact}
 use Rattle.job_walk.specs.declared.facts.Value.{Value}
-use Rattle.job_walk.specs.Keys.{WorkKey}
-use Rattle.job_walk.specs.Runnables.{Leaf}
+use Rattle.job_walk.specs.declared.work_key.WorkKey.{WorkKey}
+use Rattle.job_walk.specs.Runnables.{Leaf, all_keys}
 use Rattle.job_walk.specs.Walk.{walked_element, value_by_result, value_of}
 
 -- ---- Lists
@@ -40,10 +40,6 @@ value_from facts elements element =
 
 -- ---- Steps and decisions
 
--- the work keys of these steps and decisions
-abbrev pub ids_of : List Leaf → List WorkKey
-ids_of leaves = map (λ leaf. leaf.id) leaves
-
--- the same is known of these steps and decisions
+-- the same is known of each work key of these steps and decisions
 abbrev pub Agree : (WorkKey → Fact) → (WorkKey → Fact) → List Leaf → Type 0
-Agree facts later leaves = All (λ leaf. facts leaf.id ≡ later leaf.id) leaves
+Agree facts later leaves = All (λ key. facts key ≡ later key) (all_keys leaves)

@@ -1,9 +1,10 @@
-ghost use Rattle.std.specs.Prelude.{◌≡◌, ◌∷◌, ◌++◌, [], List, IfOk, None, MatchOption};
+ghost use Rattle.std.specs.Prelude.{◌≡◌, ◌∷◌, [], IfOk, None, MatchOption};
 ghost use Rattle.batch_ids.specs.Statuses.{status_name};
-ghost use Rattle.job_walk.specs.declared.facts.Known.{Known};
+ghost use Rattle.job_walk.specs.Keys.{key_of};
 ghost use Rattle.job_walk.specs.Walk.{fact_of, runnable_result, ready_result, busy_result};
 
 use crate::facts::{Fact, Known, Value};
+use crate::work_key::{WorkKey, key_of};
 use batch_ids::{BatchStatus, Listed, OutOfMemory, T256, WorkOutcome};
 use std::alloc::Global;
 
@@ -16,16 +17,16 @@ pub enum ElementResult {
     Outcome(WorkOutcome, T256),
 }
 
-fn list_of_one(alloc: Global, id: &T256) -> Result<Listed<T256>, OutOfMemory>
-    ensures { IfOk result (λ list. list ≡ id.now ∷ []) }
+fn list_of_one(alloc: Global, id: &T256) -> Result<Listed<WorkKey>, OutOfMemory>
+    ensures { IfOk result (λ list. list ≡ key_of id.now 0 ∷ []) }
 {
     let mut list = Listed::new(alloc);
-    list.push(id.try_clone()?)?;
+    list.push(key_of(id, 0)?)?;
     Ok(list)
 }
 
 fn ready_result(alloc: Global, id: &T256) -> Result<ElementResult, OutOfMemory>
-    ensures { IfOk result (λ made. made ≡ ready_result id.now) }
+    ensures { IfOk result (λ made. made ≡ ready_result (key_of id.now 0)) }
 {
     Ok(ElementResult::ListValue(Value::Open {
         ready: list_of_one(alloc, id)?,
@@ -34,7 +35,7 @@ fn ready_result(alloc: Global, id: &T256) -> Result<ElementResult, OutOfMemory>
 }
 
 fn busy_result(alloc: Global, id: &T256) -> Result<ElementResult, OutOfMemory>
-    ensures { IfOk result (λ made. made ≡ busy_result id.now) }
+    ensures { IfOk result (λ made. made ≡ busy_result (key_of id.now 0)) }
 {
     Ok(ElementResult::ListValue(Value::Open {
         ready: Listed::new(alloc),
@@ -60,31 +61,43 @@ pub(crate) fn ended_value(alloc: Global, status: BatchStatus) -> Result<Value, O
     })
 }
 
-/// The first that is known of an element; what is known further on counts only without one.
-pub(crate) fn find_known<'a>(known: &'a [Known], id: &T256) -> Option<&'a Known>
-    ensures fact { MatchOption result (fact_of known.now id.now ≡ Fact.Nothing)
-        (λ one. fact_of known.now id.now ≡ one.now.fact) }
-    ensures first { MatchOption result
-        ((rest : List Known) → fact_of (known.now ++ rest) id.now ≡ fact_of rest id.now)
-        (λ one. (rest : List Known) → fact_of (known.now ++ rest) id.now ≡ one.now.fact) }
+/// The first that is known of a partition of an element.
+pub(crate) fn find_known<'a>(
+    known: &'a [Known],
+    element: &T256,
+    partition: u32,
+) -> Option<&'a Known>
+    ensures { MatchOption result (fact_of known.now (key_of element.now partition) ≡ Fact.Nothing)
+        (λ one. fact_of known.now (key_of element.now partition) ≡ one.now.fact) }
 {
     for one in known {
-        if one.id == *id {
+        if one.key.is_of(element, partition) {
             return Some(one);
         }
     }
     None
 }
 
-/// What a step or a decision comes to by itself.
+/// What is known of a partition of an element.
+pub(crate) fn fact_of(known: &[Known], element: &T256, partition: u32) -> Result<Fact, OutOfMemory>
+    ensures { IfOk result (λ fact. fact ≡ fact_of known.now (key_of element.now partition)) }
+{
+    match find_known(known, element, partition) {
+        Some(one) => one.fact.try_clone(),
+        None => Ok(Fact::Nothing),
+    }
+}
+
+/// What a decision, or a step that isn't partitioned, comes to by itself.
 pub(crate) fn runnable_result(
     alloc: Global,
     known: &[Known],
     id: &T256,
 ) -> Result<ElementResult, OutOfMemory>
-    ensures { IfOk result (λ made. made ≡ runnable_result id.now (fact_of known.now id.now)) }
+    ensures { IfOk result (λ made.
+        made ≡ runnable_result (key_of id.now 0) (fact_of known.now (key_of id.now 0))) }
 {
-    match find_known(known, id) {
+    match find_known(known, id, 0) {
         None => ready_result(alloc, id),
         Some(one) => match &one.fact {
             Fact::Nothing => ready_result(alloc, id),

@@ -1,24 +1,25 @@
-//! What is known at first of each step and decision of a job.
-ghost use Rattle.std.specs.Prelude.{◌≡◌, ◌++◌, ◌∷◌, [], List, map, IfOk, OnOk, MatchOption};
-ghost use Rattle.job_walk.specs.Cursors.{known_at_first, known_carried, known_barred, fact_of_step};
+//! What is known at first of each work key of a job.
+ghost use Rattle.std.specs.Prelude.{◌≡◌, ◌++◌, ◌∷◌, [], map, IfOk, OnOk};
+ghost use Rattle.std.specs.List.{flat_map};
+ghost use Rattle.std.specs.Option.{option_copied};
+ghost use Rattle.jsl_model.specs.Names.{is_among};
+ghost use Rattle.job_walk.specs.Cursors.{step_at_first, known_at_first};
+ghost use Rattle.job_walk.specs.Keys.{key_of, keys_of_step};
+ghost use Rattle.job_walk.specs.Plans.{carried_exit, unless_barred};
 ghost use Rattle.job_walk.specs.Runnables.{leaves, all_leaves};
-ghost use Rattle.job_walk.specs.Walk.{fact_of};
-ghost use Rattle.job_walk.specs.declared.facts.Known.{Known};
+ghost use Rattle.job_walk.specs.Walk.{fact_of, known_of};
 
-use crate::element_result::find_known;
+use crate::element_result::{fact_of, name_of};
 use crate::facts::{Fact, Known};
 use crate::plan::Plan;
-use batch_ids::{OutOfMemory, T256};
+use crate::work_key::{WorkKey, has_key, key_of};
+use batch_ids::{BatchStatus, OutOfMemory, T256};
 use jsl_model::{Body, Element};
 use std::alloc::Global;
 
 /// The exit status with which an earlier job execution completed this step.
 fn find_carried<'a>(carried: &'a [(T256, T256)], id: &T256) -> Option<&'a T256>
-    ensures { MatchOption result
-        ((rest : List Known) → fact_of (map known_carried carried.now ++ rest) id.now
-        ≡ fact_of rest id.now)
-        (λ exit. (rest : List Known) → fact_of (map known_carried carried.now ++ rest) id.now
-        ≡ Fact.Carried exit.now) }
+    ensures { option_copied result ≡ carried_exit carried.now id.now }
 {
     for step in carried {
         if step.0 == *id {
@@ -28,49 +29,107 @@ fn find_carried<'a>(carried: &'a [(T256, T256)], id: &T256) -> Option<&'a T256>
     None
 }
 
-/// Whether this step has reached its start limit, as a fact.
-fn barred_fact(barred: &[T256], id: &T256) -> Fact
-    ensures { result ≡ fact_of (map known_barred barred.now) id.now }
+fn is_among(steps: &[T256], id: &T256) -> bool
+    ensures { result ≡ is_among steps.now id.now }
 {
-    for step in barred {
-        if *step == *id {
-            return Fact::Barred;
+    for step in steps {
+        if *id == *step {
+            return true;
         }
     }
-    Fact::Nothing
+    false
 }
 
-fn fact_of_step(plan: &Plan, known: &[Known], id: &T256) -> Result<Fact, OutOfMemory>
-    ensures { IfOk result (λ fact. fact ≡ fact_of_step plan.now known.now id.now) }
+/// This fact, unless nothing is known and the step has reached its start limit.
+fn unless_barred(known: Fact, barred: &[T256], id: &T256) -> Fact
+    ensures { result ≡ unless_barred known (is_among barred.now id.now) }
 {
-    if let Some(exit) = find_carried(plan.carried.as_slice(), id) {
+    match known {
+        Fact::Nothing => {
+            if is_among(barred, id) {
+                Fact::Barred
+            } else {
+                Fact::Nothing
+            }
+        }
+        Fact::Carried(exit) => Fact::Carried(exit),
+        Fact::Busy => Fact::Busy,
+        Fact::Over(outcome, exit) => Fact::Over(outcome, exit),
+        Fact::Barred => Fact::Barred,
+    }
+}
+
+/// What is known of a work key of a step by the plan, where this is known already.
+fn step_at_first(
+    alloc: Global,
+    plan: &Plan,
+    known: &[Known],
+    key: &WorkKey,
+) -> Result<Fact, OutOfMemory>
+    ensures { IfOk result (λ fact. fact ≡ step_at_first plan.now known.now key.now) }
+{
+    if let Some(exit) = find_carried(plan.carried.as_slice(), &key.element) {
         return Ok(Fact::Carried(exit.try_clone()?));
     }
-    match find_known(known, id) {
-        Some(one) => one.fact.try_clone(),
-        None => Ok(barred_fact(plan.barred.as_slice(), id)),
+    if has_key(plan.kept.as_slice(), key) {
+        return Ok(Fact::Carried(name_of(alloc, BatchStatus::Completed)?));
     }
+    let fact = fact_of(known, &key.element, key.partition)?;
+    Ok(unless_barred(fact, plan.barred.as_slice(), &key.element))
 }
 
-fn fact_of_decision(known: &[Known], id: &T256) -> Result<Fact, OutOfMemory>
-    ensures { IfOk result (λ fact. fact ≡ fact_of known.now id.now) }
+/// Adds what is known of a partition of a step.
+fn add_partition(
+    facts: &mut Vec<Known>,
+    plan: &Plan,
+    known: &[Known],
+    id: &T256,
+    partition: u32,
+) -> Result<(), OutOfMemory>
+    ensures { OnOk result (facts.new.items ≡ facts.old.items
+        ++ known_of (step_at_first plan.now known.now) (key_of id.now partition ∷ [])) }
 {
-    match find_known(known, id) {
-        Some(one) => one.fact.try_clone(),
-        None => Ok(Fact::Nothing),
-    }
-}
-
-fn add_fact(facts: &mut Vec<Known>, id: &T256, fact: Fact) -> Result<(), OutOfMemory>
-    ensures { OnOk result (facts.new.items
-        ≡ facts.old.items ++ record { id = id.now; fact = fact } ∷ []) }
-{
-    let id = id.try_clone()?;
-    facts.push(Known { id, fact })?;
+    let alloc = *facts.allocator();
+    let key = key_of(id, partition)?;
+    let fact = step_at_first(alloc, plan, known, &key)?;
+    facts.push(Known { key, fact })?;
     Ok(())
 }
 
-/// Adds what is known of the steps and decisions in an element.
+/// Adds what is known of the partitions of a step.
+fn add_step(
+    facts: &mut Vec<Known>,
+    plan: &Plan,
+    known: &[Known],
+    id: &T256,
+    partitions: Option<u32>,
+) -> Result<(), OutOfMemory>
+    ensures { OnOk result (facts.new.items ≡ facts.old.items
+        ++ known_of (step_at_first plan.now known.now) (keys_of_step id.now partitions)) }
+{
+    match partitions {
+        None => add_partition(facts, plan, known, id, 0),
+        Some(count) => {
+            for partition in 0..count {
+                add_partition(facts, plan, known, id, partition)?;
+            }
+            Ok(())
+        }
+    }
+}
+
+/// Adds what is known of a decision.
+fn add_decision(facts: &mut Vec<Known>, known: &[Known], id: &T256) -> Result<(), OutOfMemory>
+    ensures { OnOk result (facts.new.items ≡ facts.old.items
+        ++ known_of (fact_of known.now) (key_of id.now 0 ∷ [])) }
+{
+    let key = key_of(id, 0)?;
+    let fact = fact_of(known, id, 0)?;
+    facts.push(Known { key, fact })?;
+    Ok(())
+}
+
+/// Adds what is known of the work keys in an element.
 #[cycle(knowing)]
 fn add_inside(
     facts: &mut Vec<Known>,
@@ -79,13 +138,11 @@ fn add_inside(
     element: &Element,
 ) -> Result<(), OutOfMemory>
     ensures { OnOk result (facts.new.items
-        ≡ facts.old.items ++ map (known_at_first plan.now known.now) (leaves element.now)) }
+        ≡ facts.old.items ++ flat_map (known_at_first plan.now known.now) (leaves element.now)) }
 {
     match &element.body {
-        Body::Step(_) => add_fact(facts, &element.id, fact_of_step(plan, known, &element.id)?),
-        Body::Decision { .. } => {
-            add_fact(facts, &element.id, fact_of_decision(known, &element.id)?)
-        }
+        Body::Step(step) => add_step(facts, plan, known, &element.id, step.partitions),
+        Body::Decision { .. } => add_decision(facts, known, &element.id),
         Body::Flow(elements) => add_all(facts, plan, known, elements.as_slice()),
         Body::Split(flows) => {
             for flow in flows.as_slice() {
@@ -96,7 +153,7 @@ fn add_inside(
     }
 }
 
-/// Adds what is known of the steps and decisions of a list.
+/// Adds what is known of the work keys of a list.
 #[cycle(knowing)]
 fn add_all(
     facts: &mut Vec<Known>,
@@ -104,8 +161,8 @@ fn add_all(
     known: &[Known],
     elements: &[Element],
 ) -> Result<(), OutOfMemory>
-    ensures { OnOk result (facts.new.items
-        ≡ facts.old.items ++ map (known_at_first plan.now known.now) (all_leaves elements.now)) }
+    ensures { OnOk result (facts.new.items ≡ facts.old.items
+        ++ flat_map (known_at_first plan.now known.now) (all_leaves elements.now)) }
 {
     for element in elements {
         add_inside(facts, plan, known, element)?;
@@ -113,8 +170,8 @@ fn add_all(
     Ok(())
 }
 
-/// What is known of each step and decision of these elements, in written order, where this is known
-/// beside the plan.
+/// What is known of each work key of these elements, in written order and by rising partition,
+/// where this is known beside the plan.
 pub(crate) fn known_at_first(
     alloc: Global,
     plan: &Plan,
@@ -122,7 +179,7 @@ pub(crate) fn known_at_first(
     elements: &[Element],
 ) -> Result<Vec<Known>, OutOfMemory>
     ensures { IfOk result (λ facts. facts.items
-        ≡ map (known_at_first plan.now known.now) (all_leaves elements.now)) }
+        ≡ flat_map (known_at_first plan.now known.now) (all_leaves elements.now)) }
 {
     let mut facts = Vec::new(alloc);
     add_all(&mut facts, plan, known, elements)?;

@@ -7,26 +7,26 @@ ghost use Rattle.jsl_model.specs.Targets.{named_in};
 ghost use Rattle.job_walk.specs.declared.facts.Fact.{Fact};
 ghost use Rattle.job_walk.specs.declared.facts.Known.{Known};
 ghost use Rattle.job_walk.specs.declared.plan.Plan.{Plan};
-ghost use Rattle.jsl_model.specs.Names.{is_among};
-ghost use Rattle.job_walk.specs.Cursors.{CursorState, known_ids, fact_at_first, resumed, value_in, with_fact, ready_of, busy_of, is_shown, IsCursor};
-ghost use Rattle.job_walk.specs.Keys.{WorkKey};
-ghost use Rattle.job_walk.specs.Lists.{has_element, value_from, ids_of, Agree, StandsIn};
-ghost use Rattle.job_walk.specs.Runnables.{leaves, all_leaves};
+ghost use Rattle.job_walk.specs.Keys.{has_key};
+ghost use Rattle.job_walk.specs.Cursors.{CursorState, known_keys, fact_at_first, resumed, value_in, with_fact, ready_of, busy_of, is_shown, IsCursor};
+ghost use Rattle.job_walk.specs.declared.work_key.WorkKey.{WorkKey};
+ghost use Rattle.job_walk.specs.Lists.{has_element, value_from, Agree, StandsIn};
+ghost use Rattle.job_walk.specs.Runnables.{leaves, all_leaves, all_keys, keys_of};
 ghost use Rattle.job_walk.specs.Walk.{fact_of, value_of, walked_element};
 
 use crate::facts::Value;
 use jsl_model::Element;
 
-/// What a walk learns of a step or decision is what is known of it from then on, and what is known
-/// of any other one stays.
+/// What a walk learns of a work key is what is known of it from then on, and what is known of any
+/// other one stays.
 ///
 /// It does nothing: its contract is the law. Since something is known of all that is ready or busy,
-/// a step is busy after `take` and over after `report`, whatever was known of it before.
+/// a partition is busy after `take` and over after `report`, whatever was known of it before.
 pub fn the_newest_fact_counts()
     ensures known { (cursor : CursorState) → IsCursor cursor → (key : WorkKey)
-        → is_shown (value_in cursor) key ≡ true → is_among (known_ids cursor.facts) key ≡ true }
+        → is_shown (value_in cursor) key ≡ true → has_key (known_keys cursor.facts) key ≡ true }
     ensures one { (cursor : CursorState) (key : WorkKey) (fact : Fact)
-        → is_among (known_ids cursor.facts) key ≡ true
+        → has_key (known_keys cursor.facts) key ≡ true
         → fact_of (with_fact cursor key fact).facts key ≡ fact }
     ensures others { (cursor : CursorState) (key : WorkKey) (fact : Fact) (other : WorkKey)
         → key ≢ other
@@ -63,9 +63,9 @@ pub fn a_list_goes_on_from_element_to_element()
         → has_element list to ≡ true }
 {}
 
-/// A walk depends on what is known of the job's steps and decisions alone: where the same is known
-/// of those of a list, the list comes to the same value, and where the same is known of those in an
-/// element, the element comes to the same by itself.
+/// A walk depends on what is known of the job's work keys alone: where the same is known of those
+/// of a list, the list comes to the same value, and where the same is known of those in an element,
+/// the element comes to the same by itself.
 ///
 /// It does nothing: its contract is the law.
 pub fn steps_and_decisions_decide_a_walk()
@@ -77,25 +77,26 @@ pub fn steps_and_decisions_decide_a_walk()
         → walked_element facts element ≡ walked_element later element }
 {}
 
-/// What a walk shows as ready or busy is a step or a decision of its list, at any depth.
+/// What a walk shows as ready or busy is a work key of a step or a decision of its list, at any
+/// depth.
 ///
 /// It does nothing: its contract is the law.
 pub fn what_is_shown_is_a_step_or_decision()
     ensures ready { (facts : WorkKey → Fact) (elements : List Element) (from : List ℕ)
-        (key : WorkKey) → is_among (ready_of (value_of facts elements from)) key ≡ true
-        → is_among (ids_of (all_leaves elements)) key ≡ true }
+        (key : WorkKey) → has_key (ready_of (value_of facts elements from)) key ≡ true
+        → has_key (all_keys (all_leaves elements)) key ≡ true }
     ensures busy { (facts : WorkKey → Fact) (elements : List Element) (from : List ℕ)
-        (key : WorkKey) → is_among (busy_of (value_of facts elements from)) key ≡ true
-        → is_among (ids_of (all_leaves elements)) key ≡ true }
+        (key : WorkKey) → has_key (busy_of (value_of facts elements from)) key ≡ true
+        → has_key (all_keys (all_leaves elements)) key ≡ true }
 {}
 
-/// What is known at first decides a walk: where facts say of each step and decision of the job what
-/// is known of it at first, the walk comes to what the job comes to by these facts.
+/// What is known at first decides a walk: where facts say of each work key of the job what is known
+/// of it at first, the walk comes to what the job comes to by these facts.
 ///
 /// It does nothing: its contract is the law.
 pub fn what_is_known_at_first_decides_a_walk()
     ensures { (job : JobTree) (plan : Plan) (known : List Known) (facts : WorkKey → Fact)
-        → All (λ leaf. facts leaf.id ≡ fact_at_first plan known leaf.id leaf.runs)
-        (all_leaves job.elements)
+        → All (λ leaf. All (λ key. facts key ≡ fact_at_first plan known key leaf.runs)
+        (keys_of leaf)) (all_leaves job.elements)
         → value_in (resumed job plan known) ≡ value_of facts job.elements plan.from }
 {}

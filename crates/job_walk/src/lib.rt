@@ -1,4 +1,4 @@
-//! The walk of a job execution: what the job's lists come to, by what is known of each element.
+//! The walk of a job execution: what the job's lists come to, by what is known of each work key.
 #![tactic(auto)]
 
 mod continuation;
@@ -8,10 +8,12 @@ mod element_result;
 mod facts;
 mod first_facts;
 mod law;
+mod partitions;
 mod plan;
 mod runnable;
 mod splits;
 mod walk;
+mod work_key;
 
 pub use cursor::Cursor;
 pub use element_result::ElementResult;
@@ -22,5 +24,6 @@ pub use law::{
     what_is_known_at_first_decides_a_walk, what_is_shown_is_a_step_or_decision,
 };
 pub use plan::Plan;
-pub use runnable::{Runnable, find_runnable};
+pub use runnable::{Runnable, find_partitions, find_runnable};
 pub use walk::walk_value;
+pub use work_key::WorkKey;

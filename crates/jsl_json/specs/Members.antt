@@ -5,7 +5,7 @@ use Rattle.json_members.specs.Members.{has_only, is_text, text_at, optional_text
 use Rattle.jsl_model.specs.declared.element.Step.{Step as StepRecord}
 use Rattle.jsl_model.specs.declared.element.Transition.{Transition}
 use Rattle.json_members.specs.Chains.{◌>>=◌}
-use Rattle.jsl_json.specs.Tasks.{truth_or, count_or, task_at}
+use Rattle.jsl_json.specs.Tasks.{truth_or, count_or, partitions_at, task_at}
 use Rattle.jsl_json.specs.Transitions.{transitions_at}
 
 -- What an element is, what is inside it being values still
@@ -24,7 +24,7 @@ pub record OwnMembers : Type 0 where
 
 -- the members that a step lists
 abbrev pub step_names : List (List ℕ)
-step_names = codes "kind" ∷ codes "id" ∷ codes "next" ∷ codes "start-limit" ∷ codes "allow-start-if-complete" ∷ codes "batchlet" ∷ codes "chunk" ∷ codes "transitions" ∷ []
+step_names = codes "kind" ∷ codes "id" ∷ codes "next" ∷ codes "start-limit" ∷ codes "allow-start-if-complete" ∷ codes "partitions" ∷ codes "batchlet" ∷ codes "chunk" ∷ codes "transitions" ∷ []
 
 -- the members that a flow lists
 abbrev pub flow_names : List (List ℕ)
@@ -38,7 +38,8 @@ split_names = codes "kind" ∷ codes "id" ∷ codes "next" ∷ codes "flows" ∷
 abbrev pub decision_names : List (List ℕ)
 decision_names = codes "kind" ∷ codes "id" ∷ codes "ref" ∷ codes "transitions" ∷ []
 
--- the step that an object is; where it says nothing else it has no start limit, and is not started again once it is COMPLETED
+-- the step that an object is; where it says nothing else it has no start limit, is not started again once it is COMPLETED,
+-- and is not partitioned
 unfoldable pub step_of_data : Data → Option Kind
 step_of_data d =
     if has_only step_names d
@@ -47,8 +48,14 @@ step_of_data d =
       transitions ← transitions_at d
       start_limit ← count_or (codes "start-limit") 0 d
       again ← truth_or (codes "allow-start-if-complete") false d
+      partitions ← partitions_at d
       task ← task_at d
-      Some (step next transitions (record { start_limit = start_limit; allow_start_if_complete = again; task = task })))
+      Some (step next transitions (record {
+        start_limit = start_limit;
+        allow_start_if_complete = again;
+        partitions = partitions;
+        task = task;
+      })))
     else None
 
 -- the flow that an object is

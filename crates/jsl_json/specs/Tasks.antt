@@ -1,5 +1,5 @@
 -- What a step runs, and the numbers of a step. An object has the members that are listed, and no others.
-use Rattle.std.specs.Prelude.{ℕ, ◌^◌, List, [], ◌∷◌, Bool, nat_lt, nat_eq, codes, Option, Some, None, option_map, unwrap_or, if◌then◌else◌}
+use Rattle.std.specs.Prelude.{ℕ, ◌^◌, List, [], ◌∷◌, Bool, ◌&&◌, nat_lt, nat_le, nat_eq, codes, Option, Some, None, option_map, unwrap_or, if◌then◌else◌}
 use Rattle.serde_json.specs.Data.{Data}
 use Rattle.json_members.specs.Members.{has_only, text_at, optional_number, optional_truth, object_at, optional_object}
 use Rattle.jsl_model.specs.declared.element.Task.{Task}
@@ -31,6 +31,17 @@ abbrev pub item_count_at : Data → Option ℕ
 item_count_at d = do
   n ← count_or (codes "item-count") 10 d
   from_1 n
+
+-- a number of partitions, if it is one from 1 to 64
+abbrev pub within_64 : Option ℕ → Option (Option ℕ)
+within_64 None = Some None
+within_64 (Some n) = if nat_le 1 n && nat_le n 64 then Some (Some n) else None
+
+-- the number of partitions, which may be left out
+unfoldable pub partitions_at : Data → Option (Option ℕ)
+partitions_at d = do
+  found ← optional_number (codes "partitions") d
+  within_64 found
 
 -- Artifacts
 

@@ -21,8 +21,8 @@ use std::alloc::Global;
 /// catalogue    {"jobs": [job, ..]}
 /// job          id, restartable? (a truth value, true), elements: [element, ..]
 /// step         kind: "step", id, next?, start-limit? (0 to 4,294,967,295, 0),
-///              allow-start-if-complete? (a truth value, false), transitions?,
-///              just one of batchlet: artifact and chunk
+///              allow-start-if-complete? (a truth value, false), partitions? (1 to 64; left out:
+///              not partitioned), transitions?, just one of batchlet: artifact and chunk
 /// chunk        item-count? (1 to 4,294,967,295, 10), reader: artifact, processor?: artifact,
 ///              writer: artifact
 /// artifact     ref

@@ -5,7 +5,7 @@ ghost use Rattle.jsl_json.specs.Members.{IsInside, step_of_data, flow_of_data, s
 ghost use Rattle.jsl_json.specs.MemberViews.{kind_in, own_in, own_flow_in, own_job_in};
 
 use crate::member_fault::MemberFault;
-use crate::task::{count_or, task_at, truth_or};
+use crate::task::{count_or, partitions_at, task_at, truth_or};
 use crate::text::{optional_text_of, text_of};
 use crate::transition::transitions_at;
 use batch_ids::Listed;
@@ -100,6 +100,7 @@ fn step_of(alloc: Global, value: &Value) -> Result<StepParts, MemberFault>
             "next",
             "start-limit",
             "allow-start-if-complete",
+            "partitions",
             "batchlet",
             "chunk",
             "transitions",
@@ -113,12 +114,14 @@ fn step_of(alloc: Global, value: &Value) -> Result<StepParts, MemberFault>
     let allow_start_if_complete = truth_or(value, "allow-start-if-complete", false).ok_or(
         MemberFault::Wrong,
     )?;
+    let partitions = partitions_at(value).ok_or(MemberFault::Wrong)?;
     let task = task_at(alloc, value)?;
     Ok(StepParts {
         next,
         transitions,
         start_limit,
         allow_start_if_complete,
+        partitions,
         task,
     })
 }

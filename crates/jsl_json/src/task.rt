@@ -2,7 +2,7 @@ ghost use Rattle.std.specs.Prelude.{◌≡◌, Some, None, Err, option_map, IfOk
 ghost use Rattle.serde_json.specs.View.{view};
 ghost use Rattle.jsl_model.specs.declared.element.Task.TheVariants.{Batchlet};
 ghost use Rattle.jsl_model.specs.Parts.{task_of};
-ghost use Rattle.jsl_json.specs.Tasks.{truth_or, count_or, item_count_at, artifact_of, artifact_at, optional_artifact, chunk_of, task_at};
+ghost use Rattle.jsl_json.specs.Tasks.{truth_or, count_or, item_count_at, partitions_at, artifact_of, artifact_at, optional_artifact, chunk_of, task_at};
 
 use crate::member_fault::MemberFault;
 use crate::text::copy_of;
@@ -39,6 +39,23 @@ fn item_count_at(value: &Value) -> Option<u32>
         None
     } else {
         Some(item_count)
+    }
+}
+
+/// The number of partitions that a step has, from 1 to 64, where it names one.
+#[tactic(auto, unfolding(crate::specs::Tasks::partitions_at))]
+pub fn partitions_at(value: &Value) -> Option<Option<u32>>
+    ensures { result ≡ partitions_at (view value.now) }
+{
+    match optional_number(value, "partitions")? {
+        None => Some(None),
+        Some(partitions) => {
+            if 1 <= partitions && partitions <= 64 {
+                Some(Some(partitions as u32))
+            } else {
+                None
+            }
+        }
     }
 }
 

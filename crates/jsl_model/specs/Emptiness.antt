@@ -1,7 +1,9 @@
--- What has to be there and is empty: an id, an artifact name, a list of elements, the flows of a split, the items of a group.
+-- What has to be there and is empty: an id, an artifact name, a list of elements, the flows of a split, the items of a group,
+-- the partitions of a partitioned step.
 use Rattle.std.specs.Prelude.{ℕ, ◌||◌, Bool, false, Option, Some, None, List, nat_eq}
 use Rattle.jsl_model.specs.declared.element.Task.{Task}
 use Rattle.jsl_model.specs.declared.element.Task.TheVariants.{Batchlet, Chunk}
+use Rattle.jsl_model.specs.declared.element.Step.{Step as StepRecord}
 use Rattle.jsl_model.specs.declared.element.Element.{Element, Element-F, fold-Element}
 use Rattle.jsl_model.specs.declared.element.SplitFlow.{SplitFlow, SplitFlow-F, fold-SplitFlow}
 use Rattle.jsl_model.specs.declared.element.Body.{Body, Body-F, fold-Body}
@@ -17,15 +19,24 @@ is_empty_option (Some text) = is_empty text
 abbrev pub is_lacking : List Bool → Bool
 is_lacking tests = is_empty tests || any_true tests
 
+-- whether a number of partitions is there and 0
+abbrev pub has_no_partition : Option ℕ → Bool
+has_no_partition None = false
+has_no_partition (Some n) = nat_eq n 0
+
 -- whether a task has an empty artifact name, or groups of no item
 abbrev pub task_has_empty : Task → Bool
 task_has_empty (Batchlet artifact) = is_empty artifact
 task_has_empty (Chunk reader processor writer item_count) =
     is_empty reader || is_empty_option processor || is_empty writer || nat_eq item_count 0
 
+-- whether a step has no partition although it is partitioned, or its task has something empty
+abbrev pub step_has_empty : StepRecord → Bool
+step_has_empty step = has_no_partition step.partitions || task_has_empty step.task
+
 -- whether something is empty in a body, which is known of what is inside it
 abbrev pub body_empty : Body-F Bool Bool Bool → Bool
-body_empty (Step step) = task_has_empty step.task
+body_empty (Step step) = step_has_empty step
 body_empty (Flow elements) = is_lacking elements
 body_empty (Split flows) = is_lacking flows
 body_empty (Decision artifact) = is_empty artifact

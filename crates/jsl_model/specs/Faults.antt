@@ -1,6 +1,6 @@
 -- The faults of a job, and their names.
 use Rattle.std.specs.Prelude.{ℕ, ◌≡◌, ◌<◌, ◌||◌, All, Bool, true, false, Option, Some, None, List, length, map, nat_lt, codes, if◌then◌else◌}
-use Rattle.std.specs.List.{filter_map}
+use Rattle.std.specs.List.{filter_map, list_any}
 use Rattle.jsl_model.specs.declared.job.JobFault.{JobFault}
 use Rattle.jsl_model.specs.declared.job.JobFault.TheVariants.{TextTooLong, Empty, TooDeep, TooMany, DuplicateId, NoSuchTarget, Loop, RestartNotJobLevel, OutOfMemory}
 use Rattle.jsl_model.specs.declared.element.Then.{Then}
@@ -61,9 +61,18 @@ has_empty job = is_empty job.id || is_lacking (map element_has_empty job.element
 abbrev pub is_too_deep : JobTree → Bool
 is_too_deep job = nat_lt 16 (depth job.elements)
 
--- whether there are more than 1,000 elements, flows of splits included
+-- whether these are more than 64 partitions
+abbrev pub are_many_partitions : Option ℕ → Bool
+are_many_partitions None = false
+are_many_partitions (Some n) = nat_lt 64 n
+
+-- whether one of these is a step of more than 64 partitions
+abbrev pub has_many_partitions : List Node → Bool
+has_many_partitions all = list_any (λ (m : Node). are_many_partitions m.partitions) all
+
+-- whether there are more than 1,000 elements, flows of splits included, or more than 64 partitions of a step
 abbrev pub has_too_many : JobTree → Bool
-has_too_many job = nat_lt 1000 (length (nodes job.elements))
+has_too_many job = nat_lt 1000 (length (nodes job.elements)) || has_many_partitions (nodes job.elements)
 
 -- the ids of these
 abbrev pub node_ids : List Node → List (List ℕ)

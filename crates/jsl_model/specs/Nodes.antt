@@ -10,6 +10,17 @@ abbrev pub artifacts_in : Option (Bor Body) → List (List ℕ)
 artifacts_in None = []
 artifacts_in (Some body) = (in_body body.now).artifacts
 
--- a node, as its id, its transition elements and its artifacts
+-- the partitions of a body, where it is that of a partitioned step
+abbrev pub partitions_in : Option (Bor Body) → Option ℕ
+partitions_in None = None
+partitions_in (Some body) = (in_body body.now).partitions
+
+-- a node, as its id, its transition elements, its artifacts and its partitions
 abbrev pub node : BorrowedNode → Node
-node borrowed = record { id = borrowed.id.now; transitions = borrowed.transitions.now; artifacts = artifacts_in borrowed.body }
+node borrowed =
+    record {
+      id = borrowed.id.now;
+      transitions = borrowed.transitions.now;
+      artifacts = artifacts_in borrowed.body;
+      partitions = partitions_in borrowed.body;
+    }

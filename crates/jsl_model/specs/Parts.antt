@@ -47,7 +47,13 @@ task_of (ChunkParts reader processor writer item_count) =
 
 -- a step
 abbrev pub step_of : StepParts → StepRecord
-step_of parts = record { start_limit = parts.start_limit; allow_start_if_complete = parts.allow_start_if_complete; task = task_of parts.task }
+step_of parts =
+    record {
+      start_limit = parts.start_limit;
+      allow_start_if_complete = parts.allow_start_if_complete;
+      partitions = parts.partitions;
+      task = task_of parts.task;
+    }
 
 -- what an element has beside its id
 pub record Content : Type 0 where

@@ -1,5 +1,5 @@
 -- The tree of a job's elements: what stands in it at all depths, and how deep it is.
-use Rattle.std.specs.Prelude.{ℕ, ◌+◌, Bool, true, false, List, [], ◌∷◌, ◌++◌, map, nat_lt, if◌then◌else◌}
+use Rattle.std.specs.Prelude.{ℕ, ◌+◌, Bool, true, false, Option, None, List, [], ◌∷◌, ◌++◌, map, nat_lt, if◌then◌else◌}
 use Rattle.std.specs.List.{list_any, flat_map}
 use Rattle.std.specs.Option.{option_to_list}
 use Rattle.jsl_model.specs.declared.element.Task.{Task}
@@ -33,10 +33,13 @@ pub record Node : Type 0 where
   pub transitions : List Transition
   -- the artifacts that it names itself, in written order
   pub artifacts : List (List ℕ)
+  -- in how many partitions it runs, where it is a partitioned step
+  pub partitions : Option ℕ
 
--- a body: the artifacts that it names itself, and all that is inside it
+-- a body: the artifacts that it names itself, its partitions, and all that is inside it
 pub record BodyNodes : Type 0 where
   pub artifacts : List (List ℕ)
+  pub partitions : Option ℕ
   pub nodes : List Node
 
 -- the artifacts of a batchlet or a chunk
@@ -45,23 +48,28 @@ task_artifacts (Batchlet artifact) = artifact ∷ []
 task_artifacts (Chunk reader processor writer item_count) = reader ∷ (option_to_list processor ++ writer ∷ [])
 
 abbrev pub body_nodes : Body-F BodyNodes (List Node) (List Node) → BodyNodes
-body_nodes (Step step) = record { artifacts = task_artifacts step.task; nodes = [] }
-body_nodes (Flow elements) = record { artifacts = []; nodes = joined elements }
-body_nodes (Split flows) = record { artifacts = []; nodes = joined flows }
-body_nodes (Decision artifact) = record { artifacts = artifact ∷ []; nodes = [] }
+body_nodes (Step step) = record { artifacts = task_artifacts step.task; partitions = step.partitions; nodes = [] }
+body_nodes (Flow elements) = record { artifacts = []; partitions = None; nodes = joined elements }
+body_nodes (Split flows) = record { artifacts = []; partitions = None; nodes = joined flows }
+body_nodes (Decision artifact) = record { artifacts = artifact ∷ []; partitions = None; nodes = [] }
 
 abbrev pub element_nodes : Element-F BodyNodes (List Node) (List Node) → List Node
 element_nodes element =
-    record { id = element.id; transitions = element.transitions; artifacts = element.body.artifacts } ∷ element.body.nodes
+    record {
+      id = element.id;
+      transitions = element.transitions;
+      artifacts = element.body.artifacts;
+      partitions = element.body.partitions;
+    } ∷ element.body.nodes
 
 abbrev pub flow_nodes : SplitFlow-F BodyNodes (List Node) (List Node) → List Node
-flow_nodes flow = record { id = flow.id; transitions = []; artifacts = [] } ∷ joined flow.elements
+flow_nodes flow = record { id = flow.id; transitions = []; artifacts = []; partitions = None } ∷ joined flow.elements
 
 -- an element, and then what is inside it
 abbrev pub nodes_of : Element → List Node
 nodes_of = fold-Element BodyNodes (List Node) (List Node) body_nodes element_nodes flow_nodes
 
--- the artifacts that a body names itself, and what is inside it
+-- the artifacts that a body names itself, its partitions, and what is inside it
 abbrev pub in_body : Body → BodyNodes
 in_body = fold-Body BodyNodes (List Node) (List Node) body_nodes element_nodes flow_nodes
 

@@ -144,6 +144,7 @@ fn build_step(alloc: Global, parts: &StepParts) -> Result<Step, JobFault>
     Ok(Step {
         start_limit: parts.start_limit,
         allow_start_if_complete: parts.allow_start_if_complete,
+        partitions: parts.partitions,
         task,
     })
 }

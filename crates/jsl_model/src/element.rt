@@ -69,6 +69,9 @@ pub struct Step {
     pub start_limit: u32,
     /// Whether a restart runs the step again although it is COMPLETED.
     pub allow_start_if_complete: bool,
+    /// In how many partitions it runs, from 1 to 64 (Jakarta Batch 2.1, "Step Partitioning"); one that
+    /// names none is not partitioned.
+    pub partitions: Option<u32>,
     /// What it runs.
     pub task: Task,
 }
@@ -212,6 +215,7 @@ impl Step {
         Ok(Step {
             start_limit: self.start_limit,
             allow_start_if_complete: self.allow_start_if_complete,
+            partitions: self.partitions,
             task,
         })
     }

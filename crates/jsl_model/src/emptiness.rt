@@ -1,7 +1,7 @@
 ghost use Rattle.std.specs.Prelude.{◌≡◌, map};
-ghost use Rattle.jsl_model.specs.Emptiness.{is_empty_option, is_lacking, task_has_empty, body_has_empty, element_has_empty, flow_has_empty};
+ghost use Rattle.jsl_model.specs.Emptiness.{is_empty_option, is_lacking, task_has_empty, step_has_empty, body_has_empty, element_has_empty, flow_has_empty};
 
-use crate::element::{Body, Element, SplitFlow, Task};
+use crate::element::{Body, Element, SplitFlow, Step, Task};
 use batch_ids::T256;
 
 fn is_empty_name(name: &Option<T256>) -> bool
@@ -32,6 +32,12 @@ fn has_empty_task(task: &Task) -> bool
     }
 }
 
+fn has_empty_step(step: &Step) -> bool
+    ensures { result ≡ step_has_empty step.now }
+{
+    step.partitions == Some(0) || has_empty_task(&step.task)
+}
+
 #[cycle(emptiness)]
 fn is_empty_element(element: &Element) -> bool
     ensures { result ≡ element_has_empty element.now }
@@ -44,7 +50,7 @@ fn is_empty_body(body: &Body) -> bool
     ensures { result ≡ body_has_empty body.now }
 {
     match body {
-        Body::Step(step) => has_empty_task(&step.task),
+        Body::Step(step) => has_empty_step(step),
         Body::Flow(elements) => is_list_lacking(elements.as_slice()),
         Body::Split(flows) => is_split_lacking(flows.as_slice()),
         Body::Decision { artifact } => artifact.as_str().is_empty(),

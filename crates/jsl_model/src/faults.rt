@@ -1,11 +1,11 @@
-ghost use Rattle.std.specs.Prelude.{◌≡◌, Bool, All, None, map, IfOk};
-ghost use Rattle.jsl_model.specs.Faults.{tree_fault, restarts};
+ghost use Rattle.std.specs.Prelude.{◌≡◌, ◌||◌, Bool, All, None, length, map, nat_lt, IfOk};
+ghost use Rattle.jsl_model.specs.Faults.{tree_fault, restarts, are_many_partitions, has_many_partitions};
 ghost use Rattle.jsl_model.specs.Nodes.{node};
 ghost use Rattle.jsl_model.specs.Names.{are_among};
 ghost use Rattle.jsl_model.specs.Targets.{outline, ids, lists_of, HasRanks};
 
 use crate::depth::is_deeper;
-use crate::element::Element;
+use crate::element::{Body, Element};
 use crate::emptiness::is_list_lacking;
 use crate::job::JobFault;
 use crate::lists::lists_in;
@@ -18,6 +18,9 @@ use std::alloc::Global;
 
 /// How deep an element may stand.
 const MOST_DEEP: usize = 16;
+
+/// In how many partitions a step runs at most.
+const MOST_PARTITIONS: u32 = 64;
 
 /// How many elements a job has at most, flows of splits included.
 const MOST_ELEMENTS: usize = 1000;
@@ -39,7 +42,7 @@ pub fn fault_in(
         return Ok(Some(JobFault::TooDeep));
     }
     let nodes = nodes_in(alloc, elements)?;
-    if nodes.len() > MOST_ELEMENTS {
+    if are_too_many(nodes.as_slice()) {
         return Ok(Some(JobFault::TooMany));
     }
     let ids = ids_of(alloc, nodes.as_slice())?;
@@ -57,6 +60,39 @@ pub fn fault_in(
         return Ok(Some(JobFault::RestartNotJobLevel));
     }
     Ok(None)
+}
+
+/// Whether there are more than 1,000 elements, or more than 64 partitions of a step.
+fn are_too_many(nodes: &[Node<'_>]) -> bool
+    ensures { result ≡ (nat_lt 1000 (length nodes.now) || has_many_partitions (map node nodes.now)) }
+{
+    nodes.len() > MOST_ELEMENTS || have_many_partitions(nodes)
+}
+
+/// Whether it is a step of more than 64 partitions.
+fn has_many_partitions(one: &Node<'_>) -> bool
+    ensures { result ≡ are_many_partitions (node one.now).partitions }
+{
+    match one.body {
+        Some(Body::Step(step)) => {
+            match step.partitions {
+                Some(partitions) => partitions > MOST_PARTITIONS,
+                None => false,
+            }
+        }
+        _ => false,
+    }
+}
+
+fn have_many_partitions(nodes: &[Node<'_>]) -> bool
+    ensures { result ≡ has_many_partitions (map node nodes.now) }
+{
+    for one in nodes {
+        if has_many_partitions(one) {
+            return true;
+        }
+    }
+    false
 }
 
 /// Whether each restart begins at one of these elements.

@@ -21,13 +21,14 @@ pub enum JobFault {
     #[error("{}", self.name())]
     TextTooLong,
     /// An id or an artifact name is empty, a list has no element, a split no flow, or an item-count
-    /// is 0.
+    /// or a number of partitions is 0.
     #[error("{}", self.name())]
     Empty,
     /// An element stands deeper than 16; elements of the job's own list stand at 1.
     #[error("{}", self.name())]
     TooDeep,
-    /// A job has more than 1,000 elements, or a catalogue holds 256 jobs already.
+    /// A job has more than 1,000 elements, or a step more than 64 partitions, or a catalogue holds 256
+    /// jobs already.
     #[error("{}", self.name())]
     TooMany,
     /// Two elements of a job have one id, or a catalogue holds a job of this id already.
@@ -126,10 +127,11 @@ impl Job {
     /// - `TextTooLong`: a text (an id, a `next`, an artifact's name, an `on`, a `to`, an exit status,
     ///   a `restart`) has more than 256 bytes;
     /// - `Empty`: an id or an artifact's name is empty, a list has no element, a split has no flow, or
-    ///   an item-count is 0;
+    ///   an item-count or a number of partitions is 0;
     /// - `TooDeep`: an element stands deeper than 16 (the job's own elements stand at 1, those inside a
     ///   flow one deeper than it, the flows of a split one deeper than it and their elements two);
-    /// - `TooMany`: there are more than 1,000 elements, flows of splits included;
+    /// - `TooMany`: there are more than 1,000 elements, flows of splits included, or a step has more than
+    ///   64 partitions;
     /// - `DuplicateId`: two of them have one id;
     /// - `NoSuchTarget`: a `next` or a `to` names no element of its own list;
     /// - `Loop`: in one list, the targets of `next` and `to` form a cycle;

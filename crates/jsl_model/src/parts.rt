@@ -76,6 +76,8 @@ pub struct StepParts {
     pub start_limit: u32,
     /// Whether a restart runs the step again although it is COMPLETED.
     pub allow_start_if_complete: bool,
+    /// In how many partitions it runs, from 1 to 64; one that names none is not partitioned.
+    pub partitions: Option<u32>,
     /// What it runs.
     pub task: TaskParts,
 }

@@ -3,8 +3,9 @@ use jsl_model::{BodyParts, ElementParts, Job, JobFault, JobParts, StepParts, Tas
 use std::alloc::{AllocError, Global};
 use std::test::Fail;
 
-/// A job of one chunk with this item count, which no catalogue in JSON gives where it is 0.
-fn chunk(alloc: Global, item_count: u32) -> Result<JobParts, AllocError> {
+/// A job of one chunk with this item count and so many partitions: no catalogue in JSON gives an item
+/// count of 0, nor a step of 0 or more than 64 partitions.
+fn chunk(alloc: Global, item_count: u32, partitions: Option<u32>) -> Result<JobParts, AllocError> {
     let task = TaskParts::Chunk {
         reader: String::from_str(alloc, "r")?,
         processor: None,
@@ -16,6 +17,7 @@ fn chunk(alloc: Global, item_count: u32) -> Result<JobParts, AllocError> {
         transitions: Listed::new(alloc),
         start_limit: 0,
         allow_start_if_complete: false,
+        partitions,
         task,
     };
     let id = String::from_str(alloc, "j")?;
@@ -35,9 +37,24 @@ fn chunk(alloc: Global, item_count: u32) -> Result<JobParts, AllocError> {
 fn a_chunk_has_an_item_count_from_1(rt: HostRuntime) -> Result<(), Fail> {
     let alloc = rt.alloc();
     assert_eq!(rt;
-        Job::check(alloc, chunk(alloc, 0)?).err(),
+        Job::check(alloc, chunk(alloc, 0, None)?).err(),
         Some(JobFault::Empty)
     );
-    assert!(rt; Job::check(alloc, chunk(alloc, 1)?).is_ok());
+    assert!(rt; Job::check(alloc, chunk(alloc, 1, None)?).is_ok());
+    Ok(())
+}
+
+#[test]
+fn a_step_has_1_to_64_partitions(rt: HostRuntime) -> Result<(), Fail> {
+    let alloc = rt.alloc();
+    for (partitions, wanted) in [
+        (0, Some(JobFault::Empty)),
+        (1, None),
+        (64, None),
+        (65, Some(JobFault::TooMany)),
+    ] {
+        let parts = chunk(alloc, 1, Some(partitions))?;
+        assert_eq!(rt; Job::check(alloc, parts).err(), wanted, "{partitions}");
+    }
     Ok(())
 }

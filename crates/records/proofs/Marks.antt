@@ -1,10 +1,11 @@
 -- The checkpoint of each step, where the checkpoints stand in a list and one is set or cleared.
 use Rattle.std.proofs.Common.{◌≡◌, ◌≢◌, ℕ, zero, suc, ◌+◌, ◌==◌, ◌&&◌, ◌<◌, Bool, true, false, cond, Option, None, Some, List, [], ◌∷◌, ◌++◌, length, take, drop, set, get_or, find, refl, sym, ◌∙◌, ap, arith, add-one}
 use Rattle.std.specs.Option.{option_map}
-use Rattle.std.specs.Cmp.Lexicographic.{bytes_decides}
-use Rattle.std.specs.Str.{bytes_eq}
 use Rattle.std.proofs.lemmas.Bool.{eqb-true, eq-eqb, and_parts}
 use Rattle.std.proofs.lemmas.List.{take_more, drop_more, append_assoc}
+use Rattle.job_walk.specs.Keys.{is_same_key}
+use Rattle.job_walk.specs.declared.work_key.WorkKey.{WorkKey}
+use Rattle.job_walk.proofs.SameKeys.{same-one, same-self}
 use Rattle.batch_history.specs.declared.rows.CheckpointRow.{CheckpointRow}
 use Rattle.batch_history.specs.Checkpoints.{InstanceStep, is_same_step}
 use Rattle.records.specs.Placed.{marked, with_mark, without_mark}
@@ -45,16 +46,16 @@ behind_at p mark rows i d lt is so_far =
 
 same-place : (p q : InstanceStep) → is_same_step p (Some q) ≡ true → q ≡ p
 same-place p q here =
-    let parts : ((q.instance == p.instance) ≡ true) × (bytes_eq q.step p.step ≡ true) = and_parts _ _ here in
+    let parts : ((q.instance == p.instance) ≡ true) × (is_same_key q.step p.step ≡ true) = and_parts _ _ here in
     let one : q.instance ≡ p.instance = eqb-true q.instance p.instance parts.0 in
-    let other : q.step ≡ p.step = (bytes_decides q.step p.step).0 parts.1 in
-    let make : ℕ → List ℕ → InstanceStep = λ i s. record { instance = i; step = s } in
+    let other : q.step ≡ p.step = same-one q.step p.step parts.1 in
+    let make : ℕ → WorkKey → InstanceStep = λ i s. record { instance = i; step = s } in
     ap (λ i. make i q.step) one ∙ ap (make p.instance) other
 
 own-place : (p : InstanceStep) → is_same_step p (Some p) ≡ true
 own-place p =
-    ap (λ b. b && bytes_eq p.step p.step) (eq-eqb p.instance p.instance refl)
-    ∙ (bytes_decides p.step p.step).1 refl
+    ap (λ b. b && is_same_key p.step p.step) (eq-eqb p.instance p.instance refl)
+    ∙ same-self p.step p.step refl
 
 other-place : (p q : InstanceStep) → is_same_step q (Some p) ≡ false → q ≢ p
 other-place p q off same =

@@ -11,7 +11,7 @@ use Rattle.batch_history.specs.declared.rows.CheckpointRow.{CheckpointRow}
 use Rattle.batch_history.specs.Checkpoints.{InstanceStep}
 use Rattle.batch_history.specs.Replies.{is_execution}
 use Rattle.batch_history.specs.Works.{is_work}
-use Rattle.std.specs.Str.{bytes_eq}
+use Rattle.job_walk.specs.Keys.{is_same_key}
 
 -- the job instances, the job executions and the work items by their numbers, and the checkpoints by job instance and step
 -- (`mark_at`), in any order
@@ -37,7 +37,7 @@ abbrev pub step_of : CheckpointRow → InstanceStep
 step_of row = record { instance = row.instance; step = row.step }
 
 abbrev pub is_place : InstanceStep → CheckpointRow → Bool
-is_place p row = row.instance == p.instance && bytes_eq row.step p.step
+is_place p row = row.instance == p.instance && is_same_key row.step p.step
 
 -- the checkpoint of a step of a job instance
 abbrev pub mark_at : List CheckpointRow → InstanceStep → Option (List ℕ)
@@ -93,10 +93,11 @@ pub record KeepsWork (before after : WorkRow) : Type 0 where
   pub work : after.work ≡ before.work
   pub execution : after.execution ≡ before.execution
   pub element : after.element ≡ before.element
+  pub partition : after.partition ≡ before.partition
   pub kind : after.kind ≡ before.kind
   pub claimer : after.claimer ≡ before.claimer
   pub start : after.start ≡ before.start
-  pub over : is_over before.state ≡ true → (after.state ≡ before.state) × (after.end ≡ before.end)
+  pub over : is_over before.state ≡ true → (after.state ≡ before.state) × (after.end ≡ before.end) × (after.ended ≡ before.ended)
 
 -- a row may stand in place of that of job execution x, which is there
 abbrev pub MayReplaceExecution : List ExecutionRow → ℕ → ExecutionRow → Type 0

@@ -10,16 +10,17 @@ ghost use Rattle.records.specs.Left.{job_names, names_left, instances_left, exec
 
 use crate::readers::{ExecutionsOf, InstancesOf, Names, WorksOf};
 use batch_history::{CheckpointRow, ExecutionRow, JobInstance, WorkRow};
-use batch_ids::{ExecutionId, InstanceId, OutOfMemory, T256, Text, WorkId};
+use batch_ids::{ExecutionId, InstanceId, OutOfMemory, Text, WorkId};
+use job_walk::WorkKey;
 use std::alloc::Global;
 use std::marker::Model;
 
 /// The rows of a job repository (Jakarta Batch 2.1, "JobRepository"): a row for each job instance, job
-/// execution and work item, by its number, and one for each step of a job instance that has a
-/// checkpoint.
+/// execution and work item, by its number, and one for each step of a job instance, or partition of
+/// it, that has a checkpoint.
 ///
 /// Job instances, job executions and work items are each numbered from 1 upwards, without gaps, and a
-/// step of a job instance has one checkpoint at most.
+/// step of a job instance, or a partition of it, has one checkpoint at most.
 #[derive(Debug, Drop)]
 pub struct Records {
     instances: Vec<JobInstance>,
@@ -76,9 +77,9 @@ impl Records {
         at_number(self.works.as_slice(), w.value())
     }
 
-    /// The checkpoint of a step of a job instance, if there is one, in time proportional to the number of
-    /// checkpoints.
-    pub fn checkpoint(&self, i: InstanceId, step: &T256) -> Option<&Text<65536>>
+    /// The checkpoint of a step of a job instance, or of a partition of it, if there is one, in time
+    /// proportional to the number of checkpoints.
+    pub fn checkpoint(&self, i: InstanceId, step: &WorkKey) -> Option<&Text<65536>>
         ensures { option_copied result ≡ mark_at self.now.checkpoints record {
           instance = i;
           step = step.now;
@@ -240,7 +241,8 @@ impl Records {
         self.works[(w.value() - 1) as usize] = row;
     }
 
-    /// Sets the checkpoint of a step of a job instance, or clears it where there is no mark.
+    /// Sets the checkpoint of a step of a job instance, or of a partition of it, or clears it where
+    /// there is no mark.
     ///
     /// # Errors
     ///
@@ -249,7 +251,7 @@ impl Records {
     pub fn set_checkpoint(
         &mut self,
         i: InstanceId,
-        step: T256,
+        step: WorkKey,
         mark: Option<Text<65536>>,
     ) -> Result<(), OutOfMemory>
         ensures set { OnOk result (SetsCheckpoint self.old self.new
@@ -284,7 +286,7 @@ impl Records {
         Ok(())
     }
 
-    fn clear_checkpoint(&mut self, i: InstanceId, step: &T256)
+    fn clear_checkpoint(&mut self, i: InstanceId, step: &WorkKey)
         ensures { self.new ≡ record self.old {
           checkpoints = without_mark record {
             instance = i;
@@ -295,7 +297,7 @@ impl Records {
         self.checkpoints.retain(|row| is_elsewhere(i, step, row));
     }
 
-    fn checkpoint_place(&self, i: InstanceId, step: &T256) -> Option<usize>
+    fn checkpoint_place(&self, i: InstanceId, step: &WorkKey) -> Option<usize>
         ensures held { IfSome result (λ k. (k < length self.now.checkpoints)
             × ((mark : List ℕ) → with_mark record {
               instance = i;
@@ -330,14 +332,14 @@ fn at_number<R>(rows: &[R], number: u64) -> Option<&R>
 }
 
 /// Whether a row is that of this step of this job instance.
-fn is_place(i: InstanceId, step: &T256, row: &CheckpointRow) -> bool
+fn is_place(i: InstanceId, step: &WorkKey, row: &CheckpointRow) -> bool
     ensures { result ≡ is_place record { instance = i; step = step.now } row.now }
 {
-    row.instance == i && row.step.as_str() == step.as_str()
+    row.instance == i && row.step == *step
 }
 
 /// Whether a row is that of another step or job instance.
-fn is_elsewhere(i: InstanceId, step: &T256, row: &CheckpointRow) -> bool
+fn is_elsewhere(i: InstanceId, step: &WorkKey, row: &CheckpointRow) -> bool
     ensures { result ≡ is_elsewhere record { instance = i; step = step.now } row.now }
 {
     !is_place(i, step, row)

@@ -13,6 +13,7 @@ use Rattle.job_walk.specs.declared.facts.Fact.{Fact}
 use Rattle.job_walk.specs.declared.facts.Value.{Value}
 use Rattle.job_walk.specs.declared.facts.Value.TheVariants.{Open, Done, Ended}
 use Rattle.job_walk.specs.declared.plan.Plan.{Plan}
+use Rattle.job_walk.specs.declared.work_key.WorkKey.{WorkKey}
 use Rattle.batch_history.specs.Restarts.{plan_by, restart_point}
 use Rattle.batch_history.specs.Walks.{planned_facts, walk_of}
 use Rattle.batch_history.specs.declared.rows.WorkRow.{WorkRow}
@@ -28,7 +29,7 @@ first_begins first rest =
     let here : bytes_eq first.id first.id ≡ true = (bytes_decides first.id first.id).1 refl in
     ap (λ b. b || has_element rest first.id) here
 
-point-begins : (job : JobTree) → IsChecked job → (plan : Plan) (worked : List ℕ → Fact) (taken : Bool) (value : Value) → walk_of plan worked (Some job) ≡ value
+point-begins : (job : JobTree) → IsChecked job → (plan : Plan) (worked : WorkKey → Fact) (taken : Bool) (value : Value) → walk_of plan worked (Some job) ≡ value
     → has_element job.elements plan.from ≡ true → has_element job.elements (restart_point taken value plan.from) ≡ true
 point-begins job checked plan worked true (Ended status exit (Some point)) is begins =
     checked-point job checked (planned_facts plan (all_leaves job.elements) worked) plan.from status exit point is
@@ -38,12 +39,12 @@ point-begins job checked plan worked true (Done exit) is begins = begins
 point-begins job checked plan worked false value is begins = begins
 
 -- so does a restart
-pub restart_begins : (job : JobTree) → IsChecked job → (plan : Plan) (worked : List ℕ → Fact) (taken : Bool) → has_element job.elements plan.from ≡ true
+pub restart_begins : (job : JobTree) → IsChecked job → (plan : Plan) (worked : WorkKey → Fact) (taken : Bool) → has_element job.elements plan.from ≡ true
     → has_element job.elements (restart_point taken (walk_of plan worked (Some job)) plan.from) ≡ true
 restart_begins job checked plan worked taken begins = point-begins job checked plan worked taken (walk_of plan worked (Some job)) refl begins
 
 -- the plan of a restart begins in the job too
-pub begins_after : (job : JobTree) → IsChecked job → (plan : Plan) (named : Option JobTree) (worked : List ℕ → Fact) (taken : Bool) (value : Value) (from : List ℕ) (works : List WorkRow) (new : Plan)
+pub begins_after : (job : JobTree) → IsChecked job → (plan : Plan) (named : Option JobTree) (worked : WorkKey → Fact) (taken : Bool) (value : Value) (from : List ℕ) (works : List WorkRow) (new : Plan)
     → named ≡ Some job → begins_in_job plan named ≡ true → value ≡ walk_of plan worked named → from ≡ restart_point taken value plan.from → new ≡ plan_by from works (Some job)
     → begins_in_job new named ≡ true
 begins_after job checked plan named worked taken value from works new is placed walked point made =

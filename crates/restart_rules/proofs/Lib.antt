@@ -1,3 +1,4 @@
 pub mod Beginning
 pub mod Deciding
+pub mod Keeping
 pub mod Reading

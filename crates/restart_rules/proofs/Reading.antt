@@ -4,14 +4,15 @@ use Rattle.std.specs.List.{list_any}
 use Rattle.job_walk.specs.declared.facts.Known.{Known}
 use Rattle.batch_history.specs.Replies.{is_later_than}
 use Rattle.batch_history.specs.Walks.{fact_of_state}
+use Rattle.batch_history.specs.Works.{work_key}
 use Rattle.batch_history.specs.declared.rows.ExecutionRow.{ExecutionRow}
 use Rattle.batch_history.specs.declared.rows.WorkRow.{WorkRow}
 use Rattle.batch_history.proofs.Knowing.{known_elements}
 use Rattle.records.specs.Left.{executions_of, works_of}
 
--- what a work item tells of its element
+-- what a work item tells of its work key
 abbrev pub known_by : WorkRow → Known
-known_by row = record { id = row.element; fact = fact_of_state row.state }
+known_by row = record { key = work_key row; fact = fact_of_state row.state }
 
 pub known_read : (x : ℕ) (works : List WorkRow) → map known_by (works_of x works) ≡ known_elements x works
 known_read x [] = refl

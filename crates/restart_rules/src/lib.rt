@@ -2,6 +2,7 @@
 //! restarted, and what the next job execution goes by.
 #![tactic(auto)]
 
+mod partitions;
 mod plan;
 mod restart;
 mod steps;

@@ -2,18 +2,19 @@
 ghost use Rattle.std.specs.Prelude.{◌≡◌, List, true, Some, IfOk};
 ghost use Rattle.batch_history.proofs.Knowing.{known_elements};
 ghost use Rattle.batch_history.specs.Walks.{fact_of_state, job_named, walk_value};
+ghost use Rattle.batch_history.specs.Works.{work_key};
 ghost use Rattle.batch_history.specs.declared.rows.WorkRow.{WorkRow as Work};
 ghost use Rattle.job_walk.specs.Cursors.{begins_in};
 ghost use Rattle.restart_rules.specs.Placed.{is_placed};
 
-use batch_history::{ExecutionRow, WorkState};
+use batch_history::{ExecutionRow, WorkRow, WorkState};
 use batch_ids::{ExecutionId, OutOfMemory};
-use job_walk::{Cursor, Fact, Known, Value};
+use job_walk::{Cursor, Fact, Known, Value, WorkKey};
 use jsl_model::{Catalogue, Job};
 use records::Records;
 use std::alloc::Global;
 
-/// What a work item that is so far tells of its element.
+/// What a work item that is so far tells of its work key.
 ///
 /// # Errors
 ///
@@ -27,7 +28,17 @@ pub fn state_fact(state: &WorkState) -> Result<Fact, OutOfMemory>
     }
 }
 
-/// What the work items of a job execution tell of its elements.
+/// What names a work item inside its job execution.
+fn work_key(row: &WorkRow) -> Result<WorkKey, OutOfMemory>
+    ensures { IfOk result (λ key. key ≡ work_key row.now) }
+{
+    Ok(WorkKey {
+        element: row.element.try_clone()?,
+        partition: row.partition.unwrap_or(0),
+    })
+}
+
+/// What the work items of a job execution tell of its work keys.
 ///
 /// # Errors
 ///
@@ -39,7 +50,7 @@ pub fn known_of(alloc: Global, records: &Records, x: ExecutionId) -> Result<Vec<
     let mut known = Vec::new(alloc);
     for row in records.works_of(x) {
         known.push(Known {
-            id: row.element.try_clone()?,
+            key: work_key(row)?,
             fact: state_fact(&row.state)?,
         })?;
     }
@@ -58,7 +69,7 @@ pub(crate) fn job_of<'a>(catalogue: &'a Catalogue, row: &ExecutionRow) -> &'a Jo
     }
 }
 
-/// What the walk of a job execution comes to, where its work items tell this of its elements.
+/// What the walk of a job execution comes to, where its work items tell this of its work keys.
 ///
 /// # Errors
 ///

@@ -1,5 +1,5 @@
 -- No reply, answer or fault has a number that is a float.
-use Rattle.std.proofs.Common.{◌≡◌, ℕ, List, [], ◌∷◌, false, map, filter, Less, Equal, Greater, nat_cmp, Option, Some, None, Result, Ok, Err, refl}
+use Rattle.std.proofs.Common.{◌≡◌, ℕ, codes, List, [], ◌∷◌, false, map, filter, Less, Equal, Greater, nat_cmp, Option, Some, None, Result, Ok, Err, refl}
 use Rattle.std.proofs.lemmas.Bool.{or_parts}
 use Rattle.std.specs.Cmp.Lexicographic.{slice_cmp}
 use Rattle.std.specs.Ordering.{match_ordering}
@@ -23,7 +23,7 @@ use Rattle.script_text.specs.Written.{count, with_members, is_shown, count_named
 use Rattle.script_text.specs.Parameters.{text_named, parameters_data}
 use Rattle.script_text.specs.Metrics.{metric_counts}
 use Rattle.script_text.specs.Faults.{fault_data}
-use Rattle.script_text.specs.Replies.{item_data, reply_data}
+use Rattle.script_text.specs.Replies.{item_data, task_members, with_partition, reply_data}
 use Rattle.script_text.specs.Answers.{instance_data, execution_data, step_data, status_counts, answer_data}
 
 text_has_none : (text : Option (List ℕ)) → has_float (text_or_null text) ≡ false
@@ -33,11 +33,6 @@ text_has_none (Some text) = refl
 count_has_none : (n : Option ℕ) → has_float (count_or_null n) ≡ false
 count_has_none None = refl
 count_has_none (Some n) = refl
-
-item_has_none : (task : WorkTask) (item : WorkItem) → has_float (item_data task item) ≡ false
-item_has_none (Batchlet artifact) item = refl
-item_has_none (Decision artifact) item = refl
-item_has_none (Chunk reader processor writer item_count checkpoint) item = simp text_has_none
 
 -- what is written of each of a list has none
 list_has_none : {A : Type 0} (written : A → Data) → ((a : A) → has_float (written a) ≡ false) → (as_given : List A) → items_have_float (items_of (map written as_given)) ≡ false
@@ -54,6 +49,18 @@ put_has_none k d (member l e ms) none others =
       | Equal ↦ rw none apart.1
       | Greater ↦ rw apart.0 (put_has_none k d ms none apart.1)
     ]
+
+task_has_none : (task : WorkTask) (item : WorkItem) → members_have_float (task_members task item) ≡ false
+task_has_none (Batchlet artifact) item = refl
+task_has_none (Decision artifact) item = refl
+task_has_none (Chunk reader processor writer item_count checkpoint) item = simp text_has_none
+
+partition_has_none : (partition : Option ℕ) (ms : Members) → members_have_float ms ≡ false → members_have_float (with_partition partition ms) ≡ false
+partition_has_none None ms h = h
+partition_has_none (Some p) ms h = put_has_none (codes "partition") (count p) ms refl h
+
+item_has_none : (item : WorkItem) → has_float (item_data item) ≡ false
+item_has_none item = partition_has_none item.partition (task_members item.task item) (task_has_none item.task item)
 
 members_have_none : {A : Type 0} (named : A → List ℕ × Data) → ((a : A) → has_float (named a).1 ≡ false) → (ms : Members) (xs : List A) → members_have_float ms ≡ false → members_have_float (with_members ms (map named xs)) ≡ false
 members_have_none named none ms [] others = others
@@ -74,7 +81,7 @@ step_has_none s = simp (text_has_none, count_has_none, counts_have_none (metric_
 -- a reply has none
 pub reply_has_no_float : (reply : Result Reply Refusal) → has_float (reply_data reply) ≡ false
 reply_has_no_float (Ok (replies.Execution execution)) = refl
-reply_has_no_float (Ok (replies.Work item)) = simp (item_has_none item.task item)
+reply_has_no_float (Ok (replies.Work item)) = simp (item_has_none item)
 reply_has_no_float (Ok (replies.Closed execution)) = refl
 reply_has_no_float (Ok replies.Nothing) = refl
 reply_has_no_float (Ok replies.Done) = refl

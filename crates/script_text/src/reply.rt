@@ -1,11 +1,12 @@
 ghost use Rattle.std.specs.Prelude.{◌≡◌, IfOk};
 ghost use Rattle.serde_json.specs.View.{view};
-ghost use Rattle.script_text.specs.Replies.{item_data, single_data, reply_data, reply_text, bad_line_text};
+ghost use Rattle.script_text.specs.Replies.{item_data, single_members, task_members, with_partition, reply_data, reply_text, bad_line_text};
+ghost use Rattle.serde_json.specs.Data.{Members, object};
 
 use crate::written::{line_of, one, refused, text_or_null};
 use batch_history::{Reply, WorkItem, WorkTask};
 use batch_ids::{OutOfMemory, Refusal, T256, Text};
-use serde_json::{Value, json};
+use serde_json::{Value, json, put};
 use std::alloc::Global;
 
 /// The line that replies to a call, with its line feed: compact JSON, the members of each object in
@@ -14,7 +15,8 @@ use std::alloc::Global;
 /// It is `{"execution":N}`, `{"work":{..}}`, `{"closed":N}`, `{"nothing":true}`, `{"done":true}`,
 /// `{"go":true}`, `{"stop":true}` or `{"refused":NAME}`. A work item has the members `element`,
 /// `execution`, `kind`, `work` and, for a batchlet or a decision, `ref`; for a chunk `checkpoint` and
-/// `processor` (null for none), `item-count`, `reader` and `writer`.
+/// `processor` (null for none), `item-count`, `reader` and `writer`. That of a partitioned step has
+/// `partition`, too.
 ///
 /// # Errors
 ///
@@ -55,7 +57,31 @@ fn reply_value(alloc: Global, reply: &Result<Reply, Refusal>) -> Result<Value, O
 }
 
 fn item_value(alloc: Global, item: &WorkItem) -> Result<Value, OutOfMemory>
-    ensures { IfOk result (λ value. view value ≡ item_data item.now.task item.now) }
+    ensures { IfOk result (λ value. view value ≡ item_data item.now) }
+{
+    let value = task_value(alloc, item)?;
+    with_partition(alloc, value, item.partition)
+}
+
+/// The object with the partition of a work item, where it names one.
+fn with_partition(alloc: Global, value: Value, partition: Option<u32>) -> Result<Value, OutOfMemory>
+    ensures { (members : Members) → view value ≡ object members
+        → IfOk result (λ made. view made ≡ object (with_partition partition members)) }
+{
+    match partition {
+        None => Ok(value),
+        Some(partition) => match value {
+            Value::Object(mut members) => {
+                put(&mut members, alloc, "partition", Value::from(partition))?;
+                Ok(Value::Object(members))
+            }
+            other => Ok(other),
+        },
+    }
+}
+
+fn task_value(alloc: Global, item: &WorkItem) -> Result<Value, OutOfMemory>
+    ensures { IfOk result (λ value. view value ≡ object (task_members item.now.task item.now)) }
 {
     match &item.task {
         WorkTask::Batchlet { artifact } => single_value(alloc, "batchlet", artifact, item),
@@ -90,7 +116,8 @@ fn single_value(
     artifact: &T256,
     item: &WorkItem,
 ) -> Result<Value, OutOfMemory>
-    ensures { IfOk result (λ value. view value ≡ single_data kind.now artifact.now item.now) }
+    ensures { IfOk result (λ value. view value
+        ≡ object (single_members kind.now artifact.now item.now)) }
 {
     json!(in alloc; {
         "element": item.element.as_str(),

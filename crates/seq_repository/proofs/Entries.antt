@@ -27,7 +27,8 @@ use Rattle.batch_history.specs.Rows.{Rows}
 use Rattle.batch_history.specs.Restarts.{first_plan}
 use Rattle.batch_history.specs.Walks.{walk_value, job_named}
 use Rattle.batch_history.proofs.Knowing.{known_elements}
-use Rattle.batch_history.specs.Works.{is_work, busy_work}
+use Rattle.batch_history.specs.Works.{is_work, busy_work, work_key}
+use Rattle.job_walk.specs.declared.work_key.WorkKey.{WorkKey}
 use Rattle.restart_rules.specs.Restarting.{rows_over}
 use Rattle.seq_repository.specs.Kept.{Kept, AreLast, rows_in}
 use Rattle.seq_repository.specs.declared.last_numbers.LastNumbers.{LastNumbers}
@@ -143,11 +144,11 @@ work_rows r who at item new is =
 place-at : (r : Rows) (w : ℕ) (row : WorkRow) (change : Change) (works : List WorkRow) (at : ℕ) (new : Option ExecutionRow)
     → find (is_work w) r.works ≡ Some row
     → new ≡ option_map (row_after change r.catalogue works at) (find (is_execution row.execution) r.executions)
-    → place_at new row.element ≡ place_in r w
+    → place_at new (work_key row) ≡ place_in r w
 place-at r w row change works at new found is =
-    ap (λ (o : Option ExecutionRow). place_at o row.element) is
-    ∙ ((elim (find (is_execution row.execution) r.executions) as (λ o. place_at (option_map (row_after change r.catalogue works at) o) row.element
-    ≡ option_map (λ i. record { instance = i; step = row.element }) (option_map (λ (e : ExecutionRow). e.instance) o)) [
+    ap (λ (o : Option ExecutionRow). place_at o (work_key row)) is
+    ∙ ((elim (find (is_execution row.execution) r.executions) as (λ o. place_at (option_map (row_after change r.catalogue works at) o) (work_key row)
+    ≡ option_map (λ i. record { instance = i; step = work_key row }) (option_map (λ (e : ExecutionRow). e.instance) o)) [
       | None ↦ refl
       | Some e ↦ refl
     ]) ∙ ap (instance_step_by (instance_in r.executions)) (sym found))
@@ -156,7 +157,7 @@ place-at r w row change works at new found is =
 checkpoint_rows : (r : Rows) (who at w : ℕ) (mark : List ℕ) (step : MetricStep) (reply : Reply) (row : WorkRow) (new : Option ExecutionRow) (marks : InstanceStep → Option (List ℕ))
     → find (is_work w) r.works ≡ Some row
     → new ≡ option_map (row_after Report r.catalogue (change_first (is_work w) (reported step) r.works) at) (find (is_execution row.execution) r.executions)
-    → ((p : InstanceStep) → marks p ≡ cond (is_same_step p (place_at new row.element)) (Some mark) (r.checkpoint p))
+    → ((p : InstanceStep) → marks p ≡ cond (is_same_step p (place_at new (work_key row))) (Some mark) (r.checkpoint p))
     → record r {
       count = r.count + 1;
       executions = put_row row.execution new r.executions;
@@ -179,22 +180,22 @@ checkpoint_rows r who at w mark step reply row new marks found is marked =
 finish_rows : (r : Rows) (who at w : ℕ) (outcome : WorkOutcome) (exit : Option (List ℕ)) (step : MetricStep) (reply : Reply) (row : WorkRow) (new : Option ExecutionRow)
     (marks : InstanceStep → Option (List ℕ))
     → find (is_work w) r.works ≡ Some row
-    → new ≡ option_map (row_after Report r.catalogue (change_first (is_work w) (over outcome exit step at) r.works) at) (find (is_execution row.execution) r.executions)
-    → ((p : InstanceStep) → marks p ≡ cond (is_same_step p (place_at new row.element)) (checkpoint_left outcome (r.checkpoint p)) (r.checkpoint p))
+    → new ≡ option_map (row_after Report r.catalogue (change_first (is_work w) (over outcome exit step at (r.count + 1)) r.works) at) (find (is_execution row.execution) r.executions)
+    → ((p : InstanceStep) → marks p ≡ cond (is_same_step p (place_at new (work_key row))) (checkpoint_left outcome (r.checkpoint p)) (r.checkpoint p))
     → record r {
       count = r.count + 1;
       executions = put_row row.execution new r.executions;
-      works = change_first (is_work w) (λ old. over outcome exit step at row) r.works;
+      works = change_first (is_work w) (λ old. over outcome exit step at (r.count + 1) row) r.works;
       checkpoint = marks;
     } ≡ rows_after r record { who = who; call = Finish w outcome exit step; at = at; reply = reply }
 finish_rows r who at w outcome exit step reply row new marks found is left =
-    let works : List WorkRow = change_first (is_work w) (over outcome exit step at) r.works in
+    let works : List WorkRow = change_first (is_work w) (over outcome exit step at (r.count + 1)) r.works in
     let changed : List ExecutionRow = change_first (is_execution row.execution) (row_after Report r.catalogue works at) r.executions in
     let marks_at : Option InstanceStep → InstanceStep → Option (List ℕ) = λ o p. cond (is_same_step p o) (checkpoint_left outcome (r.checkpoint p)) (r.checkpoint p) in
-    ap (λ (xs : List ExecutionRow). record r { count = r.count + 1; executions = xs; works = change_first (is_work w) (λ old. over outcome exit step at row) r.works; checkpoint = marks })
+    ap (λ (xs : List ExecutionRow). record r { count = r.count + 1; executions = xs; works = change_first (is_work w) (λ old. over outcome exit step at (r.count + 1) row) r.works; checkpoint = marks })
     (put_found row.execution (row_after Report r.catalogue works at) r.executions new is)
     ∙ (ap (λ (ws : List WorkRow). record r { count = r.count + 1; executions = changed; works = ws; checkpoint = marks })
-    (change-found (is_work w) (over outcome exit step at) r.works row found)
+    (change-found (is_work w) (over outcome exit step at (r.count + 1)) r.works row found)
     ∙ (ap (λ (cs : InstanceStep → Option (List ℕ)). record r { count = r.count + 1; executions = changed; works = works; checkpoint = cs })
     (fun_ext left ∙ ap marks_at (place-at r w row Report works at new found is))
     ∙ rw found refl))
@@ -252,23 +253,25 @@ reported-own w step rows row new found made = (
     work = ap (λ (r : WorkRow). r.work) made;
     execution = ap (λ (r : WorkRow). r.execution) made;
     element = ap (λ (r : WorkRow). r.element) made;
+    partition = ap (λ (r : WorkRow). r.partition) made;
     kind = ap (λ (r : WorkRow). r.kind) made;
     claimer = ap (λ (r : WorkRow). r.claimer) made;
     start = ap (λ (r : WorkRow). r.start) made;
-    over = λ over. (ap (λ (r : WorkRow). r.state) made, ap (λ (r : WorkRow). r.end) made);
+    over = λ over. (ap (λ (r : WorkRow). r.state) made, ap (λ (r : WorkRow). r.end) made, ap (λ (r : WorkRow). r.ended) made);
   },
 )
 
 -- a work item that ends may stand in its place
-pub over-own : (w : ℕ) (outcome : WorkOutcome) (exit : List ℕ) (step : MetricStep) (at : ℕ) (rows : List WorkRow) (row new : WorkRow) → find (is_work w) rows ≡ Some row
-    → is_over row.state ≡ false → new ≡ over_as outcome exit step at row → MayReplaceWork rows w new
-over-own w outcome exit step at rows row new found busy made = (
+pub over-own : (w : ℕ) (outcome : WorkOutcome) (exit : List ℕ) (step : MetricStep) (at n : ℕ) (rows : List WorkRow) (row new : WorkRow) → find (is_work w) rows ≡ Some row
+    → is_over row.state ≡ false → new ≡ over_as outcome exit step at n row → MayReplaceWork rows w new
+over-own w outcome exit step at n rows row new found busy made = (
   row,
   found,
   record {
     work = ap (λ (r : WorkRow). r.work) made;
     execution = ap (λ (r : WorkRow). r.execution) made;
     element = ap (λ (r : WorkRow). r.element) made;
+    partition = ap (λ (r : WorkRow). r.partition) made;
     kind = ap (λ (r : WorkRow). r.kind) made;
     claimer = ap (λ (r : WorkRow). r.claimer) made;
     start = ap (λ (r : WorkRow). r.start) made;
@@ -285,35 +288,35 @@ maps-changed old m1 m2 m3 cs f h e1 e2 e3 =
     e3 ∙ ap (λ (m : Maps). record m { executions = h m.executions }) (e2 ∙ ap (λ (m : Maps). record m { works = f m.works }) e1)
 
 pub checkpoint-entered : (catalogue : List JobTree) (count : ℕ) (old m1 m2 m3 : Maps) (who at w : ℕ) (mark : List ℕ) (step : MetricStep) (reply : Reply)
-    (row kept : WorkRow) (new : Option ExecutionRow) (element marked : List ℕ)
-    → find (is_work w) old.works ≡ Some row → kept ≡ reported step row → element ≡ row.element → marked ≡ mark
+    (row kept : WorkRow) (new : Option ExecutionRow) (element : WorkKey) (marked : List ℕ)
+    → find (is_work w) old.works ≡ Some row → kept ≡ reported step row → element ≡ work_key row → marked ≡ mark
     → new ≡ option_map (row_after Report catalogue (change_first (is_work w) (reported step) old.works) at) (find (is_execution row.execution) old.executions)
     → SetsMark (place_at new element) (Some marked) old m1
     → m2 ≡ record m1 { works = change_first (is_work w) (λ gone. kept) m1.works }
     → m3 ≡ record m2 { executions = put_row row.execution new m2.executions }
     → rows_over catalogue (count + 1) m3 ≡ rows_after (rows_over catalogue count old) record { who = who; call = Checkpoint w mark step; at = at; reply = reply }
 checkpoint-entered catalogue count old m1 m2 m3 who at w mark step reply row kept new element marked found is id same made e1 e2 e3 =
-    let marks : (p : InstanceStep) → mark_at m1.checkpoints p ≡ cond (is_same_step p (place_at new row.element)) (Some mark) (mark_at old.checkpoints p) =
+    let marks : (p : InstanceStep) → mark_at m1.checkpoints p ≡ cond (is_same_step p (place_at new (work_key row))) (Some mark) (mark_at old.checkpoints p) =
     λ p. mark-set (place_at new element) (Some marked) old m1 e1 p
-    ∙ (ap (λ (i : List ℕ). cond (is_same_step p (place_at new i)) (Some marked) (mark_at old.checkpoints p)) id
-    ∙ ap (λ (m : List ℕ). cond (is_same_step p (place_at new row.element)) (Some m) (mark_at old.checkpoints p)) same) in
+    ∙ (ap (λ (i : WorkKey). cond (is_same_step p (place_at new i)) (Some marked) (mark_at old.checkpoints p)) id
+    ∙ ap (λ (m : List ℕ). cond (is_same_step p (place_at new (work_key row))) (Some m) (mark_at old.checkpoints p)) same) in
     ap (rows_over catalogue (count + 1))
     (maps-changed old m1 m2 m3 m1.checkpoints (change_first (is_work w) (λ gone. kept)) (put_row row.execution new) (set-alone (place_at new element) (Some marked) old m1 e1) e2 e3)
     ∙ (ap (λ (k : WorkRow). rows_over catalogue (count + 1) record { instances = old.instances; executions = put_row row.execution new old.executions; works = change_first (is_work w) (λ gone. k) old.works; checkpoints = m1.checkpoints }) is
     ∙ checkpoint_rows (rows_over catalogue count old) who at w mark step reply row new (mark_at m1.checkpoints) found made marks)
 
 pub finish-entered : (catalogue : List JobTree) (count : ℕ) (old m1 m2 m3 : Maps) (who at w : ℕ) (outcome : WorkOutcome) (exit : Option (List ℕ)) (step : MetricStep) (reply : Reply)
-    (row kept : WorkRow) (new : Option ExecutionRow) (element : List ℕ)
-    → find (is_work w) old.works ≡ Some row → kept ≡ over outcome exit step at row → element ≡ row.element
-    → new ≡ option_map (row_after Report catalogue (change_first (is_work w) (over outcome exit step at) old.works) at) (find (is_execution row.execution) old.executions)
+    (row kept : WorkRow) (new : Option ExecutionRow) (element : WorkKey)
+    → find (is_work w) old.works ≡ Some row → kept ≡ over outcome exit step at (count + 1) row → element ≡ work_key row
+    → new ≡ option_map (row_after Report catalogue (change_first (is_work w) (over outcome exit step at (count + 1)) old.works) at) (find (is_execution row.execution) old.executions)
     → LeavesMark outcome (place_at new element) old m1
     → m2 ≡ record m1 { works = change_first (is_work w) (λ gone. kept) m1.works }
     → m3 ≡ record m2 { executions = put_row row.execution new m2.executions }
     → rows_over catalogue (count + 1) m3 ≡ rows_after (rows_over catalogue count old) record { who = who; call = Finish w outcome exit step; at = at; reply = reply }
 finish-entered catalogue count old m1 m2 m3 who at w outcome exit step reply row kept new element found is id made e1 e2 e3 =
-    let marks : (p : InstanceStep) → mark_at m1.checkpoints p ≡ cond (is_same_step p (place_at new row.element)) (checkpoint_left outcome (mark_at old.checkpoints p)) (mark_at old.checkpoints p) =
+    let marks : (p : InstanceStep) → mark_at m1.checkpoints p ≡ cond (is_same_step p (place_at new (work_key row))) (checkpoint_left outcome (mark_at old.checkpoints p)) (mark_at old.checkpoints p) =
     λ p. mark-left outcome (place_at new element) old m1 e1 p
-    ∙ ap (λ (i : List ℕ). cond (is_same_step p (place_at new i)) (checkpoint_left outcome (mark_at old.checkpoints p)) (mark_at old.checkpoints p)) id in
+    ∙ ap (λ (i : WorkKey). cond (is_same_step p (place_at new i)) (checkpoint_left outcome (mark_at old.checkpoints p)) (mark_at old.checkpoints p)) id in
     ap (rows_over catalogue (count + 1))
     (maps-changed old m1 m2 m3 m1.checkpoints (change_first (is_work w) (λ gone. kept)) (put_row row.execution new) (left-alone outcome (place_at new element) old m1 e1) e2 e3)
     ∙ (ap (λ (k : WorkRow). rows_over catalogue (count + 1) record { instances = old.instances; executions = put_row row.execution new old.executions; works = change_first (is_work w) (λ gone. k) old.works; checkpoints = m1.checkpoints }) is

@@ -9,4 +9,5 @@ pub mod Replying
 pub mod Sound
 pub mod Tallies
 pub mod Marks
+pub mod Shown
 pub mod Standing

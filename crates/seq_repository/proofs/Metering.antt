@@ -1,11 +1,15 @@
 -- How far the counts of work items go.
-use Rattle.std.proofs.Common.{◌≡◌, ℕ, ◌+◌, ◌≤◌, ◌++◌, ◌∷◌, [], Bool, true, false, cond, Some, List, find, sym, subst, arith}
+use Rattle.std.proofs.Common.{◌≡◌, ℕ, ◌+◌, ◌==◌, ◌<◌, ◌≤◌, length, drop, get_or, ◌++◌, ◌∷◌, [], Bool, true, false, cond, Some, List, find, filter, map, refl, sym, ◌∙◌, ap, subst, arith}
 use Rattle.batch_ids.specs.declared.metrics.Metrics.{Metrics}
 use Rattle.batch_ids.specs.declared.metric_step.MetricStep.{MetricStep}
-use Rattle.batch_ids.specs.Metrics.{added, zero_metrics}
+use Rattle.batch_ids.specs.Metrics.{added, both_metrics, sum_of_metrics, zero_metrics}
 use Rattle.batch_history.specs.declared.rows.WorkRow.{WorkRow}
+use Rattle.std.proofs.lemmas.List.{drop_more}
+use Rattle.std.specs.Str.{bytes_eq}
 use Rattle.batch_history.specs.Lists.{change_first}
-use Rattle.batch_ids.specs.Metrics.{IsWithin, most_after}
+use Rattle.batch_history.specs.StepExecutions.{same_step}
+use Rattle.records.specs.Left.{works_of}
+use Rattle.batch_ids.specs.Metrics.{HaveRoom, IsWithin, most_after}
 use Rattle.seq_repository.specs.Metered.{AreWithin, IsStep}
 
 within-more : (a b : ℕ) (m : Metrics) → a ≤ b → IsWithin a m → IsWithin b m
@@ -22,65 +26,189 @@ within-more a b m le w =
     }
 
 -- one operation more leaves more room
-are-within-more : (a b : ℕ) (works : List WorkRow) → a ≤ b → AreWithin a works → AreWithin b works
-are-within-more a b [] le w = tt
-are-within-more a b (row ∷ works) le w = (within-more a b row.metrics le w.0, are-within-more a b works le w.1)
-
 pub within_more : (count : ℕ) (works : List WorkRow) → AreWithin (most_after count) works → AreWithin (most_after (count + 1)) works
-within_more count works w = are-within-more (most_after count) (most_after (count + 1)) works (omega arith) w
+within_more count works w = within-more (most_after count) (most_after (count + 1)) (sum_of_metrics (map (λ row. row.metrics) works)) (omega arith) w
 
--- a work item begins with counts of 0
-within-pushed : (most : ℕ) (works : List WorkRow) (row : WorkRow) → row.metrics ≡ zero_metrics → AreWithin most works → AreWithin most (works ++ row ∷ [])
-within-pushed most [] row zero w = (rw zero record { read = omega arith; write = omega arith; commit = omega arith; rollback = omega arith; read_skip = omega arith; process_skip = omega arith; filter = omega arith; write_skip = omega arith }, tt)
-within-pushed most (r ∷ works) row zero w = (w.0, within-pushed most works row zero w.1)
+-- ---- Of one count
 
-pub within_pushed : (count : ℕ) (works : List WorkRow) (row : WorkRow) → row.metrics ≡ zero_metrics → AreWithin (most_after count) works
-    → AreWithin (most_after (count + 1)) (works ++ row ∷ [])
-within_pushed count works row zero w = within-pushed (most_after (count + 1)) works row zero (within_more count works w)
+-- what is read off metrics is a count: that of sums is the sum, and at the beginning it is 0
+record IsCount (pick : Metrics → ℕ) : Type 0 where
+  sums : (one other : Metrics) → pick (both_metrics one other) ≡ pick one + pick other
+  none : pick zero_metrics ≡ 0
 
--- what is added to a count is at most 4,294,967,295
-within-added : (most : ℕ) (m : Metrics) (step : MetricStep) → IsStep step → IsWithin most m → IsWithin (most + 4294967295) (added m step)
-within-added most m step s w =
-    record {
-      read = omega (arith, w.read, s.read);
-      write = omega (arith, w.write, s.write);
-      commit = omega (arith, w.commit, s.commit);
-      rollback = omega (arith, w.rollback, s.rollback);
-      read_skip = omega (arith, w.read_skip, s.read_skip);
-      process_skip = omega (arith, w.process_skip, s.process_skip);
-      filter = omega (arith, w.filter, s.filter);
-      write_skip = omega (arith, w.write_skip, s.write_skip);
-    }
+-- what a count comes to over work items
+abbrev total : (Metrics → ℕ) → List WorkRow → ℕ
+total pick works = pick (sum_of_metrics (map (λ row. row.metrics) works))
 
--- what holds of each work item holds of the one that is found
-within-found : (most : ℕ) (p : WorkRow → Bool) (works : List WorkRow) (row : WorkRow) → find p works ≡ Some row → AreWithin most works → IsWithin most row.metrics
-within-found most p [] row e w = cc
-within-found most p (r ∷ works) row e w =
-    (elim (p r) as (λ b. cond b (Some r) (find p works) ≡ Some row → IsWithin most row.metrics) [
-      | true ↦ λ s. let is : r ≡ row = cc in subst (λ (x : WorkRow). IsWithin most x.metrics) is w.0
-      | false ↦ λ s. within-found most p works row s w.1
+total-pushed : (pick : Metrics → ℕ) (works : List WorkRow) (row : WorkRow) → IsCount pick → row.metrics ≡ zero_metrics
+    → total pick (works ++ row ∷ []) ≡ total pick works
+total-pushed pick [] row c zero = c.sums row.metrics zero_metrics ∙ omega (arith, ap pick zero, c.none)
+total-pushed pick (r ∷ works) row c zero =
+    omega (arith, c.sums r.metrics (sum_of_metrics (map (λ row. row.metrics) (works ++ row ∷ []))), c.sums r.metrics (sum_of_metrics (map (λ row. row.metrics) works)), total-pushed pick works row c zero)
+
+total-found : (pick : Metrics → ℕ) (p : WorkRow → Bool) (works : List WorkRow) (row : WorkRow) → IsCount pick → find p works ≡ Some row
+    → pick row.metrics ≤ total pick works
+total-found pick p [] row c e = cc
+total-found pick p (r ∷ works) row c e =
+    let sums : total pick (r ∷ works) ≡ pick r.metrics + total pick works = c.sums r.metrics (sum_of_metrics (map (λ row. row.metrics) works)) in
+    (elim (p r) as (λ b. cond b (Some r) (find p works) ≡ Some row → pick row.metrics ≤ total pick (r ∷ works)) [
+      | true ↦ λ s. let is : r ≡ row = cc in omega (arith, sums, ap (λ (x : WorkRow). pick x.metrics) is)
+      | false ↦ λ s. omega (arith, sums, total-found pick p works row c s)
     ]) e
 
-within-put : (a b : ℕ) (p : WorkRow → Bool) (new : WorkRow) (works : List WorkRow) → a ≤ b → IsWithin b new.metrics → AreWithin a works
-    → AreWithin b (change_first p (λ old. new) works)
-within-put a b p new [] le n w = tt
-within-put a b p new (row ∷ works) le n w =
-    elim (p row) as (λ c. AreWithin b (cond c (new ∷ works) (row ∷ change_first p (λ old. new) works))) [
-      | true ↦ (n, are-within-more a b works le w.1)
-      | false ↦ (within-more a b row.metrics le w.0, within-put a b p new works le n w.1)
+total-put : (pick : Metrics → ℕ) (p : WorkRow → Bool) (new : WorkRow) (works : List WorkRow) (row : WorkRow) → IsCount pick → find p works ≡ Some row
+    → total pick (change_first p (λ old. new) works) + pick row.metrics ≡ total pick works + pick new.metrics
+total-put pick p new [] row c e = cc
+total-put pick p new (r ∷ works) row c e =
+    let sums : total pick (r ∷ works) ≡ pick r.metrics + total pick works = c.sums r.metrics (sum_of_metrics (map (λ row. row.metrics) works)) in
+    (elim (p r) as (λ b. cond b (Some r) (find p works) ≡ Some row
+    → total pick (cond b (new ∷ works) (r ∷ change_first p (λ old. new) works)) + pick row.metrics ≡ total pick (r ∷ works) + pick new.metrics) [
+      | true ↦ λ s.
+          let is : r ≡ row = cc in
+          omega (arith, sums, ap (λ (x : WorkRow). pick x.metrics) is, c.sums new.metrics (sum_of_metrics (map (λ row. row.metrics) works)))
+      | false ↦ λ s.
+          omega (arith, sums, c.sums r.metrics (sum_of_metrics (map (λ row. row.metrics) (change_first p (λ old. new) works))), total-put pick p new works row c s)
+    ]) e
+
+total-filtered : (pick : Metrics → ℕ) (q : WorkRow → Bool) (works : List WorkRow) → IsCount pick → total pick (filter q works) ≤ total pick works
+total-filtered pick q [] c = omega arith
+total-filtered pick q (r ∷ works) c =
+    let sums : total pick (r ∷ works) ≡ pick r.metrics + total pick works = c.sums r.metrics (sum_of_metrics (map (λ row. row.metrics) works)) in
+    elim (q r) as (λ b. total pick (cond b (r ∷ filter q works) (filter q works)) ≤ total pick (r ∷ works)) [
+      | true ↦ omega (arith, sums, c.sums r.metrics (sum_of_metrics (map (λ row. row.metrics) (filter q works))), total-filtered pick q works c)
+      | false ↦ omega (arith, sums, total-filtered pick q works c)
     ]
+
+-- ---- Of each
+
+-- what holds of each count holds of the metrics
+within-every : (most : ℕ) (works : List WorkRow) (other : List WorkRow) → ((pick : Metrics → ℕ) → IsCount pick → total pick other ≤ total pick works)
+    → AreWithin most works → AreWithin most other
+within-every most works other le w =
+    record {
+      read = omega (arith, w.read, le (λ m. m.read_count) record { sums = λ a b. refl; none = refl });
+      write = omega (arith, w.write, le (λ m. m.write_count) record { sums = λ a b. refl; none = refl });
+      commit = omega (arith, w.commit, le (λ m. m.commit_count) record { sums = λ a b. refl; none = refl });
+      rollback = omega (arith, w.rollback, le (λ m. m.rollback_count) record { sums = λ a b. refl; none = refl });
+      read_skip = omega (arith, w.read_skip, le (λ m. m.read_skip_count) record { sums = λ a b. refl; none = refl });
+      process_skip = omega (arith, w.process_skip, le (λ m. m.process_skip_count) record { sums = λ a b. refl; none = refl });
+      filter = omega (arith, w.filter, le (λ m. m.filter_count) record { sums = λ a b. refl; none = refl });
+      write_skip = omega (arith, w.write_skip, le (λ m. m.write_skip_count) record { sums = λ a b. refl; none = refl });
+    }
+
+-- a work item begins with counts of 0
+pub within_pushed : (count : ℕ) (works : List WorkRow) (row : WorkRow) → row.metrics ≡ zero_metrics → AreWithin (most_after count) works
+    → AreWithin (most_after (count + 1)) (works ++ row ∷ [])
+within_pushed count works row zero w =
+    within-every (most_after (count + 1)) works (works ++ row ∷ []) (λ pick c. omega (arith, total-pushed pick works row c zero)) (within_more count works w)
+
+-- some of the work items come to no more than all of them
+pub within_filtered : (most : ℕ) (q : WorkRow → Bool) (works : List WorkRow) → AreWithin most works → AreWithin most (filter q works)
+within_filtered most q works w = within-every most works (filter q works) (λ pick c. total-filtered pick q works c) w
+
+-- what a report adds to one count is at most 4,294,967,295
+count-put : (pick : Metrics → ℕ) (p : WorkRow → Bool) (works : List WorkRow) (row new : WorkRow) (step count : ℕ) → IsCount pick → find p works ≡ Some row
+    → pick new.metrics ≡ pick row.metrics + step → step ≤ 4294967295 → total pick works ≤ most_after count
+    → total pick (change_first p (λ old. new) works) ≤ most_after (count + 1)
+count-put pick p works row new step count c found sum small w = omega (arith, total-put pick p new works row c found, sum, small, w)
 
 -- a work item that was reported of, in its place
 pub within_put : (count : ℕ) (p : WorkRow → Bool) (works : List WorkRow) (row new : WorkRow) (step : MetricStep)
     → find p works ≡ Some row → new.metrics ≡ added row.metrics step → IsStep step → AreWithin (most_after count) works
     → AreWithin (most_after (count + 1)) (change_first p (λ old. new) works)
 within_put count p works row new step found is s w =
-    let sum : IsWithin (most_after count + 4294967295) (added row.metrics step) = within-added (most_after count) row.metrics step s (within-found (most_after count) p works row found w) in
-    let more : IsWithin (most_after (count + 1)) (added row.metrics step) = within-more (most_after count + 4294967295) (most_after (count + 1)) _ (omega arith) sum in
-    within-put (most_after count) (most_after (count + 1)) p new works (omega arith) (subst (IsWithin (most_after (count + 1))) (sym is) more) w
+    record {
+      read = count-put (λ m. m.read_count) p works row new step.read_count count record { sums = λ a b. refl; none = refl } found (ap (λ (m : Metrics). m.read_count) is) s.read w.read;
+      write = count-put (λ m. m.write_count) p works row new step.write_count count record { sums = λ a b. refl; none = refl } found (ap (λ (m : Metrics). m.write_count) is) s.write w.write;
+      commit = count-put (λ m. m.commit_count) p works row new step.commit_count count record { sums = λ a b. refl; none = refl } found (ap (λ (m : Metrics). m.commit_count) is) s.commit w.commit;
+      rollback = count-put (λ m. m.rollback_count) p works row new step.rollback_count count record { sums = λ a b. refl; none = refl } found (ap (λ (m : Metrics). m.rollback_count) is) s.rollback w.rollback;
+      read_skip = count-put (λ m. m.read_skip_count) p works row new step.read_skip_count count record { sums = λ a b. refl; none = refl } found (ap (λ (m : Metrics). m.read_skip_count) is) s.read_skip w.read_skip;
+      process_skip = count-put (λ m. m.process_skip_count) p works row new step.process_skip_count count record { sums = λ a b. refl; none = refl } found (ap (λ (m : Metrics). m.process_skip_count) is) s.process_skip w.process_skip;
+      filter = count-put (λ m. m.filter_count) p works row new step.filter_count count record { sums = λ a b. refl; none = refl } found (ap (λ (m : Metrics). m.filter_count) is) s.filter w.filter;
+      write_skip = count-put (λ m. m.write_skip_count) p works row new step.write_skip_count count record { sums = λ a b. refl; none = refl } found (ap (λ (m : Metrics). m.write_skip_count) is) s.write_skip w.write_skip;
+    }
+
+-- so many operations leave room for the sums of all that is reported
+pub within_limit : (limit count : ℕ) (works : List WorkRow) → limit ≤ 1000000 → count ≤ limit → AreWithin (most_after count) works → AreWithin (most_after 1000000) works
+within_limit limit count works few le w =
+    within-more (most_after count) (most_after 1000000) (sum_of_metrics (map (λ row. row.metrics) works)) (omega (arith, few, le)) w
 
 -- the counts of a work item that is found have room for more
 pub within_found : (limit count : ℕ) (p : WorkRow → Bool) (works : List WorkRow) (row : WorkRow)
     → limit ≤ 1000000 → count ≤ limit → find p works ≡ Some row → AreWithin (most_after count) works → IsWithin (most_after 1000000) row.metrics
 within_found limit count p works row few le found w =
-    within-more (most_after count) (most_after 1000000) row.metrics (omega (arith, few, le)) (within-found (most_after count) p works row found w)
+    let all : AreWithin (most_after 1000000) works = within_limit limit count works few le w in
+    record {
+      read = omega (arith, all.read, total-found (λ m. m.read_count) p works row record { sums = λ a b. refl; none = refl } found);
+      write = omega (arith, all.write, total-found (λ m. m.write_count) p works row record { sums = λ a b. refl; none = refl } found);
+      commit = omega (arith, all.commit, total-found (λ m. m.commit_count) p works row record { sums = λ a b. refl; none = refl } found);
+      rollback = omega (arith, all.rollback, total-found (λ m. m.rollback_count) p works row record { sums = λ a b. refl; none = refl } found);
+      read_skip = omega (arith, all.read_skip, total-found (λ m. m.read_skip_count) p works row record { sums = λ a b. refl; none = refl } found);
+      process_skip = omega (arith, all.process_skip, total-found (λ m. m.process_skip_count) p works row record { sums = λ a b. refl; none = refl } found);
+      filter = omega (arith, all.filter, total-found (λ m. m.filter_count) p works row record { sums = λ a b. refl; none = refl } found);
+      write_skip = omega (arith, all.write_skip, total-found (λ m. m.write_skip_count) p works row record { sums = λ a b. refl; none = refl } found);
+    }
+
+-- ---- Sums
+
+-- sums of sums
+pub both_associative : (a b c : Metrics) → both_metrics (both_metrics a b) c ≡ both_metrics a (both_metrics b c)
+both_associative a b c =
+    let read : (a.read_count + b.read_count) + c.read_count ≡ a.read_count + (b.read_count + c.read_count) = omega arith in
+    let write : (a.write_count + b.write_count) + c.write_count ≡ a.write_count + (b.write_count + c.write_count) = omega arith in
+    let commit : (a.commit_count + b.commit_count) + c.commit_count ≡ a.commit_count + (b.commit_count + c.commit_count) = omega arith in
+    let rollback : (a.rollback_count + b.rollback_count) + c.rollback_count ≡ a.rollback_count + (b.rollback_count + c.rollback_count) = omega arith in
+    let read_skip : (a.read_skip_count + b.read_skip_count) + c.read_skip_count ≡ a.read_skip_count + (b.read_skip_count + c.read_skip_count) = omega arith in
+    let process_skip : (a.process_skip_count + b.process_skip_count) + c.process_skip_count ≡ a.process_skip_count + (b.process_skip_count + c.process_skip_count) = omega arith in
+    let filter : (a.filter_count + b.filter_count) + c.filter_count ≡ a.filter_count + (b.filter_count + c.filter_count) = omega arith in
+    let write_skip : (a.write_skip_count + b.write_skip_count) + c.write_skip_count ≡ a.write_skip_count + (b.write_skip_count + c.write_skip_count) = omega arith in
+    rw read (rw write (rw commit (rw rollback (rw read_skip (rw process_skip (rw filter (rw write_skip refl)))))))
+
+-- what is joined with nothing more is the whole
+pub both_none : (a : Metrics) → both_metrics a zero_metrics ≡ a
+both_none a = search arith
+
+-- parts of what is within bounds have room for one another
+pub room_within : (one other rest : Metrics) (works : List WorkRow) → AreWithin (most_after 1000000) works
+    → both_metrics one (both_metrics other rest) ≡ sum_of_metrics (map (λ row. row.metrics) works) → HaveRoom one other
+room_within one other rest works w is =
+    record {
+      read = omega (arith, w.read, ap (λ (m : Metrics). m.read_count) is);
+      write = omega (arith, w.write, ap (λ (m : Metrics). m.write_count) is);
+      commit = omega (arith, w.commit, ap (λ (m : Metrics). m.commit_count) is);
+      rollback = omega (arith, w.rollback, ap (λ (m : Metrics). m.rollback_count) is);
+      read_skip = omega (arith, w.read_skip, ap (λ (m : Metrics). m.read_skip_count) is);
+      process_skip = omega (arith, w.process_skip, ap (λ (m : Metrics). m.process_skip_count) is);
+      filter = omega (arith, w.filter, ap (λ (m : Metrics). m.filter_count) is);
+      write_skip = omega (arith, w.write_skip, ap (λ (m : Metrics). m.write_skip_count) is);
+    }
+
+-- the next of the work items has room beside those before it, and with them comes to what the rest leaves
+pub room_at : {A : Type 0} (f : A → WorkRow) (items : List A) (i : ℕ) (row : A) (sum : Metrics) → i < length items → row ≡ get_or items i row
+    → AreWithin (most_after 1000000) (map f items)
+    → both_metrics sum (sum_of_metrics (map (λ row. row.metrics) (map f (drop i items)))) ≡ sum_of_metrics (map (λ row. row.metrics) (map f items))
+    → HaveRoom sum (f row).metrics
+room_at f items i row sum lt is w so_far =
+    let ahead : drop i items ≡ get_or items i row ∷ drop (i + 1) items = drop_more items i row lt in
+    let here : drop i items ≡ row ∷ drop (i + 1) items = ahead ∙ ap (λ r. r ∷ drop (i + 1) items) (sym is) in
+    room_within sum (f row).metrics (sum_of_metrics (map (λ row. row.metrics) (map f (drop (i + 1) items)))) (map f items) w
+    (sym (ap (λ l. both_metrics sum (sum_of_metrics (map (λ row. row.metrics) (map f l)))) here) ∙ so_far)
+
+pub joined_at : {A : Type 0} (f : A → WorkRow) (items : List A) (i : ℕ) (row : A) (sum after : Metrics) → i < length items → row ≡ get_or items i row
+    → after ≡ both_metrics sum (f row).metrics
+    → both_metrics sum (sum_of_metrics (map (λ row. row.metrics) (map f (drop i items)))) ≡ sum_of_metrics (map (λ row. row.metrics) (map f items))
+    → both_metrics after (sum_of_metrics (map (λ row. row.metrics) (map f (drop (i + 1) items)))) ≡ sum_of_metrics (map (λ row. row.metrics) (map f items))
+joined_at f items i row sum after lt is sums so_far =
+    let here : drop i items ≡ row ∷ drop (i + 1) items = drop_more items i row lt ∙ ap (λ r. r ∷ drop (i + 1) items) (sym is) in
+    let rest : Metrics = sum_of_metrics (map (λ row. row.metrics) (map f (drop (i + 1) items))) in
+    ap (λ m. both_metrics m rest) sums
+    ∙ (both_associative sum (f row).metrics rest
+    ∙ (sym (ap (λ l. both_metrics sum (sum_of_metrics (map (λ row. row.metrics) (map f l)))) here) ∙ so_far))
+
+-- the work items of one step, and those of one job execution, are some of all
+pub within_same_step : (most : ℕ) (works items : List WorkRow) (row : WorkRow) → AreWithin most works → items ≡ same_step works row → AreWithin most items
+within_same_step most works items row w is =
+    subst (AreWithin most) (sym is) (within_filtered most (λ other. bytes_eq other.element row.element) works w)
+
+pub within_works_of : (most x : ℕ) (works own : List WorkRow) → AreWithin most works → own ≡ works_of x works → AreWithin most own
+within_works_of most x works own w is = subst (AreWithin most) (sym is) (within_filtered most (λ row. row.execution == x) works w)

@@ -24,11 +24,12 @@ use Rattle.batch_history.specs.Rows.{History, Rows}
 use Rattle.seq_repository.specs.Kept.{Kept, rows_in, IsNext}
 use Rattle.batch_history.specs.declared.call.Call.{Call}
 use Rattle.job_walk.specs.declared.facts.Value.{Value}
+use Rattle.job_walk.specs.declared.work_key.WorkKey.{WorkKey}
 use Rattle.batch_history.proofs.Legal.{entered-is, reply_room}
 
-item-next : (r : Rows) (row : ExecutionRow) (id : Option (List ℕ)) (item : WorkItem) → claim_reply r row id ≡ Work item → item.work ≡ length r.works + 1
+item-next : (r : Rows) (row : ExecutionRow) (key : Option WorkKey) (item : WorkItem) → claim_reply r row key ≡ Work item → item.work ≡ length r.works + 1
 item-next r row None item e = cc
-item-next r row (Some id) item e = cc
+item-next r row (Some key) item e = cc
 
 -- a claim hands out the next work item
 pub claimed_next : (limit : ℕ) (r : Rows) (found : Option ExecutionRow) (item : WorkItem) → reply_to_claim limit r found ≡ Ok (Work item) → item.work ≡ length r.works + 1

@@ -11,6 +11,7 @@ use Rattle.batch_history.specs.Checkpoints.{InstanceStep}
 use Rattle.batch_history.specs.Lists.{change_first}
 use Rattle.batch_history.specs.Replies.{is_execution}
 use Rattle.batch_history.specs.Walks.{walk_value}
+use Rattle.job_walk.specs.declared.work_key.WorkKey.{WorkKey}
 use Rattle.records.specs.Maps.{Maps, SetsCheckpoint}
 use Rattle.seq_repository.specs.declared.rows.Change.{Change}
 use Rattle.seq_repository.specs.declared.rows.Change.TheVariants.{StopRequest, Abandonment, Claim as TakeUp, Report}
@@ -33,7 +34,7 @@ put_row x None rows = rows
 put_row x (Some row) rows = change_first (is_execution x) (λ old. row) rows
 
 -- the step of the job instance of this job execution, if there is one
-abbrev pub place_at : Option ExecutionRow → List ℕ → Option InstanceStep
+abbrev pub place_at : Option ExecutionRow → WorkKey → Option InstanceStep
 place_at row step = option_map (λ r. record { instance = r.instance; step = step }) row
 
 -- the checkpoint of this step, if there is one, is set to this mark or cleared, and no other row changes

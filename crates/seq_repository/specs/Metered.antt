@@ -1,13 +1,12 @@
 -- How far the counts of work items go.
-use Rattle.std.specs.Prelude.{ℕ, ◌≤◌, List, [], ◌∷◌}
-use Rattle.batch_ids.specs.Metrics.{IsWithin}
+use Rattle.std.specs.Prelude.{ℕ, ◌≤◌, List, map}
+use Rattle.batch_ids.specs.Metrics.{IsWithin, sum_of_metrics}
 use Rattle.batch_ids.specs.declared.metric_step.MetricStep.{MetricStep}
 use Rattle.batch_history.specs.declared.rows.WorkRow.{WorkRow}
 
--- the counts of each work item are at most this
+-- the counts of all these work items come to at most this
 abbrev pub AreWithin : ℕ → List WorkRow → Type 0
-AreWithin most [] = Unit {0}
-AreWithin most (row ∷ rest) = IsWithin most row.metrics × AreWithin most rest
+AreWithin most works = IsWithin most (sum_of_metrics (map (λ row. row.metrics) works))
 
 -- what is added to each count is at most 4,294,967,295
 pub record IsStep (step : MetricStep) : Type 0 where

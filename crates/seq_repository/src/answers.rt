@@ -1,30 +1,34 @@
 ghost use Rattle.std.specs.Prelude.{◌≡◌, ◌≤◌, ◌==◌, Ok, Err, Some, None, IfErr, length, find, reverse, IfOk, if◌then◌else◌};
 ghost use Rattle.std.specs.List.{list_any};
 ghost use Rattle.jsl_model.specs.Names.{distinct};
+ghost use Rattle.batch_ids.specs.Metrics.{most_after};
 ghost use Rattle.batch_history.specs.declared.query.Answer.{Answer};
-ghost use Rattle.batch_history.specs.Answers.{instances_of_job, page, running_executions, is_running_of, records_of, steps_of, counts_of, if_job_known, if_execution_known, answer_by};
+ghost use Rattle.batch_history.specs.Answers.{instances_of_job, page, running_executions, is_running_of, records_of, counts_of, if_job_known, if_execution_known, answer_by};
 ghost use Rattle.batch_history.specs.Due.{IsDue};
 ghost use Rattle.batch_history.specs.Replies.{is_execution};
 ghost use Rattle.batch_history.specs.Rows.{Rows};
 ghost use Rattle.records.specs.Left.{job_names};
+ghost use Rattle.seq_repository.specs.Metered.{AreWithin};
 ghost use Rattle.seq_repository.specs.Searches.{is_on_page};
 
-use batch_history::{
-    Answer, CountsByStatus, ExecutionRow, JobExecution, JobInstance, Query, StepExecution,
-};
+use crate::steps;
+use batch_history::{Answer, CountsByStatus, ExecutionRow, JobExecution, JobInstance, Query};
 use batch_ids::{ExecutionId, InstanceId, Listed, OutOfMemory, Refusal, T256};
+use jsl_model::Catalogue;
 use records::Records;
 use std::alloc::Global;
 
 /// What a query is answered by these rows, `last` being the last number of a job execution.
 pub(crate) fn answer(
     alloc: Global,
+    catalogue: &Catalogue,
     rows: &Records,
     last: u64,
     query: &Query,
 ) -> Result<Answer, Refusal>
-    requires { last ≡ length rows.now.executions }
-    ensures { (r : Rows) → r.instances ≡ rows.now.instances → r.executions ≡ rows.now.executions
+    requires last { last ≡ length rows.now.executions }
+    requires metrics { AreWithin (most_after 1000000) rows.now.works }
+    ensures { (r : Rows) → r.catalogue ≡ catalogue.now → r.instances ≡ rows.now.instances → r.executions ≡ rows.now.executions
         → r.works ≡ rows.now.works
         → IsDue result (answer_by r query.now) }
 {
@@ -51,8 +55,8 @@ pub(crate) fn answer(
             Ok(Answer::JobExecution(row.record()?))
         }
         Query::StepExecutions { execution } => {
-            known(rows, *execution)?;
-            Ok(Answer::StepExecutions(steps(alloc, rows, *execution)?))
+            let row = known(rows, *execution)?;
+            Ok(Answer::StepExecutions(steps::step_executions(alloc, catalogue, rows, row)?))
         }
     }
 }
@@ -233,23 +237,6 @@ fn records_of(
     }
     found.reverse();
     Ok(found)
-}
-
-/// The records of the step executions of a job execution, by rising number.
-fn steps(
-    alloc: Global,
-    rows: &Records,
-    x: ExecutionId,
-) -> Result<Listed<StepExecution>, OutOfMemory>
-    ensures { IfOk result (λ found. found ≡ steps_of x rows.now.works) }
-{
-    let mut found = Vec::new(alloc);
-    for row in rows.works_of(x) {
-        if let Some(step) = row.step_execution()? {
-            found.push(step)?;
-        }
-    }
-    Ok(Listed::from_vec(found))
 }
 
 /// How many job executions have each status, `last` being the last number of one.

@@ -20,7 +20,7 @@ use batch_ids::{
     ExecutionId, InstanceId, MetricStep, Moment, OutOfMemory, Parameters, Refusal, T256, Text,
     WorkId, WorkOutcome,
 };
-use job_walk::Known;
+use job_walk::{Known, WorkKey};
 use records::Records;
 use restart_rules::{first_plan, known_of, restart_plan, walk_of};
 
@@ -39,7 +39,7 @@ fn put_row(records: &mut Records, x: ExecutionId, new: Option<ExecutionRow>)
 fn put_mark(
     records: &mut Records,
     row: &Option<ExecutionRow>,
-    step: T256,
+    step: WorkKey,
     mark: Text<65536>,
 ) -> Result<(), OutOfMemory>
     ensures rows { OnOk result (SetsMark (place_at row.now step) (Some mark)
@@ -53,7 +53,7 @@ fn put_mark(
 }
 
 /// Drops the checkpoint of a step that is completed.
-fn drop_mark(records: &mut Records, outcome: WorkOutcome, row: &Option<ExecutionRow>, step: T256)
+fn drop_mark(records: &mut Records, outcome: WorkOutcome, row: &Option<ExecutionRow>, step: WorkKey)
     ensures { LeavesMark outcome (place_at row.now step) records.old records.new }
 {
     match outcome {
@@ -228,12 +228,12 @@ impl<const LIMIT: u64> Repository<LIMIT> {
             unreachable!();
         };
         let x = work.execution;
-        let element = work.element.try_clone()?;
+        let key = work.key()?;
         let mark = mark.try_clone()?;
         let work = rows::report_counts(*step, work)?;
         let known = known_of(self.alloc, &self.records, x)?;
         let row = self.execution_after(x, Change::Report, known.as_slice(), at)?;
-        put_mark(&mut self.records, &row, element, mark)?;
+        put_mark(&mut self.records, &row, key, mark)?;
         self.records.change_work(w, work);
         put_row(&mut self.records, x, row);
         self.count += 1;
@@ -264,12 +264,12 @@ impl<const LIMIT: u64> Repository<LIMIT> {
             unreachable!();
         };
         let x = work.execution;
-        let element = work.element.try_clone()?;
+        let key = work.key()?;
         let exit = status::exit_or_name(self.alloc, outcome, exit)?;
         let known = search::known_once_finished(self.alloc, &self.records, x, w, outcome, &exit)?;
         let row = self.execution_after(x, Change::Report, known.as_slice(), at)?;
-        let work = rows::end_work(outcome, exit, *step, at, work)?;
-        drop_mark(&mut self.records, outcome, &row, element);
+        let work = rows::end_work(outcome, exit, *step, at, self.count + 1, work)?;
+        drop_mark(&mut self.records, outcome, &row, key);
         self.records.change_work(w, work);
         put_row(&mut self.records, x, row);
         self.count += 1;

@@ -10,6 +10,7 @@ mod repository;
 mod rows;
 mod search;
 mod status;
+mod steps;
 
 pub use batch_history::{
     Answer, Call, CountsByStatus, Entry, JobExecution, JobInstance, Query, Reply, StepExecution,

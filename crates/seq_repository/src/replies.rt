@@ -1,7 +1,7 @@
 ghost use Rattle.std.specs.Prelude.{◌≡◌, [], find, IfOk};
 ghost use Rattle.std.specs.Option.{option_copied};
 ghost use Rattle.batch_history.specs.Due.{IsDue};
-ghost use Rattle.batch_history.specs.Replies.{is_execution, reply_by, accepted, claim_reply, reply_to_stop, reply_to_abandon, reply_to_checkpoint, reply_to_finish, reply_to_loss, stop_requested_of, report_refusal, reply_to_kept_checkpoint, reply_to_stopped_step, reply_to_stopped_work, reply_to_end, next_work_item, work_task, runnable_of_job, walk_in_rows, first_ready};
+ghost use Rattle.batch_history.specs.Replies.{is_execution, reply_by, accepted, claim_reply, reply_to_stop, reply_to_abandon, reply_to_checkpoint, reply_to_finish, reply_to_loss, stop_requested_of, report_refusal, reply_to_kept_checkpoint, reply_to_stopped_step, reply_to_stopped_work, reply_to_end, next_work_item, partition_named, partitions_of_job, work_task, runnable_of_job, walk_in_rows, first_ready};
 ghost use Rattle.batch_history.specs.Walks.{job_named};
 ghost use Rattle.batch_history.specs.Works.{is_work};
 ghost use Rattle.seq_repository.specs.Kept.{rows_in};
@@ -11,7 +11,7 @@ use crate::search::Claimable;
 use crate::{search, status};
 use batch_history::{Call, ExecutionRow, Reply, WorkItem, WorkKind, WorkState, WorkTask};
 use batch_ids::{ExecutionId, OutOfMemory, Refusal, T256, Text, WorkId, WorkOutcome};
-use job_walk::{Runnable, Value};
+use job_walk::{Runnable, Value, WorkKey};
 use jsl_model::Task;
 use restart_rules::may_restart;
 use std::alloc::Global;
@@ -190,32 +190,48 @@ impl<const LIMIT: u64> Repository<LIMIT> {
         &self,
         mark: Option<&Text<65536>>,
         job: &T256,
-        element: &T256,
+        key: &WorkKey,
     ) -> Result<WorkTask, OutOfMemory>
         ensures { IfOk result (λ task. task
             ≡ work_task (option_copied mark.entry) (runnable_of_job
-            (job_named self.now.catalogue job.now) element.now)) }
+            (job_named self.now.catalogue job.now) key.now)) }
     {
         match self.catalogue.job(job.as_str()) {
             None => task_of(self.alloc, mark, None),
             Some(job) => {
-                let found = job_walk::find_runnable(job.elements(), element)?;
+                let found = job_walk::find_runnable(job.elements(), key)?;
                 task_of(self.alloc, mark, found)
             }
         }
     }
 
-    fn item_of(&self, row: &ExecutionRow, id: &T256) -> Result<WorkItem, OutOfMemory>
-        ensures { IfOk result (λ item. item ≡ next_work_item (rows_in self.now) row.now id.now) }
+    /// Which partition a work item of this work key names, where its step is partitioned.
+    fn partition_named(&self, job: &T256, key: &WorkKey) -> Option<u32>
+        ensures { result ≡ partition_named key.now.partition (partitions_of_job
+            (job_named self.now.catalogue job.now) key.now) }
     {
-        let mark = self.records.checkpoint(row.instance, id);
-        let task = self.task_in(mark, &row.job, id)?;
-        let element = id.try_clone()?;
+        match self.catalogue.job(job.as_str()) {
+            None => None,
+            Some(job) => match job_walk::find_partitions(job.elements(), key) {
+                None => None,
+                Some(_) => Some(key.partition),
+            },
+        }
+    }
+
+    fn item_of(&self, row: &ExecutionRow, key: &WorkKey) -> Result<WorkItem, OutOfMemory>
+        ensures { IfOk result (λ item. item ≡ next_work_item (rows_in self.now) row.now key.now) }
+    {
+        let mark = self.records.checkpoint(row.instance, key);
+        let task = self.task_in(mark, &row.job, key)?;
+        let partition = self.partition_named(&row.job, key);
+        let element = key.element.try_clone()?;
         let work = WorkId::new(self.last.work + 1);
         Ok(WorkItem {
             work,
             execution: row.execution,
             element,
+            partition,
             task,
         })
     }
@@ -227,7 +243,7 @@ impl<const LIMIT: u64> Repository<LIMIT> {
     {
         match status::first_ready(value) {
             None => Ok(Reply::Closed(row.execution)),
-            Some(id) => Ok(Reply::Work(self.item_of(row, id)?)),
+            Some(key) => Ok(Reply::Work(self.item_of(row, key)?)),
         }
     }
 

@@ -130,10 +130,17 @@ impl<const LIMIT: u64> Repository<LIMIT> {
     /// # Errors
     ///
     /// The query's refusal where it stands, or `OutOfMemory` in place of any answer.
+    #[tactic(auto, using(crate::proofs::Metering::within_limit))]
     pub fn ask(&self, query: &Query) -> Result<Answer, Refusal>
         ensures { (h : History) → StandsFor self.now h → IsDue result (answer h query.now) }
     {
-        answers::answer(self.alloc, &self.records, self.last.execution, query)
+        answers::answer(
+            self.alloc,
+            &self.catalogue,
+            &self.records,
+            self.last.execution,
+            query,
+        )
     }
 
     /// How many job executions have each batch status. It takes no memory, and goes over all job

@@ -121,11 +121,13 @@ pub(crate) fn new_work(who: u64, at: Moment, item: &WorkItem) -> Result<WorkRow,
         work: item.work,
         execution: item.execution,
         element,
+        partition: item.partition,
         kind: item.task.kind(),
         claimer: who,
         state: WorkState::Busy,
         start: at,
         end: None,
+        ended: None,
         metrics: Metrics::zero(),
     })
 }
@@ -163,25 +165,28 @@ pub(crate) fn report_counts(step: MetricStep, row: &WorkRow) -> Result<WorkRow, 
         work: row.work,
         execution: row.execution,
         element,
+        partition: row.partition,
         kind: row.kind,
         claimer: row.claimer,
         state,
         start: row.start,
         end: row.end,
+        ended: row.ended,
         metrics,
     })
 }
 
-/// The row of a work item that is over.
+/// The row of a work item that is over, by the operation of this number.
 pub(crate) fn end_work(
     outcome: WorkOutcome,
     exit: T256,
     step: MetricStep,
     at: Moment,
+    number: u64,
     row: &WorkRow,
 ) -> Result<WorkRow, OutOfMemory>
     requires { IsWithin (most_after 1000000) row.now.metrics }
-    ensures new { IfOk result (λ new. new ≡ over_as outcome exit step at row.now) }
+    ensures new { IfOk result (λ new. new ≡ over_as outcome exit step at number row.now) }
     ensures small { IsStep step }
 {
     let metrics = add_counts(row.metrics, step);
@@ -190,11 +195,13 @@ pub(crate) fn end_work(
         work: row.work,
         execution: row.execution,
         element,
+        partition: row.partition,
         kind: row.kind,
         claimer: row.claimer,
         state: WorkState::Over(outcome, exit),
         start: row.start,
         end: Some(at),
+        ended: Some(number),
         metrics,
     })
 }

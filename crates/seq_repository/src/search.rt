@@ -44,7 +44,7 @@ pub(crate) fn known_once_claimed(
 {
     let mut known = known_of(alloc, records, item.execution)?;
     known.push(Known {
-        id: item.element.try_clone()?,
+        key: item.key()?,
         fact: Fact::Busy,
     })?;
     Ok(known)
@@ -60,10 +60,10 @@ pub(crate) fn known_once_finished(
     exit: &T256,
 ) -> Result<Vec<Known>, OutOfMemory>
     requires { IfSome (find (is_work w) records.now.works) (λ row. row.execution ≡ x) }
-    ensures { (step : Step) (at : ℕ)
+    ensures { (step : Step) (at number : ℕ)
         → IfOk result (λ known. known.items
         ≡ known_elements x (change_first (is_work w)
-        (over_as outcome exit.now step at) records.now.works)) }
+        (over_as outcome exit.now step at number) records.now.works)) }
 {
     let mut known = Vec::new(alloc);
     let mut met = false;
@@ -75,7 +75,7 @@ pub(crate) fn known_once_finished(
             state_fact(&row.state)?
         };
         known.push(Known {
-            id: row.element.try_clone()?,
+            key: row.key()?,
             fact,
         })?;
         if here {

@@ -6,7 +6,7 @@ ghost use Rattle.batch_history.specs.Statuses.{is_finished, batch_status, exit_s
 ghost use Rattle.batch_history.specs.Works.{exit_or_name};
 
 use batch_ids::{BatchStatus, Listed, Moment, OutOfMemory, T256, WorkOutcome};
-use job_walk::Value;
+use job_walk::{Value, WorkKey};
 use std::alloc::Global;
 
 /// The exit status of a work item.
@@ -23,8 +23,8 @@ pub(crate) fn exit_or_name(
     }
 }
 
-/// The first ready element of a walk.
-pub(crate) fn first_ready(value: &Value) -> Option<&T256>
+/// The first work key of a walk that may be run now.
+pub(crate) fn first_ready(value: &Value) -> Option<&WorkKey>
     ensures { option_copied result ≡ first_ready value.now }
 {
     match value {
@@ -52,7 +52,7 @@ pub(crate) fn earliest(earlier: Option<Moment>, counts: bool, at: Moment) -> Opt
 }
 
 /// The status of a job execution that was asked to stop, by what is being run.
-fn stop_status(busy: &Listed<T256>) -> BatchStatus
+fn stop_status(busy: &Listed<WorkKey>) -> BatchStatus
     ensures { result ≡ stopping_status busy.now }
 {
     match busy.as_slice().first() {
@@ -97,7 +97,7 @@ fn stopped_exit(alloc: Global) -> Result<Option<T256>, OutOfMemory>
     Ok(Some(T256::within(alloc, BatchStatus::Stopped.name())?))
 }
 
-fn exit_of_stop(alloc: Global, busy: &Listed<T256>) -> Result<Option<T256>, OutOfMemory>
+fn exit_of_stop(alloc: Global, busy: &Listed<WorkKey>) -> Result<Option<T256>, OutOfMemory>
     ensures { IfOk result (λ exit. exit ≡ stopping_exit_status busy.now) }
 {
     match busy.as_slice().first() {

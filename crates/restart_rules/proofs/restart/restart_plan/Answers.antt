@@ -2,7 +2,7 @@ use Rattle.std.proofs.Common.{◌≡◌, ℕ, Some, is_some, List, map, sym, ◌
 use Rattle.jsl_model.specs.Jobs.{JobTree}
 use Rattle.batch_history.specs.Replies.{restart_plan, walk_in_rows}
 use Rattle.batch_history.specs.Restarts.{plan_by, restart_point}
-use Rattle.batch_history.specs.Walks.{element_facts, job_named}
+use Rattle.batch_history.specs.Walks.{facts_by_work, job_named}
 use Rattle.batch_history.specs.declared.rows.WorkRow.{WorkRow}
 use Rattle.records.specs.Left.{works_of_instance}
 use Rattle.restart_rules.specs.Placed.{begins_in_job}
@@ -33,5 +33,5 @@ returns-clause-begins c =
     (λ plan. begins_in_job plan (job_named c.args.catalogue.now c.args.row.now.job) ≡ Rattle.std.proofs.Common.true)
     (c.plan_by.ensures job (sym c.elements.ensures.same))
     (λ plan made. begins_after job c.elements.ensures.checked c.args.row.now.plan (job_named c.args.catalogue.now c.args.row.now.job)
-    (element_facts c.args.row.now.execution c.args.records.now.works) c.is_some.result c.in_ok-value.value c.in_ok-from.from earlier plan
+    (facts_by_work c.args.row.now.execution c.args.records.now.works) c.is_some.result c.in_ok-value.value c.in_ok-from.from earlier plan
     c.job_of-job.ensures.named c.requires c.in_ok-value.ensures c.in_ok-from.ensures made)

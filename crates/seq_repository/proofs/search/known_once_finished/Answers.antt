@@ -10,8 +10,8 @@ use Rattle.seq_repository.proofs.Readers.{known_changed}
 use Rattle.seq_repository.proofs.search.known_once_finished.Goals as goal
 
 pub loop-row-init : goal.loop-row-init
-loop-row-init c = λ step at.
-    let over : WorkRow → WorkRow = over_as c.args.outcome c.args.exit.now step at in
+loop-row-init c = λ step at number.
+    let over : WorkRow → WorkRow = over_as c.args.outcome c.args.exit.now step at number in
     let begun : works_left c.into_iter-row-iterator.result ≡ works_of c.args.x c.args.records.now.works =
     ap works_left c.into_iter-row-iterator.ensures.into_iter_gives ∙ c.works_of-row-items.ensures in
     ap (λ (l : List Known). l ++ map known_by (change_first (is_work c.args.w) over (works_left c.into_iter-row-iterator.result))) c.new-known.ensures.items

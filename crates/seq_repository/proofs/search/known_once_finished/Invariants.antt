@@ -9,6 +9,6 @@ use Rattle.restart_rules.proofs.Reading.{known_by}
 use Rattle.seq_repository.proofs.search.known_once_finished.Given as goal
 
 abbrev pub invariant-loop-row : goal.invariant-loop-row
-invariant-loop-row l = (step : MetricStep) (at : ℕ) →
-    l.known.items ++ map known_by (cond l.met (works_left l.row-iterator) (change_first (is_work l.w) (over_as l.outcome l.exit step at) (works_left l.row-iterator)))
-    ≡ known_elements l.fn.x (change_first (is_work l.w) (over_as l.outcome l.exit step at) l.records.works)
+invariant-loop-row l = (step : MetricStep) (at number : ℕ) →
+    l.known.items ++ map known_by (cond l.met (works_left l.row-iterator) (change_first (is_work l.w) (over_as l.outcome l.exit step at number) (works_left l.row-iterator)))
+    ≡ known_elements l.fn.x (change_first (is_work l.w) (over_as l.outcome l.exit step at number) l.records.works)

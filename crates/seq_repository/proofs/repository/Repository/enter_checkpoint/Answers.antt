@@ -25,14 +25,14 @@ report_counts-requires g c =
 
 pub change_work-requires : goal.change_work-requires
 change_work-requires g c =
-    let alone = set-alone (place_at c.in_ok-row.row c.in_ok-element.element) (Some c.in_ok-mark.mark) c.self.inside.records c.put_mark.new.records c.in_ok-put_mark.ensures.rows in
+    let alone = set-alone (place_at c.in_ok-row.row c.in_ok-key.key) (Some c.in_ok-mark.mark) c.self.inside.records c.put_mark.new.records c.in_ok-put_mark.ensures.rows in
     subst (λ (m : Maps). MayReplaceWork m.works c.args.w c.in_ok-work.work) (sym alone)
     (reported-own c.args.w c.args.step.now c.self.inside.records.works c.in-Some.work.now c.in_ok-work.work (sym c.in-Some.ensures) c.in_ok-work.ensures.new)
 
 pub invariant_of-self-2 : goal.invariant_of-self-2
 invariant_of-self-2 g c =
     let kept : Kept = record { catalogue = c.self.inside.catalogue; count = c.self.inside.count; last = c.self.inside.last; records = c.self.inside.records } in
-    let alone = set-alone (place_at c.in_ok-row.row c.in_ok-element.element) (Some c.in_ok-mark.mark) c.self.inside.records c.put_mark.new.records c.in_ok-put_mark.ensures.rows in
+    let alone = set-alone (place_at c.in_ok-row.row c.in_ok-key.key) (Some c.in_ok-mark.mark) c.self.inside.records c.put_mark.new.records c.in_ok-put_mark.ensures.rows in
     sound_report g.row.LIMIT kept c.put_mark.new.records _ c.put_row.new.records (is_work c.args.w) _ c.in-Some.work.now c.in_ok-work.work c.in_ok-row.row c.args.step.now
     c.self.invariant (omega (arith, c.requires.room, ap (λ (r : Kept). r.count) c.self.view_is))
     (subst (λ (r : Kept). IfSome c.in_ok-row.row (λ row. MayReplaceExecution r.records.executions c.in-Some.work.now.execution row)) (sym c.self.view_is) c.in_ok-row.ensures.own)
@@ -46,8 +46,8 @@ returns-clause-rows g c =
     let P : Kept → Type 0 = λ r. c.in_ok-row.row ≡ option_map (row_after Report r.catalogue works c.args.at) (find (is_execution c.in-Some.work.now.execution) r.records.executions) in
     rw (← c.self.view_is)
     (checkpoint-entered c.self.inside.catalogue c.self.inside.count c.self.inside.records _ _ c.put_row.new.records 0 c.args.at c.args.w c.args.mark.now c.args.step.now Done
-    c.in-Some.work.now c.in_ok-work.work c.in_ok-row.row c.in_ok-element.element c.in_ok-mark.mark
-    found c.in_ok-work.ensures.new c.in_ok-element.ensures c.in_ok-mark.ensures
+    c.in-Some.work.now c.in_ok-work.work c.in_ok-row.row c.in_ok-key.key c.in_ok-mark.mark
+    found c.in_ok-work.ensures.new c.in_ok-key.ensures c.in_ok-mark.ensures
     (subst P (sym c.self.view_is) (c.in_ok-row.ensures.row works
     (c.as_slice.ensures.value ∙ (c.in_ok-known.ensures
     ∙ known_reported c.in-Some.work.now.execution (is_work c.args.w) c.args.step.now c.self.inside.records.works))))
