@@ -1,4 +1,5 @@
 -- Rows and replies: what the searches find is what the fold has, in every legal history.
+use Rattle.batch_history.specs.declared.rows.LastNumbers.{LastNumbers}
 use Rattle.std.proofs.Common.{◌≡◌, ℕ, ◌+◌, ◌≤◌, cond, Option, None, Some, List, [], ◌∷◌, length, map, find, filter_map, refl, sym, ◌∙◌, ap, arith}
 use Rattle.std.specs.List.{cons_option}
 use Rattle.std.specs.Option.{option_map}
@@ -10,19 +11,19 @@ use Rattle.batch_history.specs.declared.call.Entry.{Entry}
 use Rattle.batch_history.specs.declared.rows.ExecutionRow.{ExecutionRow}
 use Rattle.batch_history.specs.declared.rows.WorkRow.{WorkRow}
 use Rattle.batch_history.specs.declared.rows.JobInstance.{JobInstance}
-use Rattle.batch_history.proofs.Folds.{made, is_made, folded_rows, execution_row}
+use Rattle.batch_history.proofs.Folds.{made, is_made, folded_rows, execution_row, last_of, works_of, instances_of}
 use Rattle.batch_history.specs.Checkpoints.{InstanceStep, checkpoint_of}
-use Rattle.batch_history.specs.Executions.{Made, Origin, origin_of, made_as}
+use Rattle.batch_history.specs.Executions.{Made, Origin, origin_of, made_as, job_execution_count}
 use Rattle.batch_history.specs.Replies.{is_execution, reply_by}
-use Rattle.batch_history.specs.Rows.{Rows, row_of_origin, job_execution, numbers_from, job_executions, rows_of_past}
-use Rattle.batch_history.specs.Works.{work_items}
+use Rattle.batch_history.specs.Rows.{Rows, row_of_origin, job_execution, numbers_from, job_executions, rows_of_past, last_numbers, all_rows}
+use Rattle.batch_history.specs.Works.{work_items, work_item_count}
 use Rattle.batch_history.proofs.Ends.{planned-law, walk-law, end-law}
 use Rattle.batch_history.proofs.Plans.{due-all-fit}
 use Rattle.batch_history.proofs.Stepping.{AreNumbered, numbered, same_row}
 use Rattle.batch_history.proofs.Told.{AllDue}
 use Rattle.batch_history.proofs.Pasts.{AllFit}
-use Rattle.batch_history.proofs.Origins.{origin-law, executions-made, instances-law}
-use Rattle.batch_history.proofs.Items.{works-law}
+use Rattle.batch_history.proofs.Origins.{origin-law, executions-made, instances-law, instances-made}
+use Rattle.batch_history.proofs.Items.{works-law, works-counted}
 use Rattle.batch_history.proofs.Times.{stop-law, abandoned-law, start-law, updated-law}
 use Rattle.batch_history.proofs.Standing.{marks-law}
 
@@ -80,20 +81,24 @@ executions-law limit catalogue past due =
     ap (λ n. filter_map (job_execution catalogue past) (numbers_from 1 n)) (executions-made past)
     ∙ rows-from limit catalogue past 1 (made past) due (numbered past) (λ x le. origin-law past (due-all-fit limit catalogue past due) x)
 
--- Rows and replies
+-- Rows
+
+-- the last numbers are those that the fold has
+last-law : (past : List Entry) → AllFit past → last_numbers past ≡ last_of past
+last-law past fits =
+    let works : work_item_count past ≡ length (works_of past) = sym (works-counted past) ∙ ap length (works-law past fits) in
+    ap (λ n. record { instance = n; execution = job_execution_count past; work = work_item_count past }) (instances-made past)
+    ∙ (ap (λ n. record { instance = length (instances_of past); execution = n; work = work_item_count past }) (executions-made past)
+    ∙ ap (λ n. record { instance = length (instances_of past); execution = length (made past); work = n }) works)
 
 -- the rows that are found are those that the fold has
-pub rows-law : (limit : ℕ) (catalogue : List JobTree) (past : List Entry) → AllDue limit catalogue past → rows_of_past catalogue past ≡ folded_rows catalogue past
+pub rows-law : (limit : ℕ) (catalogue : List JobTree) (past : List Entry) → AllDue limit catalogue past → all_rows catalogue past ≡ folded_rows catalogue past
 rows-law limit catalogue past due =
     let fits : AllFit past = due-all-fit limit catalogue past due in
-    let r : Rows = rows_of_past catalogue past in
+    let r : Rows = all_rows catalogue past in
     let all : Rows = folded_rows catalogue past in
-    ap (λ (rows : List JobInstance). record r { instances = rows }) (instances-law past)
+    ap (λ (last : LastNumbers). record r { last = last }) (last-law past fits)
+    ∙ (ap (λ (rows : List JobInstance). record r { last = last_of past; instances = rows }) (instances-law past)
     ∙ (ap (λ (rows : List ExecutionRow). record all { executions = rows; works = work_items past; checkpoint = checkpoint_of past }) (executions-law limit catalogue past due)
     ∙ (ap (λ (rows : List WorkRow). record all { works = rows; checkpoint = checkpoint_of past }) (works-law past fits)
-    ∙ ap (λ (marks : InstanceStep → Option (List ℕ)). record all { checkpoint = marks }) (sym (marks-law past fits))))
-
--- a call is answered alike
-pub reply-law : (limit : ℕ) (catalogue : List JobTree) (past : List Entry) (who : ℕ) (call : Call) → AllDue limit catalogue past
-    → reply_by limit (rows_of_past catalogue past) who call ≡ reply_by limit (folded_rows catalogue past) who call
-reply-law limit catalogue past who call due = ap (λ r. reply_by limit r who call) (rows-law limit catalogue past due)
+    ∙ ap (λ (marks : InstanceStep → Option (List ℕ)). record all { checkpoint = marks }) (sym (marks-law past fits)))))

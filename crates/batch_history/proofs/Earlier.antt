@@ -7,7 +7,7 @@ use Rattle.batch_ids.specs.Metrics.{zero_step}
 use Rattle.batch_ids.specs.declared.status.WorkOutcome.TheVariants.{Failed}
 use Rattle.jsl_model.specs.Jobs.{JobTree}
 use Rattle.batch_history.specs.declared.call.Call.{Call}
-use Rattle.batch_history.specs.declared.call.Call.TheVariants.{Start, Restart, Stop, Abandon, Claim, Checkpoint, Finish, Lose}
+use Rattle.batch_history.specs.declared.call.Call.TheVariants.{Start, Restart, Stop, Abandon, Claim, Checkpoint, Finish, Lose, Purge}
 use Rattle.batch_history.specs.declared.call.Reply.{Reply}
 use Rattle.batch_history.specs.declared.call.Reply.TheVariants.{Execution as IsExecution, Work, Closed, Nothing, Done, Go, StopAsked}
 use Rattle.batch_history.specs.declared.call.Entry.{Entry}
@@ -168,6 +168,7 @@ earlier-call limit catalogue past who at (Finish w o t step) reply m due there =
     report-late limit catalogue past w m (over o t step at (length past + 1)) due.1 there (finish-told limit (folded_rows catalogue past) who w o reply due.0.0) (λ r. refl)
 earlier-call limit catalogue past who at (Lose w) reply m due there =
     report-late limit catalogue past w m (over Failed None zero_step at (length past + 1)) due.1 there (loss-told limit (length past) (works_of past) w reply due.0.0) (λ r. refl)
+earlier-call limit catalogue past who at (Purge i) reply m due there = refl
 
 -- and after any operations more
 pub earlier-stays : (limit : ℕ) (catalogue : List JobTree) (more past : List Entry) (m : Made) → AllDue limit catalogue (more ++ past)
@@ -202,6 +203,7 @@ known-call limit catalogue past who at (Lose w) reply m due found over =
     on-it (is_at m.execution (execution_of_work (works_of past) w))
     (λ on. absurd (not-both _ over (owner-unfinished catalogue past w m (kept limit catalogue past due.1) (loss-told limit (length past) (works_of past) w reply due.0.0) found on)))
     (λ off. known-same m.execution (length past + 1) who at (Lose w) reply (works_of past) off)
+known-call limit catalogue past who at (Purge i) reply m due found over = refl
 
 pub over-stays : (limit : ℕ) (catalogue : List JobTree) (more past : List Entry) (m : Made) → AllDue limit catalogue (more ++ past)
     → find (is_made m.execution) (made past) ≡ Some m → is_finished (bare_of catalogue past m) ≡ true → is_finished (bare_of catalogue (more ++ past) m) ≡ true

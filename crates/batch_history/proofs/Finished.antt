@@ -9,7 +9,7 @@ use Rattle.jsl_model.specs.Jobs.{JobTree}
 use Rattle.job_walk.specs.declared.facts.Value.{Value}
 use Rattle.job_walk.specs.declared.facts.Value.TheVariants.{Open, Done as IsDone, Ended}
 use Rattle.batch_history.specs.declared.call.Call.{Call}
-use Rattle.batch_history.specs.declared.call.Call.TheVariants.{Start, Restart, Stop, Abandon, Claim, Checkpoint, Finish, Lose}
+use Rattle.batch_history.specs.declared.call.Call.TheVariants.{Start, Restart, Stop, Abandon, Claim, Checkpoint, Finish, Lose, Purge}
 use Rattle.batch_history.specs.declared.call.Reply.{Reply}
 use Rattle.batch_history.specs.declared.call.Entry.{Entry}
 use Rattle.batch_history.specs.declared.rows.ExecutionRow.{ExecutionRow}
@@ -176,6 +176,7 @@ finished-call limit catalogue past who at (Lose w) reply m due k found over =
     on-it (is_at m.execution (execution_of_work (works_of past) w))
     (λ on. absurd (not-both (bare_of catalogue past m) over (owner-unfinished catalogue past w m k (loss-told limit (length past) (works_of past) w reply due.0) found on)))
     (λ off. away catalogue past (entry who at (Lose w) reply) m refl off)
+finished-call limit catalogue past who at (Purge i) reply m due k found over = row-kept catalogue past (entry who at (Purge i) reply) m refl refl refl refl
 
 -- after one operation more
 pub finished-step : (limit : ℕ) (catalogue : List JobTree) (past : List Entry) (e : Entry) (m : Made) → AllDue limit catalogue (e ∷ past)

@@ -12,12 +12,13 @@ use Rattle.batch_history.specs.Restarts.{first_plan, plan_by, restart_point}
 use Rattle.batch_history.specs.Walks.{job_named, walk_value}
 use Rattle.batch_history.specs.Works.{is_work, busy_work, exit_or_name, execution_of_operation}
 use Rattle.batch_history.specs.declared.call.Call.{Call}
-use Rattle.batch_history.specs.declared.call.Call.TheVariants.{Start, Restart, Stop, Abandon, Claim, Checkpoint, Finish, Lose}
+use Rattle.batch_history.specs.declared.call.Call.TheVariants.{Start, Restart, Stop, Abandon, Claim, Checkpoint, Finish, Lose, Purge}
 use Rattle.batch_history.specs.declared.call.Entry.{Entry}
 use Rattle.batch_history.specs.declared.call.Reply.{Reply}
 use Rattle.batch_history.specs.declared.call.Reply.TheVariants.{Execution, Work, Closed, Nothing, Done, Go, StopAsked}
 use Rattle.batch_history.specs.declared.rows.ExecutionRow.{ExecutionRow}
 use Rattle.batch_history.specs.declared.rows.JobInstance.{JobInstance}
+use Rattle.batch_history.specs.declared.rows.LastNumbers.{LastNumbers}
 use Rattle.batch_history.specs.declared.rows.WorkRow.{WorkRow}
 use Rattle.batch_history.specs.declared.rows.WorkState.TheVariants.{Over}
 use Rattle.batch_ids.specs.Metrics.{added, zero_step}
@@ -30,20 +31,22 @@ use Rattle.job_walk.specs.declared.facts.Value.{Value}
 use Rattle.job_walk.specs.declared.plan.Plan.{Plan}
 use Rattle.jsl_model.specs.Jobs.{JobTree}
 
-abbrev pub instances_after : Call → List JobInstance → List JobInstance
-instances_after (Start job parameters) rows = rows ++ record { instance = length rows + 1; job = job } ∷ []
-instances_after (Restart y parameters) rows = rows
-instances_after (Stop y) rows = rows
-instances_after (Abandon y) rows = rows
-instances_after Claim rows = rows
-instances_after (Checkpoint w mark step) rows = rows
-instances_after (Finish w outcome exit step) rows = rows
-instances_after (Lose w) rows = rows
+-- the job instances after a call, this number being the next
+abbrev pub instances_after : ℕ → Call → List JobInstance → List JobInstance
+instances_after n (Start job parameters) rows = rows ++ record { instance = n; job = job } ∷ []
+instances_after n (Restart y parameters) rows = rows
+instances_after n (Stop y) rows = rows
+instances_after n (Abandon y) rows = rows
+instances_after n Claim rows = rows
+instances_after n (Checkpoint w mark step) rows = rows
+instances_after n (Finish w outcome exit step) rows = rows
+instances_after n (Lose w) rows = rows
+instances_after n (Purge i) rows = rows
 
 -- the job instances of a past
 abbrev pub instances_of : List Entry → List JobInstance
 instances_of [] = []
-instances_of (e ∷ older) = instances_after e.call (instances_of older)
+instances_of (e ∷ older) = instances_after (length (instances_of older) + 1) e.call (instances_of older)
 
 abbrev pub is_made : ℕ → Made → Bool
 is_made x m = m.execution == x
@@ -63,6 +66,7 @@ made_after instances at Claim all = all
 made_after instances at (Checkpoint w mark step) all = all
 made_after instances at (Finish w outcome exit step) all = all
 made_after instances at (Lose w) all = all
+made_after instances at (Purge i) all = all
 
 -- the job executions of a past, as they were made
 abbrev pub made : List Entry → List Made
@@ -79,6 +83,7 @@ makes count x Claim = false
 makes count x (Checkpoint w mark step) = false
 makes count x (Finish w outcome exit step) = false
 makes count x (Lose w) = false
+makes count x (Purge i) = false
 
 -- a work item with these counts added to its metrics
 abbrev pub reported : MetricStep → WorkRow → WorkRow
@@ -110,6 +115,7 @@ works_after n who at Claim reply rows = with_handed_out who at reply rows
 works_after n who at (Checkpoint w mark step) reply rows = change_first (is_work w) (reported step) rows
 works_after n who at (Finish w outcome exit step) reply rows = change_first (is_work w) (over outcome exit step at n) rows
 works_after n who at (Lose w) reply rows = change_first (is_work w) (over Failed None zero_step at n) rows
+works_after n who at (Purge i) reply rows = rows
 
 -- the work items of a past
 abbrev pub works_of : List Entry → List WorkRow
@@ -177,6 +183,7 @@ plan_made catalogue past earlier Claim = first_plan None
 plan_made catalogue past earlier (Checkpoint w mark step) = first_plan None
 plan_made catalogue past earlier (Finish w outcome exit step) = first_plan None
 plan_made catalogue past earlier (Lose w) = first_plan None
+plan_made catalogue past earlier (Purge i) = first_plan None
 
 -- the plan of a job execution, as it was when it was made
 abbrev pub plan_kept : List JobTree → List Entry → ℕ → Plan
@@ -205,12 +212,17 @@ execution_row catalogue past m =
     execution_row_with m (plan_kept catalogue past m.execution) (stop_of past m.execution) (abandoned_of past m.execution) (start_of past m.execution)
     (value_after catalogue past m) (end_of catalogue past m) (updated_of past m.execution)
 
--- the rows of a past
+-- the last numbers that a past has given
+abbrev pub last_of : List Entry → LastNumbers
+last_of past = record { instance = length (instances_of past); execution = length (made past); work = length (works_of past) }
+
+-- the rows of all that a past has made
 abbrev pub folded_rows : List JobTree → List Entry → Rows
 folded_rows catalogue past =
     record {
       catalogue = catalogue;
       count = length past;
+      last = last_of past;
       instances = instances_of past;
       executions = map (execution_row catalogue past) (made past);
       works = works_of past;

@@ -9,7 +9,7 @@ use Rattle.batch_ids.specs.declared.status.WorkOutcome.{WorkOutcome}
 use Rattle.batch_ids.specs.declared.status.WorkOutcome.TheVariants.{Failed}
 use Rattle.job_walk.proofs.Following.{find-map}
 use Rattle.batch_history.specs.declared.call.Call.{Call}
-use Rattle.batch_history.specs.declared.call.Call.TheVariants.{Start, Restart, Stop, Abandon, Claim, Checkpoint, Finish, Lose}
+use Rattle.batch_history.specs.declared.call.Call.TheVariants.{Start, Restart, Stop, Abandon, Claim, Checkpoint, Finish, Lose, Purge}
 use Rattle.batch_history.specs.declared.call.Reply.{Reply}
 use Rattle.batch_history.specs.declared.call.Reply.TheVariants.{Execution as IsExecution, Work, Closed, Nothing, Done, Go, StopAsked}
 use Rattle.batch_history.specs.declared.call.Entry.{Entry}
@@ -61,7 +61,7 @@ rows-step w who at Done rows h e = subst (AreRows 1) (sym (append-nil rows)) h
 rows-step w who at Go rows h e = subst (AreRows 1) (sym (append-nil rows)) h
 rows-step w who at StopAsked rows h e = subst (AreRows 1) (sym (append-nil rows)) h
 
-handed-numbered : (past : List Entry) → AreRows 1 (items_handed_out past)
+pub handed-numbered : (past : List Entry) → AreRows 1 (items_handed_out past)
 handed-numbered [] = tt
 handed-numbered (e ∷ older) =
     rows-step (work_item_count older + 1) e.who e.at e.reply (items_handed_out older) (handed-numbered older) (ap (λ n. n + 1) (sym (handed-length older)))
@@ -209,6 +209,8 @@ works-step older who at Claim reply fits before = claim-works older who at reply
 works-step older who at (Checkpoint v mark step) reply fits before = checkpoint-works older who at v mark step reply fits.0 before
 works-step older who at (Finish v o exit step) reply fits before = finish-works older who at v o exit step reply fits.0 before
 works-step older who at (Lose v) reply fits before = loss-works older who at v reply fits.0 before
+works-step older who at (Purge i) reply fits before =
+    same-handed older (record { who = who; call = Purge i; at = at; reply = reply }) fits ∙ before.same
 
 more-works : (older : List Entry) (e : Entry) → work_item_count older ≤ work_item_count (e ∷ older)
 more-works older e =
@@ -235,6 +237,7 @@ later-step older who at (Lose v) reply fits before w lt =
     let there : v ≤ work_item_count older = within older v before.same fits.1 in
     ap (λ b. progress_by (cond b (Some e) (ending_entry older w)) (cond b (Some (length older + 1)) (ending_operation older w)) (with_counts (counts_of zero_step b) (metrics_of older w))) (ne_eqb v w (λ is. omega arith))
     ∙ before.later w lt
+later-step older who at (Purge i) reply fits before w lt = before.later w lt
 
 works-agree : (past : List Entry) → AllFit past → WorksAgree past
 works-agree [] fits = record { same = refl; later = λ w lt. refl }

@@ -19,7 +19,7 @@ use Rattle.job_walk.specs.declared.plan.Plan.{Plan}
 use Rattle.job_walk.specs.declared.facts.Value.{Value}
 use Rattle.job_walk.specs.declared.facts.Value.TheVariants.{Open, Done as IsDone, Ended}
 use Rattle.batch_history.specs.declared.call.Call.{Call}
-use Rattle.batch_history.specs.declared.call.Call.TheVariants.{Start, Restart, Stop, Abandon, Claim, Checkpoint, Finish, Lose}
+use Rattle.batch_history.specs.declared.call.Call.TheVariants.{Start, Restart, Stop, Abandon, Claim, Checkpoint, Finish, Lose, Purge}
 use Rattle.batch_history.specs.declared.call.Reply.{Reply}
 use Rattle.batch_history.specs.declared.call.Reply.TheVariants.{Work, Closed}
 use Rattle.batch_history.specs.declared.call.Entry.{Entry}
@@ -384,6 +384,7 @@ kept-step limit catalogue older who at (Finish w o t step) reply due k =
 kept-step limit catalogue older who at (Lose w) reply due k =
     over-kept catalogue older (record { who = who; call = Lose w; at = at; reply = reply }) w Failed None zero_step refl (λ x. refl)
     (loss-told limit (length older) (works_of older) w reply due.0) k
+kept-step limit catalogue older who at (Purge i) reply due k = still-kept catalogue older _ refl k
 
 pub kept : (limit : ℕ) (catalogue : List JobTree) (past : List Entry) → AllDue limit catalogue past → IsKept catalogue past
 kept limit catalogue [] due = record { held = tt; apart = tt }

@@ -5,11 +5,11 @@ use Rattle.std.proofs.lemmas.List.{length-append, length-reverse, append_assoc, 
 use Rattle.std.proofs.lemmas.Bool.{ltb-true}
 use Rattle.jsl_model.specs.Jobs.{JobTree}
 use Rattle.batch_ids.specs.declared.refusal.Refusal.{Refusal}
-use Rattle.batch_ids.specs.declared.refusal.Refusal.TheVariants.{JobStartException, JobExecutionNotRunningException, JobExecutionIsRunningException, RepositoryFull}
+use Rattle.batch_ids.specs.declared.refusal.Refusal.TheVariants.{JobStartException, JobExecutionNotRunningException, JobExecutionIsRunningException, RepositoryFull, NoSuchJobInstanceException}
 use Rattle.batch_ids.specs.declared.status.WorkOutcome.{WorkOutcome}
 use Rattle.batch_ids.specs.declared.status.WorkOutcome.TheVariants.{Completed, Failed, Stopped}
 use Rattle.batch_history.specs.declared.call.Call.{Call}
-use Rattle.batch_history.specs.declared.call.Call.TheVariants.{Start, Restart, Stop, Abandon, Claim, Checkpoint, Finish, Lose}
+use Rattle.batch_history.specs.declared.call.Call.TheVariants.{Start, Restart, Stop, Abandon, Claim, Checkpoint, Finish, Lose, Purge}
 use Rattle.batch_history.specs.declared.call.Reply.{Reply}
 use Rattle.batch_history.specs.declared.call.Reply.TheVariants.{Execution as IsExecution, Done}
 use Rattle.batch_history.specs.declared.call.WorkKind.{WorkKind}
@@ -18,7 +18,7 @@ use Rattle.batch_history.specs.declared.call.Entry.{Entry}
 use Rattle.batch_history.specs.declared.rows.ExecutionRow.{ExecutionRow}
 use Rattle.batch_history.specs.declared.rows.WorkRow.{WorkRow}
 use Rattle.batch_history.specs.Legal.{grown, IsLegal}
-use Rattle.batch_history.specs.Replies.{is_nothing, reply, reply_by, row_status, is_running_in, accepted, reply_to_claim, reply_to_stop, reply_to_abandon, go_or_stop, reply_to_kept_checkpoint, reply_to_checkpoint, reply_to_stopped_step, reply_to_stopped_work, reply_to_finish, reply_to_end, reply_to_loss, loss_refusal, reply_to_restart, restart_refusal, report_refusal, unless, stop_requested_of, has_something, is_execution}
+use Rattle.batch_history.specs.Replies.{is_nothing, reply, reply_by, row_status, is_running_in, accepted, reply_to_claim, reply_to_stop, reply_to_abandon, go_or_stop, reply_to_kept_checkpoint, reply_to_checkpoint, reply_to_stopped_step, reply_to_stopped_work, reply_to_finish, reply_to_end, reply_to_loss, loss_refusal, reply_to_restart, restart_refusal, report_refusal, unless, stop_requested_of, has_something, is_execution, reply_to_purge, is_instance_there}
 use Rattle.batch_history.specs.Rows.{History, history, Rows, rows}
 use Rattle.batch_history.specs.Statuses.{is_finished}
 use Rattle.batch_history.specs.Walks.{job_named}
@@ -103,12 +103,20 @@ lost-room limit count (Some row) given e = unless-room limit count (loss_refusal
 restarted-room : (limit : ℕ) (r : Rows) (found : Option ExecutionRow) (given : Reply) → reply_to_restart limit r found ≡ Ok given → r.count < limit
 restarted-room limit r None given e = cc
 restarted-room limit r (Some row) given e =
-    unless-room limit r.count (restart_refusal r row) _ given (entered-room limit r.count (IsExecution (length r.executions + 1)) given) e
+    unless-room limit r.count (restart_refusal r row) _ given (entered-room limit r.count (IsExecution (r.last.execution + 1)) given) e
+
+purged-room : (limit : ℕ) (r : Rows) (i : ℕ) (given : Reply) → reply_to_purge limit r i ≡ Ok given → r.count < limit
+purged-room limit r i given e =
+    (elim (is_instance_there i r) as (λ b. cond b (cond (list_any (is_running_in i) r.executions) (Err JobExecutionIsRunningException) (accepted limit r.count Done)) (Err NoSuchJobInstanceException) ≡ Ok given
+    → r.count < limit) [
+      | true ↦ λ s. tested-room limit r.count (list_any (is_running_in i) r.executions) JobExecutionIsRunningException _ given (entered-room limit r.count Done given) s
+      | false ↦ λ s. cc
+    ]) e
 
 -- a reply that is entered has room
 pub reply_room : (limit : ℕ) (r : Rows) (who : ℕ) (call : Call) (given : Reply) → reply_by limit r who call ≡ Ok given → is_nothing given ≡ false → r.count < limit
 reply_room limit r who (Start job parameters) given e n =
-    (elim (is_some (job_named r.catalogue job)) as (λ b. cond b (accepted limit r.count (IsExecution (length r.executions + 1))) (Err JobStartException) ≡ Ok given → r.count < limit) [
+    (elim (is_some (job_named r.catalogue job)) as (λ b. cond b (accepted limit r.count (IsExecution (r.last.execution + 1))) (Err JobStartException) ≡ Ok given → r.count < limit) [
       | true ↦ λ s. entered-room limit r.count _ given s
       | false ↦ λ s. cc
     ]) e
@@ -120,6 +128,7 @@ reply_room limit r who Claim given e n = claimed-room limit r (find (has_somethi
 reply_room limit r who (Checkpoint w mark step) given e n = checkpointed-room limit r who (find (is_work w) r.works) given e
 reply_room limit r who (Finish w o exit step) given e n = finished-room limit r who o (find (is_work w) r.works) given e
 reply_room limit r who (Lose w) given e n = lost-room limit r.count (find (is_work w) r.works) given e
+reply_room limit r who (Purge i) given e n = purged-room limit r i given e
 
 -- Where a list with one element more is cut
 

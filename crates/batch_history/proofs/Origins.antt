@@ -7,7 +7,7 @@ use Rattle.std.proofs.lemmas.List.Folds.{find-append}
 use Rattle.std.proofs.lemmas.Bool.{eqb-true, ne_eqb}
 use Rattle.batch_ids.specs.Parameters.{Pair}
 use Rattle.batch_history.specs.declared.call.Call.{Call}
-use Rattle.batch_history.specs.declared.call.Call.TheVariants.{Start, Restart, Stop, Abandon, Claim, Checkpoint, Finish, Lose}
+use Rattle.batch_history.specs.declared.call.Call.TheVariants.{Start, Restart, Stop, Abandon, Claim, Checkpoint, Finish, Lose, Purge}
 use Rattle.batch_history.specs.declared.call.Reply.{Reply}
 use Rattle.batch_history.specs.declared.call.Entry.{Entry}
 use Rattle.batch_history.specs.declared.rows.JobInstance.{JobInstance}
@@ -34,6 +34,7 @@ executions-step older who at Claim reply h = h
 executions-step older who at (Checkpoint w mark step) reply h = h
 executions-step older who at (Finish w o t step) reply h = h
 executions-step older who at (Lose w) reply h = h
+executions-step older who at (Purge i) reply h = h
 
 -- there are as many as the rows have
 pub executions-made : (past : List Entry) → job_execution_count past ≡ length (made past)
@@ -41,7 +42,7 @@ executions-made [] = refl
 executions-made (e ∷ older) = executions-step older e.who e.at e.call e.reply (executions-made older)
 
 instances-step : (older : List Entry) (who at : ℕ) (call : Call) (reply : Reply) → job_instance_count older ≡ length (instances_of older)
-    → job_instance_count (record { who = who; call = call; at = at; reply = reply } ∷ older) ≡ length (instances_after call (instances_of older))
+    → job_instance_count (record { who = who; call = call; at = at; reply = reply } ∷ older) ≡ length (instances_after (length (instances_of older) + 1) call (instances_of older))
 instances-step older who at (Start job parameters) reply h =
     counted (λ (e : Entry). makes_instance e.call) (record { who = who; call = Start job parameters; at = at; reply = reply }) older refl
     ∙ (ap suc h ∙ sym (one-more (instances_of older) (record { instance = length (instances_of older) + 1; job = job })))
@@ -52,12 +53,13 @@ instances-step older who at Claim reply h = h
 instances-step older who at (Checkpoint w mark step) reply h = h
 instances-step older who at (Finish w o t step) reply h = h
 instances-step older who at (Lose w) reply h = h
+instances-step older who at (Purge i) reply h = h
 
-instances-made : (past : List Entry) → job_instance_count past ≡ length (instances_of past)
+pub instances-made : (past : List Entry) → job_instance_count past ≡ length (instances_of past)
 instances-made [] = refl
 instances-made (e ∷ older) = instances-step older e.who e.at e.call e.reply (instances-made older)
 
-begun-after : (older : List Entry) (call : Call) → instances_of older ++ instance_begun_by (job_instance_count older + 1) call ≡ instances_after call (instances_of older)
+begun-after : (older : List Entry) (call : Call) → instances_of older ++ instance_begun_by (job_instance_count older + 1) call ≡ instances_after (length (instances_of older) + 1) call (instances_of older)
 begun-after older (Start job parameters) =
     ap (λ (n : ℕ). instances_of older ++ record { instance = n + 1; job = job } ∷ []) (instances-made older)
 begun-after older (Restart y parameters) = append-nil (instances_of older)
@@ -67,6 +69,7 @@ begun-after older Claim = append-nil (instances_of older)
 begun-after older (Checkpoint w mark step) = append-nil (instances_of older)
 begun-after older (Finish w o t step) = append-nil (instances_of older)
 begun-after older (Lose w) = append-nil (instances_of older)
+begun-after older (Purge i) = append-nil (instances_of older)
 
 -- the job instances are those that the rows have
 pub instances-law : (past : List Entry) → job_instances past ≡ instances_of past
@@ -84,6 +87,7 @@ making older x Claim = refl
 making older x (Checkpoint w mark step) = refl
 making older x (Finish w o t step) = refl
 making older x (Lose w) = refl
+making older x (Purge i) = refl
 
 -- What is found
 
@@ -153,6 +157,7 @@ origin-step older at Claim reply x fits before = before x
 origin-step older at (Checkpoint w mark step) reply x fits before = before x
 origin-step older at (Finish w o t step) reply x fits before = before x
 origin-step older at (Lose w) reply x fits before = before x
+origin-step older at (Purge i) reply x fits before = before x
 
 -- job execution x, if there is one, is the one that the rows have
 pub origin-law : (past : List Entry) → AllFit past → (x : ℕ) → find (is_made x) (made past) ≡ option_map (made_as x) (origin_of past x)

@@ -5,7 +5,7 @@ use Rattle.batch_ids.specs.Parameters.{Pair}
 use Rattle.batch_ids.specs.declared.refusal.Refusal.TheVariants.{JobStartException}
 use Rattle.jsl_model.specs.Jobs.{JobTree}
 use Rattle.batch_history.specs.declared.call.Call.{Call}
-use Rattle.batch_history.specs.declared.call.Call.TheVariants.{Start, Restart, Stop, Abandon, Claim, Checkpoint, Finish, Lose}
+use Rattle.batch_history.specs.declared.call.Call.TheVariants.{Start, Restart, Stop, Abandon, Claim, Checkpoint, Finish, Lose, Purge}
 use Rattle.batch_history.specs.declared.call.Reply.{Reply}
 use Rattle.batch_history.specs.declared.call.Reply.TheVariants.{Execution as IsExecution}
 use Rattle.batch_history.specs.declared.call.Entry.{Entry}
@@ -38,7 +38,7 @@ begun-append : (k : ℕ) (is : List JobInstance) (i : JobInstance) → AreBegun 
 begun-append k [] i h e = (omega (arith, e), tt)
 begun-append k (j ∷ js) i h e = (h.0, begun-append (k + 1) js i h.1 (omega (arith, e)))
 
-begun-call : (call : Call) (is : List JobInstance) → AreBegun 1 is → AreBegun 1 (instances_after call is)
+begun-call : (call : Call) (is : List JobInstance) → AreBegun 1 is → AreBegun 1 (instances_after (length is + 1) call is)
 begun-call (Start job parameters) is h = begun-append 1 is _ h refl
 begun-call (Restart y parameters) is h = h
 begun-call (Stop y) is h = h
@@ -47,6 +47,7 @@ begun-call Claim is h = h
 begun-call (Checkpoint w mark step) is h = h
 begun-call (Finish w o t step) is h = h
 begun-call (Lose w) is h = h
+begun-call (Purge i) is h = h
 
 pub begun : (past : List Entry) → AreBegun 1 (instances_of past)
 begun [] = tt
@@ -93,6 +94,7 @@ instance-call limit catalogue older who at Claim reply due h = each-map (Instanc
 instance-call limit catalogue older who at (Checkpoint w mark step) reply due h = each-map (InstanceOf older) _ (made older) (λ m j. record { instance = j.instance; found = j.found; job = j.job }) h
 instance-call limit catalogue older who at (Finish w o t step) reply due h = each-map (InstanceOf older) _ (made older) (λ m j. record { instance = j.instance; found = j.found; job = j.job }) h
 instance-call limit catalogue older who at (Lose w) reply due h = each-map (InstanceOf older) _ (made older) (λ m j. record { instance = j.instance; found = j.found; job = j.job }) h
+instance-call limit catalogue older who at (Purge i) reply due h = each-map (InstanceOf older) _ (made older) (λ m j. record { instance = j.instance; found = j.found; job = j.job }) h
 
 pub instances-kept : (limit : ℕ) (catalogue : List JobTree) (past : List Entry) → AllDue limit catalogue past → Each (InstanceOf past) (made past)
 instances-kept limit catalogue [] due = tt
@@ -115,7 +117,7 @@ job-call : (limit : ℕ) (catalogue : List JobTree) (older : List Entry) (who at
     → Each (JobIsThere catalogue) (made (record { who = who; call = call; at = at; reply = reply } ∷ older))
 job-call limit catalogue older who at (Start job parameters) reply due h =
     each-append (JobIsThere catalogue) (made older) _ h
-    (started-there (is_some (job_named catalogue job)) limit (length older) (IsExecution (length (folded_rows catalogue older).executions + 1)) reply due.0)
+    (started-there (is_some (job_named catalogue job)) limit (length older) (IsExecution (length (made older) + 1)) reply due.0)
 job-call limit catalogue older who at (Restart y parameters) reply due h =
     let named = restarted limit catalogue older who at y parameters reply due in
     each-append (JobIsThere catalogue) (made older) _ h
@@ -127,6 +129,7 @@ job-call limit catalogue older who at Claim reply due h = h
 job-call limit catalogue older who at (Checkpoint w mark step) reply due h = h
 job-call limit catalogue older who at (Finish w o t step) reply due h = h
 job-call limit catalogue older who at (Lose w) reply due h = h
+job-call limit catalogue older who at (Purge i) reply due h = h
 
 pub jobs-kept : (limit : ℕ) (catalogue : List JobTree) (past : List Entry) → AllDue limit catalogue past → Each (JobIsThere catalogue) (made past)
 jobs-kept limit catalogue [] due = tt

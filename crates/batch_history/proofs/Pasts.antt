@@ -4,13 +4,13 @@ use Rattle.std.specs.List.{list_any}
 use Rattle.std.proofs.lemmas.List.{reverse-reverse, append-nil}
 use Rattle.job_walk.proofs.Following.{find-map}
 use Rattle.batch_ids.specs.declared.refusal.Refusal.{Refusal}
-use Rattle.batch_ids.specs.declared.refusal.Refusal.TheVariants.{JobStartException, JobExecutionNotRunningException, JobExecutionIsRunningException}
+use Rattle.batch_ids.specs.declared.refusal.Refusal.TheVariants.{JobStartException, JobExecutionNotRunningException, JobExecutionIsRunningException, NoSuchJobInstanceException}
 use Rattle.batch_ids.specs.declared.status.WorkOutcome.{WorkOutcome}
 use Rattle.batch_ids.specs.declared.status.WorkOutcome.TheVariants.{Completed, Failed, Stopped}
 use Rattle.jsl_model.specs.Jobs.{JobTree}
 use Rattle.job_walk.specs.declared.work_key.WorkKey.{WorkKey}
 use Rattle.batch_history.specs.declared.call.Call.{Call}
-use Rattle.batch_history.specs.declared.call.Call.TheVariants.{Start, Restart, Stop, Abandon, Claim, Checkpoint, Finish, Lose}
+use Rattle.batch_history.specs.declared.call.Call.TheVariants.{Start, Restart, Stop, Abandon, Claim, Checkpoint, Finish, Lose, Purge}
 use Rattle.batch_history.specs.declared.call.Reply.{Reply}
 use Rattle.batch_history.specs.declared.call.Reply.TheVariants.{Execution as IsExecution, Work, Closed, Nothing, Done, Go, StopAsked}
 use Rattle.batch_history.specs.declared.call.WorkKind.{WorkKind}
@@ -21,7 +21,7 @@ use Rattle.batch_history.specs.declared.rows.WorkRow.{WorkRow}
 use Rattle.batch_history.proofs.Folds.{made, is_made, works_of, folded_rows, execution_row}
 use Rattle.batch_history.specs.Executions.{Made}
 use Rattle.batch_history.specs.Operations.{taken_up_by}
-use Rattle.batch_history.specs.Replies.{reply_by, row_status, is_running_in, accepted, reply_to_claim, claim_reply, reply_to_stop, reply_to_abandon, go_or_stop, reply_to_kept_checkpoint, reply_to_checkpoint, reply_to_stopped_step, reply_to_stopped_work, reply_to_finish, reply_to_end, reply_to_loss, loss_refusal, reply_to_restart, restart_refusal, report_refusal, unless, stop_requested_of, first_ready, walk_in_rows, has_something, is_execution}
+use Rattle.batch_history.specs.Replies.{reply_by, row_status, is_running_in, accepted, reply_to_claim, claim_reply, reply_to_stop, reply_to_abandon, go_or_stop, reply_to_kept_checkpoint, reply_to_checkpoint, reply_to_stopped_step, reply_to_stopped_work, reply_to_finish, reply_to_end, reply_to_loss, loss_refusal, reply_to_restart, restart_refusal, report_refusal, unless, stop_requested_of, first_ready, walk_in_rows, has_something, is_execution, reply_to_purge, is_instance_there}
 use Rattle.batch_history.specs.Rows.{Rows}
 use Rattle.batch_history.specs.Statuses.{is_finished}
 use Rattle.batch_history.specs.Walks.{job_named}
@@ -58,6 +58,7 @@ Fits older Claim given = FitsClaim (length (works_of older)) (length (made older
 Fits older (Checkpoint w mark step) given = IsHandedBefore older w given
 Fits older (Finish w outcome exit step) given = IsHandedBefore older w given
 Fits older (Lose w) given = IsHandedBefore older w given
+Fits older (Purge i) given = taken_up_by given ≡ None
 
 -- a past each entry of which fits what is older
 abbrev pub AllFit : List Entry → Type 0
@@ -91,16 +92,16 @@ found-within f p k (m ∷ ms) row h named e =
     ]) e
 
 claim-fits : (r : Rows) (executions : ℕ) (row : ExecutionRow) (ready : Option WorkKey) → row.execution ≤ executions
-    → FitsClaim (length r.works) executions (claim_reply r row ready)
+    → FitsClaim r.last.work executions (claim_reply r row ready)
 claim-fits r executions row None le = le
 claim-fits r executions row (Some key) le = (refl, le)
 
 claimed-fits : (limit : ℕ) (r : Rows) (executions : ℕ) (found : Option ExecutionRow) (given : Reply) → reply_to_claim limit r found ≡ Ok given
-    → ((row : ExecutionRow) → found ≡ Some row → row.execution ≤ executions) → FitsClaim (length r.works) executions given
-claimed-fits limit r executions None given e below = let is : Nothing ≡ given = cc in subst (FitsClaim (length r.works) executions) is tt
+    → ((row : ExecutionRow) → found ≡ Some row → row.execution ≤ executions) → FitsClaim r.last.work executions given
+claimed-fits limit r executions None given e below = let is : Nothing ≡ given = cc in subst (FitsClaim r.last.work executions) is tt
 claimed-fits limit r executions (Some row) given e below =
     let reply : Reply = claim_reply r row (first_ready (walk_in_rows r row)) in
-    subst (FitsClaim (length r.works) executions) (sym (entered-is limit r.count reply given e))
+    subst (FitsClaim r.last.work executions) (sym (entered-is limit r.count reply given e))
     (claim-fits r executions row (first_ready (walk_in_rows r row)) (below row refl))
 
 stopped-fits : (limit count : ℕ) (found : Option ExecutionRow) (given : Reply) → reply_to_stop limit count found ≡ Ok given
@@ -159,7 +160,15 @@ restarted-fits : (limit : ℕ) (r : Rows) (found : Option ExecutionRow) (given :
     → (taken_up_by given ≡ None) × (is_some found ≡ true)
 restarted-fits limit r None given e = cc
 restarted-fits limit r (Some row) given e =
-    (unless-none (restart_refusal r row) _ given (entered-none limit r.count (IsExecution (length r.executions + 1)) given refl) e, refl)
+    (unless-none (restart_refusal r row) _ given (entered-none limit r.count (IsExecution (r.last.execution + 1)) given refl) e, refl)
+
+purged-fits : (limit : ℕ) (r : Rows) (i : ℕ) (given : Reply) → reply_to_purge limit r i ≡ Ok given → taken_up_by given ≡ None
+purged-fits limit r i given e =
+    (elim (is_instance_there i r) as (λ b. cond b (cond (list_any (is_running_in i) r.executions) (Err JobExecutionIsRunningException) (accepted limit r.count Done)) (Err NoSuchJobInstanceException) ≡ Ok given
+    → taken_up_by given ≡ None) [
+      | true ↦ λ s. tested-none (list_any (is_running_in i) r.executions) JobExecutionIsRunningException _ given (entered-none limit r.count Done given refl) s
+      | false ↦ λ s. cc
+    ]) e
 
 -- a job execution has a row where it was made
 there : (catalogue : List JobTree) (older : List Entry) (y : ℕ)
@@ -173,7 +182,7 @@ pub due-fits : (limit : ℕ) (catalogue : List JobTree) (older : List Entry) (wh
     → reply_by limit (folded_rows catalogue older) who call ≡ Ok given → Fits older call given
 due-fits limit catalogue older who (Start job parameters) given e =
     let r : Rows = folded_rows catalogue older in
-    let n : ℕ = length r.executions + 1 in
+    let n : ℕ = r.last.execution + 1 in
     (elim (is_some (job_named catalogue job)) as (λ b. cond b (accepted limit r.count (IsExecution n)) (Err JobStartException) ≡ Ok given → taken_up_by given ≡ None) [
       | true ↦ λ s. entered-none limit r.count (IsExecution n) given refl s
       | false ↦ λ s. cc
@@ -196,6 +205,7 @@ due-fits limit catalogue older who (Checkpoint w mark step) given e =
 due-fits limit catalogue older who (Finish w o exit step) given e =
     finished-fits limit (folded_rows catalogue older) who o (find (is_work w) (works_of older)) given e
 due-fits limit catalogue older who (Lose w) given e = lost-fits limit (length older) (find (is_work w) (works_of older)) given e
+due-fits limit catalogue older who (Purge i) given e = purged-fits limit (folded_rows catalogue older) i given e
 
 -- a past is the whole history, the newest first
 pub whole-past : (log : List Entry) → log ≡ reverse (reverse log) ++ []

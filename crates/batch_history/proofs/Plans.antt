@@ -8,7 +8,7 @@ use Rattle.jsl_model.specs.Jobs.{JobTree}
 use Rattle.job_walk.specs.declared.facts.Value.{Value}
 use Rattle.job_walk.specs.declared.plan.Plan.{Plan}
 use Rattle.batch_history.specs.declared.call.Call.{Call}
-use Rattle.batch_history.specs.declared.call.Call.TheVariants.{Start, Restart, Stop, Abandon, Claim, Checkpoint, Finish, Lose}
+use Rattle.batch_history.specs.declared.call.Call.TheVariants.{Start, Restart, Stop, Abandon, Claim, Checkpoint, Finish, Lose, Purge}
 use Rattle.batch_history.specs.declared.call.Reply.{Reply}
 use Rattle.batch_history.specs.declared.call.Entry.{Entry}
 use Rattle.batch_history.specs.declared.rows.ExecutionRow.{ExecutionRow}
@@ -300,6 +300,7 @@ made-planned limit catalogue past more older who at Claim reply x m cut due befo
 made-planned limit catalogue past more older who at (Checkpoint w mark step) reply x m cut due before new found = cc
 made-planned limit catalogue past more older who at (Finish w o t step) reply x m cut due before new found = cc
 made-planned limit catalogue past more older who at (Lose w) reply x m cut due before new found = cc
+made-planned limit catalogue past more older who at (Purge i) reply x m cut due before new found = cc
 
 pub plan-among : (limit : ℕ) (catalogue : List JobTree) (past more older : List Entry) → past ≡ more ++ older → AllDue limit catalogue past
     → (x : ℕ) (m : Made) → find (is_made x) (made older) ≡ Some m → IsPlanKept catalogue past older x m

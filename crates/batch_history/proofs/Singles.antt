@@ -9,7 +9,7 @@ use Rattle.batch_ids.specs.declared.status.BatchStatus.{BatchStatus}
 use Rattle.batch_ids.specs.declared.status.BatchStatus.TheVariants.{Stopped, Failed, Abandoned}
 use Rattle.jsl_model.specs.Jobs.{JobTree}
 use Rattle.batch_history.specs.declared.call.Call.{Call}
-use Rattle.batch_history.specs.declared.call.Call.TheVariants.{Start, Restart, Stop, Abandon, Claim, Checkpoint, Finish, Lose}
+use Rattle.batch_history.specs.declared.call.Call.TheVariants.{Start, Restart, Stop, Abandon, Claim, Checkpoint, Finish, Lose, Purge}
 use Rattle.batch_history.specs.declared.call.Reply.{Reply}
 use Rattle.batch_history.specs.declared.call.Entry.{Entry}
 use Rattle.batch_history.specs.declared.rows.ExecutionRow.{ExecutionRow}
@@ -139,6 +139,7 @@ new-over limit catalogue older who at Claim reply m n due before there found new
 new-over limit catalogue older who at (Checkpoint w mark step) reply m n due before there found new same = cc
 new-over limit catalogue older who at (Finish w o t step) reply m n due before there found new same = cc
 new-over limit catalogue older who at (Lose w) reply m n due before there found new same = cc
+new-over limit catalogue older who at (Purge i) reply m n due before there found new same = cc
 
 -- how many were made
 made-count : (older : List Entry) (who at : ℕ) (call : Call) (reply : Reply) (x : ℕ) (n : Made)
@@ -156,6 +157,7 @@ makes-number count x Claim h = cc
 makes-number count x (Checkpoint w mark step) h = cc
 makes-number count x (Finish w o t step) h = cc
 makes-number count x (Lose w) h = cc
+makes-number count x (Purge i) h = cc
 
 pub earlier-over : (limit : ℕ) (catalogue : List JobTree) (past : List Entry) → AllDue limit catalogue past → EarlierOver catalogue past
 earlier-over limit catalogue [] due m n there found same lt = cc

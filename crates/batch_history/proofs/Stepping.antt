@@ -1,9 +1,10 @@
 -- The rows of a past with one operation more: what each record is after it, by what it was before.
+use Rattle.batch_history.specs.declared.rows.LastNumbers.{LastNumbers}
 use mathlib.Core.Bool.{or-false}
-use Rattle.std.proofs.Common.{◌≡◌, ℕ, ◌+◌, ◌==◌, ◌<◌, ◌≤◌, ◌||◌, Bool, true, false, cond, Option, None, Some, is_some, List, [], ◌∷◌, ◌++◌, length, map, find, filter, refl, sym, ◌∙◌, ap, arith, add-one}
+use Rattle.std.proofs.Common.{◌≡◌, ℕ, ◌+◌, ◌==◌, ◌<◌, ◌≤◌, ◌||◌, Bool, true, false, cond, Option, None, Some, is_some, List, [], ◌∷◌, ◌++◌, length, map, find, filter, refl, sym, ◌∙◌, ap, arith, add-one, suc}
 use Rattle.std.specs.Option.{option_map}
 use mathlib.Core.Path.{fun_ext}
-use Rattle.std.proofs.lemmas.List.{map-append, length-map}
+use Rattle.std.proofs.lemmas.List.{map-append, length-map, length-append}
 use Rattle.std.proofs.lemmas.Bool.{eqb-true, eqb-false, eq-eqb, ne_eqb}
 use Rattle.job_walk.proofs.Following.{find-map}
 use Rattle.job_walk.specs.declared.facts.Known.{Known}
@@ -16,14 +17,14 @@ use Rattle.batch_ids.specs.declared.status.WorkOutcome.{WorkOutcome}
 use Rattle.batch_ids.specs.declared.status.WorkOutcome.TheVariants.{Failed}
 use Rattle.jsl_model.specs.Jobs.{JobTree}
 use Rattle.batch_history.specs.declared.call.Call.{Call}
-use Rattle.batch_history.specs.declared.call.Call.TheVariants.{Start, Restart, Stop, Abandon, Claim, Checkpoint, Finish, Lose}
+use Rattle.batch_history.specs.declared.call.Call.TheVariants.{Start, Restart, Stop, Abandon, Claim, Checkpoint, Finish, Lose, Purge}
 use Rattle.batch_history.specs.declared.call.Reply.{Reply}
 use Rattle.batch_history.specs.declared.call.Reply.TheVariants.{Execution as IsExecution, Work, Closed, Nothing, Done, Go, StopAsked}
 use Rattle.batch_history.specs.declared.call.Entry.{Entry}
 use Rattle.batch_history.specs.declared.rows.ExecutionRow.{ExecutionRow}
 use Rattle.batch_history.specs.declared.rows.WorkRow.{WorkRow}
-use Rattle.batch_history.proofs.Folds.{made, remade, is_made, makes, instances_of, works_of, works_after, with_handed_out as handed_out, reported, over, start_of, was_named, stop_of, abandoned_of, updated_of, end_of, value_after, bare_of, place_of, instance_made, folded_checkpoint, execution_row, folded_rows, plan_made, plan_kept, plan_again}
-use Rattle.batch_history.proofs.Steps.{refreshed_by, refreshed_at, fresh_row, again_row, place_in, rows_after, executions_after}
+use Rattle.batch_history.proofs.Folds.{made, remade, is_made, makes, instances_of, works_of, works_after, with_handed_out as handed_out, reported, over, start_of, was_named, stop_of, abandoned_of, updated_of, end_of, value_after, bare_of, place_of, instance_made, folded_checkpoint, execution_row, folded_rows, plan_made, plan_kept, plan_again, last_of}
+use Rattle.batch_history.proofs.Steps.{refreshed_by, refreshed_at, fresh_row, again_row, place_in, rows_with, last_after, executions_after}
 use Rattle.batch_history.specs.Checkpoints.{InstanceStep, instance_step_by, is_same_step, checkpoint_after}
 use Rattle.batch_history.specs.Executions.{Made}
 use Rattle.batch_history.specs.Lists.{change_first, is_at}
@@ -35,7 +36,7 @@ use Rattle.batch_history.specs.Rows.{Rows, execution_row_with}
 use Rattle.batch_history.specs.Statuses.{batch_status, is_finished}
 use Rattle.batch_history.specs.Walks.{facts_by_work, fact_of_state, walk_of, walk_value, job_named}
 use Rattle.batch_history.proofs.Knowing.{known_elements, facts-same}
-use Rattle.batch_history.specs.Works.{execution_of_operation, is_work, work_key}
+use Rattle.batch_history.specs.Works.{execution_of_operation, is_work, work_key, busy_work}
 
 -- What an operation that is not on an execution leaves of it
 
@@ -89,6 +90,7 @@ known-same x n who at Claim reply works h = known-handed x who at reply works h
 known-same x n who at (Checkpoint w mark step) reply works h = known-reported x _ step works
 known-same x n who at (Finish w o t step) reply works h = known-change x _ o t step at n works h
 known-same x n who at (Lose w) reply works h = known-change x _ Failed None zero_step at n works h
+known-same x n who at (Purge i) reply works h = refl
 
 -- who is taken up is touched
 pub taken-touched : (x : ℕ) (call : Call) (reply : Reply) (works : List WorkRow) → is_at x (execution_of_operation works call reply) ≡ false
@@ -101,6 +103,7 @@ taken-touched x Claim reply works h = h
 taken-touched x (Checkpoint w mark step) reply works h = refl
 taken-touched x (Finish w o t step) reply works h = refl
 taken-touched x (Lose w) reply works h = refl
+taken-touched x (Purge i) reply works h = refl
 
 -- who is asked to stop is touched
 pub asked-touched : (x : ℕ) (call : Call) (reply : Reply) (works : List WorkRow) → is_at x (execution_of_operation works call reply) ≡ false
@@ -113,6 +116,7 @@ asked-touched x Claim reply works h = refl
 asked-touched x (Checkpoint w mark step) reply works h = refl
 asked-touched x (Finish w o t step) reply works h = refl
 asked-touched x (Lose w) reply works h = refl
+asked-touched x (Purge i) reply works h = refl
 
 -- who is given up is touched
 given-touched : (x : ℕ) (call : Call) (reply : Reply) (works : List WorkRow) → is_at x (execution_of_operation works call reply) ≡ false
@@ -125,6 +129,7 @@ given-touched x Claim reply works h = refl
 given-touched x (Checkpoint w mark step) reply works h = refl
 given-touched x (Finish w o t step) reply works h = refl
 given-touched x (Lose w) reply works h = refl
+given-touched x (Purge i) reply works h = refl
 
 pub earliest-false : (o : Option ℕ) (at : ℕ) → first_moment o false at ≡ o
 earliest-false None at = refl
@@ -261,6 +266,7 @@ numbered-after past at Claim reply who h = h
 numbered-after past at (Checkpoint w mark step) reply who h = h
 numbered-after past at (Finish w o t step) reply who h = h
 numbered-after past at (Lose w) reply who h = h
+numbered-after past at (Purge i) reply who h = h
 
 pub numbered : (past : List Entry) → AreNumbered 1 (made past)
 numbered [] = tt
@@ -366,8 +372,7 @@ executions-step catalogue past who at (Start job parameters) reply =
     let m : Made = record { execution = n + 1; instance = length (instances_of past) + 1; job = job; parameters = parameters; create = at } in
     map-append (execution_row catalogue (e ∷ past)) (made past) (m ∷ [])
     ∙ (ap (λ xs. xs ++ execution_row catalogue (e ∷ past) m ∷ []) (older-rows catalogue past e (λ x lt. not-made n x.execution lt) refl)
-    ∙ (ap (λ y. map (execution_row catalogue past) (made past) ++ y ∷ []) (made-row catalogue past e m (eq-eqb (n + 1) (n + 1) refl) refl)
-    ∙ ap (λ k. map (execution_row catalogue past) (made past) ++ fresh_row (k + 1) (length (instances_of past) + 1) at job parameters (first_plan (job_named catalogue job)) ∷ []) (sym (length-map (made past) (execution_row catalogue past)))))
+    ∙ ap (λ y. map (execution_row catalogue past) (made past) ++ y ∷ []) (made-row catalogue past e m (eq-eqb (n + 1) (n + 1) refl) refl))
 executions-step catalogue past who at (Restart y parameters) reply =
     let e : Entry = record { who = who; call = Restart y parameters; at = at; reply = reply } in
     let n : ℕ = length (made past) in
@@ -378,8 +383,7 @@ executions-step catalogue past who at (Restart y parameters) reply =
     ∙ (ap (λ xs. xs ++ execution_row catalogue (e ∷ past) m ∷ []) (older-rows catalogue past e (λ x lt. not-made n x.execution lt) refl)
     ∙ (ap (λ r. old ++ r ∷ []) (made-row catalogue past e m (eq-eqb (n + 1) m.execution (sym (remade-number (n + 1) at parameters o))) (remade-create (n + 1) at parameters o))
     ∙ (ap (λ r. old ++ r ∷ []) (remade-row catalogue past (n + 1) at parameters o)
-    ∙ (ap (λ r. old ++ again_row (folded_rows catalogue past) (n + 1) at parameters r ∷ []) (sym (find-map (execution_row catalogue past) (is_execution y) (is_made y) (λ x. refl) (made past)))
-    ∙ ap (λ k. old ++ again_row (folded_rows catalogue past) (k + 1) at parameters (find (is_execution y) old) ∷ []) (sym (length-map (made past) (execution_row catalogue past)))))))
+    ∙ ap (λ r. old ++ again_row (folded_rows catalogue past) (n + 1) at parameters r ∷ []) (sym (find-map (execution_row catalogue past) (is_execution y) (is_made y) (λ x. refl) (made past))))))
 executions-step catalogue past who at (Stop y) reply =
     refreshed-rows catalogue past (record { who = who; call = Stop y; at = at; reply = reply }) (Some y) refl (λ m. refl)
 executions-step catalogue past who at (Abandon y) reply =
@@ -395,6 +399,8 @@ executions-step catalogue past who at (Finish w o t step) reply =
 executions-step catalogue past who at (Lose w) reply =
     let call : Call = Lose w in
     refreshed-rows catalogue past (record { who = who; call = call; at = at; reply = reply }) (execution_of_operation (works_of past) call reply) refl (λ m. refl)
+executions-step catalogue past who at (Purge i) reply =
+    refreshed-rows catalogue past (record { who = who; call = Purge i; at = at; reply = reply }) None refl (λ m. refl)
 
 -- the step of a work item in its job instance stands in the rows
 pub place-by-same : (one other : ℕ → Option ℕ) (row : Option WorkRow) → ((x : ℕ) → one x ≡ other x) → instance_step_by one row ≡ instance_step_by other row
@@ -411,12 +417,50 @@ place-in catalogue past w =
 abbrev marks_after : (ℕ → Option InstanceStep) → Call → (InstanceStep → Option (List ℕ)) → InstanceStep → Option (List ℕ)
 marks_after place call earlier p = checkpoint_after (λ w. is_same_step p (place w)) call (earlier p)
 
+-- the last numbers after an operation
+one-more : {X : Type 0} (xs : List X) (x : X) → length (xs ++ x ∷ []) ≡ length xs + 1
+one-more xs x = length-append xs (x ∷ [])
+
+same-length : {X : Type 0} (p : X → Bool) (f : X → X) (xs : List X) → length (change_first p f xs) ≡ length xs
+same-length p f [] = refl
+same-length p f (x ∷ xs) =
+    elim (p x) as (λ b. length (cond b (f x ∷ xs) (x ∷ change_first p f xs)) ≡ length (x ∷ xs)) [
+      | true ↦ refl
+      | false ↦ ap suc (same-length p f xs)
+    ]
+
+last-claim : (past : List Entry) (who at : ℕ) (reply : Reply)
+    → last_of (record { who = who; call = Claim; at = at; reply = reply } ∷ past) ≡ last_after Claim reply (last_of past)
+last-claim past who at (Work item) = ap (λ n. record (last_of past) { work = n }) (one-more (works_of past) (busy_work who at item))
+last-claim past who at (IsExecution x) = refl
+last-claim past who at (Closed x) = refl
+last-claim past who at Nothing = refl
+last-claim past who at Done = refl
+last-claim past who at Go = refl
+last-claim past who at StopAsked = refl
+
+last-step : (past : List Entry) (who at : ℕ) (call : Call) (reply : Reply)
+    → last_of (record { who = who; call = call; at = at; reply = reply } ∷ past) ≡ last_after call reply (last_of past)
+last-step past who at (Start job parameters) reply =
+    let last : LastNumbers = last_of past in
+    ap (λ n. record last { instance = n; execution = length (made (record { who = who; call = Start job parameters; at = at; reply = reply } ∷ past)) }) (one-more (instances_of past) _)
+    ∙ ap (λ n. record last { instance = last.instance + 1; execution = n }) (one-more (made past) _)
+last-step past who at (Restart y parameters) reply = ap (λ n. record (last_of past) { execution = n }) (one-more (made past) _)
+last-step past who at (Stop y) reply = refl
+last-step past who at (Abandon y) reply = refl
+last-step past who at Claim reply = last-claim past who at reply
+last-step past who at (Checkpoint w mark step) reply = ap (λ n. record (last_of past) { work = n }) (same-length _ _ (works_of past))
+last-step past who at (Finish w o t step) reply = ap (λ n. record (last_of past) { work = n }) (same-length _ _ (works_of past))
+last-step past who at (Lose w) reply = ap (λ n. record (last_of past) { work = n }) (same-length _ _ (works_of past))
+last-step past who at (Purge i) reply = refl
+
 -- the rows of a past with one operation more
-pub rows-step : (catalogue : List JobTree) (past : List Entry) (e : Entry) → folded_rows catalogue (e ∷ past) ≡ rows_after (folded_rows catalogue past) e
+pub rows-step : (catalogue : List JobTree) (past : List Entry) (e : Entry) → folded_rows catalogue (e ∷ past) ≡ rows_with (folded_rows catalogue past) e
 rows-step catalogue past e =
     let old : Rows = folded_rows catalogue past in
-    let new : Rows = rows_after old e in
+    let new : Rows = rows_with old e in
     let places : place_of past ≡ place_in old = fun_ext (place-in catalogue past) in
     ap (λ (n : ℕ). record (folded_rows catalogue (e ∷ past)) { count = n }) (sym (add-one (length past)))
+    ∙ (ap (λ (last : LastNumbers). record (folded_rows catalogue (e ∷ past)) { count = length past + 1; last = last }) (last-step past e.who e.at e.call e.reply)
     ∙ (ap (λ (place : ℕ → Option InstanceStep). record new { executions = (folded_rows catalogue (e ∷ past)).executions; checkpoint = marks_after place e.call (folded_checkpoint past) }) places
-    ∙ ap (λ (xs : List ExecutionRow). record new { executions = xs }) (executions-step catalogue past e.who e.at e.call e.reply))
+    ∙ ap (λ (xs : List ExecutionRow). record new { executions = xs }) (executions-step catalogue past e.who e.at e.call e.reply)))

@@ -1,21 +1,23 @@
 -- A device of proofs: how one operation changes the rows.
-use Rattle.std.specs.Prelude.{ℕ, ◌+◌, ◌||◌, Bool, false, Option, Some, None, List, [], ◌∷◌, ◌++◌, length, find}
+use Rattle.std.specs.Prelude.{ℕ, ◌+◌, ◌==◌, ◌||◌, Bool, false, Option, Some, None, List, [], ◌∷◌, ◌++◌, find}
 use Rattle.batch_history.proofs.Folds.{instances_after, works_after}
 use Rattle.batch_history.specs.Checkpoints.{InstanceStep, instance_step_by, is_same_step, checkpoint_after}
 use Rattle.batch_history.specs.Lists.{change_first, is_at}
 use Rattle.batch_history.specs.Moments.{first_moment}
-use Rattle.batch_history.specs.Operations.{taken_up, stop_request, abandonment}
+use Rattle.batch_history.specs.Operations.{taken_up, stop_request, abandonment, purged_by}
 use Rattle.batch_history.specs.Replies.{instance_in, is_execution, restart_plan}
 use Rattle.batch_history.specs.Restarts.{first_plan}
-use Rattle.batch_history.specs.Rows.{Rows}
+use Rattle.batch_history.specs.Rows.{Rows, existing}
 use Rattle.batch_history.specs.Statuses.{batch_status, exit_status, is_finished}
 use Rattle.batch_history.specs.Walks.{job_named, walk_value}
 use Rattle.batch_history.specs.Works.{is_work, execution_of_operation}
 use Rattle.batch_history.specs.declared.call.Call.{Call}
-use Rattle.batch_history.specs.declared.call.Call.TheVariants.{Start, Restart, Stop, Abandon, Claim, Checkpoint, Finish, Lose}
+use Rattle.batch_history.specs.declared.call.Call.TheVariants.{Start, Restart, Stop, Abandon, Claim, Checkpoint, Finish, Lose, Purge}
 use Rattle.batch_history.specs.declared.call.Entry.{Entry}
 use Rattle.batch_history.specs.declared.call.Reply.{Reply}
+use Rattle.batch_history.specs.declared.call.Reply.TheVariants.{Execution, Work, Closed, Nothing, Done, Go, StopAsked}
 use Rattle.batch_history.specs.declared.rows.ExecutionRow.{ExecutionRow}
+use Rattle.batch_history.specs.declared.rows.LastNumbers.{LastNumbers}
 use Rattle.batch_history.specs.declared.rows.WorkRow.{WorkRow}
 use Rattle.batch_ids.specs.Parameters.{Pair}
 use Rattle.batch_ids.specs.declared.status.BatchStatus.TheVariants.{Starting}
@@ -92,9 +94,9 @@ refreshed_at catalogue works at call reply (Some x) rows = change_first (is_exec
 -- the job executions after an operation, `works` being the work items after it
 abbrev pub executions_after : Rows → List WorkRow → ℕ → Call → Reply → List ExecutionRow
 executions_after r works at (Start job parameters) reply =
-    r.executions ++ fresh_row (length r.executions + 1) (length r.instances + 1) at job parameters (first_plan (job_named r.catalogue job)) ∷ []
+    r.executions ++ fresh_row (r.last.execution + 1) (r.last.instance + 1) at job parameters (first_plan (job_named r.catalogue job)) ∷ []
 executions_after r works at (Restart y parameters) reply =
-    r.executions ++ again_row r (length r.executions + 1) at parameters (find (is_execution y) r.executions) ∷ []
+    r.executions ++ again_row r (r.last.execution + 1) at parameters (find (is_execution y) r.executions) ∷ []
 executions_after r works at (Stop y) reply = refreshed_at r.catalogue works at (Stop y) reply (Some y) r.executions
 executions_after r works at (Abandon y) reply = refreshed_at r.catalogue works at (Abandon y) reply (Some y) r.executions
 executions_after r works at Claim reply = refreshed_at r.catalogue works at Claim reply (execution_of_operation r.works Claim reply) r.executions
@@ -103,20 +105,52 @@ executions_after r works at (Checkpoint w mark step) reply =
 executions_after r works at (Finish w outcome exit step) reply =
     refreshed_at r.catalogue works at (Finish w outcome exit step) reply (execution_of_operation r.works (Finish w outcome exit step) reply) r.executions
 executions_after r works at (Lose w) reply = refreshed_at r.catalogue works at (Lose w) reply (execution_of_operation r.works (Lose w) reply) r.executions
+executions_after r works at (Purge i) reply = r.executions
 
 -- the step of a work item in its job instance, by the rows
 abbrev pub place_in : Rows → ℕ → Option InstanceStep
 place_in r w = instance_step_by (instance_in r.executions) (find (is_work w) r.works)
 
--- the rows after an operation
-abbrev pub rows_after : Rows → Entry → Rows
-rows_after r e =
+-- the last numbers after an operation
+abbrev pub last_after_claim : Reply → LastNumbers → LastNumbers
+last_after_claim (Work item) last = record last { work = last.work + 1 }
+last_after_claim (Execution x) last = last
+last_after_claim (Closed x) last = last
+last_after_claim Nothing last = last
+last_after_claim Done last = last
+last_after_claim Go last = last
+last_after_claim StopAsked last = last
+
+abbrev pub last_after : Call → Reply → LastNumbers → LastNumbers
+last_after (Start job parameters) reply last = record last { instance = last.instance + 1; execution = last.execution + 1 }
+last_after (Restart y parameters) reply last = record last { execution = last.execution + 1 }
+last_after (Stop y) reply last = last
+last_after (Abandon y) reply last = last
+last_after Claim reply last = last_after_claim reply last
+last_after (Checkpoint w mark step) reply last = last
+last_after (Finish w outcome exit step) reply last = last
+last_after (Lose w) reply last = last
+last_after (Purge i) reply last = last
+
+-- the rows after an operation, but for what it removes
+abbrev pub rows_with : Rows → Entry → Rows
+rows_with r e =
     let works = works_after (r.count + 1) e.who e.at e.call e.reply r.works in
     record {
       catalogue = r.catalogue;
       count = r.count + 1;
-      instances = instances_after e.call r.instances;
+      last = last_after e.call e.reply r.last;
+      instances = instances_after (r.last.instance + 1) e.call r.instances;
       executions = executions_after r works e.at e.call e.reply;
       works = works;
       checkpoint = λ p. checkpoint_after (λ w. is_same_step p (place_in r w)) e.call (r.checkpoint p);
     }
+
+-- the rows without a job instance that is removed
+abbrev pub without : Option ℕ → Rows → Rows
+without None r = r
+without (Some i) r = existing (λ j. j == i) r
+
+-- the rows after an operation
+abbrev pub rows_after : Rows → Entry → Rows
+rows_after r e = without (purged_by e.call) (rows_with r e)

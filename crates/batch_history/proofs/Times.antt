@@ -4,7 +4,7 @@ use mathlib.Core.Bool.{or_comm}
 use Rattle.std.specs.List.{list_any}
 use Rattle.std.proofs.lemmas.Bool.{eqb-true, ne_eqb, or_from}
 use Rattle.batch_history.specs.declared.call.Call.{Call}
-use Rattle.batch_history.specs.declared.call.Call.TheVariants.{Start, Restart, Stop, Abandon, Claim, Checkpoint, Finish, Lose}
+use Rattle.batch_history.specs.declared.call.Call.TheVariants.{Start, Restart, Stop, Abandon, Claim, Checkpoint, Finish, Lose, Purge}
 use Rattle.batch_history.specs.declared.call.Reply.{Reply}
 use Rattle.batch_history.specs.declared.call.Reply.TheVariants.{Execution as IsExecution, Work, Closed, Nothing, Done, Go, StopAsked}
 use Rattle.batch_history.specs.declared.call.Entry.{Entry}
@@ -32,6 +32,7 @@ more-made older who at Claim reply = omega arith
 more-made older who at (Checkpoint w mark step) reply = omega arith
 more-made older who at (Finish w o t step) reply = omega arith
 more-made older who at (Lose w) reply = omega arith
+more-made older who at (Purge i) reply = omega arith
 
 pub fewer-before : (older : List Entry) (e : Entry) (x : ℕ) → job_execution_count (e ∷ older) < x → job_execution_count older < x
 fewer-before older e x lt = let le : job_execution_count older ≤ job_execution_count (e ∷ older) = more-made older e.who e.at e.call e.reply in omega (arith, le, lt)
@@ -46,6 +47,7 @@ making-after older x Claim is = cc
 making-after older x (Checkpoint w mark step) is = cc
 making-after older x (Finish w o t step) is = cc
 making-after older x (Lose w) is = cc
+making-after older x (Purge i) is = cc
 
 named-none : (older : List Entry) (x y : ℕ) → is_some (find (is_made y) (made older)) ≡ true → job_execution_count older < x → is_at x (Some y) ≡ false
 named-none older x y some lt = let le : y ≤ job_execution_count older = made-within older y some in ne_eqb y x (λ e. omega (arith, le, lt, e))
@@ -60,6 +62,7 @@ asked-none older Claim reply x fits lt = refl
 asked-none older (Checkpoint w mark step) reply x fits lt = refl
 asked-none older (Finish w o t step) reply x fits lt = refl
 asked-none older (Lose w) reply x fits lt = refl
+asked-none older (Purge i) reply x fits lt = refl
 
 -- nobody is given up who was not made
 given-none : (older : List Entry) (call : Call) (reply : Reply) (x : ℕ) → Fits older call reply → job_execution_count older < x → is_at x (abandonment call) ≡ false
@@ -71,6 +74,7 @@ given-none older Claim reply x fits lt = refl
 given-none older (Checkpoint w mark step) reply x fits lt = refl
 given-none older (Finish w o t step) reply x fits lt = refl
 given-none older (Lose w) reply x fits lt = refl
+given-none older (Purge i) reply x fits lt = refl
 
 claim-takes-none : (works executions x : ℕ) (reply : Reply) → FitsClaim works executions reply → executions < x → is_at x (taken_up_by reply) ≡ false
 claim-takes-none works executions x (Work item) fits lt = ne_eqb item.execution x (λ e. omega (arith, fits.1, e, lt))
@@ -92,6 +96,7 @@ takes-none older Claim reply x fits lt =
 takes-none older (Checkpoint w mark step) reply x fits lt = ap (is_at x) fits.0
 takes-none older (Finish w o t step) reply x fits lt = ap (is_at x) fits.0
 takes-none older (Lose w) reply x fits lt = ap (is_at x) fits.0
+takes-none older (Purge i) reply x fits lt = ap (is_at x) fits
 
 -- Stop and abandonment
 
@@ -148,6 +153,7 @@ takes-law older Claim reply x fits = refl
 takes-law older (Checkpoint w mark step) reply x fits = ap (is_at x) fits.0
 takes-law older (Finish w o t step) reply x fits = ap (is_at x) fits.0
 takes-law older (Lose w) reply x fits = ap (is_at x) fits.0
+takes-law older (Purge i) reply x fits = ap (is_at x) fits
 
 -- who is not made has no start
 pub start-none : (past : List Entry) → AllFit past → (x : ℕ) → job_execution_count past < x → start_moment past x ≡ None

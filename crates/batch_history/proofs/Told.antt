@@ -3,14 +3,14 @@ use Rattle.std.proofs.Common.{subst, ◌≡◌, ◌⊎◌, inl, inr, ℕ, ◌+�
 use Rattle.std.specs.List.{list_any}
 use Rattle.std.proofs.lemmas.Bool.{eqb-true, eq-eqb, ne_eqb}
 use Rattle.batch_ids.specs.declared.refusal.Refusal.{Refusal}
-use Rattle.batch_ids.specs.declared.refusal.Refusal.TheVariants.{JobStartException, JobExecutionNotRunningException, JobExecutionIsRunningException, JobExecutionNotMostRecentException}
+use Rattle.batch_ids.specs.declared.refusal.Refusal.TheVariants.{JobStartException, JobExecutionNotRunningException, JobExecutionIsRunningException, JobExecutionNotMostRecentException, NoSuchJobInstanceException}
 use Rattle.batch_ids.specs.declared.status.BatchStatus.{BatchStatus}
 use Rattle.batch_ids.specs.declared.status.BatchStatus.TheVariants.{Starting, Started, Stopping, Stopped as IsStopped, Failed as IsFailed, Completed as IsCompleted, Abandoned}
 use Rattle.batch_ids.specs.declared.status.WorkOutcome.{WorkOutcome}
 use Rattle.batch_ids.specs.declared.status.WorkOutcome.TheVariants.{Completed, Failed, Stopped}
 use Rattle.jsl_model.specs.Jobs.{JobTree}
 use Rattle.batch_history.specs.declared.call.Call.{Call}
-use Rattle.batch_history.specs.declared.call.Call.TheVariants.{Start, Restart, Stop, Abandon, Claim, Checkpoint, Finish, Lose}
+use Rattle.batch_history.specs.declared.call.Call.TheVariants.{Start, Restart, Stop, Abandon, Claim, Checkpoint, Finish, Lose, Purge}
 use Rattle.batch_history.specs.declared.call.Reply.{Reply}
 use Rattle.batch_history.specs.declared.call.Reply.TheVariants.{Execution as IsExecution, Work, Done}
 use Rattle.batch_history.specs.declared.call.WorkItem.{WorkItem}
@@ -23,8 +23,9 @@ use Rattle.batch_history.specs.declared.rows.WorkState.{WorkState}
 use Rattle.batch_history.specs.declared.rows.WorkState.TheVariants.{Busy, Over}
 use Rattle.batch_history.proofs.Folds.{made, makes, is_made, folded_rows, execution_row}
 use Rattle.batch_history.specs.Executions.{Made}
-use Rattle.batch_history.specs.Replies.{is_nothing, reply_by, row_status, is_running_in, accepted, reply_to_claim, claim_reply, reply_to_stop, reply_to_abandon, go_or_stop, reply_to_kept_checkpoint, reply_to_stopped_step, reply_to_checkpoint, reply_to_finish, reply_to_end, reply_to_loss, loss_refusal, reply_to_restart, restart_refusal, refusal_by_status, is_restartable, is_later_than, report_refusal, unless, stop_requested_of, first_ready, walk_in_rows, has_something, is_execution}
-use Rattle.batch_history.specs.Rows.{Rows}
+use Rattle.batch_history.specs.Replies.{is_nothing, reply_by, row_status, is_running_in, accepted, reply_to_claim, claim_reply, reply_to_stop, reply_to_abandon, go_or_stop, reply_to_kept_checkpoint, reply_to_stopped_step, reply_to_checkpoint, reply_to_finish, reply_to_end, reply_to_loss, loss_refusal, reply_to_restart, restart_refusal, refusal_by_status, is_restartable, is_later_than, report_refusal, unless, stop_requested_of, first_ready, walk_in_rows, has_something, is_execution, reply_to_purge, is_instance_there}
+use Rattle.batch_history.specs.Purges.{is_purged}
+use Rattle.batch_history.specs.Rows.{Rows, existing}
 use Rattle.batch_history.specs.Statuses.{is_finished}
 use Rattle.batch_history.specs.Walks.{job_named}
 use Rattle.batch_history.specs.Works.{is_work}
@@ -43,6 +44,15 @@ Due limit catalogue older e = (reply_by limit (folded_rows catalogue older) e.wh
 abbrev pub AllDue : ℕ → List JobTree → List Entry → Type 0
 AllDue limit catalogue [] = Unit {0}
 AllDue limit catalogue (e ∷ older) = Due limit catalogue older e × AllDue limit catalogue older
+
+-- an entry has the reply that its call was due by what existed
+abbrev pub DueThere : ℕ → List JobTree → List Entry → Entry → Type 0
+DueThere limit catalogue older e = reply_by limit (existing (is_purged older) (folded_rows catalogue older)) e.who e.call ≡ Ok e.reply
+
+-- so has each entry of a past
+abbrev pub AllDueThere : ℕ → List JobTree → List Entry → Type 0
+AllDueThere limit catalogue [] = Unit {0}
+AllDueThere limit catalogue (e ∷ older) = DueThere limit catalogue older e × AllDueThere limit catalogue older
 
 -- ---- Job executions that were made
 
@@ -134,6 +144,7 @@ makes-other count x Claim lt = refl
 makes-other count x (Checkpoint w mark step) lt = refl
 makes-other count x (Finish w o t step) lt = refl
 makes-other count x (Lose w) lt = refl
+makes-other count x (Purge i) lt = refl
 
 -- a job execution that was made is not made again
 pub made-once : (older : List Entry) (x : ℕ) (m : Made) (call : Call) → find (is_made x) (made older) ≡ Some m → makes (length (made older)) x call ≡ false
@@ -149,6 +160,7 @@ made-with x m older at Claim reply who h = h
 made-with x m older at (Checkpoint w mark step) reply who h = h
 made-with x m older at (Finish w o t step) reply who h = h
 made-with x m older at (Lose w) reply who h = h
+made-with x m older at (Purge i) reply who h = h
 
 -- and stays as it was made
 pub made-more : (older : List Entry) (e : Entry) (x : ℕ) (m : Made) → find (is_made x) (made older) ≡ Some m → find (is_made x) (made (e ∷ older)) ≡ Some m
@@ -179,6 +191,7 @@ made-call older who at Claim reply x m off e = e
 made-call older who at (Checkpoint w mark step) reply x m off e = e
 made-call older who at (Finish w o t step) reply x m off e = e
 made-call older who at (Lose w) reply x m off e = e
+made-call older who at (Purge i) reply x m off e = e
 
 pub made-before : (older : List Entry) (e : Entry) (x : ℕ) (m : Made) → makes (length (made older)) x e.call ≡ false
     → find (is_made x) (made (e ∷ older)) ≡ Some m → find (is_made x) (made older) ≡ Some m
@@ -260,7 +273,7 @@ restart-found : (limit : ℕ) (r : Rows) (y : ℕ) (found : Option ExecutionRow)
 restart-found limit r y None given is e = cc
 restart-found limit r y (Some row) given is e =
     let restartable : Bool = is_restartable (job_named r.catalogue row.job) in
-    let reply : Result Reply Refusal = accepted limit r.count (IsExecution (length r.executions + 1)) in
+    let reply : Result Reply Refusal = accepted limit r.count (IsExecution (r.last.execution + 1)) in
     (elim (list_any (is_later_than row) r.executions) as (λ b. list_any (is_later_than row) r.executions ≡ b
     → unless (cond b (Some JobExecutionNotMostRecentException) (refusal_by_status restartable (row_status row))) reply ≡ Ok given → ToldRestart r y) [
       | true ↦ λ s t. cc
@@ -370,12 +383,19 @@ not-lost limit count (Some row) item e = not-unless (loss_refusal row.state) _ i
 not-restarted : (limit : ℕ) (r : Rows) (found : Option ExecutionRow) (item : WorkItem) → reply_to_restart limit r found ≡ Ok (Work item) → ⊥
 not-restarted limit r None item e = cc
 not-restarted limit r (Some row) item e =
-    not-unless (restart_refusal r row) _ item (not-work limit r.count (IsExecution (length r.executions + 1)) item (λ s. cc)) e
+    not-unless (restart_refusal r row) _ item (not-work limit r.count (IsExecution (r.last.execution + 1)) item (λ s. cc)) e
+
+not-purged : (limit : ℕ) (r : Rows) (i : ℕ) (item : WorkItem) → reply_to_purge limit r i ≡ Ok (Work item) → ⊥
+not-purged limit r i item e =
+    (elim (is_instance_there i r) as (λ b. cond b (cond (list_any (is_running_in i) r.executions) (Err JobExecutionIsRunningException) (accepted limit r.count Done)) (Err NoSuchJobInstanceException) ≡ Ok (Work item) → ⊥) [
+      | true ↦ λ s. not-tested (list_any (is_running_in i) r.executions) JobExecutionIsRunningException _ item (not-work limit r.count Done item (λ t. cc)) s
+      | false ↦ λ s. cc
+    ]) e
 
 -- a call that is answered with work is a claim
 pub work-told : (limit : ℕ) (r : Rows) (who : ℕ) (call : Call) (item : WorkItem) → reply_by limit r who call ≡ Ok (Work item) → ToldClaim r (Work item)
 work-told limit r who (Start job parameters) item e =
-    absurd (not-made (is_some (job_named r.catalogue job)) JobStartException _ item (not-work limit r.count (IsExecution (length r.executions + 1)) item (λ s. cc)) e)
+    absurd (not-made (is_some (job_named r.catalogue job)) JobStartException _ item (not-work limit r.count (IsExecution (r.last.execution + 1)) item (λ s. cc)) e)
 work-told limit r who (Restart x parameters) item e = absurd (not-restarted limit r (find (is_execution x) r.executions) item e)
 work-told limit r who (Stop x) item e = absurd (not-stop limit r.count (find (is_execution x) r.executions) item e)
 work-told limit r who (Abandon x) item e = absurd (not-abandoned limit r (find (is_execution x) r.executions) item e)
@@ -383,3 +403,4 @@ work-told limit r who Claim item e = claim-told limit r (Work item) e refl
 work-told limit r who (Checkpoint w mark step) item e = absurd (not-checkpointed limit r who (find (is_work w) r.works) item e)
 work-told limit r who (Finish w o exit step) item e = absurd (not-finished limit r who o (find (is_work w) r.works) item e)
 work-told limit r who (Lose w) item e = absurd (not-lost limit r.count (find (is_work w) r.works) item e)
+work-told limit r who (Purge i) item e = absurd (not-purged limit r i item e)

@@ -7,7 +7,7 @@ use Rattle.batch_ids.specs.Metrics.{zero_step}
 use Rattle.batch_ids.specs.declared.status.WorkOutcome.{WorkOutcome}
 use Rattle.batch_ids.specs.declared.status.WorkOutcome.TheVariants.{Failed}
 use Rattle.batch_history.specs.declared.call.Call.{Call}
-use Rattle.batch_history.specs.declared.call.Call.TheVariants.{Start, Restart, Stop, Abandon, Claim, Checkpoint, Finish, Lose}
+use Rattle.batch_history.specs.declared.call.Call.TheVariants.{Start, Restart, Stop, Abandon, Claim, Checkpoint, Finish, Lose, Purge}
 use Rattle.batch_history.specs.declared.call.WorkItem.{WorkItem}
 use Rattle.batch_history.specs.declared.call.Reply.{Reply}
 use Rattle.batch_history.specs.declared.call.Reply.TheVariants.{Execution, Work, Closed, Nothing, Done, Go, StopAsked}
@@ -31,17 +31,19 @@ pub record Report : Type 0 where
   pub end : Option Ending
 
 -- what a call does when it is accepted: the job execution that it makes, the one whose stop it requests, the one that it
--- abandons, what it reports of a work item, and whether it claims, so that its reply says what it hands out
+-- abandons, what it reports of a work item, the job instance that it removes, and whether it claims, so that its reply says
+-- what it hands out
 pub record Effects : Type 0 where
   pub makes : Option Making
   pub stops : Option ℕ
   pub abandons : Option ℕ
   pub reports : Option Report
+  pub purges : Option ℕ
   pub claims : Bool
 
 -- nothing of it
 abbrev no_effects : Effects
-no_effects = record { makes = None; stops = None; abandons = None; reports = None; claims = false }
+no_effects = record { makes = None; stops = None; abandons = None; reports = None; purges = None; claims = false }
 
 -- THE TABLE OF CALLS
 abbrev pub effects : Call → Effects
@@ -56,6 +58,7 @@ effects (Finish w outcome exit step) =
     record no_effects { reports = Some record { work = w; counts = step; mark = None; end = Some record { outcome = outcome; exit = exit } } }
 effects (Lose w) =
     record no_effects { reports = Some record { work = w; counts = zero_step; mark = None; end = Some record { outcome = Failed; exit = None } } }
+effects (Purge i) = record no_effects { purges = Some i }
 
 -- what a claim does by its reply: the job execution that it takes up (that of the work item, or the closed one), and the
 -- work item that it hands out
@@ -110,6 +113,10 @@ stop_request call = (effects call).stops
 -- the job execution that a call abandons
 abbrev pub abandonment : Call → Option ℕ
 abandonment call = (effects call).abandons
+
+-- the job instance that a call removes
+abbrev pub purged_by : Call → Option ℕ
+purged_by call = (effects call).purges
 
 -- whether a report ends this work item
 abbrev pub is_end_of : ℕ → Option Report → Bool

@@ -1,15 +1,16 @@
 -- What calls are answered after a history.
 use Rattle.std.specs.List.{list_any}
 use Rattle.std.specs.Option.{option_map}
-use Rattle.std.specs.Prelude.{Bool, true, false, ℕ, ◌+◌, ◌==◌, ◌&&◌, nat_lt, Option, Some, None, is_some, Result, Ok, Err, List, [], ◌∷◌, length, find, filter, if◌then◌else◌}
+use Rattle.std.specs.Prelude.{Bool, true, false, ℕ, ◌+◌, ◌==◌, ◌&&◌, nat_lt, Option, Some, None, is_some, Result, Ok, Err, List, [], ◌∷◌, find, filter, if◌then◌else◌}
 use Rattle.batch_history.specs.Rows.{History, Rows, rows}
+unfoldable pub use Rattle.batch_history.specs.Rows.{is_execution, instance_in}
 use Rattle.batch_history.specs.Lists.{is_at}
 use Rattle.batch_history.specs.Restarts.{plan_by, restart_point}
 use Rattle.batch_history.specs.Statuses.{is_finished}
 use Rattle.batch_history.specs.Walks.{job_named, walk_value}
 use Rattle.batch_history.specs.Works.{is_work}
 use Rattle.batch_history.specs.declared.call.Call.{Call}
-use Rattle.batch_history.specs.declared.call.Call.TheVariants.{Start, Restart, Stop, Abandon, Claim, Checkpoint, Finish, Lose}
+use Rattle.batch_history.specs.declared.call.Call.TheVariants.{Start, Restart, Stop, Abandon, Claim, Checkpoint, Finish, Lose, Purge}
 use Rattle.batch_history.specs.declared.call.Reply.{Reply}
 use Rattle.batch_history.specs.declared.call.Reply.TheVariants.{Execution, Work, Closed, Nothing, Done, Go, StopAsked, Execution as IsExecution}
 use Rattle.batch_history.specs.declared.call.WorkItem.{WorkItem}
@@ -23,7 +24,7 @@ use Rattle.batch_history.specs.declared.rows.WorkState.{WorkState}
 use Rattle.batch_history.specs.declared.rows.WorkState.TheVariants.{Busy, Over}
 use Rattle.batch_ids.specs.Statuses.{is_unfinished}
 use Rattle.batch_ids.specs.declared.refusal.Refusal.{Refusal}
-use Rattle.batch_ids.specs.declared.refusal.Refusal.TheVariants.{JobStartException, NoSuchJobExecutionException, JobExecutionNotRunningException, JobExecutionIsRunningException, JobExecutionAlreadyCompleteException, JobExecutionNotMostRecentException, JobRestartException, NoSuchWork, WorkNotRunning, NotClaimer, NotStopping, WrongOutcome, RepositoryFull}
+use Rattle.batch_ids.specs.declared.refusal.Refusal.TheVariants.{JobStartException, NoSuchJobInstanceException, NoSuchJobExecutionException, JobExecutionNotRunningException, JobExecutionIsRunningException, JobExecutionAlreadyCompleteException, JobExecutionNotMostRecentException, JobRestartException, NoSuchWork, WorkNotRunning, NotClaimer, NotStopping, WrongOutcome, RepositoryFull}
 use Rattle.batch_ids.specs.declared.status.BatchStatus.{BatchStatus}
 use Rattle.batch_ids.specs.declared.status.BatchStatus.TheVariants.{Starting, Started, Stopping, Stopped as IsStopped, Failed as IsFailed, Completed as IsCompleted, Abandoned}
 use Rattle.batch_ids.specs.declared.status.WorkOutcome.{WorkOutcome}
@@ -54,9 +55,6 @@ first_ready (Open (key ∷ ready) busy) = Some key
 first_ready (Open [] busy) = None
 first_ready (IsDone exit) = None
 first_ready (Ended status exit point) = None
-
-abbrev pub is_execution : ℕ → ExecutionRow → Bool
-is_execution x row = row.execution == x
 
 -- the status of a job execution: ABANDONED once it was abandoned
 abbrev pub row_status : ExecutionRow → BatchStatus
@@ -112,7 +110,7 @@ partition_named p partitions = option_map (λ n. p) partitions
 abbrev pub next_work_item : Rows → ExecutionRow → WorkKey → WorkItem
 next_work_item r row key =
     record {
-      work = length r.works + 1;
+      work = r.last.work + 1;
       execution = row.execution;
       element = key.element;
       partition = partition_named key.partition (partitions_of_job (job_named r.catalogue row.job) key);
@@ -158,10 +156,6 @@ restart_refusal r row =
     if list_any (is_later_than row) r.executions then Some JobExecutionNotMostRecentException
     else refusal_by_status (is_restartable (job_named r.catalogue row.job)) (row_status row)
 
--- the job instance of a job execution, by its row
-abbrev pub instance_in : List ExecutionRow → ℕ → Option ℕ
-instance_in rows x = option_map (λ row. row.instance) (find (is_execution x) rows)
-
 -- the work items of a job instance
 abbrev pub works_of_instance : Rows → ℕ → List WorkRow
 works_of_instance r i = filter (λ work. is_at i (instance_in r.executions work.execution)) r.works
@@ -175,7 +169,7 @@ restart_plan r row =
 -- the reply to a restart
 abbrev pub reply_to_restart : ℕ → Rows → Option ExecutionRow → Result Reply Refusal
 reply_to_restart limit r None = Err NoSuchJobExecutionException
-reply_to_restart limit r (Some row) = unless (restart_refusal r row) (accepted limit r.count (IsExecution (length r.executions + 1)))
+reply_to_restart limit r (Some row) = unless (restart_refusal r row) (accepted limit r.count (IsExecution (r.last.execution + 1)))
 
 -- a stop is accepted while the job execution is unfinished
 abbrev pub reply_to_stop : ℕ → ℕ → Option ExecutionRow → Result Reply Refusal
@@ -252,10 +246,21 @@ abbrev pub reply_to_loss : ℕ → ℕ → Option WorkRow → Result Reply Refus
 reply_to_loss limit count None = Err NoSuchWork
 reply_to_loss limit count (Some row) = unless (loss_refusal row.state) (accepted limit count Done)
 
+-- whether there is a job instance of this number
+abbrev pub is_instance_there : ℕ → Rows → Bool
+is_instance_there i r = list_any (λ row. row.instance == i) r.instances
+
+-- a purge is accepted once no job execution of the job instance is unfinished
+abbrev pub reply_to_purge : ℕ → Rows → ℕ → Result Reply Refusal
+reply_to_purge limit r i =
+    if is_instance_there i r
+    then (if list_any (is_running_in i) r.executions then Err JobExecutionIsRunningException else accepted limit r.count Done)
+    else Err NoSuchJobInstanceException
+
 -- what a call is answered by these rows
 abbrev pub reply_by : ℕ → Rows → ℕ → Call → Result Reply Refusal
 reply_by limit r who (Start job parameters) =
-    if is_some (job_named r.catalogue job) then accepted limit r.count (IsExecution (length r.executions + 1)) else Err JobStartException
+    if is_some (job_named r.catalogue job) then accepted limit r.count (IsExecution (r.last.execution + 1)) else Err JobStartException
 reply_by limit r who (Restart x parameters) =
     reply_to_restart limit r (find (is_execution x) r.executions)
 reply_by limit r who (Stop x) = reply_to_stop limit r.count (find (is_execution x) r.executions)
@@ -264,6 +269,7 @@ reply_by limit r who Claim = reply_to_claim limit r (find (has_something r) r.ex
 reply_by limit r who (Checkpoint w mark step) = reply_to_checkpoint limit r who (find (is_work w) r.works)
 reply_by limit r who (Finish w outcome exit step) = reply_to_finish limit r who outcome (find (is_work w) r.works)
 reply_by limit r who (Lose w) = reply_to_loss limit r.count (find (is_work w) r.works)
+reply_by limit r who (Purge i) = reply_to_purge limit r i
 
 -- THE REPLY: what a call is answered after a history
 abbrev pub reply : ℕ → History → ℕ → Call → Result Reply Refusal

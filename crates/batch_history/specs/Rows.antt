@@ -1,15 +1,17 @@
--- What a history says: a row for each job instance, job execution and work item, and the checkpoint of each step.
+-- What a history says: a row for each job instance, job execution and work item that exists, and the checkpoint of each step.
 use Rattle.std.specs.Option.{option_map}
-use Rattle.std.specs.Prelude.{◌≡◌, ℕ, ◌+◌, Bool, Option, List, [], ◌∷◌, length, reverse, zero, suc, filter_map}
+use Rattle.std.specs.Prelude.{◌≡◌, ℕ, ◌+◌, ◌==◌, not, Bool, false, Option, Some, None, List, [], ◌∷◌, length, find, filter, reverse, zero, suc, filter_map, if◌then◌else◌}
 use Rattle.batch_history.specs.Checkpoints.{InstanceStep, checkpoint_of}
-use Rattle.batch_history.specs.Executions.{job_instances, job_execution_count, Origin, origin_of, Made, made_as}
+use Rattle.batch_history.specs.Executions.{job_instances, job_instance_count, job_execution_count, Origin, origin_of, Made, made_as}
 use Rattle.batch_history.specs.Moments.{start_moment, end_moment, updated_moment}
 use Rattle.batch_history.specs.Statuses.{stop_requested, is_abandoned, batch_status, exit_status}
+use Rattle.batch_history.specs.Purges.{is_purged}
 use Rattle.batch_history.specs.Restarts.{plan_of, walk_of_execution}
-use Rattle.batch_history.specs.Works.{work_items}
+use Rattle.batch_history.specs.Works.{work_items, work_item_count}
 use Rattle.batch_history.specs.declared.call.Entry.{Entry}
 use Rattle.batch_history.specs.declared.rows.ExecutionRow.{ExecutionRow}
 use Rattle.batch_history.specs.declared.rows.JobInstance.{JobInstance}
+use Rattle.batch_history.specs.declared.rows.LastNumbers.{LastNumbers}
 use Rattle.batch_history.specs.declared.rows.WorkRow.{WorkRow}
 use Rattle.job_walk.specs.declared.facts.Value.{Value}
 use Rattle.job_walk.specs.declared.plan.Plan.{Plan}
@@ -24,11 +26,12 @@ pub record History : Type 0 where
 abbrev pub history : List JobTree → List Entry → History
 history catalogue log = record { catalogue = catalogue; log = log }
 
--- what a history says: its catalogue, how many operations were accepted, a row for each job instance, job execution and
--- work item, by rising number, and the checkpoint of each step of a job instance
+-- what a history says: its catalogue, how many operations were accepted, the last numbers that were given, a row for each job
+-- instance, job execution and work item, by rising number, and the checkpoint of each step of a job instance
 pub record Rows : Type 0 where
   pub catalogue : List JobTree
   pub count : ℕ
+  pub last : LastNumbers
   pub instances : List JobInstance
   pub executions : List ExecutionRow
   pub works : List WorkRow
@@ -76,17 +79,68 @@ numbers_from x (suc n) = x ∷ numbers_from (x + 1) n
 abbrev pub job_executions : List JobTree → List Entry → List ExecutionRow
 job_executions catalogue past = filter_map (job_execution catalogue past) (numbers_from 1 (job_execution_count past))
 
--- the rows of a past, each found by searches
-abbrev pub rows_of_past : List JobTree → List Entry → Rows
-rows_of_past catalogue past =
+-- the last numbers that were given: numbers are never given again
+abbrev pub last_numbers : List Entry → LastNumbers
+last_numbers past =
+    record { instance = job_instance_count past; execution = job_execution_count past; work = work_item_count past }
+
+-- the rows of all that a past has made, each found by searches
+abbrev pub all_rows : List JobTree → List Entry → Rows
+all_rows catalogue past =
     record {
       catalogue = catalogue;
       count = length past;
+      last = last_numbers past;
       instances = job_instances past;
       executions = job_executions catalogue past;
       works = work_items past;
       checkpoint = checkpoint_of past;
     }
+
+-- ---- What exists
+
+-- whether it is the job execution of this number
+abbrev pub is_execution : ℕ → ExecutionRow → Bool
+is_execution x row = row.execution == x
+
+-- the job instance of a job execution, by its row
+abbrev pub instance_in : List ExecutionRow → ℕ → Option ℕ
+instance_in rows x = option_map (λ row. row.instance) (find (is_execution x) rows)
+
+-- whether it is a job instance that is gone
+abbrev pub is_gone : (ℕ → Bool) → Option ℕ → Bool
+is_gone gone None = false
+is_gone gone (Some i) = gone i
+
+-- the job instances that are not gone
+abbrev pub instances_there : (ℕ → Bool) → List JobInstance → List JobInstance
+instances_there gone instances = filter (λ row. not (gone row.instance)) instances
+
+-- the job executions of job instances that are not gone
+abbrev pub executions_there : (ℕ → Bool) → List ExecutionRow → List ExecutionRow
+executions_there gone executions = filter (λ row. not (gone row.instance)) executions
+
+-- the work items of job executions of job instances that are not gone
+abbrev pub works_there : (ℕ → Bool) → List ExecutionRow → List WorkRow → List WorkRow
+works_there gone executions works = filter (λ row. not (is_gone gone (instance_in executions row.execution))) works
+
+-- the checkpoints of job instances that are not gone
+abbrev pub checkpoint_there : (ℕ → Bool) → (InstanceStep → Option (List ℕ)) → InstanceStep → Option (List ℕ)
+checkpoint_there gone checkpoint p = if gone p.instance then None else checkpoint p
+
+-- the rows without those of the job instances that are gone
+abbrev pub existing : (ℕ → Bool) → Rows → Rows
+existing gone r =
+    record r {
+      instances = instances_there gone r.instances;
+      executions = executions_there gone r.executions;
+      works = works_there gone r.executions r.works;
+      checkpoint = checkpoint_there gone r.checkpoint;
+    }
+
+-- the rows of what exists after a past
+abbrev pub rows_of_past : List JobTree → List Entry → Rows
+rows_of_past catalogue past = existing (is_purged past) (all_rows catalogue past)
 
 -- the rows of a history
 abbrev pub rows : History → Rows

@@ -1,5 +1,5 @@
--- Work items, the step executions among them (Jakarta Batch 2.1, "StepExecution"): work item w is what the w-th reply of
--- work hands out, and it is busy until a Finish names it.
+-- Work items, of which step executions are made (Jakarta Batch 2.1, "StepExecution"): work item w is what the w-th reply of
+-- work hands out, and it is busy until a Finish or a Lose names it.
 use Rattle.std.specs.Option.{option_map}
 use Rattle.std.specs.Prelude.{ℕ, ◌+◌, ◌==◌, Bool, Option, Some, None, unwrap_or, List, [], ◌∷◌, ◌++◌, length, find, map, count_by, if◌then◌else◌}
 use Rattle.batch_history.specs.Operations.{claim_effects, Ending, Report, effects, taken_up, ends_work, counts_reported, hands_out_work}

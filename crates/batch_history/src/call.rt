@@ -3,13 +3,13 @@ ghost use Rattle.batch_history.specs.Replies.{is_nothing};
 ghost use Rattle.batch_history.specs.Works.{item_key, work_kind};
 
 use batch_ids::{
-    ExecutionId, MetricStep, Moment, OutOfMemory, Parameters, T256, Text, WorkId, WorkOutcome,
-    try_clone_option,
+    ExecutionId, InstanceId, MetricStep, Moment, OutOfMemory, Parameters, T256, Text, WorkId,
+    WorkOutcome, try_clone_option,
 };
 use job_walk::WorkKey;
 
 /// An operation on the job repository (Jakarta Batch 2.1, "JobOperator"; claim, checkpoint, finish
-/// and lose are this service's own, for its workers).
+/// and lose are this service's own, for its workers, and so is purge).
 #[derive(PartialEq, Eq, Debug, Drop)]
 pub enum Call {
     /// Makes a job instance of this job, and its first job execution.
@@ -64,6 +64,12 @@ pub enum Call {
         /// The work item.
         work: WorkId,
     },
+    /// Removes a job instance, none of whose job executions is unfinished, with its job executions,
+    /// their work items and its checkpoints. Their numbers are not given again.
+    Purge {
+        /// The job instance.
+        instance: InstanceId,
+    },
 }
 
 /// What a worker runs for a work item.
@@ -105,10 +111,11 @@ pub enum WorkKind {
     Decision,
 }
 
-/// One run of a step or of a decision.
+/// One run of a step, of a partition of a step, or of a decision.
 #[derive(PartialEq, Eq, Debug, Drop)]
 pub struct WorkItem {
-    /// Its number, which is the step execution's id where it is a step's.
+    /// Its number, which is the step execution's id where it is a step's; where the step is
+    /// partitioned, that of its first work item in the job execution is.
     pub work: WorkId,
     /// The job execution that it belongs to.
     pub execution: ExecutionId,
@@ -189,6 +196,9 @@ impl Call {
                 step,
             } => finish_copy(*work, *outcome, exit, *step),
             Call::Lose { work } => Ok(Call::Lose { work: *work }),
+            Call::Purge { instance } => Ok(Call::Purge {
+                instance: *instance,
+            }),
         }
     }
 }

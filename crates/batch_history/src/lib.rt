@@ -10,4 +10,4 @@ mod rows;
 pub use call::{Call, Entry, Reply, WorkItem, WorkKind, WorkTask};
 pub use law::legal_histories_grow;
 pub use query::{Answer, CountsByStatus, JobExecution, Query, StepExecution};
-pub use rows::{CheckpointRow, ExecutionRow, JobInstance, WorkRow, WorkState};
+pub use rows::{CheckpointRow, ExecutionRow, JobInstance, LastNumbers, WorkRow, WorkState};

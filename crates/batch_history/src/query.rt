@@ -10,7 +10,7 @@ use batch_ids::{
 /// are this service's own).
 #[derive(PartialEq, Eq, Debug, Drop)]
 pub enum Query {
-    /// The names of the jobs that have a job instance, in order of first start.
+    /// The names of the jobs that have a job instance, by the least number of one.
     JobNames,
     /// How many job instances a job has.
     JobInstanceCount {
@@ -86,7 +86,8 @@ pub struct JobExecution {
 /// The record of a step execution (Jakarta Batch 2.1, "StepExecution").
 #[derive(PartialEq, Eq, Debug, Drop)]
 pub struct StepExecution {
-    /// Its number, which is that of its work item.
+    /// Its number, which is that of its work item, or of the first one where the step is
+    /// partitioned.
     pub work: WorkId,
     /// The job execution that it belongs to.
     pub execution: ExecutionId,
@@ -94,7 +95,7 @@ pub struct StepExecution {
     pub step: T256,
     /// Its batch status.
     pub status: BatchStatus,
-    /// The moment of the claim that handed it out.
+    /// The moment of the claim that handed out that work item.
     pub start: Moment,
     /// The moment of the operation that ended it, if it is over.
     pub end: Option<Moment>,
@@ -126,7 +127,7 @@ pub struct CountsByStatus {
 /// What a question is answered.
 #[derive(Debug, Drop)]
 pub enum Answer {
-    /// Names of jobs, in order of first start.
+    /// Names of jobs, by the least number of a job instance of each.
     JobNames(Listed<T256>),
     /// A number of job instances.
     JobInstanceCount(u64),

@@ -21,6 +21,18 @@ pub struct JobInstance {
     pub job: T256,
 }
 
+/// The last number that was given to a job instance, a job execution and a work item, 0 where none
+/// was. A number is given once, also where a purge has removed what had it.
+#[derive(Clone, Copy, PartialEq, Eq, Debug)]
+pub struct LastNumbers {
+    /// That of a job instance.
+    pub instance: u64,
+    /// That of a job execution.
+    pub execution: u64,
+    /// That of a work item.
+    pub work: u64,
+}
+
 /// What a repository keeps of a job execution.
 #[derive(Debug, Drop)]
 pub struct ExecutionRow {

@@ -30,8 +30,9 @@ pub enum BatchStatus {
     Abandoned,
 }
 
-/// How a work item ended: the batch status that its step execution then has (Jakarta Batch 2.1,
-/// "Batch and Exit Status"). It prints as its name, and is read from it.
+/// How a work item ended: the batch status that its step execution then has, where the step is not
+/// partitioned (Jakarta Batch 2.1, "Batch and Exit Status"). It prints as its name, and is read
+/// from it.
 #[derive(Clone, Copy, PartialEq, Eq, Hash, Debug)]
 pub enum WorkOutcome {
     /// It ended well.
@@ -84,7 +85,7 @@ impl WorkOutcome {
         self.status().name()
     }
 
-    /// The status that a step execution has once its work item ended so.
+    /// The status that a step execution of one work item has once that ended so.
     pub fn status(self) -> BatchStatus
         ensures { result ≡ outcome_status self }
     {

@@ -2,10 +2,12 @@ ghost use Rattle.std.specs.Prelude.{◌≡◌};
 
 use std::marker::Model;
 
-/// The number of a work item, one run of a step or of a decision. Contracts see the number.
+/// The number of a work item, one run of a step, of a partition of a step, or of a decision.
+/// Contracts see the number.
 ///
 /// Work items are numbered from 1 upwards, without gaps, in the order in which they are handed
-/// out. The number of a step's work item is its step execution's id. 0 names nothing.
+/// out. The number of a step's work item is its step execution's id, and that of the first one
+/// where the step is partitioned. 0 names nothing.
 /// See Jakarta Batch 2.1, "StepExecution" (`getStepExecutionId`).
 #[derive(Clone, Copy, PartialEq, Eq, PartialOrd, Ord, Hash, Debug)]
 pub struct WorkId {

@@ -1,6 +1,7 @@
 -- What a desk's answer is to the session that asked.
 use Rattle.std.proofs.Common.{◌≡◌, ℕ, ◌≤◌, Bool, true, false, nat_lt, if◌then◌else◌, Option, Some, None, Result, Ok, Err, List, [], ◌∷◌, ◌++◌, find, length, refl, sym, ◌∙◌, ap, subst, arith, length-append}
 use mathlib.Core.List.{IsPrefix}
+use Rattle.batch_history.specs.Answers.{answer}
 use Rattle.batch_history.specs.Due.{IsDue}
 use Rattle.batch_history.specs.Replies.{accepted, is_execution, is_nothing, reply, reply_to_stop, row_status}
 use Rattle.batch_history.specs.Rows.{Rows, rows, history}
@@ -10,6 +11,8 @@ use Rattle.batch_history.specs.declared.call.Call.TheVariants.{Stop}
 use Rattle.batch_history.specs.declared.call.Entry.{Entry}
 use Rattle.batch_history.specs.declared.call.Reply.{Reply}
 use Rattle.batch_history.specs.declared.call.Reply.TheVariants.{Done}
+use Rattle.batch_history.specs.declared.query.Answer.{Answer}
+use Rattle.batch_history.specs.declared.query.Query.{Query}
 use Rattle.batch_history.specs.declared.rows.ExecutionRow.{ExecutionRow}
 use Rattle.batch_ids.specs.declared.refusal.Refusal.{Refusal}
 use Rattle.batch_ids.specs.declared.refusal.Refusal.TheVariants.{JobExecutionNotRunningException, RepositoryFull}
@@ -17,10 +20,10 @@ use Rattle.jsl_model.specs.Jobs.{JobTree}
 use Rattle.seat_rules.proofs.Prefixes.{prefix_length, prefix_self, prefix_trans}
 use Rattle.seat_rules.specs.Places.{IsLegalLog}
 use Rattle.batch_history.specs.Legal.{entries_by}
-use Rattle.seat_rules.specs.Views.{Each, HasStop}
+use Rattle.seat_rules.specs.Views.{Each, HasStop, informed}
 use Rattle.seat_rules.specs.declared.view.SessionView.{SessionView}
 use Rattle.sessions.specs.Answered.{entered, moved_on, operation}
-use Rattle.batch_operator.specs.Calls.{IsReplied}
+use Rattle.batch_operator.specs.Calls.{IsAnswered, IsReplied}
 
 -- ---- Calls
 
@@ -54,4 +57,18 @@ replied catalogue v w log now call at result due now_is w_is begins own legal le
         own = own;
         stops = stops;
       };
+    }
+
+-- ---- Queries
+
+-- the answer of a desk whose log the session then has seen
+pub answered : (catalogue : List JobTree) (v w : SessionView) (log : List Entry) (query : Query) (result : Result Answer Refusal)
+    → IsDue result (answer (history catalogue log) query) → w ≡ informed log v → IsPrefix v.seen w.seen → entries_by w.number w.seen ≡ w.mine
+    → IsLegalLog catalogue w.seen → v.least ≤ length w.seen → Each (HasStop w.seen v.least) v.stops → IsAnswered catalogue v w query result
+answered catalogue v w log query result due w_is grows own legal least stops =
+    let seen : w.seen ≡ log = ap (λ (s : SessionView). s.seen) w_is in
+    record {
+      answer = subst (λ (l : List Entry). IsDue result (answer (history catalogue l) query)) (sym seen) due;
+      session = w_is ∙ ap (λ (l : List Entry). informed l v) (sym seen);
+      sees = record { grows = grows; legal = legal; least = least; own = own; stops = stops };
     }

@@ -2,7 +2,8 @@ ghost use Rattle.batch_operator.specs.Calls.{IsReplied};
 
 use crate::operator::Operator;
 use batch_ids::{
-    ExecutionId, MetricStep, Moment, Parameters, Refusal, T256, Text, WorkId, WorkOutcome,
+    ExecutionId, InstanceId, MetricStep, Moment, Parameters, Refusal, T256, Text, WorkId,
+    WorkOutcome,
 };
 use op_log::{Call, Reply};
 use seat_rules::Site;
@@ -193,5 +194,29 @@ impl<N: Site> Operator<N> {
         ensures { IsReplied N.place.catalogue session.old session.new (Call.Lose work) at result }
     {
         self.act(rt, session, Call::Lose { work }, at)
+    }
+
+    /// Removes a job instance whose job executions are all finished, with its job executions, their
+    /// work items and its checkpoints: from then on no call and no query finds them. Their numbers are
+    /// not given again, and the operations on them stay in the log. Any session may say so. The reply
+    /// is `Reply::Done`. The call is this service's own: Jakarta Batch 2.1 leaves to a job repository
+    /// when it forgets ("JobRepository"), and its `JobOperator` has no such method.
+    ///
+    /// # Errors
+    ///
+    /// In this order: `NoSuchJobInstanceException` where there is no such job instance, or none any
+    /// more; `JobExecutionIsRunningException` where a job execution of it is unfinished;
+    /// `RepositoryFull`. `OutOfMemory` in place of any answer where memory is refused. A refused call
+    /// changes nothing.
+    pub fn purge(
+        &self,
+        rt: &impl Wait,
+        session: &mut Session<N>,
+        instance: InstanceId,
+        at: Moment,
+    ) -> Result<Reply, Refusal>
+        ensures { IsReplied N.place.catalogue session.old session.new (Call.Purge instance) at result }
+    {
+        self.act(rt, session, Call::Purge { instance }, at)
     }
 }

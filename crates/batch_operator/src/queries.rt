@@ -10,8 +10,8 @@ use std::sync::Wait;
 /// Each query is answered after what its session has seen then: what a read copy has absorbed, where
 /// that is at least what the session had seen and was shown, and else the whole history.
 impl<N: Site> Operator<N> {
-    /// The names of the jobs that have a job instance, in order of first start (Jakarta Batch 2.1,
-    /// "JobOperator", getJobNames).
+    /// The names of the jobs that have a job instance, in the order of the least one of each (Jakarta
+    /// Batch 2.1, "JobOperator", getJobNames).
     ///
     /// # Errors
     ///

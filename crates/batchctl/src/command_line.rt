@@ -34,11 +34,13 @@ brackets may be left out):
                                    ends a work item; O is COMPLETED, FAILED or STOPPED
   {"do":"lose","by":N,"at":N,"work":N}
                                    gives up a work item whose worker is gone: it is FAILED
+  {"do":"purge","by":N,"at":N,"instance":N}
+                                   removes a job instance whose executions are all finished
 M is READ_COUNT, WRITE_COUNT, COMMIT_COUNT, ROLLBACK_COUNT, READ_SKIP_COUNT, PROCESS_SKIP_COUNT,
 FILTER_COUNT or WRITE_SKIP_COUNT; its number, up to 4294967295, is added to the work item's.
 
 Queries:
-  {"ask":"job_names"}              the jobs that were started
+  {"ask":"job_names"}              the jobs that have an instance
   {"ask":"job_instance_count","job":T}
   {"ask":"job_instances","job":T,"start":N,"count":N}
                                    the newest first, the first "start" of them left out

@@ -2,14 +2,16 @@
 use Rattle.std.proofs.Common.{◌≡◌, ℕ, ◌==◌, true, false, cond, Option, Some, Result, Ok, Err, OnErr, List, sym, ◌∙◌, ap, subst}
 use Rattle.std.specs.Option.{option_map}
 use Rattle.std.specs.Prelude.{slice_get, slice_set}
-use Rattle.std.proofs.lemmas.List.{map-set}
+use Rattle.std.proofs.lemmas.List.{map-set, take_all}
+use Rattle.std.proofs.Math.Nat.{le_refl}
 use Rattle.std.proofs.lemmas.Option.{slice_get-map}
 use Rattle.batch_ids.specs.declared.refusal.Refusal.{Refusal}
 use Rattle.batch_history.specs.Answers.{answer}
 use Rattle.batch_history.specs.Legal.{history_after, most_operations}
 use Rattle.batch_history.specs.Replies.{reply}
-use Rattle.batch_history.specs.Rows.{History}
+use Rattle.batch_history.specs.Rows.{History, history}
 use Rattle.batch_history.specs.declared.call.Call.{Call}
+use Rattle.batch_history.specs.declared.call.Entry.{Entry}
 use Rattle.batch_history.specs.declared.call.Reply.{Reply}
 use Rattle.batch_history.specs.declared.query.Answer.{Answer}
 use Rattle.batch_history.specs.declared.query.Query.{Query}
@@ -40,6 +42,19 @@ called s who call at seen given history sessions is due grown put =
     ∙ (ap (replied s who call at seen) (sym due)
     ∙ (ap (λ (h : History). record { outcome = Replied given; after = record { history = h; sessions = with_seen s.sessions who (record seen { front = operations h }); copies = s.copies } }) (sym grown)
     ∙ put_so))
+
+-- a query that the book was asked
+pub asked : (s : State) (who : ℕ) (query : Query) (seen : Seen) (answered : Result Answer Refusal) (sessions : List Seen)
+    → Some seen ≡ seen_by s.sessions who → answered ≡ answer s.history query
+    → sessions ≡ with_seen s.sessions who (record seen { front = operations s.history })
+    → step s (Ask who query) ≡ record { outcome = Answered answered; after = record { history = s.history; sessions = sessions; copies = s.copies } }
+asked s who query seen answered sessions is due put =
+    let now : State = record { history = s.history; sessions = with_seen s.sessions who (record seen { front = operations s.history }); copies = s.copies } in
+    there s (seen_by s.sessions who) seen (λ seen. answered_after s who query seen (operations s.history)) is
+    ∙ (ap (λ (l : List Entry). record { outcome = Answered (answer (history s.history.catalogue l) query); after = now })
+    (take_all (operations s.history) s.history.log (le_refl (operations s.history)))
+    ∙ (ap (λ (l : List Seen). record { outcome = Answered (answer s.history query); after = record { history = s.history; sessions = l; copies = s.copies } }) (sym put)
+    ∙ ap (λ (r : Result Answer Refusal). record { outcome = Answered r; after = record { history = s.history; sessions = sessions; copies = s.copies } }) (sym due)))
 
 -- a read of a copy that has what its session has seen
 pub read_of_copy : (s : State) (who copy : ℕ) (query : Query) (seen : Seen) (n : ℕ) (answered : Result Answer Refusal) (sessions : List Seen)

@@ -11,7 +11,7 @@ use Rattle.batch_history.specs.Rows.{Rows}
 use Rattle.batch_history.specs.Walks.{job_named, facts_by_work}
 use Rattle.batch_history.specs.Works.{is_work, work_key, busy_work}
 use Rattle.batch_history.specs.declared.call.Call.{Call}
-use Rattle.batch_history.specs.declared.call.Call.TheVariants.{Start, Restart, Stop, Abandon, Claim, Checkpoint, Finish, Lose}
+use Rattle.batch_history.specs.declared.call.Call.TheVariants.{Start, Restart, Stop, Abandon, Claim, Checkpoint, Finish, Lose, Purge}
 use Rattle.batch_history.specs.declared.call.Entry.{Entry}
 use Rattle.batch_history.specs.declared.call.Reply.{Reply}
 use Rattle.batch_history.specs.declared.call.Reply.TheVariants.{Execution, Work, Closed, Nothing, Done, Go, StopAsked}
@@ -132,6 +132,7 @@ placed-step limit catalogue older who at (Finish w o t step) reply due placed =
 placed-step limit catalogue older who at (Lose w) reply due placed =
     placed-changed catalogue _ w _ (works_of older)
     (λ row p. record { one = p.one; found = p.found; runs = p.runs; partition = p.partition }) (placed-on catalogue older _ (works_of older) placed)
+placed-step limit catalogue older who at (Purge i) reply due placed = placed-on catalogue older _ (works_of older) placed
 
 -- each work item of a legal history
 pub all-placed : (limit : ℕ) (catalogue : List JobTree) (past : List Entry) → AllDue limit catalogue past → AllPlaced catalogue past (works_of past)

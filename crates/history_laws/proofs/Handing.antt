@@ -1,5 +1,5 @@
 -- What is handed out.
-use Rattle.std.proofs.Common.{◌≡◌, ℕ, ◌+◌, ◌<◌, Bool, true, false, Option, None, Some, Ok, List, ◌∷◌, ◌++◌, find, reverse, refl, sym, ◌∙◌, ap, subst}
+use Rattle.std.proofs.Common.{◌≡◌, ℕ, ◌<◌, Bool, true, false, Option, None, Some, Ok, List, ◌∷◌, ◌++◌, find, reverse, refl, sym, ◌∙◌, ap, subst}
 use Rattle.jsl_model.specs.Jobs.{JobTree}
 use Rattle.batch_history.specs.declared.call.Entry.{Entry}
 use Rattle.batch_history.specs.declared.call.WorkItem.{WorkItem}
@@ -8,15 +8,14 @@ use Rattle.batch_history.proofs.Folds.{folded_rows, execution_row}
 use Rattle.batch_history.specs.Executions.{Made}
 use Rattle.batch_history.specs.Legal.{IsLegal}
 use Rattle.batch_history.specs.Replies.{reply, runnable_of_job, has_something, work_task}
-use Rattle.batch_history.specs.Rows.{History, Rows, rows}
+use Rattle.batch_history.specs.Rows.{History, Rows}
 use Rattle.batch_history.specs.Walks.{job_named, facts_by_work, runnable_fact}
 use Rattle.batch_history.specs.declared.rows.ExecutionRow.{ExecutionRow}
 use Rattle.history_laws.specs.Laws.{beginning, row_in, WasReady, IsOpen, IsOfOpenStep, GoesOnFrom, checkpoint_in}
 use Rattle.batch_history.specs.Works.{item_key}
 use Rattle.batch_history.proofs.Legal.{legal-beginning}
 use Rattle.batch_history.proofs.Finding.{found-passes}
-use Rattle.batch_history.proofs.Items.{works-counted}
-use Rattle.batch_history.proofs.Legality.{past-due, rows_folded, least_found}
+use Rattle.batch_history.proofs.Legality.{past-due, all_rows_folded, least_found}
 use Rattle.batch_history.proofs.Told.{IsRowOf, row-of, ToldClaim, work-told}
 use Rattle.batch_history.proofs.Kept.{IsUnknown}
 use Rattle.jsl_model.specs.Names.{is_among}
@@ -33,7 +32,7 @@ use Rattle.job_walk.specs.declared.runnable.Runnable.TheVariants.{Step as RunsSt
 use Rattle.batch_history.specs.Restarts.{plan_of}
 use Rattle.batch_history.specs.declared.call.WorkTask.TheVariants.{Chunk}
 use Rattle.batch_history.proofs.Plans.{plan-law}
-use Rattle.history_laws.proofs.Beginnings.{row-folded, row-there}
+use Rattle.history_laws.proofs.Beginnings.{all_of, answered-by-all, row-folded, row-there}
 use Rattle.history_laws.proofs.Claims.{IsHandedOf, handed-of, handed-runs}
 
 -- ---- What is handed out
@@ -43,11 +42,11 @@ record IsOwner (h : History) (row : ExecutionRow) : Type 0 where
   found : row_in h row.execution ≡ Some row
   plan : row.plan ≡ plan_of h.catalogue (reverse h.log) row.execution
 
-is-owner : (limit : ℕ) (h : History) → IsLegal limit h → (row : ExecutionRow) → find (has_something (rows h)) (rows h).executions ≡ Some row → IsOwner h row
+is-owner : (limit : ℕ) (h : History) → IsLegal limit h → (row : ExecutionRow) → find (has_something (all_of h)) (all_of h).executions ≡ Some row → IsOwner h row
 is-owner limit h legal row found =
     let past : List Entry = reverse h.log in
     let folded : find (has_something (folded_rows h.catalogue past)) (folded_rows h.catalogue past).executions ≡ Some row =
-    sym (ap (λ (r : Rows). find (has_something r) r.executions) (rows_folded limit h legal)) ∙ found in
+    sym (ap (λ (r : Rows). find (has_something r) r.executions) (all_rows_folded limit h legal)) ∙ found in
     let from : IsRowOf h.catalogue past row = row-of h.catalogue past (has_something (folded_rows h.catalogue past)) row folded in
     let m : Made = from.one in
     let there : row_in h m.execution ≡ Some (execution_row h.catalogue past m) =
@@ -60,16 +59,16 @@ is-owner limit h legal row found =
 -- what a claim hands out, and of which job execution
 record HandedOut (h : History) (item : WorkItem) : Type 0 where
   row : ExecutionRow
-  least : find (has_something (rows h)) (rows h).executions ≡ Some row
-  by : IsHandedOf (rows h) row item
+  least : find (has_something (all_of h)) (all_of h).executions ≡ Some row
+  by : IsHandedOf (all_of h) row item
   owner : IsOwner h row
 
-was-handed : (limit : ℕ) (h : History) → IsLegal limit h → (item : WorkItem) → ToldClaim (rows h) (Work item) → HandedOut h item
+was-handed : (limit : ℕ) (h : History) → IsLegal limit h → (item : WorkItem) → ToldClaim (all_of h) (Work item) → HandedOut h item
 was-handed limit h legal item told =
     record {
       row = told.row;
       least = told.found;
-      by = handed-of (rows h) told.row item told.answered;
+      by = handed-of (all_of h) told.row item told.answered;
       owner = is-owner limit h legal told.row told.found;
     }
 
@@ -79,7 +78,8 @@ handed limit h legal before e after cut item is =
     let due = legal.due before e after cut in
     let there : reply limit (beginning h before) e.who e.call ≡ Ok (Work item) = due.0 ∙ ap Ok is in
     was-handed limit (beginning h before) (legal-beginning limit h legal before (e ∷ after) cut) item
-    (work-told limit (rows (beginning h before)) e.who e.call item there)
+    (work-told limit (all_of (beginning h before)) e.who e.call item
+    (answered-by-all limit (beginning h before) (legal-beginning limit h legal before (e ∷ after) cut) e.who e.call (Work item) there))
 
 -- its job execution, by the number that it has
 owner-found : (h : History) (item : WorkItem) (out : HandedOut h item) → row_in h item.execution ≡ Some out.row
@@ -91,14 +91,14 @@ was-ready limit h legal item out =
     record {
       owner = out.row;
       found = owner-found h item out;
-      something = found-passes (has_something (rows h)) (rows h).executions out.row out.least;
-      least = λ x other there lt. least_found limit h legal (has_something (rows h)) out.row out.least x other there (subst (λ n. x < n) number lt);
+      something = found-passes (has_something (all_of h)) (all_of h).executions out.row out.least;
+      least = λ x other there lt. least_found limit h legal (has_something (all_of h)) out.row out.least x other there (subst (λ n. x < n) number lt);
       plan = out.owner.plan ∙ ap (plan_of h.catalogue (reverse h.log)) (sym number);
       ready = out.by.ready;
-      runs = handed-runs (rows h) out.row item out.by;
+      runs = handed-runs (all_of h) out.row item out.by;
       task = ap (λ (i : WorkItem). i.task) out.by.is;
       partition = ap (λ (i : WorkItem). i.partition) out.by.is;
-      number = ap (λ (i : WorkItem). i.work) out.by.is ∙ ap (λ n. n + 1) (works-counted (reverse h.log));
+      number = ap (λ (i : WorkItem). i.work) out.by.is;
     }
 
 -- what a claim hands out was ready
@@ -141,7 +141,7 @@ handed_open limit h legal before e after cut item is =
     record {
       owner = row;
       found = owner-found then item out;
-      step = λ task runs. unknown-open row.plan (facts_by_work row.execution (rows then).works) (job_named then.catalogue row.job) (item_key item) task out.by.unknown runs;
+      step = λ task runs. unknown-open row.plan (facts_by_work row.execution (all_of then).works) (job_named then.catalogue row.job) (item_key item) task out.by.unknown runs;
     }
 
 -- ---- Checkpoints

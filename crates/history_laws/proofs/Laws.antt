@@ -1,18 +1,15 @@
 -- The laws over whole histories.
-use Rattle.std.proofs.Common.{◌≡◌, ◌≢◌, ℕ, ◌+◌, ◌==◌, Bool, true, false, cond, None, Some, is_some, List, [], ◌∷◌, ◌++◌, length, map, find, reverse, refl, sym, ◌∙◌, ap, subst}
-use Rattle.std.proofs.lemmas.List.{append_assoc, reverse-append, reverse-reverse, map-append}
+use Rattle.std.proofs.Common.{◌≡◌, ◌≢◌, ℕ, ◌==◌, Bool, true, false, cond, None, Some, is_some, List, [], ◌∷◌, ◌++◌, find, reverse, refl, sym, ◌∙◌, ap, subst}
+use Rattle.std.proofs.lemmas.List.{append_assoc, reverse-append, reverse-reverse}
 use Rattle.std.proofs.lemmas.Bool.{eqb-true}
 use Rattle.batch_ids.specs.Statuses.{is_unfinished}
 use Rattle.batch_ids.specs.declared.status.BatchStatus.{BatchStatus}
 use Rattle.batch_ids.specs.declared.status.BatchStatus.TheVariants.{Starting, Started, Stopping, Stopped, Failed, Completed, Abandoned}
 use Rattle.jsl_model.specs.Jobs.{JobTree}
-use Rattle.jsl_model.specs.Names.{has_twice, distinct}
-use Rattle.batch_history.specs.declared.call.Call.{Call}
-use Rattle.batch_history.specs.declared.call.Call.TheVariants.{Start, Restart, Stop, Abandon, Claim, Checkpoint, Finish, Lose}
 use Rattle.batch_history.specs.declared.call.Entry.{Entry}
-use Rattle.batch_history.proofs.Folds.{made, is_made, works_of, instances_of, instances_after, stop_of, start_of, abandoned_of, end_of, bare_of, value_after, folded_rows, execution_row}
-use Rattle.batch_history.specs.Executions.{Made, job_instances}
-use Rattle.batch_history.specs.Legal.{grown, IsLegal}
+use Rattle.batch_history.proofs.Folds.{made, is_made, works_of, stop_of, start_of, abandoned_of, end_of, bare_of, value_after, folded_rows, execution_row}
+use Rattle.batch_history.specs.Executions.{Made}
+use Rattle.batch_history.specs.Legal.{IsLegal}
 use Rattle.batch_history.specs.Replies.{row_status, is_execution, runnable_of_job, partitions_of_job, partition_named}
 use Rattle.batch_history.specs.Rows.{History, IsAsBefore}
 use Rattle.batch_history.specs.Statuses.{is_finished}
@@ -21,9 +18,11 @@ use Rattle.batch_history.specs.Works.{is_work, work_key}
 use Rattle.batch_history.specs.declared.rows.ExecutionRow.{ExecutionRow}
 use Rattle.batch_history.specs.declared.rows.WorkRow.{WorkRow}
 use Rattle.batch_history.specs.declared.rows.JobInstance.{JobInstance}
-use Rattle.history_laws.specs.Laws.{beginning, row_in, work_in, names_in, StaysFinished, EndedAt, BelongsTo, HasInstance, with_name}
+use Rattle.history_laws.specs.Laws.{beginning, row_in, work_in, StaysFinished, EndedAt, BelongsTo, HasInstance}
 use Rattle.batch_history.proofs.Legal.{legal-beginning}
-use Rattle.batch_history.proofs.Legality.{past-due}
+use Rattle.batch_history.proofs.Legality.{past-due, past-due-there}
+use Rattle.batch_history.proofs.Purged.{purged-over}
+use Rattle.batch_history.specs.Purges.{is_purged}
 use Rattle.batch_history.proofs.Origins.{instances-law}
 use Rattle.batch_history.proofs.WorkLists.{each-found, Apart, AllApart}
 use Rattle.batch_history.proofs.Told.{AllDue, made-number, made-more}
@@ -31,7 +30,6 @@ use Rattle.batch_history.proofs.Kept.{IsHeld, IsKept, kept}
 use Rattle.batch_history.proofs.Finished.{on-it, busy-unfinished, finished-status, finished-stays, made-after}
 use Rattle.history_laws.proofs.Moments.{abandoned-finished, EndedPast, ended-past, over-ended}
 use Rattle.batch_history.proofs.Owners.{InstanceOf, instances-kept, jobs-kept}
-use Rattle.history_laws.proofs.Names.{distinct-more, distinct-once}
 use Rattle.history_laws.proofs.Claims.{IsPlaced, all-placed}
 use Rattle.history_laws.proofs.Beginnings.{row-folded, work-folded, row-there, IsRowAt, row-at, due-older}
 
@@ -240,32 +238,14 @@ has_job limit h legal x row found =
     ap (λ (r : ExecutionRow). is_some (job_named h.catalogue r.job)) from.is_row
     ∙ each-found (λ (n : Made). is_some (job_named h.catalogue n.job) ≡ true) (is_made m.execution) (made past) m (jobs-kept limit h.catalogue past (past-due limit h legal)) from.found
 
--- ---- Job names
+-- ---- Purges
 
-names-call : (call : Call) (instances : List JobInstance)
-    → distinct (map (λ i. i.job) (instances_after call instances)) ≡ with_name (distinct (map (λ i. i.job) instances)) call
-names-call (Start job parameters) instances =
-    ap distinct (map-append (λ (i : JobInstance). i.job) instances (record { instance = length instances + 1; job = job } ∷ []))
-    ∙ distinct-more (map (λ i. i.job) instances) job
-names-call (Restart y parameters) instances = refl
-names-call (Stop y) instances = refl
-names-call (Abandon y) instances = refl
-names-call Claim instances = refl
-names-call (Checkpoint w mark step) instances = refl
-names-call (Finish w o t step) instances = refl
-names-call (Lose w) instances = refl
-
-names-listed : (h : History) → names_in h ≡ distinct (map (λ (i : JobInstance). i.job) (instances_of (reverse h.log)))
-names-listed h = ap (λ (l : List JobInstance). distinct (map (λ (i : JobInstance). i.job) l)) (instances-law (reverse h.log))
-
--- the names after an operation more
-pub names_grow : (h : History) (e : Entry) → names_in (grown h e) ≡ with_name (names_in h) e.call
-names_grow h e =
-    let past : reverse (h.log ++ e ∷ []) ≡ e ∷ reverse h.log = reverse-append h.log (e ∷ []) in
-    names-listed (grown h e)
-    ∙ (ap (λ (l : List Entry). distinct (map (λ (i : JobInstance). i.job) (instances_of l))) past
-    ∙ (names-call e.call (instances_of (reverse h.log)) ∙ ap (λ ns. with_name ns e.call) (sym (names-listed h))))
-
--- no name stands twice
-pub names_once : (h : History) → has_twice (names_in h) ≡ false
-names_once h = distinct-once (map (λ i. i.job) (job_instances (reverse h.log)))
+-- a job execution of a job instance that was purged is over
+pub purged_finished : (limit : ℕ) (h : History) → IsLegal limit h → (x : ℕ) (row : ExecutionRow) → row_in h x ≡ Some row
+    → is_purged (reverse h.log) row.instance ≡ true → is_finished (row_status row) ≡ true
+purged_finished limit h legal x row found gone =
+    let past : List Entry = reverse h.log in
+    let from : IsRowAt h.catalogue past x row = row-at h.catalogue past x row (sym (row-folded limit h legal x) ∙ found) in
+    ap (λ (r : ExecutionRow). is_finished (row_status r)) from.is_row
+    ∙ purged-over limit h.catalogue past (past-due limit h legal) (past-due-there limit h legal) from.one from.found
+    (sym (ap (λ (r : ExecutionRow). is_purged past r.instance) from.is_row) ∙ gone)

@@ -6,7 +6,7 @@ use Rattle.batch_ids.specs.declared.status.BatchStatus.{BatchStatus}
 use Rattle.batch_ids.specs.declared.status.BatchStatus.TheVariants.{Abandoned}
 use Rattle.jsl_model.specs.Jobs.{JobTree}
 use Rattle.batch_history.specs.declared.call.Call.{Call}
-use Rattle.batch_history.specs.declared.call.Call.TheVariants.{Start, Restart, Stop, Abandon, Claim, Checkpoint, Finish, Lose}
+use Rattle.batch_history.specs.declared.call.Call.TheVariants.{Start, Restart, Stop, Abandon, Claim, Checkpoint, Finish, Lose, Purge}
 use Rattle.batch_history.specs.declared.call.Reply.{Reply}
 use Rattle.batch_history.specs.declared.call.Entry.{Entry}
 use Rattle.batch_history.specs.declared.rows.ExecutionRow.{ExecutionRow}
@@ -54,6 +54,7 @@ given-call limit catalogue older who at Claim reply m due found on before = cc
 given-call limit catalogue older who at (Checkpoint w mark step) reply m due found on before = cc
 given-call limit catalogue older who at (Finish w o t step) reply m due found on before = cc
 given-call limit catalogue older who at (Lose w) reply m due found on before = cc
+given-call limit catalogue older who at (Purge i) reply m due found on before = cc
 
 -- an abandoned job execution is over, abandonment aside
 pub abandoned-finished : (limit : ℕ) (catalogue : List JobTree) (past : List Entry) (m : Made) → AllDue limit catalogue past

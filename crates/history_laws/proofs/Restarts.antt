@@ -2,7 +2,7 @@
 use mathlib.Core.Path.{fun_ext}
 use Rattle.std.proofs.Common.{◌≡◌, ℕ, ◌+◌, ◌==◌, ◌&&◌, ◌<◌, ◌≤◌, nat_lt, Bool, true, false, cond, Option, None, Some, is_some, Ok, List, [], ◌∷◌, ◌++◌, length, filter, find, reverse, refl, sym, ◌∙◌, ap, subst, arith}
 use Rattle.std.specs.Option.{option_map, option_or}
-use Rattle.std.proofs.lemmas.List.{append_assoc, reverse-append, length-map}
+use Rattle.std.proofs.lemmas.List.{append_assoc, reverse-append}
 use Rattle.std.proofs.lemmas.Bool.{eq-eqb, ltb-false}
 use Rattle.batch_ids.specs.Statuses.{is_unfinished}
 use Rattle.batch_ids.specs.declared.status.BatchStatus.{BatchStatus}
@@ -14,8 +14,8 @@ use Rattle.batch_history.specs.declared.call.Entry.{Entry}
 use Rattle.batch_history.proofs.Folds.{made, is_made, abandoned_of, bare_of, folded_rows, execution_row, plan_kept, works_after}
 use Rattle.batch_history.specs.Executions.{Made, Origin, origin_of}
 use Rattle.batch_history.specs.Legal.{grown, IsLegal}
-use Rattle.batch_history.specs.Replies.{row_status, is_execution, reply, is_later_than, accepted, unless, reply_to_restart, restart_refusal, restart_plan}
-use Rattle.batch_history.specs.Rows.{History, Rows, rows, row_of_origin}
+use Rattle.batch_history.specs.Replies.{row_status, is_execution, reply, reply_by, is_later_than, accepted, unless, reply_to_restart, restart_refusal, restart_plan}
+use Rattle.batch_history.specs.Rows.{History, Rows, row_of_origin}
 use Rattle.batch_history.specs.Statuses.{is_finished}
 use Rattle.batch_history.specs.Lists.{is_at}
 use Rattle.batch_history.specs.Restarts.{plan_by, restart_point}
@@ -24,7 +24,7 @@ use Rattle.batch_history.specs.declared.rows.WorkRow.{WorkRow}
 use Rattle.batch_history.specs.declared.rows.ExecutionRow.{ExecutionRow}
 use Rattle.history_laws.specs.Laws.{beginning, row_in, works_in, walk_in, plan_again_in, MayGoOn, RestartsFollow, HasOneUnfinishedEach, FollowsFrom, KeepsPlan}
 use Rattle.batch_history.proofs.Finding.{any-none}
-use Rattle.batch_history.proofs.Legality.{past-due, rows_folded, rows_grown, execution_found, instance_found}
+use Rattle.batch_history.proofs.Legality.{past-due, all_rows_folded, all_rows_grown, execution_found, instance_found}
 use Rattle.batch_history.proofs.Finished.{finished-status, made-after}
 use Rattle.batch_ids.specs.Parameters.{Pair}
 use Rattle.batch_history.proofs.Singles.{earlier-over}
@@ -37,7 +37,7 @@ use Rattle.batch_history.specs.declared.call.Reply.TheVariants.{Execution as IsE
 use Rattle.batch_history.proofs.Legal.{entered-is, legal-beginning}
 use Rattle.batch_history.proofs.Origins.{find-past}
 use Rattle.batch_history.proofs.Steps.{fresh_row, again_row, executions_after}
-use Rattle.history_laws.proofs.Beginnings.{row-folded, row-there, IsRowAt, row-at}
+use Rattle.history_laws.proofs.Beginnings.{all_of, answered-by-all, row-folded, row-there, IsRowAt, row-at}
 
 -- ---- The job execution that a restart names
 
@@ -55,14 +55,14 @@ not-later : (a b : ℕ) (same : Bool) → same ≡ true → (same && nat_lt a b)
 not-later a b true is h = ltb-false a b h
 not-later a b false is h = cc
 
-may-go-on : (limit : ℕ) (h : History) → IsLegal limit h → (y : ℕ) → ToldRestart (rows h) y → MayGoOn h y
+may-go-on : (limit : ℕ) (h : History) → IsLegal limit h → (y : ℕ) → ToldRestart (all_of h) y → MayGoOn h y
 may-go-on limit h legal y told =
     let there : row_in h y ≡ Some told.row = sym (execution_found limit h legal y) ∙ told.found in
     record {
       row = told.row;
       found = there;
       latest = λ x other found same.
-          let none : is_later_than told.row other ≡ false = any-none (is_later_than told.row) (is_execution x) (rows h).executions other told.newest (execution_found limit h legal x ∙ found) in
+          let none : is_later_than told.row other ≡ false = any-none (is_later_than told.row) (is_execution x) (all_of h).executions other told.newest (execution_found limit h legal x ∙ found) in
           let le : other.execution ≤ told.row.execution = not-later told.row.execution other.execution (other.instance == told.row.instance) (eq-eqb other.instance told.row.instance same) none in
           omega (arith, le, row-number h x other found, row-number h y told.row there);
       over = told.over;
@@ -72,7 +72,8 @@ pub restart_follows : (limit : ℕ) (h : History) → IsLegal limit h → Restar
 restart_follows limit h legal before e after cut y parameters is =
     let due = legal.due before e after cut in
     let there : reply limit (beginning h before) e.who (Restart y parameters) ≡ Ok e.reply = sym (ap (reply limit (beginning h before) e.who) is) ∙ due.0 in
-    may-go-on limit (beginning h before) (legal-beginning limit h legal before (e ∷ after) cut) y (restart-told limit (rows (beginning h before)) y e.reply there)
+    may-go-on limit (beginning h before) (legal-beginning limit h legal before (e ∷ after) cut) y (restart-told limit (all_of (beginning h before)) y e.reply
+    (answered-by-all limit (beginning h before) (legal-beginning limit h legal before (e ∷ after) cut) e.who (Restart y parameters) e.reply there))
 
 -- ---- Unfinished job executions
 
@@ -112,22 +113,21 @@ one_unfinished limit h legal before after cut x y one other found_one found_othe
 -- ---- What a restart makes
 
 -- the plan by the rows is the one by the log
-plan-searched : (limit : ℕ) (h : History) → IsLegal limit h → (row : ExecutionRow) → restart_plan (rows h) row ≡ plan_again_in h row
+plan-searched : (limit : ℕ) (h : History) → IsLegal limit h → (row : ExecutionRow) → restart_plan (all_of h) row ≡ plan_again_in h row
 plan-searched limit h legal row =
     ap (λ (instance : ℕ → Option ℕ). plan_by (restart_point (is_some row.start) (walk_in h row) row.plan.from)
     (filter (λ (work : WorkRow). is_at row.instance (instance work.execution)) (works_in h)) (job_named h.catalogue row.job))
     (fun_ext (instance_found limit h legal))
 
 -- the row with the next number
-new-found : (catalogue : List JobTree) (past : List Entry) (new : ExecutionRow) → new.execution ≡ length (folded_rows catalogue past).executions + 1
-    → find (is_execution (length (folded_rows catalogue past).executions + 1)) ((folded_rows catalogue past).executions ++ new ∷ []) ≡ Some new
+new-found : (catalogue : List JobTree) (past : List Entry) (new : ExecutionRow) → new.execution ≡ (folded_rows catalogue past).last.execution + 1
+    → find (is_execution ((folded_rows catalogue past).last.execution + 1)) ((folded_rows catalogue past).executions ++ new ∷ []) ≡ Some new
 new-found catalogue past new number =
     let executions : List ExecutionRow = (folded_rows catalogue past).executions in
-    let x : ℕ = length executions + 1 in
-    let count : length executions ≡ length (made past) = length-map (made past) (execution_row catalogue past) in
+    let x : ℕ = length (made past) + 1 in
     let none : find (is_execution x) executions ≡ None =
     find-map (execution_row catalogue past) (is_execution x) (is_made x) (λ n. refl) (made past)
-    ∙ ap (option_map (execution_row catalogue past)) (find-past x 1 (made past) (numbered past) (omega (arith, count))) in
+    ∙ ap (option_map (execution_row catalogue past)) (find-past x 1 (made past) (numbered past) (omega arith)) in
     find-append (is_execution x) executions (new ∷ [])
     ∙ (ap (λ o. option_or o (cond (new.execution == x) (Some new) None)) none
     ∙ ap (λ b. cond b (Some new) None) (eq-eqb new.execution x number))
@@ -137,11 +137,11 @@ unless-is limit count None reply given h = entered-is limit count reply given h
 unless-is limit count (Some refusal) reply given h = cc
 
 -- a restart makes the job execution with the next number
-restart-number : (limit : ℕ) (r : Rows) (found : Option ExecutionRow) (x : ℕ) → reply_to_restart limit r found ≡ Ok (IsExecution x) → x ≡ length r.executions + 1
+restart-number : (limit : ℕ) (r : Rows) (found : Option ExecutionRow) (x : ℕ) → reply_to_restart limit r found ≡ Ok (IsExecution x) → x ≡ r.last.execution + 1
 restart-number limit r None x h = cc
 restart-number limit r (Some row) x h =
-    let is : IsExecution x ≡ IsExecution (length r.executions + 1) =
-    unless-is limit r.count (restart_refusal r row) (IsExecution (length r.executions + 1)) (IsExecution x) h in cc
+    let is : IsExecution x ≡ IsExecution (r.last.execution + 1) =
+    unless-is limit r.count (restart_refusal r row) (IsExecution (r.last.execution + 1)) (IsExecution x) h in cc
 
 pub restart_gives : (limit : ℕ) (h : History) → IsLegal limit h → (before : List Entry) (e : Entry) (after : List Entry) → h.log ≡ before ++ e ∷ after
     → (y x : ℕ) (parameters : List Pair) → e.call ≡ Restart y parameters → e.reply ≡ IsExecution x → FollowsFrom (beginning h before) e y x
@@ -150,18 +150,19 @@ restart_gives limit h legal before e after cut y x parameters call is =
     let begun : IsLegal limit then = legal-beginning limit h legal before (e ∷ after) cut in
     let with_it : IsLegal limit (grown then e) = legal-beginning limit h legal (before ++ e ∷ []) after (cut ∙ sym (append_assoc before (e ∷ []) after)) in
     let due = legal.due before e after cut in
-    let there : reply limit then e.who (Restart y parameters) ≡ Ok (IsExecution x) = sym (ap (reply limit then e.who) call) ∙ (due.0 ∙ ap Ok is) in
-    let r : Rows = rows then in
+    let r : Rows = all_of then in
+    let there : reply_by limit r e.who (Restart y parameters) ≡ Ok (IsExecution x) =
+    answered-by-all limit then begun e.who (Restart y parameters) (IsExecution x) (sym (ap (reply limit then e.who) call) ∙ (due.0 ∙ ap Ok is)) in
     let told : ToldRestart r y = restart-told limit r y (IsExecution x) there in
-    let number : x ≡ length r.executions + 1 = restart-number limit r (find (is_execution y) r.executions) x there in
-    let new : ExecutionRow = fresh_row (length r.executions + 1) told.row.instance e.at told.row.job parameters (restart_plan r told.row) in
-    let more : (rows (grown then e)).executions ≡ r.executions ++ new ∷ [] =
-    ap (λ (z : Rows). z.executions) (rows_grown limit then e with_it)
+    let number : x ≡ r.last.execution + 1 = restart-number limit r (find (is_execution y) r.executions) x there in
+    let new : ExecutionRow = fresh_row (r.last.execution + 1) told.row.instance e.at told.row.job parameters (restart_plan r told.row) in
+    let more : (all_of (grown then e)).executions ≡ r.executions ++ new ∷ [] =
+    ap (λ (z : Rows). z.executions) (all_rows_grown limit then e with_it)
     ∙ (ap (λ c. executions_after r (works_after (r.count + 1) e.who e.at c e.reply r.works) e.at c e.reply) call
-    ∙ ap (λ o. r.executions ++ again_row r (length r.executions + 1) e.at parameters o ∷ []) told.found) in
-    let last : (row : ExecutionRow) → row.execution ≡ length r.executions + 1 → find (is_execution (length r.executions + 1)) (r.executions ++ row ∷ []) ≡ Some row =
-    subst (λ (z : Rows). (row : ExecutionRow) → row.execution ≡ length z.executions + 1 → find (is_execution (length z.executions + 1)) (z.executions ++ row ∷ []) ≡ Some row)
-    (sym (rows_folded limit then begun)) (new-found h.catalogue (reverse before)) in
+    ∙ ap (λ o. r.executions ++ again_row r (r.last.execution + 1) e.at parameters o ∷ []) told.found) in
+    let last : (row : ExecutionRow) → row.execution ≡ r.last.execution + 1 → find (is_execution (r.last.execution + 1)) (r.executions ++ row ∷ []) ≡ Some row =
+    subst (λ (z : Rows). (row : ExecutionRow) → row.execution ≡ z.last.execution + 1 → find (is_execution (z.last.execution + 1)) (z.executions ++ row ∷ []) ≡ Some row)
+    (sym (all_rows_folded limit then begun)) (new-found h.catalogue (reverse before)) in
     record {
       named = told.row;
       found = sym (execution_found limit then begun y) ∙ told.found;

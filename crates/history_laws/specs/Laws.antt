@@ -1,5 +1,5 @@
 -- What every legal history keeps, in the words of its subject.
-use Rattle.std.specs.Prelude.{ℕ, ◌≡◌, ◌⊎◌, ◌≤◌, ◌+◌, ◌==◌, ◌<◌, Bool, true, false, Option, None, Some, is_some, List, [], ◌∷◌, ◌++◌, filter, find, map, reverse, unwrap_or, if◌then◌else◌}
+use Rattle.std.specs.Prelude.{ℕ, ◌≡◌, ◌⊎◌, ◌≤◌, ◌+◌, ◌==◌, ◌<◌, Bool, true, false, Option, None, Some, is_some, not, List, [], ◌∷◌, ◌++◌, filter, find, map, reverse, if◌then◌else◌}
 use Rattle.batch_ids.specs.Parameters.{Pair}
 use Rattle.batch_ids.specs.Statuses.{is_unfinished}
 use Rattle.batch_ids.specs.declared.status.BatchStatus.TheVariants.{Stopped, Failed}
@@ -17,6 +17,7 @@ use Rattle.batch_history.specs.Checkpoints.{checkpoint_of}
 use Rattle.batch_history.specs.Executions.{instance_of_execution, job_instances}
 use Rattle.batch_history.specs.Lists.{is_at}
 use Rattle.batch_history.specs.Operations.{Making, begins, restarts, effects}
+use Rattle.batch_history.specs.Purges.{is_purged}
 use Rattle.batch_history.specs.declared.call.WorkItem.{WorkItem}
 use Rattle.batch_history.specs.declared.call.Entry.{Entry}
 use Rattle.batch_history.specs.declared.rows.ExecutionRow.{ExecutionRow}
@@ -26,7 +27,7 @@ use Rattle.batch_history.specs.declared.rows.JobInstance.{JobInstance}
 use Rattle.batch_history.specs.Legal.{grown}
 use Rattle.batch_history.specs.Replies.{row_status, has_something_by, first_ready, work_task, runnable_of_job, partitions_of_job, partition_named}
 use Rattle.batch_history.specs.Restarts.{plan_by, plan_of, restart_point}
-use Rattle.batch_history.specs.Rows.{History, history, job_execution, IsAsBefore}
+use Rattle.batch_history.specs.Rows.{History, history, job_execution, instances_there, IsAsBefore}
 use Rattle.batch_history.specs.Statuses.{is_finished}
 use Rattle.batch_history.specs.Walks.{job_named, walk_value}
 use Rattle.batch_history.specs.Works.{item_key, is_work, work_key, work_items, work_item_count}
@@ -196,16 +197,28 @@ pub record HasInstance (h : History) (row : ExecutionRow) : Type 0 where
   pub found : find (λ i. i.instance == row.instance) (job_instances (reverse h.log)) ≡ Some instance
   pub job : instance.job ≡ row.job
 
--- the names of the jobs that have a job instance, each once, in the order of their first start
-abbrev pub names_in : History → List (List ℕ)
-names_in h = distinct (map (λ i. i.job) (job_instances (reverse h.log)))
+-- the job instances that exist, by rising number
+abbrev pub instances_in : History → List JobInstance
+instances_in h = instances_there (is_purged (reverse h.log)) (job_instances (reverse h.log))
 
--- the names with that of a job whose job instance is begun: a job that is started for the first time comes last
+-- their names, each once, in the order of the first ones
+abbrev pub names_of : List JobInstance → List (List ℕ)
+names_of instances = distinct (map (λ i. i.job) instances)
+
+-- the names of the jobs that have a job instance
+abbrev pub names_in : History → List (List ℕ)
+names_in h = names_of (instances_in h)
+
+-- the job instances but for this one
+abbrev pub instances_but : ℕ → List JobInstance → List JobInstance
+instances_but i instances = filter (λ row. not (row.instance == i)) instances
+
+-- the names with that of a job whose job instance is begun: a job that has none comes last
 abbrev pub with_begun : List (List ℕ) → Option Making → List (List ℕ)
 with_begun names None = names
 with_begun names (Some (begins job parameters)) = if is_among names job then names else names ++ job ∷ []
 with_begun names (Some (restarts y parameters)) = names
 
--- the names after a call
+-- the names after a call that removes nothing
 abbrev pub with_name : List (List ℕ) → Call → List (List ℕ)
 with_name names call = with_begun names (effects call).makes

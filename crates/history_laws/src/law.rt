@@ -1,7 +1,7 @@
-ghost use Rattle.std.specs.Prelude.{ℕ, ◌≡◌, ◌≢◌, Option, ◌++◌, ◌∷◌, List, Some, Ok, true, false, is_some};
+ghost use Rattle.std.specs.Prelude.{ℕ, ◌≡◌, ◌≢◌, Option, ◌++◌, ◌∷◌, List, None, Some, Ok, true, false, is_some, reverse};
 ghost use Rattle.batch_ids.specs.Parameters.{Pair};
 ghost use Rattle.jsl_model.specs.Names.{has_twice};
-ghost use Rattle.batch_history.specs.declared.call.Call.TheVariants.{Restart};
+ghost use Rattle.batch_history.specs.declared.call.Call.TheVariants.{Restart, Purge};
 ghost use Rattle.batch_history.specs.declared.call.Entry.{Entry};
 ghost use Rattle.batch_history.specs.declared.call.Reply.TheVariants.{Work, Execution as IsExecution};
 ghost use Rattle.batch_history.specs.declared.call.WorkItem.{WorkItem};
@@ -12,12 +12,14 @@ ghost use Rattle.batch_history.specs.declared.rows.ExecutionRow.{ExecutionRow};
 ghost use Rattle.batch_history.specs.declared.rows.WorkRow.{WorkRow};
 ghost use Rattle.batch_history.specs.Answers.{answer};
 ghost use Rattle.batch_history.specs.Legal.{IsLegal, grown};
+ghost use Rattle.batch_history.specs.Operations.{purged_by};
+ghost use Rattle.batch_history.specs.Purges.{is_purged};
 ghost use Rattle.batch_history.specs.Replies.{row_status};
 ghost use Rattle.batch_history.specs.Walks.{job_named};
 ghost use Rattle.batch_history.specs.Works.{work_key};
 ghost use Rattle.batch_history.specs.Rows.{History};
 ghost use Rattle.batch_history.specs.Statuses.{is_finished};
-ghost use Rattle.history_laws.specs.Laws.{beginning, row_in, work_in, names_in, StaysFinished, EndedAt, BelongsTo, WasReady, IsOfOpenStep, GoesOnFrom, RestartsFollow, HasOneUnfinishedEach, FollowsFrom, KeepsPlan, HasInstance, with_name};
+ghost use Rattle.history_laws.specs.Laws.{beginning, row_in, work_in, instances_in, instances_but, names_of, names_in, StaysFinished, EndedAt, BelongsTo, WasReady, IsOfOpenStep, GoesOnFrom, RestartsFollow, HasOneUnfinishedEach, FollowsFrom, KeepsPlan, HasInstance, with_name};
 
 /// A job execution that is over stays so: whatever is accepted later, all of it stays as it was, its
 /// exit status, start and end among it, but for whether it is abandoned and the moment of the last
@@ -133,6 +135,15 @@ pub fn job_executions_go_by_the_plan_of_their_restart()
         → row_in (beginning h before) x ≡ Some row → KeepsPlan h x row }
 {}
 
+/// What a purge removes is over: each job execution of a job instance that was purged is finished.
+///
+/// It does nothing: its contract is the law, of every legal history.
+pub fn purged_job_executions_are_finished()
+    ensures { (limit : ℕ) (h : History) → IsLegal limit h → (x : ℕ) (row : ExecutionRow)
+        → row_in h x ≡ Some row → is_purged (reverse h.log) row.instance ≡ true
+        → is_finished (row_status row) ≡ true }
+{}
+
 /// Each job execution is of a job instance that was begun, and of its job.
 ///
 /// It does nothing: its contract is the law, of every legal history.
@@ -150,14 +161,18 @@ pub fn jobs_of_job_executions_are_in_the_catalogue()
         → row_in h x ≡ Some row → is_some (job_named h.catalogue row.job) ≡ true }
 {}
 
-/// The job names stand once each, in the order of their first start: a start of a job that is not
-/// among them appends it, and nothing else changes them. They are what the query is answered.
+/// The job names stand once each, in the order of the least job instance of each: a start of a job
+/// that is not among them appends it, a purge leaves the names of the other job instances, in their
+/// order, and nothing else changes them. They are what the query is answered.
 ///
-/// It does nothing: its contract is the law.
-#[tactic(auto, using(crate::proofs::Laws::names_once, crate::proofs::Laws::names_grow))]
-pub fn job_names_stand_once_in_order_of_first_start()
+/// It does nothing: its contract is the law, of every legal history, and of every history what needs
+/// no more.
+#[tactic(auto, using(crate::proofs::Names::names_once))]
+pub fn job_names_stand_once_in_order_of_least_job_instance()
     ensures once { (h : History) → has_twice (names_in h) ≡ false }
-    ensures order { (h : History) (e : Entry)
-        → names_in (grown h e) ≡ with_name (names_in h) e.call }
+    ensures order { (limit : ℕ) (h : History) (e : Entry) → IsLegal limit (grown h e)
+        → purged_by e.call ≡ None → names_in (grown h e) ≡ with_name (names_in h) e.call }
+    ensures purged { (limit : ℕ) (h : History) (e : Entry) (i : ℕ) → IsLegal limit (grown h e)
+        → e.call ≡ Purge i → names_in (grown h e) ≡ names_of (instances_but i (instances_in h)) }
     ensures answered { (h : History) → answer h JobNames ≡ Ok (AreNames (names_in h)) }
 {}

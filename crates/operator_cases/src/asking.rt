@@ -36,6 +36,7 @@ pub(crate) fn make_call<N: Site>(
             step,
         } => operator.finish(rt, session, work, outcome, exit, step, at),
         Call::Lose { work } => operator.lose(rt, session, work, at),
+        Call::Purge { instance } => operator.purge(rt, session, instance, at),
     }
 }
 

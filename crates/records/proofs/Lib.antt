@@ -1,3 +1,4 @@
 pub mod Numbered
 pub mod Naming
 pub mod Marks
+pub mod Leaving

@@ -1,14 +1,16 @@
 -- The checkpoint of each step, where the checkpoints stand in a list and one is set or cleared.
-use Rattle.std.proofs.Common.{◌≡◌, ◌≢◌, ℕ, zero, suc, ◌+◌, ◌==◌, ◌&&◌, ◌<◌, Bool, true, false, cond, Option, None, Some, List, [], ◌∷◌, ◌++◌, length, take, drop, set, get_or, find, refl, sym, ◌∙◌, ap, arith, add-one}
+use Rattle.std.proofs.Common.{◌≡◌, ◌≢◌, ℕ, zero, suc, ◌+◌, ◌==◌, ◌&&◌, ◌<◌, Bool, true, false, not, cond, Option, None, Some, List, [], ◌∷◌, ◌++◌, length, take, drop, set, get_or, find, filter, refl, sym, ◌∙◌, ap, arith, add-one}
 use Rattle.std.specs.Option.{option_map}
-use Rattle.std.proofs.lemmas.Bool.{eqb-true, eq-eqb, and_parts}
+use Rattle.std.proofs.lemmas.Bool.{eqb-true, eq-eqb, ne_eqb, and_parts}
 use Rattle.std.proofs.lemmas.List.{take_more, drop_more, append_assoc}
 use Rattle.job_walk.specs.Keys.{is_same_key}
 use Rattle.job_walk.specs.declared.work_key.WorkKey.{WorkKey}
 use Rattle.job_walk.proofs.SameKeys.{same-one, same-self}
 use Rattle.batch_history.specs.declared.rows.CheckpointRow.{CheckpointRow}
 use Rattle.batch_history.specs.Checkpoints.{InstanceStep, is_same_step}
+use Rattle.batch_history.specs.Rows.{checkpoint_there}
 use Rattle.records.specs.Placed.{marked, with_mark, without_mark}
+use Rattle.records.specs.Without.{checkpoints_there}
 use Rattle.records.specs.Maps.{Maps, step_of, is_place, mark_at, AreApart, SetsCheckpoint}
 
 -- Where the checkpoint of a place stands
@@ -185,6 +187,61 @@ apart_without p (row ∷ rest) apart =
         apart_without p rest apart.1,
       )
     ]
+
+-- Checkpoints that stay
+
+-- a step that has no checkpoint gets none where some are left out
+none-filtered : (p : CheckpointRow → Bool) (rows : List CheckpointRow) (q : InstanceStep) → mark_at rows q ≡ None → mark_at (filter p rows) q ≡ None
+none-filtered p [] q none = refl
+none-filtered p (row ∷ rest) q none =
+    let split : mark_if (is_place q row) row (mark_at rest q) ≡ None = sym (mark-head row rest q) ∙ none in
+    (elim (is_place q row) as (λ b. is_place q row ≡ b → mark_if b row (mark_at rest q) ≡ None → mark_at (filter p (row ∷ rest)) q ≡ None) [
+      | true ↦ λ here some. cc
+      | false ↦ λ off later.
+          elim (p row) as (λ b. mark_at (cond b (row ∷ filter p rest) (filter p rest)) q ≡ None) [
+            | true ↦ mark-head row (filter p rest) q ∙ (ap (λ b. mark_if b row (mark_at (filter p rest) q)) off ∙ none-filtered p rest q later)
+            | false ↦ none-filtered p rest q later
+          ]
+    ]) refl split
+
+pub apart_filtered : (p : CheckpointRow → Bool) (rows : List CheckpointRow) → AreApart rows → AreApart (filter p rows)
+apart_filtered p [] apart = tt
+apart_filtered p (row ∷ rest) apart =
+    elim (p row) as (λ b. AreApart (cond b (row ∷ filter p rest) (filter p rest))) [
+      | true ↦ (none-filtered p rest (step_of row) apart.0, apart_filtered p rest apart.1)
+      | false ↦ apart_filtered p rest apart.1
+    ]
+
+-- a row of another job instance is at another place
+other-instance : (row : CheckpointRow) (q : InstanceStep) → row.instance ≢ q.instance → is_place q row ≡ false
+other-instance row q apart = ap (λ b. b && is_same_key row.step q.step) (ne_eqb row.instance q.instance apart)
+
+-- the checkpoint of each step, once some job instances are gone
+pub marks_there : (gone : ℕ → Bool) (rows : List CheckpointRow) (q : InstanceStep)
+    → mark_at (checkpoints_there gone rows) q ≡ checkpoint_there gone (mark_at rows) q
+marks_there gone [] q = sym (nothing (gone q.instance))
+marks_there gone (row ∷ rest) q =
+    let others : List CheckpointRow = checkpoints_there gone rest in
+    let tail : mark_at others q ≡ cond (gone q.instance) None (mark_at rest q) = marks_there gone rest q in
+    (elim (gone row.instance) as (λ b. gone row.instance ≡ b
+    → mark_at (cond (not b) (row ∷ others) others) q ≡ cond (gone q.instance) None (mark_at (row ∷ rest) q)) [
+      | true ↦ λ left. tail
+          ∙ ((elim (gone q.instance) as (λ b. gone q.instance ≡ b → cond b None (mark_at rest q) ≡ cond b None (mark_at (row ∷ rest) q)) [
+            | true ↦ λ here. refl
+            | false ↦ λ there.
+                let apart : row.instance ≢ q.instance = λ e. let same : gone row.instance ≡ gone q.instance = ap gone e in cc in
+                sym (mark-head row rest q ∙ ap (λ b. mark_if b row (mark_at rest q)) (other-instance row q apart))
+          ]) refl)
+      | false ↦ λ stays. mark-head row others q
+          ∙ (ap (mark_if (is_place q row) row) tail
+          ∙ (elim (gone q.instance) as (λ b. gone q.instance ≡ b
+          → mark_if (is_place q row) row (cond b None (mark_at rest q)) ≡ cond b None (mark_at (row ∷ rest) q)) [
+            | true ↦ λ here.
+                let apart : row.instance ≢ q.instance = λ e. let same : gone row.instance ≡ gone q.instance = ap gone e in cc in
+                ap (λ b. mark_if b row unmarked) (other-instance row q apart)
+            | false ↦ λ there. sym (mark-head row rest q)
+          ]) refl)
+    ]) refl
 
 -- What is set
 

@@ -1,7 +1,16 @@
--- Rows that are numbered from one on: where the row of a number stands.
-use Rattle.std.proofs.Common.{◌≡◌, ℕ, zero, suc, ◌+◌, ◌-◌, ◌==◌, ◌<◌, ◌≤◌, Bool, true, false, cond, None, Some, is_some, List, [], ◌∷◌, ◌++◌, length, map, find, set, drop, subst, refl, sym, ◌∙◌, ap, arith, add-one}
-use Rattle.std.specs.List.{slice_get}
-use Rattle.std.proofs.lemmas.Bool.{eqb-true, eq-eqb, ne_eqb}
+-- Rows that stand by rising number: where the row of a number stands.
+use Rattle.std.proofs.Common.{◌≡◌, ◌≢◌, ℕ, zero, suc, ◌+◌, ◌==◌, ◌<◌, ◌≤◌, Bool, true, false, cond, nat_lt, ltb, inl, inr, Option, None, Some, Result, Ok, Err, IfSome, is_some, option_copied, Bor, List, [], ◌∷◌, ◌++◌, length, map, find, filter, position, set, get_or, slice_get, subst, refl, sym, ◌∙◌, ap, arith}
+use Rattle.std.specs.List.{position_or_len}
+use Rattle.std.specs.List.Sorted.{IsSearchInRange, IsBinarySearchResult, IsNonDecreasingBy}
+use Rattle.std.specs.Ordering.{nat_cmp, ordering_index}
+use Rattle.std.specs.Result.{result_ok}
+use Rattle.std.proofs.lemmas.Bool.{eqb-true, eq-eqb, ne_eqb, ltb-true, ltb-false, lt-ltb, le-ltb, cases_lt}
+use Rattle.std.proofs.lemmas.Option.{slice_get_read}
+use Rattle.std.proofs.lemmas.Bool.Decides.{nat_tests}
+use Rattle.std.proofs.lemmas.Cmp.{ranked}
+use Rattle.std.proofs.lemmas.List.Folds.{find_at}
+use Rattle.std.proofs.lemmas.List.Quantifiers.{position-Some}
+use Rattle.std.proofs.lemmas.List.Sums.{position_or_len_is}
 use Rattle.batch_history.specs.Lists.{change_first}
 use Rattle.batch_history.specs.Replies.{is_execution}
 use Rattle.batch_history.specs.Works.{is_work}
@@ -9,161 +18,255 @@ use Rattle.batch_history.specs.declared.rows.JobInstance.{JobInstance}
 use Rattle.batch_history.specs.declared.rows.ExecutionRow.{ExecutionRow}
 use Rattle.batch_history.specs.declared.rows.WorkRow.{WorkRow}
 use Rattle.batch_history.proofs.Finding.{found-passes}
-use Rattle.records.specs.Maps.{IsNumberedFrom, is_instance, at_number, MayReplaceExecution, MayReplaceWork}
+use Rattle.records.specs.Maps.{is_instance, instance_numbers, execution_numbers, work_numbers, AreAbove, AreBelow, AreRising, MayReplaceExecution, MayReplaceWork}
 
 module _ {R : Type 0} (num : R → ℕ) where
-  is_numbered : ℕ → R → Bool
+  -- the numbers of these rows
+  abbrev numbers : List R → List ℕ
+  numbers rows = map num rows
+
+  above-at : (rows : List R) (n k : ℕ) (d : R) → AreAbove n (numbers rows) → k < length rows → n < num (get_or rows k d)
+  above-at [] n k d h lt = absurd (omega (arith, lt))
+  above-at (row ∷ rest) n zero d h lt = h.0
+  above-at (row ∷ rest) n (suc k) d h lt = above-at rest n k d h.1 (omega (arith, lt))
+
+  rising-at : (rows : List R) (i j : ℕ) (d : R) → AreRising (numbers rows) → i < j → j < length rows → num (get_or rows i d) < num (get_or rows j d)
+  rising-at [] i j d h lt within = absurd (omega (arith, within))
+  rising-at (row ∷ rest) i zero d h lt within = absurd (omega (arith, lt))
+  rising-at (row ∷ rest) zero (suc j) d h lt within = above-at rest (num row) j d h.0 (omega (arith, within))
+  rising-at (row ∷ rest) (suc i) (suc j) d h lt within = rising-at rest i j d h.1 (omega (arith, lt)) (omega (arith, within))
+
+  -- A binary search
+
+  abbrev is_numbered : ℕ → R → Bool
   is_numbered x row = num row == x
 
-  find-below : (rows : List R) (n x : ℕ) → IsNumberedFrom n (map num rows) → x < n → find (λ row. num row == x) rows ≡ None
-  find-below [] n x h lt = refl
-  find-below (row ∷ rest) n x h lt =
-      let other : (num row == x) ≡ false = ne_eqb (num row) x (λ e. omega (arith, h.0, e)) in
-      ap (λ (b : Bool). cond b (Some row) (find (λ r. num r == x) rest)) other ∙ find-below rest (n + 1) x h.1 (omega arith)
+  comparisons-rise : (rows : List R) (x : ℕ) → AreRising (numbers rows) → IsNonDecreasingBy (λ row. ordering_index (nat_cmp (num row) x)) rows
+  comparisons-rise rows x h i j d le within =
+      let rise : i < j → num (get_or rows i d) < num (get_or rows j d) = λ lt. rising-at rows i j d h lt within in
+      let same : i ≡ j → num (get_or rows i d) ≡ num (get_or rows j d) = λ e. ap (λ k. num (get_or rows k d)) e in
+      let up : num (get_or rows i d) ≤ num (get_or rows j d) = grind (arith, rise, same) in
+      grind (arith, nat_tests)
 
-  find-from : (rows : List R) (n k x : ℕ) → IsNumberedFrom n (map num rows) → x ≡ n + k → find (λ row. num row == x) rows ≡ slice_get rows k
-  find-from [] n k x h is = refl
-  find-from (row ∷ rest) n zero x h is =
-      let same : (num row == x) ≡ true = eq-eqb (num row) x (omega (arith, h.0, is)) in
-      ap (λ (b : Bool). cond b (Some row) (find (λ r. num r == x) rest)) same
-  find-from (row ∷ rest) n (suc k) x h is =
-      let other : (num row == x) ≡ false = ne_eqb (num row) x (λ e. omega (arith, h.0, is, e)) in
-      ap (λ (b : Bool). cond b (Some row) (find (λ r. num r == x) rest)) other ∙ find-from rest (n + 1) k x h.1 (omega (arith, is))
+  position-at : (p : R → Bool) (rows : List R) (k : ℕ) → position_or_len p rows ≡ k → k < length rows → position p rows ≡ Some k
+  position-at p rows k is lt =
+      ap (λ (b : Bool). cond b (Some (position_or_len p rows)) None) (lt-ltb (position_or_len p rows) (length rows) (omega (arith, is, lt))) ∙ ap Some is
 
-  change-from : (rows : List R) (n k x : ℕ) (new : R) → IsNumberedFrom n (map num rows) → x ≡ n + k → k < length rows
-      → change_first (λ row. num row == x) (λ old. new) rows ≡ set rows k new
-  change-from [] n k x new h is lt = absurd (omega (arith, lt))
-  change-from (row ∷ rest) n zero x new h is lt =
-      let same : (num row == x) ≡ true = eq-eqb (num row) x (omega (arith, h.0, is)) in
-      ap (λ (b : Bool). cond b (new ∷ rest) (row ∷ change_first (λ r. num r == x) (λ old. new) rest)) same
-  change-from (row ∷ rest) n (suc k) x new h is lt =
-      let other : (num row == x) ≡ false = ne_eqb (num row) x (λ e. omega (arith, h.0, is, e)) in
-      ap (λ (b : Bool). cond b (new ∷ rest) (row ∷ change_first (λ r. num r == x) (λ old. new) rest)) other
-      ∙ ap (λ (rows : List R). row ∷ rows) (change-from rest (n + 1) k x new h.1 (omega (arith, is)) (omega (arith, lt)))
+  position-none : (p : R → Bool) (rows : List R) → position_or_len p rows ≡ length rows → position p rows ≡ None
+  position-none p rows is =
+      ap (λ (b : Bool). cond b (Some (position_or_len p rows)) None) (le-ltb (position_or_len p rows) (length rows) (omega (arith, is)))
 
-  set-numbered : (rows : List R) (n k : ℕ) (new : R) → IsNumberedFrom n (map num rows) → num new ≡ n + k → IsNumberedFrom n (map num (set rows k new))
-  set-numbered [] n k new h is = tt
-  set-numbered (row ∷ rest) n zero new h is = (omega (arith, is), h.1)
-  set-numbered (row ∷ rest) n (suc k) new h is = (h.0, set-numbered rest (n + 1) k new h.1 (omega (arith, is)))
+  -- what a binary search by the numbers answers
+  searched : (rows : List R) (x : ℕ) (r : Result ℕ ℕ) → AreRising (numbers rows) → IsSearchInRange r (length rows)
+      → IsBinarySearchResult (λ row. nat_cmp (num row) x) rows r → result_ok r ≡ position (is_numbered x) rows
+  searched [] x (Ok k) h within is = absurd (omega (arith, within))
+  searched (row ∷ rest) x (Ok k) h within is =
+      let rows : List R = row ∷ rest in
+      let here : num (get_or rows k row) ≡ x = ranked _ x _ (sym (is row)) in
+      let before : (j : ℕ) → j < k → is_numbered x (get_or rows j row) ≡ false =
+      λ j lt. ne_eqb (num (get_or rows j row)) x (λ e. omega (arith, rising-at rows j k row h lt within, here, e)) in
+      sym (position-at (is_numbered x) rows k
+      (position_or_len_is (is_numbered x) rows k row (omega (arith, within)) before (λ lt. eq-eqb (num (get_or rows k row)) x here))
+      within)
+  searched [] x (Err i) h within is = refl
+  searched (row ∷ rest) x (Err i) h within is =
+      let rows : List R = row ∷ rest in
+      let parted = is (comparisons-rise rows x h) in
+      let off : (j : ℕ) → j < length rows → is_numbered x (get_or rows j row) ≡ false =
+      λ j lt. ne_eqb (num (get_or rows j row)) x (elim (cases_lt j i) as (λ side. num (get_or rows j row) ≢ x) [
+        | inl under ↦ (let less : num (get_or rows j row) < x = ranked _ x _ (sym (parted.0 j row (omega arith) under)) in λ e. omega (arith, less, e))
+        | inr over ↦ (let more : x < num (get_or rows j row) = ranked _ x _ (sym (parted.1 j row over lt)) in λ e. omega (arith, more, e))
+      ]) in
+      sym (position-none (is_numbered x) rows (position_or_len_is (is_numbered x) rows (length rows) row (omega arith) off (λ lt. absurd (omega (arith, lt)))))
 
-  push-numbered : (rows : List R) (n : ℕ) (new : R) → IsNumberedFrom n (map num rows) → num new ≡ n + length rows → IsNumberedFrom n (map num (rows ++ new ∷ []))
-  push-numbered [] n new h is = (omega (arith, is), tt)
-  push-numbered (row ∷ rest) n new h is = (h.0, push-numbered rest (n + 1) new h.1 (omega (arith, is)))
+  -- The row at its place
 
-  at-find : (rows : List R) (x : ℕ) → IsNumberedFrom 1 (map num rows) → at_number x rows ≡ find (λ row. num row == x) rows
-  at-find rows zero h = sym (find-below rows 1 0 h (omega arith))
-  at-find rows (suc place) h = sym (find-from rows 1 place (suc place) h (omega arith))
+  change-at : (p : R → Bool) (rows : List R) (k : ℕ) (new d : R) → k < length rows → p (get_or rows k d) ≡ true → ((j : ℕ) → j < k → p (get_or rows j d) ≡ false)
+      → set rows k new ≡ change_first p (λ old. new) rows
+  change-at p [] k new d lt here before = absurd (omega (arith, lt))
+  change-at p (row ∷ rest) zero new d lt here before = sym (ap (λ (b : Bool). cond b (new ∷ rest) (row ∷ change_first p (λ old. new) rest)) here)
+  change-at p (row ∷ rest) (suc k) new d lt here before =
+      ap (λ (rows : List R). row ∷ rows) (change-at p rest k new d (omega (arith, lt)) here (λ j less. before (suc j) (omega (arith, less))))
+      ∙ sym (ap (λ (b : Bool). cond b (new ∷ rest) (row ∷ change_first p (λ old. new) rest)) (before 0 (omega arith)))
 
-  some-within : (rows : List R) (k : ℕ) → is_some (slice_get rows k) ≡ true → k < length rows
-  some-within [] k e = cc
-  some-within (row ∷ rest) zero e = omega arith
-  some-within (row ∷ rest) (suc k) e = let lt : k < length rest = some-within rest k e in omega (arith, lt)
+  place-is : (p : R → Bool) (rows : List R) (k : ℕ) → position p rows ≡ Some k → position_or_len p rows ≡ k
+  place-is p rows k is =
+      (elim (nat_lt (position_or_len p rows) (length rows)) as (λ b. cond b (Some (position_or_len p rows)) None ≡ Some k → position_or_len p rows ≡ k) [
+        | true ↦ λ e. cc
+        | false ↦ λ e. cc
+      ]) is
 
-  within : (rows : List R) (x : ℕ) → IsNumberedFrom 1 (map num rows) → is_some (find (λ row. num row == x) rows) ≡ true → (1 ≤ x) × (x ≤ length rows)
-  within rows zero h there =
-      let none : is_some (find (λ row. num row == 0) rows) ≡ false = ap is_some (find-below rows 1 0 h (omega arith)) in
-      cc
-  within rows (suc place) h there =
-      let some : is_some (slice_get rows place) ≡ true = ap is_some (at-find rows (suc place) h) ∙ there in
-      let lt : place < length rows = some-within rows place some in
-      (omega arith, omega (arith, lt))
+  found : (p : R → Bool) (rows : List R) (k : ℕ) → position p rows ≡ Some k → slice_get rows k ≡ find p rows
+  found p rows k is = ap (slice_get rows) (sym (place-is p rows k is)) ∙ sym (find_at p rows)
 
-  changed : (rows : List R) (x : ℕ) (new : R) → IsNumberedFrom 1 (map num rows) → 1 ≤ x → x ≤ length rows
-      → set rows (x - 1) new ≡ change_first (λ row. num row == x) (λ old. new) rows
-  changed rows zero new h first last = absurd (omega (arith, first))
-  changed rows (suc place) new h first last =
-      let back : suc place - 1 ≡ place = omega arith in
-      ap (λ (k : ℕ). set rows k new) back ∙ sym (change-from rows 1 place (suc place) new h (omega arith) (omega (arith, last)))
+  beyond : (rows : List R) (k : ℕ) → length rows ≤ k → slice_get rows k ≡ None
+  beyond [] k le = refl
+  beyond (row ∷ rest) zero le = absurd (omega (arith, le))
+  beyond (row ∷ rest) (suc k) le = beyond rest k (omega (arith, le))
 
-  kept : (rows : List R) (x : ℕ) (new : R) → IsNumberedFrom 1 (map num rows) → 1 ≤ x → num new ≡ x → IsNumberedFrom 1 (map num (set rows (x - 1) new))
-  kept rows zero new h first is = absurd (omega (arith, first))
-  kept rows (suc place) new h first is =
-      let back : place ≡ suc place - 1 = omega arith in
-      subst (λ (k : ℕ). IsNumberedFrom 1 (map num (set rows k new))) back (set-numbered rows 1 place new h (omega (arith, is)))
+  -- what a slice has at a place
+  copied : (rows : List R) (k : ℕ) (r : Option (Bor R)) → is_some r ≡ ltb k (length rows) → IfSome r (λ x. x.now ≡ get_or rows k x.now) → option_copied r ≡ slice_get rows k
+  copied rows k None is of = sym (beyond rows k (ltb-false k (length rows) (sym is)))
+  copied rows k (Some x) is of = sym (slice_get_read rows (length rows) k x.now refl (ltb-true k (length rows) (sym is)) of)
 
-  get-some : (rows : List R) (k : ℕ) (row : R) → slice_get rows k ≡ Some row → drop k rows ≡ row ∷ drop (suc k) rows
-  get-some [] k row e = cc
-  get-some (r ∷ rest) zero row e = let same : r ≡ row = cc in ap (λ (x : R). x ∷ rest) same
-  get-some (r ∷ rest) (suc k) row e = get-some rest k row e
+  absent : (p : R → Bool) (rows : List R) → position p rows ≡ None → find p rows ≡ None
+  absent p rows is =
+      (elim (cases_lt (position_or_len p rows) (length rows)) as (λ side. find p rows ≡ None) [
+        | inl under ↦ (let at : position p rows ≡ Some (position_or_len p rows) = position-at p rows (position_or_len p rows) refl under in cc)
+        | inr over ↦ find_at p rows ∙ beyond rows (position_or_len p rows) over
+      ])
 
-  get-none : (rows : List R) (k : ℕ) → slice_get rows k ≡ None → drop k rows ≡ drop (suc k) rows
-  get-none [] zero e = refl
-  get-none [] (suc k) e = refl
-  get-none (r ∷ rest) zero e = cc
-  get-none (r ∷ rest) (suc k) e = get-none rest k e
+  changed : (p : R → Bool) (rows : List R) (k : ℕ) (new : R) → position p rows ≡ Some k → set rows k new ≡ change_first p (λ old. new) rows
+  changed p rows k new is =
+      let at = position-Some p rows k new is in
+      change-at p rows k new new at.0 at.1 at.2
 
-  some-next : (rows : List R) (place : ℕ) (row : R) → IsNumberedFrom 1 (map num rows) → find (λ row. num row == place + 1) rows ≡ Some row
-      → drop place rows ≡ row ∷ drop (place + 1) rows
-  some-next rows place row h e =
-      get-some rows place row (sym (find-from rows 1 place (place + 1) h (omega arith)) ∙ e)
-      ∙ ap (λ (k : ℕ). row ∷ drop k rows) (sym (add-one place))
+  -- The numbers after a change
 
-  none-next : (rows : List R) (place : ℕ) → IsNumberedFrom 1 (map num rows) → find (λ row. num row == place + 1) rows ≡ None
-      → drop place rows ≡ drop (place + 1) rows
-  none-next rows place h e =
-      get-none rows place (sym (find-from rows 1 place (place + 1) h (omega arith)) ∙ e)
-      ∙ ap (λ (k : ℕ). drop k rows) (sym (add-one place))
+  numbers-set : (rows : List R) (k : ℕ) (new d : R) → k < length rows → num new ≡ num (get_or rows k d) → numbers (set rows k new) ≡ numbers rows
+  numbers-set [] k new d lt same = refl
+  numbers-set (row ∷ rest) zero new d lt same = ap (λ n. n ∷ numbers rest) same
+  numbers-set (row ∷ rest) (suc k) new d lt same = ap (λ (ns : List ℕ). num row ∷ ns) (numbers-set rest k new d (omega (arith, lt)) same)
+
+  kept : (rows : List R) (x k : ℕ) (new : R) → position (is_numbered x) rows ≡ Some k → num new ≡ x → AreRising (numbers rows) → AreRising (numbers (set rows k new))
+  kept rows x k new is same h =
+      let at = position-Some (is_numbered x) rows k new is in
+      subst AreRising (sym (numbers-set rows k new new at.0 (same ∙ sym (eqb-true (num (get_or rows k new)) x at.1)))) h
+
+  above-pushed : (rows : List R) (n : ℕ) (new : R) → AreAbove n (numbers rows) → n < num new → AreAbove n (numbers (rows ++ new ∷ []))
+  above-pushed [] n new h lt = (lt, tt)
+  above-pushed (row ∷ rest) n new h lt = (h.0, above-pushed rest n new h.1 lt)
+
+  pushed : (rows : List R) (new : R) → AreRising (numbers rows) → AreBelow (num new) (numbers rows) → AreRising (numbers (rows ++ new ∷ []))
+  pushed [] new h below = (tt, tt)
+  pushed (row ∷ rest) new h below = (above-pushed rest (num row) new h.0 below.0, pushed rest new h.1 below.1)
+
+  above-filtered : (p : R → Bool) (rows : List R) (n : ℕ) → AreAbove n (numbers rows) → AreAbove n (numbers (filter p rows))
+  above-filtered p [] n h = tt
+  above-filtered p (row ∷ rest) n h =
+      elim (p row) as (λ b. AreAbove n (numbers (cond b (row ∷ filter p rest) (filter p rest)))) [
+        | true ↦ (h.0, above-filtered p rest n h.1)
+        | false ↦ above-filtered p rest n h.1
+      ]
+
+  filtered : (p : R → Bool) (rows : List R) → AreRising (numbers rows) → AreRising (numbers (filter p rows))
+  filtered p [] h = tt
+  filtered p (row ∷ rest) h =
+      elim (p row) as (λ b. AreRising (numbers (cond b (row ∷ filter p rest) (filter p rest)))) [
+        | true ↦ (above-filtered p rest (num row) h.0, filtered p rest h.1)
+        | false ↦ filtered p rest h.1
+      ]
+
+  -- Numbers below a bound
+
+  pub below_filtered : (p : R → Bool) (rows : List R) (bound : ℕ) → AreBelow bound (numbers rows) → AreBelow bound (numbers (filter p rows))
+  below_filtered p [] bound h = tt
+  below_filtered p (row ∷ rest) bound h =
+      elim (p row) as (λ b. AreBelow bound (numbers (cond b (row ∷ filter p rest) (filter p rest)))) [
+        | true ↦ (h.0, below_filtered p rest bound h.1)
+        | false ↦ below_filtered p rest bound h.1
+      ]
+
+  pub below_pushed : (rows : List R) (bound : ℕ) (new : R) → AreBelow bound (numbers rows) → num new ≡ bound → AreBelow (bound + 1) (numbers (rows ++ new ∷ []))
+  below_pushed [] bound new h is = (omega (arith, is), tt)
+  below_pushed (row ∷ rest) bound new h is = (omega (arith, h.0), below_pushed rest bound new h.1 is)
+
+  pub below_changed : (p : R → Bool) (f : R → R) (rows : List R) (bound : ℕ) → ((row : R) → num (f row) ≡ num row) → AreBelow bound (numbers rows)
+      → AreBelow bound (numbers (change_first p f rows))
+  below_changed p f [] bound same h = tt
+  below_changed p f (row ∷ rest) bound same h =
+      elim (p row) as (λ b. AreBelow bound (numbers (cond b (f row ∷ rest) (row ∷ change_first p f rest)))) [
+        | true ↦ (omega (arith, h.0, same row), h.1)
+        | false ↦ (h.0, below_changed p f rest bound same h.1)
+      ]
 
 -- The row of each kind
 
--- the job executions from a place on begin with the one of the next number
-pub execution_next : (rows : List ExecutionRow) (place : ℕ) (row : ExecutionRow) → IsNumberedFrom 1 (map (λ (row : ExecutionRow). row.execution) rows)
-    → find (is_execution (place + 1)) rows ≡ Some row → drop place rows ≡ row ∷ drop (place + 1) rows
-execution_next rows place row h e = some-next (λ (row : ExecutionRow). row.execution) rows place row h e
+pub instance_searched : (rows : List JobInstance) (i : ℕ) (r : Result ℕ ℕ) → AreRising (instance_numbers rows) → IsSearchInRange r (length rows)
+    → IsBinarySearchResult (λ (row : JobInstance). nat_cmp row.instance i) rows r → result_ok r ≡ position (is_instance i) rows
+instance_searched rows i r h within is = searched (λ (row : JobInstance). row.instance) rows i r h within is
 
-pub no_execution_next : (rows : List ExecutionRow) (place : ℕ) → IsNumberedFrom 1 (map (λ (row : ExecutionRow). row.execution) rows)
-    → find (is_execution (place + 1)) rows ≡ None → drop place rows ≡ drop (place + 1) rows
-no_execution_next rows place h e = none-next (λ (row : ExecutionRow). row.execution) rows place h e
+pub execution_searched : (rows : List ExecutionRow) (x : ℕ) (r : Result ℕ ℕ) → AreRising (execution_numbers rows) → IsSearchInRange r (length rows)
+    → IsBinarySearchResult (λ (row : ExecutionRow). nat_cmp row.execution x) rows r → result_ok r ≡ position (is_execution x) rows
+execution_searched rows x r h within is = searched (λ (row : ExecutionRow). row.execution) rows x r h within is
 
-pub instance_found : (rows : List JobInstance) (i : ℕ) → IsNumberedFrom 1 (map (λ (row : JobInstance). row.instance) rows) → at_number i rows ≡ find (is_instance i) rows
-instance_found rows i h = at-find (λ (row : JobInstance). row.instance) rows i h
+pub work_searched : (rows : List WorkRow) (w : ℕ) (r : Result ℕ ℕ) → AreRising (work_numbers rows) → IsSearchInRange r (length rows)
+    → IsBinarySearchResult (λ (row : WorkRow). nat_cmp row.work w) rows r → result_ok r ≡ position (is_work w) rows
+work_searched rows w r h within is = searched (λ (row : WorkRow). row.work) rows w r h within is
 
-pub execution_found : (rows : List ExecutionRow) (x : ℕ) → IsNumberedFrom 1 (map (λ (row : ExecutionRow). row.execution) rows) → at_number x rows ≡ find (is_execution x) rows
-execution_found rows x h = at-find (λ (row : ExecutionRow). row.execution) rows x h
+pub instance_found : (rows : List JobInstance) (i k : ℕ) (r : Option (Bor JobInstance)) → is_some r ≡ ltb k (length rows) → IfSome r (λ x. x.now ≡ get_or rows k x.now)
+    → Some k ≡ position (is_instance i) rows → option_copied r ≡ find (is_instance i) rows
+instance_found rows i k r is of at =
+    copied (λ (row : JobInstance). row.instance) rows k r is of ∙ found (λ (row : JobInstance). row.instance) (is_instance i) rows k (sym at)
 
-pub work_found : (rows : List WorkRow) (w : ℕ) → IsNumberedFrom 1 (map (λ (row : WorkRow). row.work) rows) → at_number w rows ≡ find (is_work w) rows
-work_found rows w h = at-find (λ (row : WorkRow). row.work) rows w h
+pub instance_absent : (rows : List JobInstance) (i : ℕ) → None ≡ position (is_instance i) rows → None ≡ find (is_instance i) rows
+instance_absent rows i is = sym (absent (λ (row : JobInstance). row.instance) (is_instance i) rows (sym is))
 
-pub execution_within : (rows : List ExecutionRow) (x : ℕ) (new : ExecutionRow) → IsNumberedFrom 1 (map (λ (row : ExecutionRow). row.execution) rows)
-    → MayReplaceExecution rows x new → (1 ≤ x) × (x ≤ length rows)
-execution_within rows x new h m = within (λ (row : ExecutionRow). row.execution) rows x h (ap is_some m.1)
+pub execution_found : (rows : List ExecutionRow) (x k : ℕ) (r : Option (Bor ExecutionRow)) → is_some r ≡ ltb k (length rows) → IfSome r (λ x. x.now ≡ get_or rows k x.now)
+    → Some k ≡ position (is_execution x) rows → option_copied r ≡ find (is_execution x) rows
+execution_found rows x k r is of at =
+    copied (λ (row : ExecutionRow). row.execution) rows k r is of ∙ found (λ (row : ExecutionRow). row.execution) (is_execution x) rows k (sym at)
 
-pub execution_changed : (rows : List ExecutionRow) (x : ℕ) (new : ExecutionRow) → IsNumberedFrom 1 (map (λ (row : ExecutionRow). row.execution) rows)
-    → MayReplaceExecution rows x new → set rows (x - 1) new ≡ change_first (is_execution x) (λ old. new) rows
-execution_changed rows x new h m =
-    let w = execution_within rows x new h m in
-    changed (λ (row : ExecutionRow). row.execution) rows x new h w.0 w.1
+pub execution_absent : (rows : List ExecutionRow) (x : ℕ) → None ≡ position (is_execution x) rows → None ≡ find (is_execution x) rows
+execution_absent rows x is = sym (absent (λ (row : ExecutionRow). row.execution) (is_execution x) rows (sym is))
 
-pub execution_kept : (rows : List ExecutionRow) (x : ℕ) (new : ExecutionRow) → IsNumberedFrom 1 (map (λ (row : ExecutionRow). row.execution) rows)
-    → MayReplaceExecution rows x new → IsNumberedFrom 1 (map (λ (row : ExecutionRow). row.execution) (set rows (x - 1) new))
-execution_kept rows x new h m =
-    kept (λ (row : ExecutionRow). row.execution) rows x new h (execution_within rows x new h m).0
-    (m.2.execution ∙ eqb-true m.0.execution x (found-passes (is_execution x) rows m.0 m.1))
+pub work_found : (rows : List WorkRow) (w k : ℕ) (r : Option (Bor WorkRow)) → is_some r ≡ ltb k (length rows) → IfSome r (λ x. x.now ≡ get_or rows k x.now)
+    → Some k ≡ position (is_work w) rows → option_copied r ≡ find (is_work w) rows
+work_found rows w k r is of at =
+    copied (λ (row : WorkRow). row.work) rows k r is of ∙ found (λ (row : WorkRow). row.work) (is_work w) rows k (sym at)
 
-pub execution_pushed : (rows : List ExecutionRow) (new : ExecutionRow) → IsNumberedFrom 1 (map (λ (row : ExecutionRow). row.execution) rows)
-    → new.execution ≡ length rows + 1 → IsNumberedFrom 1 (map (λ (row : ExecutionRow). row.execution) (rows ++ new ∷ []))
-execution_pushed rows new h is = push-numbered (λ (row : ExecutionRow). row.execution) rows 1 new h (omega (arith, is))
+pub work_absent : (rows : List WorkRow) (w : ℕ) → None ≡ position (is_work w) rows → None ≡ find (is_work w) rows
+work_absent rows w is = sym (absent (λ (row : WorkRow). row.work) (is_work w) rows (sym is))
 
-pub work_within : (rows : List WorkRow) (w : ℕ) (new : WorkRow) → IsNumberedFrom 1 (map (λ (row : WorkRow). row.work) rows)
-    → MayReplaceWork rows w new → (1 ≤ w) × (w ≤ length rows)
-work_within rows w new h m = within (λ (row : WorkRow). row.work) rows w h (ap is_some m.1)
+-- A changed row
 
-pub work_changed : (rows : List WorkRow) (w : ℕ) (new : WorkRow) → IsNumberedFrom 1 (map (λ (row : WorkRow). row.work) rows)
-    → MayReplaceWork rows w new → set rows (w - 1) new ≡ change_first (is_work w) (λ old. new) rows
-work_changed rows w new h m =
-    let inside = work_within rows w new h m in
-    changed (λ (row : WorkRow). row.work) rows w new h inside.0 inside.1
+pub execution_changed : (rows : List ExecutionRow) (x k : ℕ) (new : ExecutionRow) → Some k ≡ position (is_execution x) rows
+    → set rows k new ≡ change_first (is_execution x) (λ old. new) rows
+execution_changed rows x k new is = changed (λ (row : ExecutionRow). row.execution) (is_execution x) rows k new (sym is)
 
-pub work_kept : (rows : List WorkRow) (w : ℕ) (new : WorkRow) → IsNumberedFrom 1 (map (λ (row : WorkRow). row.work) rows)
-    → MayReplaceWork rows w new → IsNumberedFrom 1 (map (λ (row : WorkRow). row.work) (set rows (w - 1) new))
-work_kept rows w new h m =
-    kept (λ (row : WorkRow). row.work) rows w new h (work_within rows w new h m).0
-    (m.2.work ∙ eqb-true m.0.work w (found-passes (is_work w) rows m.0 m.1))
+pub execution_kept : (rows : List ExecutionRow) (x k : ℕ) (new : ExecutionRow) → AreRising (execution_numbers rows) → Some k ≡ position (is_execution x) rows
+    → MayReplaceExecution rows x new → AreRising (execution_numbers (set rows k new))
+execution_kept rows x k new h is m =
+    kept (λ (row : ExecutionRow). row.execution) rows x k new (sym is)
+    (m.2.execution ∙ eqb-true m.0.execution x (found-passes (is_execution x) rows m.0 m.1)) h
 
-pub work_pushed : (rows : List WorkRow) (new : WorkRow) → IsNumberedFrom 1 (map (λ (row : WorkRow). row.work) rows)
-    → new.work ≡ length rows + 1 → IsNumberedFrom 1 (map (λ (row : WorkRow). row.work) (rows ++ new ∷ []))
-work_pushed rows new h is = push-numbered (λ (row : WorkRow). row.work) rows 1 new h (omega (arith, is))
+-- a row that may be replaced is there
+pub execution_there : (rows : List ExecutionRow) (x : ℕ) (new : ExecutionRow) → None ≡ position (is_execution x) rows → MayReplaceExecution rows x new → ⊥
+execution_there rows x new is m = let none : None ≡ find (is_execution x) rows = execution_absent rows x is in cc
 
-pub instance_pushed : (rows : List JobInstance) (new : JobInstance) → IsNumberedFrom 1 (map (λ (row : JobInstance). row.instance) rows)
-    → new.instance ≡ length rows + 1 → IsNumberedFrom 1 (map (λ (row : JobInstance). row.instance) (rows ++ new ∷ []))
-instance_pushed rows new h is = push-numbered (λ (row : JobInstance). row.instance) rows 1 new h (omega (arith, is))
+pub work_changed : (rows : List WorkRow) (w k : ℕ) (new : WorkRow) → Some k ≡ position (is_work w) rows → set rows k new ≡ change_first (is_work w) (λ old. new) rows
+work_changed rows w k new is = changed (λ (row : WorkRow). row.work) (is_work w) rows k new (sym is)
+
+pub work_kept : (rows : List WorkRow) (w k : ℕ) (new : WorkRow) → AreRising (work_numbers rows) → Some k ≡ position (is_work w) rows
+    → MayReplaceWork rows w new → AreRising (work_numbers (set rows k new))
+work_kept rows w k new h is m =
+    kept (λ (row : WorkRow). row.work) rows w k new (sym is)
+    (m.2.work ∙ eqb-true m.0.work w (found-passes (is_work w) rows m.0 m.1)) h
+
+pub work_there : (rows : List WorkRow) (w : ℕ) (new : WorkRow) → None ≡ position (is_work w) rows → MayReplaceWork rows w new → ⊥
+work_there rows w new is m = let none : None ≡ find (is_work w) rows = work_absent rows w is in cc
+
+-- An added row
+
+pub instance_pushed : (rows : List JobInstance) (new : JobInstance) → AreRising (instance_numbers rows) → AreBelow new.instance (instance_numbers rows)
+    → AreRising (instance_numbers (rows ++ new ∷ []))
+instance_pushed rows new h below = pushed (λ (row : JobInstance). row.instance) rows new h below
+
+pub execution_pushed : (rows : List ExecutionRow) (new : ExecutionRow) → AreRising (execution_numbers rows) → AreBelow new.execution (execution_numbers rows)
+    → AreRising (execution_numbers (rows ++ new ∷ []))
+execution_pushed rows new h below = pushed (λ (row : ExecutionRow). row.execution) rows new h below
+
+pub work_pushed : (rows : List WorkRow) (new : WorkRow) → AreRising (work_numbers rows) → AreBelow new.work (work_numbers rows)
+    → AreRising (work_numbers (rows ++ new ∷ []))
+work_pushed rows new h below = pushed (λ (row : WorkRow). row.work) rows new h below
+
+-- Rows that stay
+
+pub instances_filtered : (p : JobInstance → Bool) (rows : List JobInstance) → AreRising (instance_numbers rows) → AreRising (instance_numbers (filter p rows))
+instances_filtered p rows h = filtered (λ (row : JobInstance). row.instance) p rows h
+
+pub executions_filtered : (p : ExecutionRow → Bool) (rows : List ExecutionRow) → AreRising (execution_numbers rows) → AreRising (execution_numbers (filter p rows))
+executions_filtered p rows h = filtered (λ (row : ExecutionRow). row.execution) p rows h
+
+pub works_filtered : (p : WorkRow → Bool) (rows : List WorkRow) → AreRising (work_numbers rows) → AreRising (work_numbers (filter p rows))
+works_filtered p rows h = filtered (λ (row : WorkRow). row.work) p rows h

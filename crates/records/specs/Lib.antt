@@ -1,3 +1,4 @@
 pub mod Left
 pub mod Maps
 pub mod Placed
+pub mod Without

@@ -1,7 +1,6 @@
 -- The rows of a job repository: four finite maps.
-use Rattle.std.specs.Prelude.{ℕ, zero, suc, ◌≡◌, ◌≢◌, ◌+◌, ◌==◌, ◌&&◌, Bool, true, false, Option, Some, None, IfSome, List, [], ◌∷◌, map, find}
+use Rattle.std.specs.Prelude.{ℕ, ◌≡◌, ◌≢◌, ◌<◌, ◌==◌, ◌&&◌, Bool, true, false, Option, Some, None, IfSome, List, [], ◌∷◌, map, find}
 use Rattle.std.specs.Option.{option_map}
-use Rattle.std.specs.List.{slice_get}
 use Rattle.batch_history.specs.declared.rows.JobInstance.{JobInstance}
 use Rattle.batch_history.specs.declared.rows.ExecutionRow.{ExecutionRow}
 use Rattle.batch_history.specs.declared.rows.WorkRow.{WorkRow}
@@ -24,10 +23,29 @@ pub record Maps : Type 0 where
 abbrev pub no_rows : Maps
 no_rows = record { instances = []; executions = []; works = []; checkpoints = [] }
 
--- the numbers go up by one from here
-abbrev pub IsNumberedFrom : ℕ → List ℕ → Type 0
-IsNumberedFrom n [] = Unit {0}
-IsNumberedFrom n (number ∷ rest) = (number ≡ n) × IsNumberedFrom (n + 1) rest
+-- each of these numbers is above this one
+abbrev pub AreAbove : ℕ → List ℕ → Type 0
+AreAbove bound [] = Unit {0}
+AreAbove bound (number ∷ rest) = (bound < number) × AreAbove bound rest
+
+-- each of these numbers is below this one
+abbrev pub AreBelow : ℕ → List ℕ → Type 0
+AreBelow bound [] = Unit {0}
+AreBelow bound (number ∷ rest) = (number < bound) × AreBelow bound rest
+
+-- the numbers rise, with gaps or without
+abbrev pub AreRising : List ℕ → Type 0
+AreRising [] = Unit {0}
+AreRising (number ∷ rest) = AreAbove number rest × AreRising rest
+
+abbrev pub instance_numbers : List JobInstance → List ℕ
+instance_numbers rows = map (λ row. row.instance) rows
+
+abbrev pub execution_numbers : List ExecutionRow → List ℕ
+execution_numbers rows = map (λ row. row.execution) rows
+
+abbrev pub work_numbers : List WorkRow → List ℕ
+work_numbers rows = map (λ row. row.work) rows
 
 abbrev pub is_instance : ℕ → JobInstance → Bool
 is_instance i row = row.instance == i
@@ -48,12 +66,12 @@ abbrev pub AreApart : List CheckpointRow → Type 0
 AreApart [] = Unit {0}
 AreApart (row ∷ rest) = (mark_at rest (step_of row) ≡ None) × AreApart rest
 
--- job instances, job executions and work items are each numbered from 1 upwards, without gaps, and a step of a job
--- instance has one checkpoint at most
+-- job instances, job executions and work items each stand by rising number, and a step of a job instance has one
+-- checkpoint at most
 pub record AreKeyed (maps : Maps) : Type 0 where
-  pub instances : IsNumberedFrom 1 (map (λ (row : JobInstance). row.instance) maps.instances)
-  pub executions : IsNumberedFrom 1 (map (λ (row : ExecutionRow). row.execution) maps.executions)
-  pub works : IsNumberedFrom 1 (map (λ (row : WorkRow). row.work) maps.works)
+  pub instances : AreRising (instance_numbers maps.instances)
+  pub executions : AreRising (execution_numbers maps.executions)
+  pub works : AreRising (work_numbers maps.works)
   pub checkpoints : AreApart maps.checkpoints
 
 -- the checkpoint of step p is this mark, if there is one, that of every other step is what it was, and all else is as it was
@@ -63,11 +81,6 @@ pub record SetsCheckpoint (before after : Maps) (p : InstanceStep) (mark : Optio
   pub instances : after.instances ≡ before.instances
   pub executions : after.executions ≡ before.executions
   pub works : after.works ≡ before.works
-
--- the row that stands at a number
-abbrev pub at_number : {R : Type 0} → ℕ → List R → Option R
-at_number zero rows = None
-at_number (suc place) rows = slice_get rows place
 
 -- a changed row is still that of its job execution: what a start or a restart gave it stays, and so do a stop, an
 -- abandonment, a start and an end, once they are there

@@ -1,6 +1,7 @@
 //! The rows of a job repository: job instances, job executions, work items and checkpoints.
 #![tactic(auto)]
 
+mod places;
 mod readers;
 mod records;
 

@@ -6,8 +6,8 @@ ghost use Rattle.records.specs.Left.{job_names, names_left, instances_left, exec
 use batch_history::{ExecutionRow, JobInstance, WorkRow};
 use batch_ids::{ExecutionId, InstanceId, T256};
 
-/// The names of the jobs that have a job instance, in order of first start. Each step costs time as
-/// there are job instances before it.
+/// The names of the jobs that have a job instance, by rising number of the first one that is there.
+/// Each step costs time as there are job instances before it.
 #[derive(Debug, Drop)]
 pub struct Names<'r> {
     rows: &'r [JobInstance],

@@ -1,13 +1,18 @@
-ghost use Rattle.std.specs.Prelude.{◌≡◌, ◌+◌, ◌-◌, ◌^◌, ◌<◌, ◌≤◌, ◌++◌, ◌∷◌, [], ℕ, List, None, true, length, find, slice_set, is_some, option_copied, IsOk, IfOk, map, IfSome, IfNone, OnOk, OnErr};
+ghost use Rattle.std.specs.Prelude.{◌≡◌, ◌==◌, ◌+◌, ◌-◌, ◌^◌, ◌<◌, ◌≤◌, ◌++◌, ◌∷◌, [], ℕ, List, None, true, length, find, slice_set, is_some, option_copied, IsOk, IfOk, map, IfSome, IfNone, OnOk, OnErr};
 ghost use Rattle.jsl_model.specs.Names.{distinct};
 ghost use Rattle.batch_history.specs.Answers.{instances_of_job};
 ghost use Rattle.batch_history.specs.Lists.{change_first};
 ghost use Rattle.batch_history.specs.Replies.{is_execution};
 ghost use Rattle.batch_history.specs.Works.{is_work};
-ghost use Rattle.records.specs.Maps.{no_rows, is_instance, is_place, mark_at, at_number, AreKeyed, SetsCheckpoint, MayReplaceExecution, MayReplaceWork};
+ghost use Rattle.records.specs.Maps.{no_rows, is_instance, is_place, mark_at, instance_numbers, execution_numbers, work_numbers, AreBelow, AreKeyed, AreRising, SetsCheckpoint, MayReplaceExecution, MayReplaceWork};
 ghost use Rattle.records.specs.Placed.{is_elsewhere, with_mark, without_mark};
-ghost use Rattle.records.specs.Left.{job_names, names_left, instances_left, executions_of, executions_left, works_of, works_left, works_of_instance, is_work_of_instance};
+ghost use Rattle.records.specs.Left.{job_names, names_left, instances_left, executions_of, executions_left, works_of, works_left, works_of_instance};
+ghost use Rattle.batch_history.specs.Rows.{instances_there, executions_there, works_there};
+ghost use Rattle.records.specs.Without.{checkpoints_there, without_instance};
 
+use crate::places::{
+    execution_place, find_execution, find_instance, find_work, is_work_of_instance, work_place,
+};
 use crate::readers::{ExecutionsOf, InstancesOf, Names, WorksOf};
 use batch_history::{CheckpointRow, ExecutionRow, JobInstance, WorkRow};
 use batch_ids::{ExecutionId, InstanceId, OutOfMemory, Text, WorkId};
@@ -19,8 +24,9 @@ use std::marker::Model;
 /// execution and work item, by its number, and one for each step of a job instance, or partition of
 /// it, that has a checkpoint.
 ///
-/// Job instances, job executions and work items are each numbered from 1 upwards, without gaps, and a
-/// step of a job instance, or a partition of it, has one checkpoint at most.
+/// Job instances, job executions and work items each have a number of their own and stand by rising
+/// number. Where a job instance was removed, its numbers are missing. A step of a job instance, or a
+/// partition of it, has one checkpoint at most.
 #[derive(Debug, Drop)]
 pub struct Records {
     instances: Vec<JobInstance>,
@@ -52,29 +58,26 @@ impl Records {
         }
     }
 
-    /// The job instance of this number, if there is one, in constant time.
-    #[tactic(auto, using(crate::proofs::Numbered::instance_found))]
+    /// The job instance of this number, if there is one, by a binary search.
     pub fn instance(&self, i: InstanceId) -> Option<&JobInstance>
         ensures { option_copied result ≡ find (is_instance i) self.now.instances }
     {
-        at_number(self.instances.as_slice(), i.value())
+        find_instance(self.instances.as_slice(), i)
     }
 
-    /// The job execution of this number, if there is one, in constant time.
-    #[tactic(auto, using(crate::proofs::Numbered::execution_found))]
+    /// The job execution of this number, if there is one, by a binary search.
     pub fn execution(&self, x: ExecutionId) -> Option<&ExecutionRow>
         ensures found { option_copied result ≡ find (is_execution x) self.now.executions }
         ensures keyed { AreKeyed self.now }
     {
-        at_number(self.executions.as_slice(), x.value())
+        find_execution(self.executions.as_slice(), x)
     }
 
-    /// The work item of this number, if there is one, in constant time.
-    #[tactic(auto, using(crate::proofs::Numbered::work_found))]
+    /// The work item of this number, if there is one, by a binary search.
     pub fn work(&self, w: WorkId) -> Option<&WorkRow>
         ensures { option_copied result ≡ find (is_work w) self.now.works }
     {
-        at_number(self.works.as_slice(), w.value())
+        find_work(self.works.as_slice(), w)
     }
 
     /// The checkpoint of a step of a job instance, or of a partition of it, if there is one, in time
@@ -93,7 +96,15 @@ impl Records {
         None
     }
 
-    /// The names of the jobs that have a job instance, in order of first start. It takes no memory.
+    /// All job executions, by rising number.
+    pub fn executions(&self) -> &[ExecutionRow]
+        ensures { result.now ≡ self.now.executions }
+    {
+        self.executions.as_slice()
+    }
+
+    /// The names of the jobs that have a job instance, by rising number of the first one that is
+    /// there. It takes no memory.
     pub fn names(&self) -> Names<'_>
         ensures { names_left result ≡ distinct (job_names self.now.instances) }
     {
@@ -139,24 +150,14 @@ impl Records {
     {
         let mut found = Vec::new(alloc);
         for row in self.works.as_slice() {
-            if self.is_of_instance(i, row) {
+            if is_work_of_instance(self.executions.as_slice(), i, row) {
                 found.push(row)?;
             }
         }
         Ok(found)
     }
 
-    /// Whether a work item is of a job execution of this job instance.
-    fn is_of_instance(&self, i: InstanceId, row: &WorkRow) -> bool
-        ensures { result ≡ is_work_of_instance i self.now.executions row.now }
-    {
-        match self.execution(row.execution) {
-            None => false,
-            Some(execution) => execution.instance == i,
-        }
-    }
-
-    /// Adds a job instance with its first job execution, both with the next number.
+    /// Adds a job instance with its first job execution, both with a number above those that are there.
     ///
     /// # Errors
     ///
@@ -167,8 +168,8 @@ impl Records {
         instance: JobInstance,
         first: ExecutionRow,
     ) -> Result<(), OutOfMemory>
-        requires instance { instance.instance ≡ length self.old.instances + 1 }
-        requires first { first.execution ≡ length self.old.executions + 1 }
+        requires instance { AreBelow instance.instance (instance_numbers self.old.instances) }
+        requires first { AreBelow first.execution (execution_numbers self.old.executions) }
         ensures added { OnOk result (self.new ≡
             record self.old {
               instances = self.old.instances ++ instance ∷ [];
@@ -184,14 +185,14 @@ impl Records {
         }
     }
 
-    /// Adds a job execution with the next number.
+    /// Adds a job execution with a number above those that are there.
     ///
     /// # Errors
     ///
     /// `OutOfMemory` alone, and then nothing has changed.
     #[tactic(auto, using(crate::proofs::Numbered::execution_pushed))]
     pub fn add_execution(&mut self, row: ExecutionRow) -> Result<(), OutOfMemory>
-        requires { row.execution ≡ length self.old.executions + 1 }
+        requires { AreBelow row.execution (execution_numbers self.old.executions) }
         ensures added { OnOk result (self.new ≡
             record self.old { executions = self.old.executions ++ row ∷ [] }) }
         ensures unchanged { OnErr result (self.new ≡ self.old) }
@@ -200,14 +201,14 @@ impl Records {
         Ok(())
     }
 
-    /// Adds a work item with the next number.
+    /// Adds a work item with a number above those that are there.
     ///
     /// # Errors
     ///
     /// `OutOfMemory` alone, and then nothing has changed.
     #[tactic(auto, using(crate::proofs::Numbered::work_pushed))]
     pub fn add_work(&mut self, row: WorkRow) -> Result<(), OutOfMemory>
-        requires { row.work ≡ length self.old.works + 1 }
+        requires { AreBelow row.work (work_numbers self.old.works) }
         ensures added { OnOk result (self.new ≡
             record self.old { works = self.old.works ++ row ∷ [] }) }
         ensures unchanged { OnErr result (self.new ≡ self.old) }
@@ -218,7 +219,7 @@ impl Records {
 
     /// Changes the row of a job execution, which keeps what its start or restart gave it. It takes no
     /// memory.
-    #[tactic(auto, using(crate::proofs::Numbered::execution_within, crate::proofs::Numbered::execution_changed, crate::proofs::Numbered::execution_kept))]
+    #[tactic(auto, using(crate::proofs::Numbered::execution_changed, crate::proofs::Numbered::execution_kept, crate::proofs::Numbered::execution_there))]
     pub fn change_execution(&mut self, x: ExecutionId, row: ExecutionRow)
         requires { MayReplaceExecution self.old.executions x row }
         ensures { self.new ≡ record self.old {
@@ -226,11 +227,14 @@ impl Records {
               (λ old. row) self.old.executions;
         } }
     {
-        self.executions[(x.value() - 1) as usize] = row;
+        let Some(place) = execution_place(self.executions.as_slice(), x) else {
+            unreachable!();
+        };
+        self.executions[place] = row;
     }
 
     /// Changes the row of a work item, which keeps what its claim gave it. It takes no memory.
-    #[tactic(auto, using(crate::proofs::Numbered::work_within, crate::proofs::Numbered::work_changed, crate::proofs::Numbered::work_kept))]
+    #[tactic(auto, using(crate::proofs::Numbered::work_changed, crate::proofs::Numbered::work_kept, crate::proofs::Numbered::work_there))]
     pub fn change_work(&mut self, w: WorkId, row: WorkRow)
         requires { MayReplaceWork self.old.works w row }
         ensures { self.new ≡ record self.old {
@@ -238,7 +242,22 @@ impl Records {
               (λ old. row) self.old.works;
         } }
     {
-        self.works[(w.value() - 1) as usize] = row;
+        let Some(place) = work_place(self.works.as_slice(), w) else {
+            unreachable!();
+        };
+        self.works[place] = row;
+    }
+
+    /// Removes a job instance, its job executions, their work items and its checkpoints. It takes no
+    /// memory, and time as there are rows.
+    pub fn remove_instance(&mut self, i: InstanceId)
+        requires { is_some (find (is_instance i) self.old.instances) ≡ true }
+        ensures { self.new ≡ without_instance i self.old }
+    {
+        remove_works(&mut self.works, self.executions.as_slice(), i);
+        remove_executions(&mut self.executions, i);
+        remove_checkpoints(&mut self.checkpoints, i);
+        remove_instances(&mut self.instances, i);
     }
 
     /// Sets the checkpoint of a step of a job instance, or of a partition of it, or clears it where
@@ -321,14 +340,33 @@ impl Records {
     }
 }
 
-/// The row that stands at a number, from 1; 0 names nothing.
-fn at_number<R>(rows: &[R], number: u64) -> Option<&R>
-    ensures { option_copied result ≡ at_number number rows.now }
+/// Removes the work items of a job instance, by the job executions.
+fn remove_works(works: &mut Vec<WorkRow>, executions: &[ExecutionRow], i: InstanceId)
+    requires { AreRising (execution_numbers executions.now) }
+    ensures { works.new.items ≡ works_there (λ j. j == i) executions.now works.old.items }
 {
-    if number == 0 {
-        return None;
-    }
-    rows.get((number - 1) as usize)
+    works.retain(|row| !is_work_of_instance(executions, i, row));
+}
+
+/// Removes the job executions of a job instance.
+fn remove_executions(executions: &mut Vec<ExecutionRow>, i: InstanceId)
+    ensures { executions.new.items ≡ executions_there (λ j. j == i) executions.old.items }
+{
+    executions.retain(|row| row.instance != i);
+}
+
+/// Removes the checkpoints of a job instance.
+fn remove_checkpoints(checkpoints: &mut Vec<CheckpointRow>, i: InstanceId)
+    ensures { checkpoints.new.items ≡ checkpoints_there (λ j. j == i) checkpoints.old.items }
+{
+    checkpoints.retain(|row| row.instance != i);
+}
+
+/// Removes the row of a job instance.
+fn remove_instances(instances: &mut Vec<JobInstance>, i: InstanceId)
+    ensures { instances.new.items ≡ instances_there (λ j. j == i) instances.old.items }
+{
+    instances.retain(|row| row.instance != i);
 }
 
 /// Whether a row is that of this step of this job instance.

@@ -1,14 +1,21 @@
 -- What is read by an index of the rows is what is read from all of them.
 use Rattle.std.proofs.Common.{◌≡◌, ℕ, ◌==◌, ◌&&◌, ◌||◌, Bool, true, false, cond, nat_lt, List, [], ◌∷◌, map, refl, ap}
 use Rattle.std.specs.List.{list_any}
+use Rattle.jsl_model.specs.Jobs.{JobTree}
 use Rattle.job_walk.specs.declared.facts.Known.{Known}
 use Rattle.batch_history.specs.Replies.{is_later_than}
+use Rattle.batch_history.specs.Rows.{existing}
 use Rattle.batch_history.specs.Walks.{fact_of_state}
 use Rattle.batch_history.specs.Works.{work_key}
 use Rattle.batch_history.specs.declared.rows.ExecutionRow.{ExecutionRow}
+use Rattle.batch_history.specs.declared.rows.LastNumbers.{LastNumbers}
 use Rattle.batch_history.specs.declared.rows.WorkRow.{WorkRow}
 use Rattle.batch_history.proofs.Knowing.{known_elements}
 use Rattle.records.specs.Left.{executions_of, works_of}
+use Rattle.records.specs.Maps.{Maps}
+use Rattle.records.specs.Without.{without_instance}
+use Rattle.records.proofs.Marks.{marks_there}
+use Rattle.restart_rules.specs.Restarting.{rows_over}
 
 -- what a work item tells of its work key
 abbrev pub known_by : WorkRow → Known
@@ -34,3 +41,11 @@ later_read row (other ∷ rest) =
       | true ↦ ap (λ b. is_above row.execution other || b) (later_read row rest)
       | false ↦ later_read row rest
     ]
+
+-- the rows that say what is left once a job instance is gone
+pub rows_without : (catalogue : List JobTree) (count : ℕ) (last : LastNumbers) (maps : Maps) (i : ℕ)
+    → rows_over catalogue count last (without_instance i maps) ≡ existing (λ j. j == i) (rows_over catalogue count last maps)
+rows_without catalogue count last maps i k =
+    record (existing (λ j. j == i) (rows_over catalogue count last maps)) {
+      checkpoint = λ p. marks_there (λ j. j == i) maps.checkpoints p k;
+    }

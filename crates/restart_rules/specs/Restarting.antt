@@ -8,15 +8,17 @@ use Rattle.batch_history.specs.JobSteps.{JobStep}
 use Rattle.batch_history.specs.Replies.{is_execution, restart_refusal, restart_plan}
 use Rattle.batch_history.specs.Rows.{Rows}
 use Rattle.batch_history.specs.declared.rows.ExecutionRow.{ExecutionRow}
+use Rattle.batch_history.specs.declared.rows.LastNumbers.{LastNumbers}
 use Rattle.records.specs.Maps.{Maps, mark_at}
 use Rattle.restart_rules.specs.declared.steps.StepOf.{StepOf}
 
--- what these rows say, over a catalogue and after so many operations
-abbrev pub rows_over : List JobTree → ℕ → Maps → Rows
-rows_over catalogue count maps =
+-- what these rows say, over a catalogue, after so many operations, which gave these numbers last
+abbrev pub rows_over : List JobTree → ℕ → LastNumbers → Maps → Rows
+rows_over catalogue count last maps =
     record {
       catalogue = catalogue;
       count = count;
+      last = last;
       instances = maps.instances;
       executions = maps.executions;
       works = maps.works;

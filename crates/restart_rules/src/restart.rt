@@ -2,6 +2,7 @@
 ghost use Rattle.std.specs.Prelude.{ℕ, ◌≡◌, Bool, true, is_some, Some, find, IfOk, IfSome};
 ghost use Rattle.std.specs.List.{list_any};
 ghost use Rattle.std.specs.Option.{option_copied};
+ghost use Rattle.batch_history.specs.declared.rows.LastNumbers.{LastNumbers as Last};
 ghost use Rattle.batch_history.specs.Due.{IsDue};
 ghost use Rattle.batch_history.specs.Replies.{is_execution, is_later_than, is_restartable, refusal_by_status, restart_plan, restart_refusal};
 ghost use Rattle.batch_history.specs.Restarts.{restart_point};
@@ -80,8 +81,8 @@ pub fn restart_plan(
     row: &ExecutionRow,
 ) -> Result<Plan, OutOfMemory>
     requires { is_placed catalogue.now row.now ≡ true }
-    ensures plan { (count : ℕ) → IfOk result (λ plan. plan
-        ≡ restart_plan (rows_over catalogue.now count records.now) row.now) }
+    ensures plan { (count : ℕ) (last : Last) → IfOk result (λ plan. plan
+        ≡ restart_plan (rows_over catalogue.now count last records.now) row.now) }
     ensures begins { IfOk result (λ plan.
         begins_in_job plan (job_named catalogue.now row.now.job) ≡ true) }
 {
@@ -111,8 +112,8 @@ pub fn may_restart(
     x: ExecutionId,
 ) -> Result<Plan, Refusal>
     requires { IsPlaced catalogue.now records.now.executions x }
-    ensures due { (count : ℕ)
-        → IsDue result (plan_due (rows_over catalogue.now count records.now) x) }
+    ensures due { (count : ℕ) (last : Last)
+        → IsDue result (plan_due (rows_over catalogue.now count last records.now) x) }
     ensures begins { IfOk result (λ plan. IfSome (find (is_execution x) records.now.executions)
         (λ row. begins_in_job plan (job_named catalogue.now row.job) ≡ true)) }
 {

@@ -6,3 +6,4 @@ pub mod Faults
 pub mod Script
 pub mod Summaries
 pub mod Ran
+pub mod Reading

@@ -13,6 +13,10 @@ use Rattle.script_text.specs.declared.command.Command.TheVariants.{BadLine, Text
 use Rattle.jsl_json.specs.declared.fault.ReadFault.{ReadFault}
 use Rattle.jsl_json.specs.declared.fault.ReadFault.TheVariants.{NotACatalogue}
 use Rattle.script_text.specs.Commands.{command_of}
+use Rattle.script_text.specs.Starts.{start_of_line}
+use Rattle.script_text.specs.declared.start.StartLine.{StartLine}
+use Rattle.script_text.specs.declared.start.StartFault.{StartFault}
+use Rattle.script_text.specs.declared.start.StartFault.TheVariants as starts
 use Rattle.jsl_json.specs.Catalogues.{catalogue_of}
 use Rattle.script_text.specs.Answers.{answer_text}
 use Rattle.script_text.specs.Replies.{reply_text, bad_line_text}
@@ -27,6 +31,10 @@ command_at line = if nat_lt MAX_LINE (length line) then BadLine else command_of 
 -- the catalogue that a line is: one above the bound is none
 abbrev pub catalogue_at : List ℕ → Result (List JobTree) ReadFault
 catalogue_at line = if nat_lt MAX_LINE (length line) then Err NotACatalogue else catalogue_of line
+
+-- the start that a line of a run is: one above the bound is none
+abbrev pub start_at : List ℕ → Result StartLine StartFault
+start_at line = if nat_lt MAX_LINE (length line) then Err starts.BadLine else start_of_line line
 
 -- the reply to a command after a history
 abbrev pub text_for : History → Command → List ℕ

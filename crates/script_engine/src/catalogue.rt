@@ -11,8 +11,13 @@ use script_lines::{Line, OutputBuffer, Sink};
 use script_text::fault_text;
 use std::alloc::Global;
 
-/// The catalogue that the first line is. Want of memory is `OutOfMemory`, in place of any answer.
-pub(crate) fn catalogue_in(alloc: Global, first: &Option<Line>) -> Result<Catalogue, ReadFault>
+/// The catalogue that the first line of an input is. No line counts as an empty one, and a line above
+/// [`MAX_LINE`](crate::MAX_LINE) bytes is no catalogue.
+///
+/// # Errors
+///
+/// The first fault of the catalogue; `OutOfMemory` where memory is refused, in place of any answer.
+pub fn catalogue_in(alloc: Global, first: &Option<Line>) -> Result<Catalogue, ReadFault>
     ensures read { IfOk result (λ catalogue. (line : List ℕ) → ShowsFirst first.now line → catalogue_at line ≡ Ok catalogue) }
     ensures fault { IfErr result (λ fault. is_out_of_memory fault ≡ false → (line : List ℕ) → ShowsFirst first.now line → catalogue_at line ≡ Err fault) }
 {

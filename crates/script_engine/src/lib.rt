@@ -1,14 +1,26 @@
-//! Runs a script: the bytes of any reader in, the replies to its lines out to any writer.
+//! Runs a script: the bytes of any reader in, the replies to its lines out to any writer. Beside it
+//! stands what another program over the same lines needs: the lines of a reader, its catalogue, and
+//! the texts of replies and faults.
 #![tactic(auto)]
 
 mod answer;
 mod catalogue;
 mod fault;
+mod lines;
 mod run;
+mod start;
 mod summary;
 
+pub use catalogue::catalogue_in;
 pub use fault::EngineFault;
 pub use jsl_json::ReadFault;
+pub use lines::Lines;
 pub use run::{answer_script, run_script};
-pub use script_lines::{Counted, DeviceFault, MAX_LINE, MAX_READS, Sink, Source};
+pub use script_lines::{
+    Counted, DeviceFault, Line, MAX_LINE, MAX_READS, OutputBuffer, Sink, Source,
+};
+pub use script_text::{
+    StartFault, StartLine, bad_line_text, fault_text, metrics_value, reply_text,
+};
+pub use start::read_start;
 pub use summary::Summary;

@@ -1,4 +1,4 @@
-ghost use Rattle.std.specs.Prelude.{◌≡◌, ◌<◌, ◌≤◌, ◌+◌, ◌++◌, ◌⊎◌, List, ℕ, [], true, false, length, drop, IfOk, IfErr, IsSome, OnOk, OnErr};
+ghost use Rattle.std.specs.Prelude.{◌≡◌, ◌≢◌, ◌<◌, ◌≤◌, List, ℕ, [], true, length, IfOk, IsSome, Err, OnErr};
 
 use crate::buffer::new_buffer;
 use crate::device::{Sink, Source};
@@ -38,10 +38,20 @@ impl Model for InputBuffer {
     ghost invariant = { λ p. (length p.chunk.items ≡ CHUNK) × (p.end ≤ CHUNK) × (p.start ≤ p.end) × (p.ended ≡ true → p.start ≡ p.end) };
 }
 
+// What a line has become with what was at hand.
+#[derive(Drop)]
+enum Taken {
+    // Its line feed was there.
+    Whole(Line),
+    // It goes on.
+    Part(Line),
+}
+
 impl InputBuffer {
     ghost use Rattle.script_lines.specs.Unread.{nothing_read, skipped, weight};
-    ghost use Rattle.script_lines.specs.Device.{Tells, Takes};
-    ghost use Rattle.script_lines.specs.Lines.{HasEnded, LineRead, PassedOn, IsPrompt};
+    ghost use Rattle.script_lines.specs.Taken.{IsTaken, Filled};
+    ghost use Rattle.script_lines.specs.Device.{Takes};
+    ghost use Rattle.script_lines.specs.Lines.{LineRead, PassedOn, IsPrompt};
     ghost use Rattle.script_lines.specs.declared.line.TheConstants.{MAX_LINE};
 
     /// Nothing read yet, of a reader that may be called [`MAX_READS`] times.
@@ -83,22 +93,25 @@ impl InputBuffer {
         self.start += count;
     }
 
-    // Reads the next chunk, where all of the last one was used. Nothing may wait in the output, so that whoever
-    // answers has seen all that there is to answer to.
-    fn fill<S: Source>(&mut self, source: &mut S, output: &OutputBuffer) -> Result<(), LineFault>
-        requires nothing_waits { output.now ≡ [] }
-        ensures ok { OnOk result (Tells (S.tape source.old) (S.tape source.new) self.new.bytes) }
-        ensures ended { OnOk result (self.new.ended ≡ true → (self.new.bytes ≡ []) × HasEnded (S.tape source.old) (S.tape source.new)) }
-        ensures err { OnErr result (Tells (S.tape source.old) (S.tape source.new) []) }
-        ensures err_ended { OnErr result (self.new.ended ≡ self.old.ended) }
-        ensures later { (S.tape source.old).ends ≤ (S.tape source.new).ends }
-        ensures calls { (S.tape source.new).calls + self.new.reads_left ≡ (S.tape source.old).calls + self.old.reads_left }
-        ensures quiet { OnOk result ((S.tape source.new).failures ≡ (S.tape source.old).failures) }
-        ensures cause { IfErr result (λ e. (e ≡ LineFault.Read) × (((S.tape source.old).failures < (S.tape source.new).failures) ⊎ (self.new.reads_left ≡ 0))) }
-        ensures fewer { OnOk result (self.new.reads_left < self.old.reads_left) }
-        ensures small { OnOk result (length self.new.bytes ≤ CHUNK) }
+    // Takes what is at hand into the line, up to its first line feed.
+    fn take(&mut self, line: Line) -> Result<Taken, AllocError>
+        ensures ok { IfOk result (λ taken. IsTaken line self.old self.new taken) }
+        ensures err { OnErr result (self.new ≡ self.old) }
     {
-        prove!(output.is_empty());
+        let bytes = self.unread();
+        if let Some(at) = feed_at(bytes) {
+            let whole = line.add(&bytes[..at])?;
+            self.skip(at + 1);
+            Ok(Taken::Whole(whole))
+        } else {
+            Ok(Taken::Part(line.add(bytes)?))
+        }
+    }
+
+    // Reads the next chunk, where all of the last one was used.
+    fn fill<S: Source>(&mut self, source: &mut S) -> Result<(), LineFault>
+        ensures { Filled (S.tape source.old) (S.tape source.new) self.old self.new result }
+    {
         if self.reads_left == 0 {
             return Err(LineFault::Read);
         }
@@ -113,6 +126,48 @@ impl InputBuffer {
             }
             Err(_) => Err(LineFault::Read),
         }
+    }
+
+    // Reads the next chunk. Nothing may wait in the output, so that whoever answers has seen all
+    // that there is to answer to.
+    fn fill_in_turn<S: Source>(
+        &mut self,
+        source: &mut S,
+        output: &OutputBuffer,
+    ) -> Result<(), LineFault>
+        requires nothing_waits { output.now ≡ [] }
+        ensures { Filled (S.tape source.old) (S.tape source.new) self.old self.new result }
+    {
+        prove!(output.is_empty());
+        self.fill(source)
+    }
+
+    /// The next line, where nobody waits for a reply to the lines before. It is as of
+    /// [`InputBuffer::next_line`], and nothing is written.
+    ///
+    /// # Errors
+    ///
+    /// - `Read` where the reader failed in this call, or may not be called again.
+    /// - `OutOfMemory` where memory for the line is lacking.
+    pub fn line_alone<S: Source>(
+        &mut self,
+        alloc: Global,
+        source: &mut S,
+    ) -> Result<Option<Line>, LineFault>
+        ensures bounds { (MAX_LINE ≡ 16777216) × (MAX_READS ≡ 1099511627776) }
+        ensures line { LineRead (S.tape source.old) (S.tape source.new) self.old self.new result }
+        ensures nothing_written { result ≢ Err LineFault.Write }
+        ensures smaller { IfOk result (λ line. IsSome line → weight self.new < weight self.old) }
+    {
+        let mut line = Line::Whole(Vec::new(alloc));
+        while !self.has_ended() {
+            line = match self.take(line)? {
+                Taken::Whole(whole) => return Ok(Some(whole)),
+                Taken::Part(part) => part,
+            };
+            self.fill(source)?;
+        }
+        Ok(line.unless_empty())
     }
 
     /// The next line. It ends with a line feed, which is taken off; the last line may lack one. `None` says that the
@@ -143,15 +198,12 @@ impl InputBuffer {
     {
         let mut line = Line::Whole(Vec::new(alloc));
         while !self.has_ended() {
-            let bytes = self.unread();
-            if let Some(at) = feed_at(bytes) {
-                line = line.add(&bytes[..at])?;
-                self.skip(at + 1);
-                return Ok(Some(line));
-            }
-            line = line.add(bytes)?;
+            line = match self.take(line)? {
+                Taken::Whole(whole) => return Ok(Some(whole)),
+                Taken::Part(part) => part,
+            };
             output.flush(writer).map_err(|_| LineFault::Write)?;
-            self.fill(source, output)?;
+            self.fill_in_turn(source, output)?;
         }
         Ok(line.unless_empty())
     }

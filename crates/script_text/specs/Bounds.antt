@@ -1,7 +1,7 @@
 -- The bounds of the texts of a command: from a command whose texts may be of any length to one whose texts are within their bounds.
 use Rattle.std.specs.Prelude.{ℕ, List, length, nat_le, Option, Some, None, option_map, if◌then◌else◌}
 use Rattle.batch_history.specs.declared.call.Call.{Call}
-use Rattle.batch_history.specs.declared.call.Call.TheVariants.{Start, Restart, Stop, Abandon, Claim, Checkpoint, Finish, Lose}
+use Rattle.batch_history.specs.declared.call.Call.TheVariants.{Start, Restart, Stop, Abandon, Claim, Checkpoint, Finish, Lose, Purge}
 use Rattle.batch_history.specs.declared.query.Query.{Query}
 use Rattle.batch_history.specs.declared.query.Query.TheVariants.{JobNames, JobInstanceCount, JobInstances, RunningExecutions, Parameters, JobInstance, JobExecutions, JobExecution, StepExecutions, StatusCounts}
 use Rattle.json_members.specs.Chains.{◌>>=◌}
@@ -33,6 +33,7 @@ call_within (Finish work outcome exit step) = do
   short ← exit_within exit
   Some (Finish work outcome short step)
 call_within (Lose work) = Some (Lose work)
+call_within (Purge instance) = Some (Purge instance)
 
 -- the query, if the name of its job is within its bound
 abbrev pub query_within : Query → Option Query

@@ -4,7 +4,7 @@ use Rattle.serde_json.specs.Data.{Data}
 use Rattle.json_members.specs.Members.{has_only, text_at, number_at, optional_text}
 use Rattle.batch_ids.specs.Statuses.{outcome_named}
 use Rattle.batch_history.specs.declared.call.Call.{Call}
-use Rattle.batch_history.specs.declared.call.Call.TheVariants.{Start, Restart, Stop, Abandon, Claim, Checkpoint, Finish, Lose}
+use Rattle.batch_history.specs.declared.call.Call.TheVariants.{Start, Restart, Stop, Abandon, Claim, Checkpoint, Finish, Lose, Purge}
 use Rattle.json_members.specs.Chains.{◌>>=◌}
 use Rattle.script_text.specs.Parameters.{parameters_at}
 use Rattle.script_text.specs.Metrics.{metrics_at}
@@ -78,6 +78,13 @@ lose_of d =
     then option_map Lose (number_at (codes "work") d)
     else None
 
+-- purge: a job instance
+unfoldable pub purge_of : Data → Option Call
+purge_of d =
+    if has_only (codes "do" ∷ codes "by" ∷ codes "at" ∷ codes "instance" ∷ []) d
+    then option_map Purge (number_at (codes "instance") d)
+    else None
+
 -- the call of a line whose `do` is this word
 unfoldable pub call_named : List ℕ → Data → Option Call
 call_named word d =
@@ -88,4 +95,5 @@ call_named word d =
     else (if bytes_eq word (codes "claim") then claim_of d
     else (if bytes_eq word (codes "checkpoint") then checkpoint_of d
     else (if bytes_eq word (codes "finish") then finish_of d
-    else (if bytes_eq word (codes "lose") then lose_of d else None)))))))
+    else (if bytes_eq word (codes "lose") then lose_of d
+    else (if bytes_eq word (codes "purge") then purge_of d else None))))))))

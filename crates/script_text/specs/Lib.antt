@@ -9,3 +9,4 @@ pub mod Commands
 pub mod Replies
 pub mod Answers
 pub mod Faults
+pub mod Starts

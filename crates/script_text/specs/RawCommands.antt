@@ -5,7 +5,7 @@ use Rattle.serde_json.specs.View.{view}
 use Rattle.serde_json.specs.declared.value.Value.{Value}
 use Rattle.batch_ids.specs.Parameters.{Pair}
 use Rattle.batch_history.specs.declared.call.Call.{Call}
-use Rattle.batch_history.specs.declared.call.Call.TheVariants.{Start, Restart, Stop, Abandon, Claim, Checkpoint, Finish, Lose}
+use Rattle.batch_history.specs.declared.call.Call.TheVariants.{Start, Restart, Stop, Abandon, Claim, Checkpoint, Finish, Lose, Purge}
 use Rattle.batch_history.specs.declared.query.Query.{Query}
 use Rattle.batch_history.specs.declared.query.Query.TheVariants.{JobNames, JobInstanceCount, JobInstances, RunningExecutions, Parameters, JobInstance, JobExecutions, JobExecution, StepExecutions, StatusCounts}
 use Rattle.script_text.specs.Parameters.{given_pairs}
@@ -33,6 +33,7 @@ call_in raw_calls.Claim = Claim
 call_in (raw_calls.Checkpoint work mark step) = Checkpoint work mark.now step
 call_in (raw_calls.Finish work outcome exit step) = Finish work outcome (option_map (λ text. text.now) exit) step
 call_in (raw_calls.Lose work) = Lose work
+call_in (raw_calls.Purge instance) = Purge instance
 
 -- the query that a raw query spells
 abbrev pub query_in : RawQuery → Query

@@ -41,6 +41,9 @@ pub fn call_within(alloc: Global, call: &RawCall<'_>) -> Result<Option<Call>, Ou
         RawCall::Lose { work } => Ok(Some(Call::Lose {
             work: WorkId::new(*work),
         })),
+        RawCall::Purge { instance } => Ok(Some(Call::Purge {
+            instance: InstanceId::new(*instance),
+        })),
     }
 }
 
@@ -165,7 +168,7 @@ fn instances_within(
 }
 
 /// A text of at most `MAX` bytes, copied; `None` where it has more.
-fn text_within<const MAX: usize>(
+pub fn text_within<const MAX: usize>(
     alloc: Global,
     text: &str,
 ) -> Result<Option<Text<MAX>>, OutOfMemory>

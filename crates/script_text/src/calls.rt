@@ -2,7 +2,7 @@
 ghost use Rattle.std.specs.Prelude.{◌≡◌, option_map};
 ghost use Rattle.serde_json.specs.View.{view};
 ghost use Rattle.batch_ids.specs.Statuses.{outcome_named};
-ghost use Rattle.script_text.specs.Calls.{start_of, restart_of, stop_of, abandon_of, claim_of, checkpoint_of, finish_of, lose_of, call_named};
+ghost use Rattle.script_text.specs.Calls.{start_of, restart_of, stop_of, abandon_of, claim_of, checkpoint_of, finish_of, lose_of, purge_of, call_named};
 ghost use Rattle.script_text.specs.RawCommands.{call_in};
 
 use crate::metrics::metrics_at;
@@ -40,6 +40,9 @@ pub fn call_named<'v>(word: &str, value: &'v Value) -> Option<RawCall<'v>>
     }
     if word == "lose" {
         return lose_of(value);
+    }
+    if word == "purge" {
+        return purge_of(value);
     }
     None
 }
@@ -146,6 +149,17 @@ fn lose_of(value: &Value) -> Option<RawCall<'_>>
     }
     let work = number_at(value, "work")?;
     Some(RawCall::Lose { work })
+}
+
+#[tactic(auto, unfolding(crate::specs::Calls::purge_of))]
+fn purge_of(value: &Value) -> Option<RawCall<'_>>
+    ensures { option_map call_in result ≡ purge_of (view value.now) }
+{
+    if !has_only(value, &["do", "by", "at", "instance"]) {
+        return None;
+    }
+    let instance = number_at(value, "instance")?;
+    Some(RawCall::Purge { instance })
 }
 
 /// The outcome that a text is the name of.

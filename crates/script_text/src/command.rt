@@ -35,8 +35,8 @@ pub enum Command {
 
 /// The command that a line is, the line feed left out.
 ///
-/// Calls (Jakarta Batch 2.1, "JobOperator"; claim, checkpoint, finish and lose are this service's
-/// own) have the members `do`, `by` (the session's number, from 1), `at` (the moment, in
+/// Calls (Jakarta Batch 2.1, "JobOperator"; claim, checkpoint, finish, lose and purge are this
+/// service's own) have the members `do`, `by` (the session's number, from 1), `at` (the moment, in
 /// milliseconds) and:
 /// - `"do":"start"`: `job`, a text of at most 256 bytes, and `parameters`;
 /// - `"do":"restart"`: `execution`, a number, and `parameters`;
@@ -45,7 +45,8 @@ pub enum Command {
 /// - `"do":"checkpoint"`: `work`, a number, `data`, a text of at most 65,536 bytes, and `metrics`;
 /// - `"do":"finish"`: `work`, `outcome`, which is `COMPLETED`, `FAILED` or `STOPPED`, `exit`, a text
 ///   of at most 256 bytes, which may be left out, and `metrics`;
-/// - `"do":"lose"`: `work`.
+/// - `"do":"lose"`: `work`;
+/// - `"do":"purge"`: `instance`, a number.
 ///
 /// `parameters`, an object of at most 64 texts, with keys of at most 256 bytes and values of at most
 /// 4,096, and `metrics`, an object of numbers up to 4,294,967,295 by the metrics' names, may be left

@@ -52,6 +52,9 @@ pub enum RawCall<'a> {
     Lose {
         work: u64,
     },
+    Purge {
+        instance: u64,
+    },
 }
 
 /// A query as its line spells it.

@@ -30,8 +30,8 @@ use Rattle.batch_history.proofs.Knowing.{known_elements}
 use Rattle.batch_history.specs.Works.{is_work, busy_work, work_key}
 use Rattle.job_walk.specs.declared.work_key.WorkKey.{WorkKey}
 use Rattle.restart_rules.specs.Restarting.{rows_over}
-use Rattle.seq_repository.specs.Kept.{Kept, AreLast, rows_in}
-use Rattle.seq_repository.specs.declared.last_numbers.LastNumbers.{LastNumbers}
+use Rattle.seq_repository.specs.Kept.{Kept, rows_in}
+use Rattle.batch_history.specs.declared.rows.LastNumbers.{LastNumbers}
 use Rattle.batch_history.proofs.Finding.{found-passes}
 use Rattle.records.specs.Maps.{Maps, mark_at, is_over, MayReplaceExecution, MayReplaceWork}
 use Rattle.seq_repository.specs.declared.rows.Change.{Change}
@@ -133,11 +133,15 @@ closed_rows kept new who at x is =
 -- a claim that hands out a work item
 work_rows : (r : Rows) (who at : ℕ) (item : WorkItem) (new : Option ExecutionRow)
     → new ≡ option_map (row_after TakeUp r.catalogue (r.works ++ busy_work who at item ∷ []) at) (find (is_execution item.execution) r.executions)
-    → record r { count = r.count + 1; executions = put_row item.execution new r.executions; works = r.works ++ busy_work who at item ∷ [] }
-    ≡ rows_after r record { who = who; call = Claim; at = at; reply = Work item }
+    → record r {
+      count = r.count + 1;
+      last = record r.last { work = r.last.work + 1 };
+      executions = put_row item.execution new r.executions;
+      works = r.works ++ busy_work who at item ∷ [];
+    } ≡ rows_after r record { who = who; call = Claim; at = at; reply = Work item }
 work_rows r who at item new is =
     let works : List WorkRow = r.works ++ busy_work who at item ∷ [] in
-    ap (λ (xs : List ExecutionRow). record r { count = r.count + 1; executions = xs; works = works })
+    ap (λ (xs : List ExecutionRow). record r { count = r.count + 1; last = record r.last { work = r.last.work + 1 }; executions = xs; works = works })
     (put_found item.execution (row_after TakeUp r.catalogue works at) r.executions new is ∙ changed-work r.catalogue works at item r.executions)
 
 -- the step of a work item in its job instance, by the new row of its job execution
@@ -287,84 +291,86 @@ pub maps-changed : (old m1 m2 m3 : Maps) (cs : List CheckpointRow) (f : List Wor
 maps-changed old m1 m2 m3 cs f h e1 e2 e3 =
     e3 ∙ ap (λ (m : Maps). record m { executions = h m.executions }) (e2 ∙ ap (λ (m : Maps). record m { works = f m.works }) e1)
 
-pub checkpoint-entered : (catalogue : List JobTree) (count : ℕ) (old m1 m2 m3 : Maps) (who at w : ℕ) (mark : List ℕ) (step : MetricStep) (reply : Reply)
+pub checkpoint-entered : (catalogue : List JobTree) (count : ℕ) (last : LastNumbers) (old m1 m2 m3 : Maps) (who at w : ℕ) (mark : List ℕ) (step : MetricStep) (reply : Reply)
     (row kept : WorkRow) (new : Option ExecutionRow) (element : WorkKey) (marked : List ℕ)
     → find (is_work w) old.works ≡ Some row → kept ≡ reported step row → element ≡ work_key row → marked ≡ mark
     → new ≡ option_map (row_after Report catalogue (change_first (is_work w) (reported step) old.works) at) (find (is_execution row.execution) old.executions)
     → SetsMark (place_at new element) (Some marked) old m1
     → m2 ≡ record m1 { works = change_first (is_work w) (λ gone. kept) m1.works }
     → m3 ≡ record m2 { executions = put_row row.execution new m2.executions }
-    → rows_over catalogue (count + 1) m3 ≡ rows_after (rows_over catalogue count old) record { who = who; call = Checkpoint w mark step; at = at; reply = reply }
-checkpoint-entered catalogue count old m1 m2 m3 who at w mark step reply row kept new element marked found is id same made e1 e2 e3 =
+    → rows_over catalogue (count + 1) last m3 ≡ rows_after (rows_over catalogue count last old) record { who = who; call = Checkpoint w mark step; at = at; reply = reply }
+checkpoint-entered catalogue count last old m1 m2 m3 who at w mark step reply row kept new element marked found is id same made e1 e2 e3 =
     let marks : (p : InstanceStep) → mark_at m1.checkpoints p ≡ cond (is_same_step p (place_at new (work_key row))) (Some mark) (mark_at old.checkpoints p) =
     λ p. mark-set (place_at new element) (Some marked) old m1 e1 p
     ∙ (ap (λ (i : WorkKey). cond (is_same_step p (place_at new i)) (Some marked) (mark_at old.checkpoints p)) id
     ∙ ap (λ (m : List ℕ). cond (is_same_step p (place_at new (work_key row))) (Some m) (mark_at old.checkpoints p)) same) in
-    ap (rows_over catalogue (count + 1))
+    ap (rows_over catalogue (count + 1) last)
     (maps-changed old m1 m2 m3 m1.checkpoints (change_first (is_work w) (λ gone. kept)) (put_row row.execution new) (set-alone (place_at new element) (Some marked) old m1 e1) e2 e3)
-    ∙ (ap (λ (k : WorkRow). rows_over catalogue (count + 1) record { instances = old.instances; executions = put_row row.execution new old.executions; works = change_first (is_work w) (λ gone. k) old.works; checkpoints = m1.checkpoints }) is
-    ∙ checkpoint_rows (rows_over catalogue count old) who at w mark step reply row new (mark_at m1.checkpoints) found made marks)
+    ∙ (ap (λ (k : WorkRow). rows_over catalogue (count + 1) last record { instances = old.instances; executions = put_row row.execution new old.executions; works = change_first (is_work w) (λ gone. k) old.works; checkpoints = m1.checkpoints }) is
+    ∙ checkpoint_rows (rows_over catalogue count last old) who at w mark step reply row new (mark_at m1.checkpoints) found made marks)
 
-pub finish-entered : (catalogue : List JobTree) (count : ℕ) (old m1 m2 m3 : Maps) (who at w : ℕ) (outcome : WorkOutcome) (exit : Option (List ℕ)) (step : MetricStep) (reply : Reply)
+pub finish-entered : (catalogue : List JobTree) (count : ℕ) (last : LastNumbers) (old m1 m2 m3 : Maps) (who at w : ℕ) (outcome : WorkOutcome) (exit : Option (List ℕ)) (step : MetricStep) (reply : Reply)
     (row kept : WorkRow) (new : Option ExecutionRow) (element : WorkKey)
     → find (is_work w) old.works ≡ Some row → kept ≡ over outcome exit step at (count + 1) row → element ≡ work_key row
     → new ≡ option_map (row_after Report catalogue (change_first (is_work w) (over outcome exit step at (count + 1)) old.works) at) (find (is_execution row.execution) old.executions)
     → LeavesMark outcome (place_at new element) old m1
     → m2 ≡ record m1 { works = change_first (is_work w) (λ gone. kept) m1.works }
     → m3 ≡ record m2 { executions = put_row row.execution new m2.executions }
-    → rows_over catalogue (count + 1) m3 ≡ rows_after (rows_over catalogue count old) record { who = who; call = Finish w outcome exit step; at = at; reply = reply }
-finish-entered catalogue count old m1 m2 m3 who at w outcome exit step reply row kept new element found is id made e1 e2 e3 =
+    → rows_over catalogue (count + 1) last m3 ≡ rows_after (rows_over catalogue count last old) record { who = who; call = Finish w outcome exit step; at = at; reply = reply }
+finish-entered catalogue count last old m1 m2 m3 who at w outcome exit step reply row kept new element found is id made e1 e2 e3 =
     let marks : (p : InstanceStep) → mark_at m1.checkpoints p ≡ cond (is_same_step p (place_at new (work_key row))) (checkpoint_left outcome (mark_at old.checkpoints p)) (mark_at old.checkpoints p) =
     λ p. mark-left outcome (place_at new element) old m1 e1 p
     ∙ ap (λ (i : WorkKey). cond (is_same_step p (place_at new i)) (checkpoint_left outcome (mark_at old.checkpoints p)) (mark_at old.checkpoints p)) id in
-    ap (rows_over catalogue (count + 1))
+    ap (rows_over catalogue (count + 1) last)
     (maps-changed old m1 m2 m3 m1.checkpoints (change_first (is_work w) (λ gone. kept)) (put_row row.execution new) (left-alone outcome (place_at new element) old m1 e1) e2 e3)
-    ∙ (ap (λ (k : WorkRow). rows_over catalogue (count + 1) record { instances = old.instances; executions = put_row row.execution new old.executions; works = change_first (is_work w) (λ gone. k) old.works; checkpoints = m1.checkpoints }) is
-    ∙ finish_rows (rows_over catalogue count old) who at w outcome exit step reply row new (mark_at m1.checkpoints) found made marks)
+    ∙ (ap (λ (k : WorkRow). rows_over catalogue (count + 1) last record { instances = old.instances; executions = put_row row.execution new old.executions; works = change_first (is_work w) (λ gone. k) old.works; checkpoints = m1.checkpoints }) is
+    ∙ finish_rows (rows_over catalogue count last old) who at w outcome exit step reply row new (mark_at m1.checkpoints) found made marks)
 
-pub change-entered : (catalogue : List JobTree) (count : ℕ) (old m : Maps) (at x : ℕ) (change : Change) (new : Option ExecutionRow)
+pub change-entered : (catalogue : List JobTree) (count : ℕ) (last : LastNumbers) (old m : Maps) (at x : ℕ) (change : Change) (new : Option ExecutionRow)
     → new ≡ option_map (row_after change catalogue old.works at) (find (is_execution x) old.executions)
     → m ≡ record old { executions = put_row x new old.executions }
-    → rows_over catalogue (count + 1) m
-    ≡ record (rows_over catalogue count old) { count = count + 1; executions = change_first (is_execution x) (row_after change catalogue old.works at) old.executions }
-change-entered catalogue count old m at x change new made e =
-    ap (rows_over catalogue (count + 1)) e
-    ∙ ap (λ (xs : List ExecutionRow). rows_over catalogue (count + 1) (record old { executions = xs }))
+    → rows_over catalogue (count + 1) last m
+    ≡ record (rows_over catalogue count last old) { count = count + 1; executions = change_first (is_execution x) (row_after change catalogue old.works at) old.executions }
+change-entered catalogue count last old m at x change new made e =
+    ap (rows_over catalogue (count + 1) last) e
+    ∙ ap (λ (xs : List ExecutionRow). rows_over catalogue (count + 1) last (record old { executions = xs }))
     (put_found x (row_after change catalogue old.works at) old.executions new made)
 
-pub work-entered : (catalogue : List JobTree) (count : ℕ) (old m1 m2 : Maps) (who at : ℕ) (item : WorkItem) (kept : WorkRow) (new : Option ExecutionRow)
+pub work-entered : (catalogue : List JobTree) (count : ℕ) (last : LastNumbers) (old m1 m2 : Maps) (who at : ℕ) (item : WorkItem) (kept : WorkRow) (new : Option ExecutionRow)
     → kept ≡ busy_work who at item
     → new ≡ option_map (row_after TakeUp catalogue (old.works ++ busy_work who at item ∷ []) at) (find (is_execution item.execution) old.executions)
     → m1 ≡ record old { works = old.works ++ kept ∷ [] }
     → m2 ≡ record m1 { executions = put_row item.execution new m1.executions }
-    → rows_over catalogue (count + 1) m2 ≡ rows_after (rows_over catalogue count old) record { who = who; call = Claim; at = at; reply = Work item }
-work-entered catalogue count old m1 m2 who at item kept new is made e1 e2 =
-    ap (rows_over catalogue (count + 1)) (e2 ∙ ap (λ (m : Maps). record m { executions = put_row item.execution new m.executions }) e1)
-    ∙ (ap (λ (k : WorkRow). rows_over catalogue (count + 1) (record old { executions = put_row item.execution new old.executions; works = old.works ++ k ∷ [] })) is
-    ∙ work_rows (rows_over catalogue count old) who at item new made)
+    → rows_over catalogue (count + 1) (record last { work = last.work + 1 }) m2
+    ≡ rows_after (rows_over catalogue count last old) record { who = who; call = Claim; at = at; reply = Work item }
+work-entered catalogue count last old m1 m2 who at item kept new is made e1 e2 =
+    let next : LastNumbers = record last { work = last.work + 1 } in
+    ap (rows_over catalogue (count + 1) next) (e2 ∙ ap (λ (m : Maps). record m { executions = put_row item.execution new m.executions }) e1)
+    ∙ (ap (λ (k : WorkRow). rows_over catalogue (count + 1) next (record old { executions = put_row item.execution new old.executions; works = old.works ++ k ∷ [] })) is
+    ∙ work_rows (rows_over catalogue count last old) who at item new made)
 
 pub start-entered : (catalogue : List JobTree) (count : ℕ) (last : LastNumbers) (old m : Maps) (who at : ℕ) (job : List ℕ) (parameters : List Pair) (reply : Reply)
-    (made : JobInstance) (row : ExecutionRow) → AreLast last old
+    (made : JobInstance) (row : ExecutionRow)
     → made ≡ record { instance = last.instance + 1; job = job } → row ≡ fresh_row (last.execution + 1) (last.instance + 1) at job parameters (first_plan (job_named catalogue job))
     → m ≡ record old { instances = old.instances ++ made ∷ []; executions = old.executions ++ row ∷ [] }
-    → rows_over catalogue (count + 1) m ≡ rows_after (rows_over catalogue count old) record { who = who; call = Start job parameters; at = at; reply = reply }
-start-entered catalogue count last old m who at job parameters reply made row lasts begun is e =
-    let rows : JobInstance → ExecutionRow → Rows = λ i r. rows_over catalogue (count + 1) (record old { instances = old.instances ++ i ∷ []; executions = old.executions ++ r ∷ [] }) in
-    let numbered : ℕ → ℕ → Rows = λ i x. rows record { instance = i + 1; job = job } (fresh_row (x + 1) (i + 1) at job parameters (first_plan (job_named catalogue job))) in
-    ap (rows_over catalogue (count + 1)) e
+    → rows_over catalogue (count + 1) (record last { instance = last.instance + 1; execution = last.execution + 1 }) m
+    ≡ rows_after (rows_over catalogue count last old) record { who = who; call = Start job parameters; at = at; reply = reply }
+start-entered catalogue count last old m who at job parameters reply made row begun is e =
+    let next : LastNumbers = record last { instance = last.instance + 1; execution = last.execution + 1 } in
+    let rows : JobInstance → ExecutionRow → Rows = λ i r. rows_over catalogue (count + 1) next (record old { instances = old.instances ++ i ∷ []; executions = old.executions ++ r ∷ [] }) in
+    ap (rows_over catalogue (count + 1) next) e
     ∙ (ap (λ (i : JobInstance). rows i row) begun
-    ∙ (ap (λ (r : ExecutionRow). rows record { instance = last.instance + 1; job = job } r) is
-    ∙ (ap (λ (i : ℕ). numbered i last.execution) lasts.instance
-    ∙ ap (λ (x : ℕ). numbered (length old.instances) x) lasts.execution)))
+    ∙ ap (λ (r : ExecutionRow). rows record { instance = last.instance + 1; job = job } r) is)
 
 pub restart-entered : (catalogue : List JobTree) (count : ℕ) (last : LastNumbers) (old m : Maps) (who at y : ℕ) (parameters : List Pair) (reply : Reply)
-    (earlier row : ExecutionRow) → AreLast last old → find (is_execution y) old.executions ≡ Some earlier
-    → row ≡ fresh_row (last.execution + 1) earlier.instance at earlier.job parameters (restart_plan (rows_over catalogue count old) earlier)
+    (earlier row : ExecutionRow) → find (is_execution y) old.executions ≡ Some earlier
+    → row ≡ fresh_row (last.execution + 1) earlier.instance at earlier.job parameters (restart_plan (rows_over catalogue count last old) earlier)
     → m ≡ record old { executions = old.executions ++ row ∷ [] }
-    → rows_over catalogue (count + 1) m ≡ rows_after (rows_over catalogue count old) record { who = who; call = Restart y parameters; at = at; reply = reply }
-restart-entered catalogue count last old m who at y parameters reply earlier row lasts found is e =
-    let rows : ExecutionRow → Rows = λ r. rows_over catalogue (count + 1) (record old { executions = old.executions ++ r ∷ [] }) in
-    ap (rows_over catalogue (count + 1)) e
+    → rows_over catalogue (count + 1) (record last { execution = last.execution + 1 }) m
+    ≡ rows_after (rows_over catalogue count last old) record { who = who; call = Restart y parameters; at = at; reply = reply }
+restart-entered catalogue count last old m who at y parameters reply earlier row found is e =
+    let next : LastNumbers = record last { execution = last.execution + 1 } in
+    let rows : ExecutionRow → Rows = λ r. rows_over catalogue (count + 1) next (record old { executions = old.executions ++ r ∷ [] }) in
+    ap (rows_over catalogue (count + 1) next) e
     ∙ (ap rows is
-    ∙ (ap (λ (x : ℕ). rows (fresh_row (x + 1) earlier.instance at earlier.job parameters (restart_plan (rows_over catalogue count old) earlier))) lasts.execution
-    ∙ ap (λ (o : Option ExecutionRow). rows (again_row (rows_over catalogue count old) (length old.executions + 1) at parameters o)) (sym found)))
+    ∙ ap (λ (o : Option ExecutionRow). rows (again_row (rows_over catalogue count last old) (last.execution + 1) at parameters o)) (sym found))

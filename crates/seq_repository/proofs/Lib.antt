@@ -1,9 +1,11 @@
+pub mod Below
 pub mod Entries
 pub mod Knowing
 pub mod Lists
 pub mod Metering
 pub mod Pages
 pub mod Placing
+pub mod Purging
 pub mod Readers
 pub mod Replying
 pub mod Sound

@@ -1,17 +1,15 @@
 -- What is read by an index of the rows is what is read from all of them.
-use Rattle.std.proofs.Common.{◌≡◌, ℕ, ◌+◌, ◌==◌, ◌&&◌, ◌||◌, Bool, true, false, cond, None, Some, IfSome, List, [], ◌∷◌, ◌++◌, map, find, filter, reverse, drop, refl, sym, ◌∙◌, ap}
+use Rattle.std.proofs.Common.{◌≡◌, ℕ, ◌==◌, ◌&&◌, ◌||◌, Bool, true, false, cond, None, Some, IfSome, List, [], ◌∷◌, ◌++◌, map, find, filter, reverse, refl, sym, ◌∙◌, ap}
 use Rattle.std.specs.List.{list_any}
 use Rattle.std.proofs.lemmas.Bool.{eq-eqb}
 use Rattle.std.proofs.lemmas.List.{append_assoc, append-nil, reverse-append}
 use Rattle.batch_history.specs.Answers.{is_running_of, record_of, records_of, running_executions}
 use Rattle.batch_history.specs.Lists.{change_first}
-use Rattle.batch_history.specs.Replies.{is_execution, is_running_in}
+use Rattle.batch_history.specs.Replies.{is_running_in}
 use Rattle.batch_history.specs.declared.rows.ExecutionRow.{ExecutionRow}
 use Rattle.batch_history.specs.declared.rows.WorkRow.{WorkRow}
 use Rattle.batch_history.proofs.Knowing.{known_elements}
 use Rattle.records.specs.Left.{executions_of, works_of}
-use Rattle.records.specs.Maps.{IsNumberedFrom}
-use Rattle.records.proofs.Numbered.{execution_next, no_execution_next}
 use Rattle.restart_rules.proofs.Reading.{known_by, known_read}
 use Rattle.seq_repository.specs.Searches.{is_open}
 
@@ -65,15 +63,6 @@ map-turned f (x ∷ xs) =
 -- the records of a job instance's job executions, the newest first
 pub records_turned : (i : ℕ) (rows : List ExecutionRow) → reverse (map record_of (executions_of i rows)) ≡ records_of i rows
 records_turned i rows = map-turned record_of (executions_of i rows)
-
--- the job executions from a place on begin with the one of the next number, if there is one
-pub next_some : (rows : List ExecutionRow) (place x : ℕ) (row : ExecutionRow) → IsNumberedFrom 1 (map (λ (row : ExecutionRow). row.execution) rows) → x ≡ place + 1
-    → Some row ≡ find (is_execution x) rows → drop place rows ≡ row ∷ drop (place + 1) rows
-next_some rows place x row keyed at is = execution_next rows place row keyed (sym (is ∙ ap (λ (n : ℕ). find (is_execution n) rows) at))
-
-pub next_none : (rows : List ExecutionRow) (place x : ℕ) → IsNumberedFrom 1 (map (λ (row : ExecutionRow). row.execution) rows) → x ≡ place + 1
-    → None ≡ find (is_execution x) rows → drop place rows ≡ drop (place + 1) rows
-next_none rows place x keyed at is = no_execution_next rows place keyed (sym (is ∙ ap (λ (n : ℕ). find (is_execution n) rows) at))
 
 -- One more is read
 

@@ -1,5 +1,5 @@
 -- What an accepted reply says.
-use Rattle.std.proofs.Common.{◌≡◌, ℕ, ◌+◌, ◌<◌, true, false, cond, Option, None, Some, Result, Ok, Err, IfSome, is_some, List, [], find, length, refl, sym, ◌∙◌, ap}
+use Rattle.std.proofs.Common.{◌≡◌, ℕ, ◌+◌, ◌<◌, true, false, cond, Option, None, Some, Result, Ok, Err, IfSome, is_some, List, [], find, refl, sym, ◌∙◌, ap}
 use Rattle.batch_ids.specs.Parameters.{Pair}
 use Rattle.batch_ids.specs.declared.refusal.Refusal.{Refusal}
 use Rattle.batch_ids.specs.Refusals.{is_out_of_memory}
@@ -27,12 +27,12 @@ use Rattle.job_walk.specs.declared.facts.Value.{Value}
 use Rattle.job_walk.specs.declared.work_key.WorkKey.{WorkKey}
 use Rattle.batch_history.proofs.Legal.{entered-is, reply_room}
 
-item-next : (r : Rows) (row : ExecutionRow) (key : Option WorkKey) (item : WorkItem) → claim_reply r row key ≡ Work item → item.work ≡ length r.works + 1
+item-next : (r : Rows) (row : ExecutionRow) (key : Option WorkKey) (item : WorkItem) → claim_reply r row key ≡ Work item → item.work ≡ r.last.work + 1
 item-next r row None item e = cc
 item-next r row (Some key) item e = cc
 
 -- a claim hands out the next work item
-pub claimed_next : (limit : ℕ) (r : Rows) (found : Option ExecutionRow) (item : WorkItem) → reply_to_claim limit r found ≡ Ok (Work item) → item.work ≡ length r.works + 1
+pub claimed_next : (limit : ℕ) (r : Rows) (found : Option ExecutionRow) (item : WorkItem) → reply_to_claim limit r found ≡ Ok (Work item) → item.work ≡ r.last.work + 1
 claimed_next limit r None item e = cc
 claimed_next limit r (Some row) item e = item-next r row (first_ready (walk_in_rows r row)) item (sym (entered-is limit r.count _ (Work item) e))
 
@@ -99,7 +99,7 @@ unless-planned None plan given reply e = refl
 unless-planned (Some refusal) plan given reply e = cc
 
 planned-reply : (limit : ℕ) (r : Rows) (found : Option ExecutionRow) (plan : Plan) → plan_due_for r found ≡ Ok plan
-    → reply_to_restart limit r found ≡ accepted limit r.count (IsExecution (length r.executions + 1))
+    → reply_to_restart limit r found ≡ accepted limit r.count (IsExecution (r.last.execution + 1))
 planned-reply limit r None plan e = cc
 planned-reply limit r (Some row) plan e = unless-planned (restart_refusal r row) (restart_plan r row) plan _ e
 
@@ -134,14 +134,14 @@ restarted_there limit r who y parameters given e =
 pub started_there : (limit : ℕ) (r : Rows) (who : ℕ) (job : List ℕ) (parameters : List Pair) (given : Reply) → reply_by limit r who (Start job parameters) ≡ Ok given
     → is_some (job_named r.catalogue job) ≡ true
 started_there limit r who job parameters given e =
-    (elim (is_some (job_named r.catalogue job)) as (λ b. cond b (accepted limit r.count (IsExecution (length r.executions + 1))) (Err JobStartException) ≡ Ok given → b ≡ true) [
+    (elim (is_some (job_named r.catalogue job)) as (λ b. cond b (accepted limit r.count (IsExecution (r.last.execution + 1))) (Err JobStartException) ≡ Ok given → b ≡ true) [
       | true ↦ λ s. refl
       | false ↦ λ s. cc
     ]) e
 
 -- the reply to a restart, by what may restart
 pub restart_due : (limit : ℕ) (r : Rows) (who x : ℕ) (parameters : List Pair) (plan : Plan) (result : Result Reply Refusal)
-    → plan_due r x ≡ Ok plan → result ≡ accepted limit r.count (IsExecution (length r.executions + 1)) → IsDue result (reply_by limit r who (Restart x parameters))
+    → plan_due r x ≡ Ok plan → result ≡ accepted limit r.count (IsExecution (r.last.execution + 1)) → IsDue result (reply_by limit r who (Restart x parameters))
 restart_due limit r who x parameters plan result due is =
     is-due result _ (is ∙ sym (planned-reply limit r (find (is_execution x) r.executions) plan due))
 

@@ -1,15 +1,15 @@
 -- What a repository keeps, and the histories that it stands for.
-use Rattle.std.specs.Prelude.{ℕ, ◌≡◌, ◌≤◌, List, length}
+use Rattle.std.specs.Prelude.{ℕ, ◌≡◌, ◌≤◌, ◌+◌, List}
 use Rattle.batch_ids.specs.Metrics.{most_after}
 use Rattle.jsl_model.specs.Jobs.{JobTree}
 use Rattle.batch_history.specs.Legal.{IsLegal, grown}
 use Rattle.batch_history.specs.Rows.{History, Rows, rows}
 use Rattle.batch_history.specs.declared.call.Entry.{Entry}
-use Rattle.records.specs.Maps.{Maps}
+use Rattle.batch_history.specs.declared.rows.LastNumbers.{LastNumbers}
+use Rattle.records.specs.Maps.{Maps, AreBelow, instance_numbers, execution_numbers, work_numbers}
 use Rattle.restart_rules.specs.Placed.{ArePlaced}
 use Rattle.restart_rules.specs.Restarting.{rows_over}
 use Rattle.seq_repository.specs.Metered.{AreWithin}
-use Rattle.seq_repository.specs.declared.last_numbers.LastNumbers.{LastNumbers}
 
 -- what a repository keeps: a catalogue, how many operations were accepted, the last number that was given to a job
 -- instance, a job execution and a work item, and the rows
@@ -21,13 +21,13 @@ pub record Kept : Type 0 where
 
 -- what it says
 abbrev pub rows_in : Kept → Rows
-rows_in kept = rows_over kept.catalogue kept.count kept.records
+rows_in kept = rows_over kept.catalogue kept.count kept.last kept.records
 
--- each row is kept, so that the last number given is how many rows there are
+-- no row has a number above the last that was given
 pub record AreLast (last : LastNumbers) (maps : Maps) : Type 0 where
-  pub instance : last.instance ≡ length maps.instances
-  pub execution : last.execution ≡ length maps.executions
-  pub work : last.work ≡ length maps.works
+  pub instance : AreBelow (last.instance + 1) (instance_numbers maps.instances)
+  pub execution : AreBelow (last.execution + 1) (execution_numbers maps.executions)
+  pub work : AreBelow (last.work + 1) (work_numbers maps.works)
 
 -- what a repository of at most so many operations keeps to: an operation gives one number of each kind at most, the
 -- counts of work items fit, and each walk begins at an element of the own list of its job

@@ -18,16 +18,14 @@ use jsl_model::Catalogue;
 use records::Records;
 use std::alloc::Global;
 
-/// What a query is answered by these rows, `last` being the last number of a job execution.
+/// What a query is answered by these rows.
 pub(crate) fn answer(
     alloc: Global,
     catalogue: &Catalogue,
     rows: &Records,
-    last: u64,
     query: &Query,
 ) -> Result<Answer, Refusal>
-    requires last { last ≡ length rows.now.executions }
-    requires metrics { AreWithin (most_after 1000000) rows.now.works }
+    requires { AreWithin (most_after 1000000) rows.now.works }
     ensures { (r : Rows) → r.catalogue ≡ catalogue.now → r.instances ≡ rows.now.instances → r.executions ≡ rows.now.executions
         → r.works ≡ rows.now.works
         → IsDue result (answer_by r query.now) }
@@ -36,9 +34,9 @@ pub(crate) fn answer(
         Query::JobNames => Ok(Answer::JobNames(names(alloc, rows)?)),
         Query::JobInstanceCount { job } => instance_count(rows, job),
         Query::JobInstances { job, start, count } => instances(alloc, rows, job, *start, *count),
-        Query::RunningExecutions { job } => running(alloc, rows, last, job),
+        Query::RunningExecutions { job } => running(alloc, rows, job),
         Query::JobExecutions { instance } => executions(alloc, rows, *instance),
-        Query::StatusCounts => Ok(Answer::StatusCounts(counts(rows, last))),
+        Query::StatusCounts => Ok(Answer::StatusCounts(counts(rows))),
         Query::Parameters { execution } => {
             let row = known(rows, *execution)?;
             Ok(Answer::Parameters(row.parameters.try_clone()?))
@@ -169,36 +167,26 @@ fn newest(
     Ok(found)
 }
 
-fn running(alloc: Global, rows: &Records, last: u64, job: &T256) -> Result<Answer, Refusal>
-    requires { last ≡ length rows.now.executions }
+fn running(alloc: Global, rows: &Records, job: &T256) -> Result<Answer, Refusal>
     ensures { IsDue result (if_job_known (instances_of_job job.now rows.now.instances)
         (Answer.RunningExecutions (running_executions job.now rows.now.executions))) }
 {
     if !is_known(rows, job) {
         return Err(Refusal::NoSuchJobException);
     }
-    let running = unfinished(alloc, rows, last, job)?;
+    let running = unfinished(alloc, rows, job)?;
     Ok(Answer::RunningExecutions(Listed::from_vec(running)))
 }
 
-/// The numbers of the unfinished job executions of a job, rising, `last` being the last number of
-/// one.
-fn unfinished(
-    alloc: Global,
-    rows: &Records,
-    last: u64,
-    job: &T256,
-) -> Result<Vec<ExecutionId>, OutOfMemory>
-    requires { last ≡ length rows.now.executions }
+/// The numbers of the unfinished job executions of a job, rising.
+fn unfinished(alloc: Global, rows: &Records, job: &T256) -> Result<Vec<ExecutionId>, OutOfMemory>
     ensures { IfOk result (λ found. found.items
         ≡ running_executions job.now rows.now.executions) }
 {
     let mut found = Vec::new(alloc);
-    for place in 0..last {
-        if let Some(row) = rows.execution(ExecutionId::new(place + 1)) {
-            if is_running_of(job, row) {
-                found.push(row.execution)?;
-            }
+    for row in rows.executions() {
+        if is_running_of(job, row) {
+            found.push(row.execution)?;
         }
     }
     Ok(found)
@@ -239,17 +227,14 @@ fn records_of(
     Ok(found)
 }
 
-/// How many job executions have each status, `last` being the last number of one.
+/// How many job executions have each status.
 #[tactic(auto, using(crate::proofs::Tallies::both_counted, crate::proofs::Tallies::none_before, crate::proofs::Tallies::none_after, crate::proofs::Tallies::total_counted))]
-pub fn counts(rows: &Records, last: u64) -> CountsByStatus
-    requires { last ≡ length rows.now.executions }
+pub fn counts(rows: &Records) -> CountsByStatus
     ensures { result ≡ counts_of rows.now.executions }
 {
     let mut counts = CountsByStatus::zero();
-    for place in 0..last {
-        if let Some(row) = rows.execution(ExecutionId::new(place + 1)) {
-            counts.add(row.status());
-        }
+    for row in rows.executions() {
+        counts.add(row.status());
     }
     counts
 }

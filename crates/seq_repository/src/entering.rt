@@ -1,4 +1,4 @@
-ghost use Rattle.std.specs.Prelude.{◌≡◌, ◌<◌, ◌+◌, [], true, false, find, length, is_some, IfOk, IfSome, OnOk, OnErr, List, Ok, if◌then◌else◌};
+ghost use Rattle.std.specs.Prelude.{◌≡◌, ◌<◌, ◌+◌, [], true, false, find, is_some, IfOk, IfSome, OnOk, OnErr, List, Ok, if◌then◌else◌};
 ghost use Rattle.std.specs.Option.{option_map};
 ghost use Rattle.batch_history.specs.declared.rows.WorkRow.{WorkRow as Work};
 ghost use Rattle.batch_history.specs.Due.{IsDue};
@@ -9,7 +9,7 @@ ghost use Rattle.batch_history.specs.Walks.{job_named};
 ghost use Rattle.batch_history.specs.Works.{is_work};
 ghost use Rattle.batch_history.proofs.Steps.{rows_after};
 ghost use Rattle.seq_repository.specs.Kept.{rows_in};
-ghost use Rattle.records.specs.Maps.{MayReplaceExecution, is_over};
+ghost use Rattle.records.specs.Maps.{MayReplaceExecution, is_instance, is_over};
 ghost use Rattle.seq_repository.specs.Changes.{put_row, place_at, row_after, SetsMark, LeavesMark};
 
 use crate::repository::Repository;
@@ -187,7 +187,7 @@ impl<const LIMIT: u64> Repository<LIMIT> {
 
     fn enter_work(&mut self, who: u64, at: Moment, item: &WorkItem) -> Result<(), OutOfMemory>
         requires room { self.old.count < LIMIT }
-        requires number { item.now.work ≡ length self.old.records.works + 1 }
+        requires number { item.now.work ≡ self.old.last.work + 1 }
         ensures rows { OnOk result (rows_in self.new ≡ rows_after (rows_in self.old) record {
           who = who;
           call = Call.Claim;
@@ -293,6 +293,21 @@ impl<const LIMIT: u64> Repository<LIMIT> {
         self.enter_finish(at, w, WorkOutcome::Failed, &None, &MetricStep::zero())
     }
 
+    /// Enters that a job instance is purged. It takes no memory.
+    fn enter_purge(&mut self, i: InstanceId)
+        requires room { self.old.count < LIMIT }
+        requires there { is_some (find (is_instance i) self.old.records.instances) ≡ true }
+        ensures { rows_in self.new ≡ rows_after (rows_in self.old) record {
+          who = 0;
+          call = Call.Purge i;
+          at = 0;
+          reply = Reply.Done;
+        } }
+    {
+        self.records.remove_instance(i);
+        self.count += 1;
+    }
+
     #[tactic(auto, using(crate::proofs::Replying::claimed_next, crate::proofs::Entries::closed_rows))]
     fn enter_claim(&mut self, who: u64, at: Moment, reply: &Reply) -> Result<(), OutOfMemory>
         requires room { self.old.count < LIMIT }
@@ -352,6 +367,10 @@ impl<const LIMIT: u64> Repository<LIMIT> {
                 step,
             } => self.enter_finish(at, *work, *outcome, exit, step),
             Call::Lose { work } => self.enter_loss(at, *work),
+            Call::Purge { instance } => {
+                self.enter_purge(*instance);
+                Ok(())
+            }
         }
     }
 

@@ -4,7 +4,6 @@
 
 mod answers;
 mod entering;
-mod last_numbers;
 mod replies;
 mod repository;
 mod rows;

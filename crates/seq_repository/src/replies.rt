@@ -1,7 +1,7 @@
 ghost use Rattle.std.specs.Prelude.{◌≡◌, [], find, IfOk};
 ghost use Rattle.std.specs.Option.{option_copied};
 ghost use Rattle.batch_history.specs.Due.{IsDue};
-ghost use Rattle.batch_history.specs.Replies.{is_execution, reply_by, accepted, claim_reply, reply_to_stop, reply_to_abandon, reply_to_checkpoint, reply_to_finish, reply_to_loss, stop_requested_of, report_refusal, reply_to_kept_checkpoint, reply_to_stopped_step, reply_to_stopped_work, reply_to_end, next_work_item, partition_named, partitions_of_job, work_task, runnable_of_job, walk_in_rows, first_ready};
+ghost use Rattle.batch_history.specs.Replies.{is_execution, reply_by, accepted, claim_reply, reply_to_stop, reply_to_abandon, reply_to_checkpoint, reply_to_finish, reply_to_loss, reply_to_purge, stop_requested_of, report_refusal, reply_to_kept_checkpoint, reply_to_stopped_step, reply_to_stopped_work, reply_to_end, next_work_item, partition_named, partitions_of_job, work_task, runnable_of_job, walk_in_rows, first_ready};
 ghost use Rattle.batch_history.specs.Walks.{job_named};
 ghost use Rattle.batch_history.specs.Works.{is_work};
 ghost use Rattle.seq_repository.specs.Kept.{rows_in};
@@ -10,7 +10,7 @@ use crate::repository::Repository;
 use crate::search::Claimable;
 use crate::{search, status};
 use batch_history::{Call, ExecutionRow, Reply, WorkItem, WorkKind, WorkState, WorkTask};
-use batch_ids::{ExecutionId, OutOfMemory, Refusal, T256, Text, WorkId, WorkOutcome};
+use batch_ids::{ExecutionId, InstanceId, OutOfMemory, Refusal, T256, Text, WorkId, WorkOutcome};
 use job_walk::{Runnable, Value, WorkKey};
 use jsl_model::Task;
 use restart_rules::may_restart;
@@ -250,8 +250,7 @@ impl<const LIMIT: u64> Repository<LIMIT> {
     fn reply_to_claim(&self) -> Result<Reply, Refusal>
         ensures { IsDue result (reply_by LIMIT (rows_in self.now) 0 Call.Claim) }
     {
-        let last = self.last.execution;
-        match search::find_claimable(self.alloc, &self.catalogue, &self.records, last)? {
+        match search::find_claimable(self.alloc, &self.catalogue, &self.records)? {
             None => Ok(Reply::Nothing),
             Some(Claimable { row, value }) => {
                 let reply = self.claim_reply(row, &value)?;
@@ -315,6 +314,18 @@ impl<const LIMIT: u64> Repository<LIMIT> {
         }
     }
 
+    fn reply_to_purge(&self, i: InstanceId) -> Result<Reply, Refusal>
+        ensures { result ≡ reply_to_purge LIMIT (rows_in self.now) i }
+    {
+        if !search::is_there(&self.records, i) {
+            Err(Refusal::NoSuchJobInstanceException)
+        } else if search::is_running(&self.records, i) {
+            Err(Refusal::JobExecutionIsRunningException)
+        } else {
+            accept::<LIMIT>(self.count, Reply::Done)
+        }
+    }
+
     /// What a call of the session `who` is answered.
     pub(crate) fn reply(&self, who: u64, call: &Call) -> Result<Reply, Refusal>
         ensures { IsDue result (reply_by LIMIT (rows_in self.now) who call.now) }
@@ -328,6 +339,7 @@ impl<const LIMIT: u64> Repository<LIMIT> {
             Call::Checkpoint { work, .. } => self.reply_to_checkpoint(who, *work),
             Call::Finish { work, outcome, .. } => self.reply_to_finish(who, *work, *outcome),
             Call::Lose { work } => self.reply_to_loss(*work),
+            Call::Purge { instance } => self.reply_to_purge(*instance),
         }
     }
 }

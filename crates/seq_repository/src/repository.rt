@@ -7,8 +7,7 @@ ghost use Rattle.batch_history.specs.Rows.{History};
 ghost use Rattle.seq_repository.specs.Kept.{IsNext, StandsFor};
 
 use crate::answers;
-use crate::last_numbers::LastNumbers;
-use batch_history::{Answer, Call, CountsByStatus, Entry, Query, Reply};
+use batch_history::{Answer, Call, CountsByStatus, Entry, LastNumbers, Query, Reply};
 use batch_ids::{Moment, OutOfMemory, Refusal};
 use jsl_model::Catalogue;
 use records::Records;
@@ -134,13 +133,7 @@ impl<const LIMIT: u64> Repository<LIMIT> {
     pub fn ask(&self, query: &Query) -> Result<Answer, Refusal>
         ensures { (h : History) → StandsFor self.now h → IsDue result (answer h query.now) }
     {
-        answers::answer(
-            self.alloc,
-            &self.catalogue,
-            &self.records,
-            self.last.execution,
-            query,
-        )
+        answers::answer(self.alloc, &self.catalogue, &self.records, query)
     }
 
     /// How many job executions have each batch status. It takes no memory, and goes over all job
@@ -148,6 +141,6 @@ impl<const LIMIT: u64> Repository<LIMIT> {
     pub fn status_counts(&self) -> CountsByStatus
         ensures { (h : History) → StandsFor self.now h → answer h Query.StatusCounts ≡ Ok (Answer.StatusCounts result) }
     {
-        answers::counts(&self.records, self.last.execution)
+        answers::counts(&self.records)
     }
 }

@@ -1,4 +1,4 @@
-ghost use Rattle.std.specs.Prelude.{ℕ, ◌≡◌, ◌++◌, ◌∷◌, [], true, IfOk, IfSome, find, length, is_some};
+ghost use Rattle.std.specs.Prelude.{ℕ, ◌≡◌, ◌++◌, ◌∷◌, [], true, IfOk, IfSome, find, is_some};
 ghost use Rattle.std.specs.List.{list_any};
 ghost use Rattle.std.specs.Option.{option_map};
 ghost use Rattle.batch_ids.specs.declared.metric_step.MetricStep.{MetricStep as Step};
@@ -8,6 +8,7 @@ ghost use Rattle.batch_history.specs.Replies.{is_running_in};
 ghost use Rattle.batch_history.specs.Walks.{walk_value};
 ghost use Rattle.batch_history.proofs.Knowing.{known_elements};
 ghost use Rattle.batch_history.specs.Works.{is_work, busy_work};
+ghost use Rattle.records.specs.Maps.{is_instance};
 ghost use Rattle.restart_rules.specs.Placed.{ArePlaced, is_placed};
 ghost use Rattle.seq_repository.specs.Searches.{has_ready};
 
@@ -19,6 +20,14 @@ use jsl_model::Catalogue;
 use records::Records;
 use restart_rules::{known_of, state_fact, walk_value};
 use std::alloc::Global;
+
+/// Whether there is a job instance of this number.
+#[tactic(auto, using(crate::proofs::Lists::any_found))]
+pub(crate) fn is_there(records: &Records, i: InstanceId) -> bool
+    ensures { result ≡ list_any (is_instance i) records.now.instances }
+{
+    records.instance(i).is_some()
+}
 
 /// Whether a job execution of this job instance is unfinished.
 #[tactic(auto, using(crate::proofs::Readers::any_open))]
@@ -123,26 +132,22 @@ pub(crate) struct Claimable<'a> {
     pub(crate) value: Value,
 }
 
-/// The first job execution that has something to do, `last` being the last number of one.
+/// The first job execution that has something to do.
 pub(crate) fn find_claimable<'a>(
     alloc: Global,
     catalogue: &Catalogue,
     records: &'a Records,
-    last: u64,
 ) -> Result<Option<Claimable<'a>>, OutOfMemory>
-    requires last { last ≡ length records.now.executions }
-    requires placed { ArePlaced catalogue.now records.now.executions }
+    requires { ArePlaced catalogue.now records.now.executions }
     ensures first { IfOk result (λ found. option_map (λ c. c.row.now) found
         ≡ find (has_ready catalogue.now records.now.works) records.now.executions) }
     ensures value { IfOk result (λ found. IfSome found (λ c. c.value
         ≡ walk_value catalogue.now records.now.works
         c.row.now.execution c.row.now.job c.row.now.plan)) }
 {
-    for place in 0..last {
-        if let Some(row) = records.execution(ExecutionId::new(place + 1)) {
-            if let Some(value) = claimable_value(alloc, catalogue, records, row)? {
-                return Ok(Some(Claimable { row, value }));
-            }
+    for row in records.executions() {
+        if let Some(value) = claimable_value(alloc, catalogue, records, row)? {
+            return Ok(Some(Claimable { row, value }));
         }
     }
     Ok(None)

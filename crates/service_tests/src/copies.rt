@@ -16,7 +16,7 @@ pub(crate) fn catalogue(alloc: Global) -> Result<Catalogue, Fail> {
 }
 
 // A job that is started, handed out and finished, and then each other call, with all that it may hold.
-const CALLS: [&str; 9] = [
+const CALLS: [&str; 10] = [
     r#"{"do":"start","by":1,"at":0,"job":"a","parameters":{"to":"1"}}"#,
     r#"{"do":"claim","by":1,"at":0}"#,
     r#"{"do":"finish","by":1,"at":0,"work":1,"outcome":"COMPLETED"}"#,
@@ -26,6 +26,7 @@ const CALLS: [&str; 9] = [
     r#"{"do":"checkpoint","by":1,"at":0,"work":1,"data":"4","metrics":{"READ_COUNT":2}}"#,
     r#"{"do":"finish","by":1,"at":0,"work":1,"outcome":"FAILED","exit":"bad","metrics":{"READ_COUNT":2}}"#,
     r#"{"do":"lose","by":1,"at":0,"work":1}"#,
+    r#"{"do":"purge","by":1,"at":0,"instance":1}"#,
 ];
 
 pub(crate) fn calls(alloc: Global) -> Result<Vec<Call>, Fail> {

@@ -5,17 +5,17 @@ use Rattle.std.specs.List.{list_any}
 use Rattle.std.proofs.lemmas.List.{length-append, length-reverse}
 use Rattle.std.proofs.lemmas.Bool.Decides.{nat_tests}
 use Rattle.batch_ids.specs.declared.refusal.Refusal.{Refusal}
-use Rattle.batch_ids.specs.declared.refusal.Refusal.TheVariants.{JobStartException, JobExecutionNotRunningException, JobExecutionIsRunningException, RepositoryFull}
+use Rattle.batch_ids.specs.declared.refusal.Refusal.TheVariants.{JobStartException, NoSuchJobInstanceException, JobExecutionNotRunningException, JobExecutionIsRunningException, RepositoryFull}
 use Rattle.batch_ids.specs.declared.status.WorkOutcome.{WorkOutcome}
 use Rattle.batch_ids.specs.declared.status.WorkOutcome.TheVariants.{Completed, Failed, Stopped}
 use Rattle.batch_history.specs.Legal.{IsLegal}
-use Rattle.batch_history.specs.Replies.{accepted, go_or_stop, has_something, is_execution, is_running_in, loss_refusal, reply_by, reply_to_abandon, reply_to_checkpoint, reply_to_claim, reply_to_end, reply_to_finish, reply_to_kept_checkpoint, reply_to_loss, reply_to_restart, reply_to_stop, reply_to_stopped_step, reply_to_stopped_work, report_refusal, restart_refusal, row_status, stop_requested_of, unless}
+use Rattle.batch_history.specs.Replies.{accepted, go_or_stop, has_something, is_execution, is_instance_there, is_running_in, loss_refusal, reply_by, reply_to_abandon, reply_to_checkpoint, reply_to_claim, reply_to_end, reply_to_finish, reply_to_kept_checkpoint, reply_to_loss, reply_to_purge, reply_to_restart, reply_to_stop, reply_to_stopped_step, reply_to_stopped_work, report_refusal, restart_refusal, row_status, stop_requested_of, unless}
 use Rattle.batch_history.specs.Rows.{Rows, rows, history}
 use Rattle.batch_history.specs.Statuses.{is_finished}
 use Rattle.batch_history.specs.Walks.{job_named}
 use Rattle.batch_history.specs.Works.{is_work}
 use Rattle.batch_history.specs.declared.call.Call.{Call}
-use Rattle.batch_history.specs.declared.call.Call.TheVariants.{Start, Restart, Stop, Abandon, Claim, Checkpoint, Finish, Lose}
+use Rattle.batch_history.specs.declared.call.Call.TheVariants.{Start, Restart, Stop, Abandon, Claim, Checkpoint, Finish, Lose, Purge}
 use Rattle.batch_history.specs.declared.call.Entry.{Entry}
 use Rattle.batch_history.specs.declared.call.Reply.{Reply}
 use Rattle.batch_history.specs.declared.call.Reply.TheVariants.{Done}
@@ -92,6 +92,12 @@ module _ (l m : ℕ) where
   same_loss count None e = refl
   same_loss count (Some row) e = same_unless (loss_refusal row.state) _ _ (same_accepted count Done e)
 
+  same_purge : (r : Rows) (i : ℕ) → nat_lt r.count l ≡ nat_lt r.count m → reply_to_purge l r i ≡ reply_to_purge m r i
+  same_purge r i e =
+      ap (λ (x : Result Reply Refusal). if is_instance_there i r
+      then (if list_any (is_running_in i) r.executions then Err JobExecutionIsRunningException else x)
+      else Err NoSuchJobInstanceException) (same_accepted r.count Done e)
+
   same_reply : (r : Rows) (who : ℕ) (call : Call) → nat_lt r.count l ≡ nat_lt r.count m → reply_by l r who call ≡ reply_by m r who call
   same_reply r who (Start job parameters) e =
       ap (λ (x : Result Reply Refusal). if is_some (job_named r.catalogue job) then x else Err JobStartException) (same_accepted r.count _ e)
@@ -102,6 +108,7 @@ module _ (l m : ℕ) where
   same_reply r who (Checkpoint w mark step) e = same_checkpoint r who (find (is_work w) r.works) e
   same_reply r who (Finish w outcome exit step) e = same_finish r who outcome (find (is_work w) r.works) e
   same_reply r who (Lose w) e = same_loss r.count (find (is_work w) r.works) e
+  same_reply r who (Purge i) e = same_purge r i e
 
 -- ---- Legal logs
 

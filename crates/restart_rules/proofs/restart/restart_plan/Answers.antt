@@ -11,13 +11,13 @@ use Rattle.restart_rules.proofs.Beginning.{begins_after, planned_alike, if_ok_sa
 use Rattle.restart_rules.proofs.restart.restart_plan.Goals as goal
 
 pub returns-clause-plan : goal.returns-clause-plan
-returns-clause-plan c count =
+returns-clause-plan c count last =
     let job : JobTree = c.job_of-job.result.now in
     let earlier : List WorkRow = map (λ row. row.now) c.as_slice.result.now in
-    if_ok_same c.plan_by.result (plan_by c.in_ok-from.from earlier (Some job)) (restart_plan (rows_over c.args.catalogue.now count c.args.records.now) c.args.row.now)
+    if_ok_same c.plan_by.result (plan_by c.in_ok-from.from earlier (Some job)) (restart_plan (rows_over c.args.catalogue.now count last c.args.records.now) c.args.row.now)
     (c.plan_by.ensures job (sym c.elements.ensures.same))
     (planned_alike job (job_named c.args.catalogue.now c.args.row.now.job) c.in_ok-from.from
-    (restart_point (is_some c.args.row.now.start) (walk_in_rows (rows_over c.args.catalogue.now count c.args.records.now) c.args.row.now) c.args.row.now.plan.from)
+    (restart_point (is_some c.args.row.now.start) (walk_in_rows (rows_over c.args.catalogue.now count last c.args.records.now) c.args.row.now) c.args.row.now.plan.from)
     earlier (works_of_instance c.args.row.now.instance c.args.records.now.executions c.args.records.now.works)
     c.job_of-job.ensures.named
     (c.in_ok-from.ensures

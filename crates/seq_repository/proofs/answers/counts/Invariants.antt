@@ -3,5 +3,5 @@ use Rattle.batch_history.specs.Answers.{counts_of, total}
 use Rattle.seq_repository.proofs.Tallies.{both}
 use Rattle.seq_repository.proofs.answers.counts.Given as goal
 
-abbrev pub invariant-loop-place : goal.invariant-loop-place
-invariant-loop-place l = (both l.counts (counts_of (drop l.place l.rows.executions)) ≡ counts_of l.rows.executions) × (total l.counts ≤ l.place)
+abbrev pub invariant-loop-row : goal.invariant-loop-row
+invariant-loop-row l = (both l.counts (counts_of (drop l.row-index l.row-items)) ≡ counts_of l.row-items) × (total l.counts ≤ l.row-index)

@@ -12,7 +12,7 @@ pub returns-clause-rows : goal.returns-clause-rows
 returns-clause-rows g c =
     let P : Kept → Type 0 = λ r. c.in_ok-row.row ≡ option_map (row_after c.args.change r.catalogue c.self.inside.records.works c.args.at) (find (is_execution c.args.x) r.records.executions) in
     rw (← c.self.view_is)
-    (change-entered c.self.inside.catalogue c.self.inside.count c.self.inside.records c.put_row.new.records c.args.at c.args.x c.args.change c.in_ok-row.row
+    (change-entered c.self.inside.catalogue c.self.inside.count c.self.inside.last c.self.inside.records c.put_row.new.records c.args.at c.args.x c.args.change c.in_ok-row.row
     (subst P (sym c.self.view_is) (c.in_ok-row.ensures.row c.self.inside.records.works (c.as_slice.ensures.value ∙ c.in_ok-known.ensures)))
     c.put_row.ensures)
 

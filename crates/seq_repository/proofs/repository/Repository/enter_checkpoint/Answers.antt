@@ -36,7 +36,7 @@ invariant_of-self-2 g c =
     sound_report g.row.LIMIT kept c.put_mark.new.records _ c.put_row.new.records (is_work c.args.w) _ c.in-Some.work.now c.in_ok-work.work c.in_ok-row.row c.args.step.now
     c.self.invariant (omega (arith, c.requires.room, ap (λ (r : Kept). r.count) c.self.view_is))
     (subst (λ (r : Kept). IfSome c.in_ok-row.row (λ row. MayReplaceExecution r.records.executions c.in-Some.work.now.execution row)) (sym c.self.view_is) c.in_ok-row.ensures.own)
-    (sym c.in-Some.ensures) (ap (λ (row : WorkRow). row.metrics) c.in_ok-work.ensures.new) c.in_ok-work.ensures.small
+    (sym c.in-Some.ensures) (ap (λ (row : WorkRow). row.work) c.in_ok-work.ensures.new) (ap (λ (row : WorkRow). row.metrics) c.in_ok-work.ensures.new) c.in_ok-work.ensures.small
     alone c.change_work.ensures c.put_row.ensures
 
 pub returns-clause-rows : goal.returns-clause-rows
@@ -45,7 +45,7 @@ returns-clause-rows g c =
     let works : List WorkRow = change_first (is_work c.args.w) (reported c.args.step.now) c.self.inside.records.works in
     let P : Kept → Type 0 = λ r. c.in_ok-row.row ≡ option_map (row_after Report r.catalogue works c.args.at) (find (is_execution c.in-Some.work.now.execution) r.records.executions) in
     rw (← c.self.view_is)
-    (checkpoint-entered c.self.inside.catalogue c.self.inside.count c.self.inside.records _ _ c.put_row.new.records 0 c.args.at c.args.w c.args.mark.now c.args.step.now Done
+    (checkpoint-entered c.self.inside.catalogue c.self.inside.count c.self.inside.last c.self.inside.records _ _ c.put_row.new.records 0 c.args.at c.args.w c.args.mark.now c.args.step.now Done
     c.in-Some.work.now c.in_ok-work.work c.in_ok-row.row c.in_ok-key.key c.in_ok-mark.mark
     found c.in_ok-work.ensures.new c.in_ok-key.ensures c.in_ok-mark.ensures
     (subst P (sym c.self.view_is) (c.in_ok-row.ensures.row works

@@ -39,7 +39,7 @@ invariant_of-self g c =
     sound_report g.row.LIMIT kept c.drop_mark.new.records _ c.put_row.new.records (is_work c.args.w) _ c.in-Some.work.now c.in_ok-work.work c.in_ok-row.row c.args.step.now
     c.self.invariant (omega (arith, c.requires.room, ap (λ (r : Kept). r.count) c.self.view_is))
     (subst (λ (r : Kept). IfSome c.in_ok-row.row (λ row. MayReplaceExecution r.records.executions c.in-Some.work.now.execution row)) (sym c.self.view_is) c.in_ok-row.ensures.own)
-    (sym c.in-Some.ensures) (ap (λ (row : WorkRow). row.metrics) c.in_ok-work.ensures.new) c.in_ok-work.ensures.small
+    (sym c.in-Some.ensures) (ap (λ (row : WorkRow). row.work) c.in_ok-work.ensures.new) (ap (λ (row : WorkRow). row.metrics) c.in_ok-work.ensures.new) c.in_ok-work.ensures.small
     alone c.change_work.ensures c.put_row.ensures
 
 pub returns-clause-rows : goal.returns-clause-rows
@@ -49,7 +49,7 @@ returns-clause-rows g c =
     let works : List WorkRow = change_first (is_work c.args.w) (over c.args.outcome c.args.exit.now c.args.step.now c.args.at (c.self.inside.count + 1)) c.self.inside.records.works in
     let P : Kept → Type 0 = λ r. c.in_ok-row.row ≡ option_map (row_after Report r.catalogue works c.args.at) (find (is_execution c.in-Some.work.now.execution) r.records.executions) in
     rw (← c.self.view_is)
-    (finish-entered c.self.inside.catalogue c.self.inside.count c.self.inside.records _ _ c.put_row.new.records 0 c.args.at c.args.w c.args.outcome c.args.exit.now c.args.step.now Done
+    (finish-entered c.self.inside.catalogue c.self.inside.count c.self.inside.last c.self.inside.records _ _ c.put_row.new.records 0 c.args.at c.args.w c.args.outcome c.args.exit.now c.args.step.now Done
     c.in-Some.work.now c.in_ok-work.work c.in_ok-row.row c.in_ok-key.key
     found (c.in_ok-work.ensures.new ∙ ap (λ e. over_as c.args.outcome e c.args.step.now c.args.at (c.self.inside.count + 1) c.in-Some.work.now) c.in_ok-exit.ensures) c.in_ok-key.ensures
     (subst P (sym c.self.view_is) (c.in_ok-row.ensures.row works

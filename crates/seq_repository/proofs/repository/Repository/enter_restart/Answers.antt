@@ -7,7 +7,7 @@ use Rattle.job_walk.specs.declared.plan.Plan.{Plan}
 use Rattle.restart_rules.specs.Placed.{begins_in_job, is_placed}
 use Rattle.seq_repository.proofs.Placing.{placed_found}
 use Rattle.batch_history.specs.declared.rows.ExecutionRow.{ExecutionRow}
-use Rattle.seq_repository.specs.declared.last_numbers.LastNumbers.{LastNumbers}
+use Rattle.batch_history.specs.declared.rows.LastNumbers.{LastNumbers}
 use Rattle.batch_history.specs.declared.call.Reply.TheVariants.{Done}
 use Rattle.seq_repository.specs.Kept.{Kept}
 use Rattle.seq_repository.proofs.Entries.{restart-entered}
@@ -21,7 +21,7 @@ invariant_of-self-2 g c =
     let placed : is_placed kept.catalogue row ≡ true =
     ap (λ (r : ExecutionRow). is_placed kept.catalogue r) c.new_execution-row.ensures
     ∙ (ap (λ job. begins_in_job c.in_ok-plan.plan (job_named kept.catalogue job)) c.in_ok-job.ensures ∙ c.in_ok-plan.ensures.begins) in
-    sound_restart g.row.LIMIT kept c.add_execution.new.self row c.self.invariant (omega (arith, c.requires.room, ap (λ (r : Kept). r.count) c.self.view_is)) placed c.in_ok-add_execution.ensures.added
+    sound_restart g.row.LIMIT kept c.add_execution.new.self row c.self.invariant (ap (λ (r : ExecutionRow). r.execution) c.new_execution-row.ensures) (omega (arith, c.requires.room, ap (λ (r : Kept). r.count) c.self.view_is)) placed c.in_ok-add_execution.ensures.added
 
 pub restart_plan-requires : goal.restart_plan-requires
 restart_plan-requires g c =
@@ -34,8 +34,8 @@ returns-clause-rows g c =
     let row : List ℕ → List Pair → Plan → ExecutionRow = λ job parameters plan. fresh_row (last.execution + 1) earlier.instance c.args.at job parameters plan in
     rw (← c.self.view_is)
     (restart-entered c.self.inside.catalogue c.self.inside.count last c.self.inside.records c.add_execution.new.self 0 c.args.at c.args.y c.args.parameters.now Done
-    earlier c.new_execution-row.result c.self.invariant.last (sym c.in-Some.ensures.found)
+    earlier c.new_execution-row.result (sym c.in-Some.ensures.found)
     (c.new_execution-row.ensures ∙ (ap (λ job. row job c.in_ok-parameters.parameters c.in_ok-plan.plan) c.in_ok-job.ensures
     ∙ (ap (λ p. row earlier.job p c.in_ok-plan.plan) c.in_ok-parameters.ensures.same
-    ∙ ap (row earlier.job c.args.parameters.now) (c.in_ok-plan.ensures.plan c.self.inside.count))))
+    ∙ ap (row earlier.job c.args.parameters.now) (c.in_ok-plan.ensures.plan c.self.inside.count last))))
     c.in_ok-add_execution.ensures.added)

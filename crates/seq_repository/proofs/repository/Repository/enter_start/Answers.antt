@@ -7,7 +7,7 @@ use Rattle.job_walk.specs.declared.plan.Plan.{Plan}
 use Rattle.jsl_model.specs.Jobs.{JobTree}
 use Rattle.restart_rules.specs.Placed.{begins_in_job, is_placed}
 use Rattle.batch_history.specs.declared.rows.ExecutionRow.{ExecutionRow}
-use Rattle.seq_repository.specs.declared.last_numbers.LastNumbers.{LastNumbers}
+use Rattle.batch_history.specs.declared.rows.LastNumbers.{LastNumbers}
 use Rattle.batch_history.specs.declared.call.Reply.TheVariants.{Done}
 use Rattle.seq_repository.specs.Kept.{Kept}
 use Rattle.seq_repository.proofs.Entries.{start-entered}
@@ -24,7 +24,7 @@ invariant_of-self-2 g c =
     let placed : is_placed kept.catalogue row ≡ true =
     ap (λ (r : ExecutionRow). is_placed kept.catalogue r) c.new_execution-row.ensures
     ∙ (ap (begins_in_job c.in_ok-plan.plan) named ∙ c.in_ok-plan.ensures.begins) in
-    sound_start g.row.LIMIT kept c.add_instance.new.self _ row c.self.invariant (omega (arith, c.requires.room, ap (λ (r : Kept). r.count) c.self.view_is)) placed c.in_ok-add_instance.ensures.added
+    sound_start g.row.LIMIT kept c.add_instance.new.self record { instance = c.new-instance.result; job = c.in_ok-first.first } row c.self.invariant c.new-instance.ensures (ap (λ (r : ExecutionRow). r.execution) c.new_execution-row.ensures) (omega (arith, c.requires.room, ap (λ (r : Kept). r.count) c.self.view_is)) placed c.in_ok-add_instance.ensures.added
 
 pub returns-clause-rows : goal.returns-clause-rows
 returns-clause-rows g c =
@@ -35,7 +35,7 @@ returns-clause-rows g c =
     let planned : c.in_ok-plan.plan ≡ first_plan (job_named catalogue c.args.job.now) = c.in_ok-plan.ensures.plan ∙ ap first_plan (sym named) in
     rw (← c.self.view_is)
     (start-entered c.self.inside.catalogue c.self.inside.count last c.self.inside.records c.add_instance.new.self 0 c.args.at c.args.job.now c.args.parameters.now Done
-    record { instance = c.new-instance.result; job = c.in_ok-first.first } c.new_execution-row.result c.self.invariant.last
+    record { instance = c.new-instance.result; job = c.in_ok-first.first } c.new_execution-row.result
     (ap (λ (i : ℕ). record { instance = i; job = c.in_ok-first.first }) c.new-instance.ensures
     ∙ ap (λ (job : List ℕ). record { instance = last.instance + 1; job = job }) c.in_ok-first.ensures)
     (c.new_execution-row.ensures ∙ (ap (λ i. row i c.in_ok-second.second c.in_ok-parameters.parameters c.in_ok-plan.plan) c.new-instance.ensures

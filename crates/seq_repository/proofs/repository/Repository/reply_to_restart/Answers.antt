@@ -13,12 +13,12 @@ may_restart-requires g c = placed_at c.self.inside.catalogue c.self.inside.recor
 pub returns-in-Err : goal.returns-in-Err
 returns-in-Err g c =
     rw (← c.self.view_is) (λ some.
-    restart_refused g.row.LIMIT (rows_over c.self.inside.catalogue c.self.inside.count c.self.inside.records) 0 c.args.x [] c.in-Err.refusal
-    (c.in-Err.ensures.due c.self.inside.count) some)
+    restart_refused g.row.LIMIT (rows_over c.self.inside.catalogue c.self.inside.count c.self.inside.last c.self.inside.records) 0 c.args.x [] c.in-Err.refusal
+    (c.in-Err.ensures.due c.self.inside.count c.self.inside.last) some)
 
 pub returns : goal.returns
 returns g c =
-    let r : Rows = rows_over c.self.inside.catalogue c.self.inside.count c.self.inside.records in
+    let r : Rows = rows_over c.self.inside.catalogue c.self.inside.count c.self.inside.last c.self.inside.records in
     rw (← c.self.view_is)
-    (restart_due g.row.LIMIT r 0 c.args.x [] c.in_default.field-0 c.accept.result (c.in_default.ensures.due c.self.inside.count)
-    (c.accept.ensures ∙ ap (λ (n : ℕ). accepted g.row.LIMIT c.self.inside.count (IsExecution n)) (c.new-next.ensures ∙ ap (λ (n : ℕ). n + 1) c.self.invariant.last.execution)))
+    (restart_due g.row.LIMIT r 0 c.args.x [] c.in_default.field-0 c.accept.result (c.in_default.ensures.due c.self.inside.count c.self.inside.last)
+    (c.accept.ensures ∙ ap (λ (n : ℕ). accepted g.row.LIMIT c.self.inside.count (IsExecution n)) c.new-next.ensures))

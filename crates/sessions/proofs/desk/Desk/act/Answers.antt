@@ -1,4 +1,4 @@
-use Rattle.std.proofs.Common.{refl, ◌≡◌, ◌≤◌, false, [], ◌∷◌, ◌++◌, ℕ, List, length, length-append, ap, sym, subst, ◌∙◌, arith, Err, lit<}
+use Rattle.std.proofs.Common.{refl, ◌≡◌, ◌≤◌, false, [], ◌∷◌, ◌++◌, ℕ, List, length, length-append, ap, sym, subst, ◌∙◌, arith, Ok, Err, lit<}
 use Rattle.batch_history.specs.Replies.{is_nothing, reply}
 use Rattle.batch_history.specs.Rows.{History, history}
 use Rattle.batch_history.specs.declared.call.Entry.{Entry}
@@ -89,3 +89,17 @@ returns-in-Err-clause-reply g c m =
     let log = ap (λ (d : DeskState). d.log) c.self.view_is in
     subst (λ (x : History × ℕ). reply g.row.LIMIT x.0 x.1 c.args.call ≡ Err c.in-Err.refusal)
     (λ i. (history (c.self.invariant.catalogue_is i) (log i), number i)) (c.in-Err.ensures.reply m)
+
+pub returns-then-is_nothing-clause-reply : goal.returns-then-is_nothing-clause-reply
+returns-then-is_nothing-clause-reply g c =
+    let number = c.session.invariant.number_is ∙ ap (λ (s : SessionView). s.number) c.session.view_is in
+    let log = ap (λ (d : DeskState). d.log) c.self.view_is in
+    subst (λ (x : History × ℕ). reply g.row.LIMIT x.0 x.1 c.args.call ≡ Ok c.in-Ok.reply)
+    (λ i. (history (c.self.invariant.catalogue_is i) (log i), number i)) c.in-Ok.ensures.reply
+
+pub returns-else-is_nothing-clause-reply : goal.returns-else-is_nothing-clause-reply
+returns-else-is_nothing-clause-reply g c =
+    let number = c.session.invariant.number_is ∙ ap (λ (s : SessionView). s.number) c.session.view_is in
+    let log = ap (λ (d : DeskState). d.log) c.self.view_is in
+    subst (λ (x : History × ℕ). reply g.row.LIMIT x.0 x.1 c.args.call ≡ Ok c.in-Ok.reply)
+    (λ i. (history (c.self.invariant.catalogue_is i) (log i), number i)) c.in-Ok.ensures.reply

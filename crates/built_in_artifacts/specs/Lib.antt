@@ -1,0 +1,4 @@
+pub mod Names
+pub mod Means
+pub mod Uses
+pub mod Shown

@@ -1,0 +1,15 @@
+//! The built-in artifacts: what a catalogue may name without an artifact of one's own.
+#![tactic(auto)]
+
+mod built_in;
+mod built_in_artifact;
+#[cfg(test)]
+mod item_tests;
+mod number;
+mod pooling;
+#[cfg(test)]
+mod tests;
+
+pub use built_in::BuiltIn;
+pub use built_in_artifact::BuiltInArtifact;
+pub use pooling::pool_with_built_ins;

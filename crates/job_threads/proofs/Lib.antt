@@ -1,0 +1,10 @@
+pub mod Kits
+pub mod Turns
+pub mod Marked
+pub mod Stepped
+pub mod Running
+pub mod Opened
+pub mod Ended
+pub mod Begun
+pub mod Finishing
+pub mod Replied

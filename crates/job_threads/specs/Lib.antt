@@ -1,0 +1,11 @@
+pub mod Meaning
+pub mod Calls
+pub mod Groups
+pub mod Ports
+pub mod Kits
+pub mod Steps
+pub mod Chunks
+pub mod Endings
+pub mod Items
+pub mod Past
+pub mod Noted

@@ -1,0 +1,61 @@
+-- What a port holds.
+use Rattle.std.specs.Prelude.{ℕ, Bool, true, false, Option, Some, None, List, [], ◌∷◌, Result, Ok, Err, count_by, filter_map}
+use Rattle.std.specs.List.{Contains}
+use Rattle.batch_history.specs.declared.call.Call.{Call}
+use Rattle.batch_history.specs.declared.call.Call.TheVariants.{Start, Restart, Stop, Abandon, Claim, Lose, Purge, Checkpoint as CallCheckpoint, Finish as CallFinish}
+use Rattle.batch_history.specs.declared.call.Entry.{Entry}
+use Rattle.batch_history.specs.declared.call.Reply.{Reply}
+use Rattle.batch_history.specs.declared.call.Reply.TheVariants.{Execution as ReplyExecution, Work as ReplyWork, Closed as ReplyClosed, Nothing as ReplyNothing, Done as ReplyDone, Go as ReplyGo, StopAsked as ReplyStopAsked}
+use Rattle.job_threads.specs.declared.report.Onward.{Onward}
+use Rattle.job_threads.specs.declared.report.Onward.TheVariants.{Go, StopAsked}
+use Rattle.job_threads.specs.declared.report.Report.{Report}
+use Rattle.job_threads.specs.declared.report.Report.TheVariants.{Checkpoint, Finish}
+
+-- the report of a call, where it was accepted
+abbrev pub accepted : {A R E : Type 0} → (A → R) → Result A E → List R
+accepted report (Ok reply) = report reply ∷ []
+accepted report (Err _) = []
+
+-- what was seen once stays seen
+abbrev pub IsKept : List ℕ → List ℕ → Type 0
+IsKept before after = (x : ℕ) → Contains before x → Contains after x
+
+-- whether a report is a finish
+abbrev pub is_finish : Report → Bool
+is_finish (Finish work outcome exit step at) = true
+is_finish (Checkpoint work mark step at reply) = false
+
+-- how many of these reports are finishes
+abbrev pub finishes : List Report → ℕ
+finishes reports = count_by is_finish reports
+
+-- ---- Of an operator's session
+
+-- what a worker is told by the reply to a checkpoint
+abbrev pub onward_of : Reply → Onward
+onward_of ReplyStopAsked = StopAsked
+onward_of ReplyGo = Go
+onward_of (ReplyExecution x) = Go
+onward_of (ReplyWork item) = Go
+onward_of (ReplyClosed x) = Go
+onward_of ReplyNothing = Go
+onward_of ReplyDone = Go
+
+-- the report that an operation is, if it is one
+abbrev pub report_by : Call → ℕ → Reply → Option Report
+report_by (CallCheckpoint work mark step) at reply = Some (Checkpoint work mark step at (onward_of reply))
+report_by (CallFinish work outcome exit step) at reply = Some (Finish work outcome exit step at)
+report_by (Start job parameters) at reply = None
+report_by (Restart x parameters) at reply = None
+report_by (Stop x) at reply = None
+report_by (Abandon x) at reply = None
+report_by Claim at reply = None
+report_by (Lose work) at reply = None
+report_by (Purge instance) at reply = None
+
+abbrev pub report_of_entry : Entry → Option Report
+report_of_entry e = report_by e.call e.at e.reply
+
+-- the reports among the operations of a session
+abbrev pub reports_in : List Entry → List Report
+reports_in mine = filter_map report_of_entry mine

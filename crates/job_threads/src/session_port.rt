@@ -1,0 +1,123 @@
+ghost use Rattle.std.specs.Prelude.{◌≡◌};
+ghost use Rattle.job_threads.specs.Ports.{onward_of};
+
+use crate::port::{Claimed, Port};
+use crate::report::Onward;
+use batch_history::{Answer, Reply};
+use batch_ids::{ExecutionId, MetricStep, Moment, Refusal, T256, Text, WorkId, WorkOutcome};
+use batch_operator::Operator;
+use seat_rules::Site;
+use sessions::Session;
+use std::sync::Wait;
+
+/// A session at an operator, as the port of a worker. Its reports are the checkpoints and finishes
+/// among the session's own accepted operations, its stops those that the session has found.
+#[derive(Drop)]
+pub struct SessionPort<'a, R: Wait, N: Site> {
+    rt: &'a R,
+    operator: &'a Operator<N>,
+    session: Session<N>,
+}
+
+impl<'a, R: Wait, N: Site> SessionPort<'a, R, N> {
+    /// The port of this session.
+    pub fn new(rt: &'a R, operator: &'a Operator<N>, session: Session<N>) -> SessionPort<'a, R, N> {
+        SessionPort {
+            rt,
+            operator,
+            session,
+        }
+    }
+}
+
+/// What a worker is told by the reply to a checkpoint.
+fn onward(reply: &Reply) -> Onward
+    ensures { result ≡ onward_of reply.now }
+{
+    match reply {
+        Reply::StopAsked => Onward::StopAsked,
+        Reply::Go => Onward::Go,
+        Reply::Execution(_) => Onward::Go,
+        Reply::Work(_) => Onward::Go,
+        Reply::Closed(_) => Onward::Go,
+        Reply::Nothing => Onward::Go,
+        Reply::Done => Onward::Go,
+    }
+}
+
+/// What a worker is told by the reply to a claim.
+fn claimed(reply: Reply) -> Claimed {
+    match reply {
+        Reply::Work(item) => Claimed::Work(item),
+        Reply::Closed(_) => Claimed::Closed,
+        Reply::Nothing => Claimed::Nothing,
+        Reply::Execution(_) => Claimed::Nothing,
+        Reply::Done => Claimed::Nothing,
+        Reply::Go => Claimed::Nothing,
+        Reply::StopAsked => Claimed::Nothing,
+    }
+}
+
+/// Whether a job execution is unfinished by these counts.
+fn is_unfinished(answer: &Answer) -> bool {
+    match answer {
+        Answer::StatusCounts(counts) => {
+            counts.starting > 0 || counts.started > 0 || counts.stopping > 0
+        }
+        _ => false,
+    }
+}
+
+impl<R: Wait, N: Site> Port for SessionPort<'_, R, N> {
+    ghost use Rattle.job_threads.specs.Ports.{reports_in};
+
+    ghost reports = { λ port. reports_in port.session.mine };
+
+    ghost stops = { λ port. port.session.stops };
+
+    fn claim(&mut self, at: Moment) -> Result<Claimed, Refusal> {
+        let reply = self.operator.claim(self.rt, &mut self.session, at)?;
+        Ok(claimed(reply))
+    }
+
+    fn checkpoint(
+        &mut self,
+        work: WorkId,
+        mark: Text<65536>,
+        step: MetricStep,
+        at: Moment,
+    ) -> Result<Onward, Refusal> {
+        let reply = self
+            .operator
+            .checkpoint(self.rt, &mut self.session, work, mark, step, at)?;
+        Ok(onward(&reply))
+    }
+
+    fn finish(
+        &mut self,
+        work: WorkId,
+        outcome: WorkOutcome,
+        exit: Option<T256>,
+        step: MetricStep,
+        at: Moment,
+    ) -> Result<(), Refusal> {
+        let _done = self
+            .operator
+            .finish(self.rt, &mut self.session, work, outcome, exit, step, at)?;
+        Ok(())
+    }
+
+    fn lose(&mut self, work: WorkId, at: Moment) -> Result<(), Refusal> {
+        let _done = self.operator.lose(self.rt, &mut self.session, work, at)?;
+        Ok(())
+    }
+
+    fn stop_seen(&mut self, execution: ExecutionId) -> bool {
+        self.operator.stop_seen(&mut self.session, execution)
+    }
+
+    fn unfinished(&mut self) -> Result<bool, Refusal> {
+        let answer = self.operator.status_counts(self.rt, &mut self.session)?;
+        Ok(is_unfinished(&answer))
+    }
+}

@@ -1,0 +1,100 @@
+ghost use Rattle.std.specs.Prelude.{◌≤◌, length, IfOk};
+
+use crate::kit::Kit;
+use crate::session_port::SessionPort;
+use crate::working::{Gate, WorkerReport, worker};
+use batch_ids::Refusal;
+use batch_operator::Operator;
+use seat_rules::Site;
+use std::alloc::Global;
+use std::sync::Wait;
+use std::thread;
+use std::thread::Threads;
+
+/// How many claims of a worker of a pool may find nothing before it gives up.
+const TURNS: u64 = 1_000_000;
+
+/// What the workers of a pool did.
+#[derive(Clone, Copy, PartialEq, Eq, Debug)]
+pub struct PoolReport {
+    /// How many work items they ran to their end.
+    pub items: u64,
+    /// How many of them gave up.
+    pub gave_up: u64,
+}
+
+/// A kit with the number of its worker, and where its memory comes from.
+#[derive(Drop)]
+struct Numbered {
+    number: u64,
+    alloc: Global,
+    kit: Kit,
+}
+
+/// The kits with their workers' numbers, from 0.
+fn with_numbers(alloc: Global, kits: Vec<Kit>) -> Result<Vec<Numbered>, Refusal> {
+    let mut workers = Vec::new(alloc);
+    let mut number: u64 = 0;
+    for kit in kits {
+        workers.push(Numbered { number, alloc, kit })?;
+        number = number.saturating_add(1);
+    }
+    Ok(workers)
+}
+
+/// One worker, with a session of its own.
+fn work_alone<N: Site, R: Wait, G: Gate>(
+    rt: &R,
+    operator: &Operator<N>,
+    gate: &G,
+    one: Numbered,
+) -> Result<WorkerReport, Refusal> {
+    let Numbered { number, alloc, kit } = one;
+    let mut kit = kit;
+    let session = operator.open_session(rt)?;
+    let mut port = SessionPort::new(rt, operator, session);
+    worker(alloc, &mut port, &mut kit, gate, number, TURNS)
+}
+
+/// The workers' reports together, or the refusal of the first of them that has one.
+fn total(reports: Vec<Result<WorkerReport, Refusal>>) -> Result<PoolReport, Refusal> {
+    let mut total = PoolReport {
+        items: 0,
+        gave_up: 0,
+    };
+    for report in reports {
+        let report = report?;
+        total.items = total.items.saturating_add(report.items);
+        if report.gave_up {
+            total.gave_up = total.gave_up.saturating_add(1);
+        }
+    }
+    Ok(total)
+}
+
+/// Runs a worker in a thread of its own for each of 1 to 16 kits, with a session of its own, until
+/// nothing is left to do or each has found nothing 1,000,000 times. The worker of the first kit has
+/// the number 0.
+///
+/// # Errors
+///
+/// All workers are joined first. Then the refusal of the worker with the least number that has one,
+/// or `OutOfMemory` where memory is refused.
+pub fn pool<N: Site + Send + Sync, R: Threads + Wait + Sync, G: Gate + Sync>(
+    rt: &R,
+    alloc: Global,
+    operator: &Operator<N>,
+    kits: Vec<Kit>,
+    gate: &G,
+) -> Result<PoolReport, Refusal>
+    requires some { 1 ≤ length kits.items }
+    requires few { length kits.items ≤ 16 }
+{
+    let workers = with_numbers(alloc, kits)?;
+    let reports = thread::map_vec(
+        rt,
+        workers,
+        &|one: Numbered| { work_alone(rt, operator, gate, one) },
+    )?;
+    total(reports)
+}

@@ -1,0 +1,66 @@
+ghost use Rattle.std.specs.Prelude.{◌≡◌, false, IfOk, OnOk};
+ghost use Rattle.script_lines.specs.Unread.{nothing_read};
+ghost use Rattle.script_engine.specs.Reading.{NextLine};
+
+use crate::fault::EngineFault;
+use batch_ids::OutOfMemory;
+use script_lines::{InputBuffer, Line, MAX_LINE, MAX_READS, Source};
+use std::alloc::Global;
+
+/// The lines that a reader tells, one after another. Each ends with a line feed, which is taken off;
+/// the last may lack it. Nothing is told back before the next line is read.
+#[derive(Drop)]
+pub struct Lines<S: Source + Drop> {
+    source: S,
+    input: InputBuffer,
+    alloc: Global,
+    failed: bool,
+}
+
+impl<S: Source + Drop> Lines<S> {
+    /// The lines of a reader, of which none is read yet.
+    ///
+    /// # Errors
+    ///
+    /// `OutOfMemory` where memory for 65,536 bytes is refused. The reader is dropped.
+    pub fn new(alloc: Global, source: S) -> Result<Lines<S>, OutOfMemory>
+        ensures reader { IfOk result (λ lines. S.tape lines.source ≡ S.tape source) }
+        ensures begun { IfOk result (λ lines. (lines.input ≡ nothing_read) × (lines.failed ≡ false)) }
+    {
+        Ok(Lines {
+            source,
+            input: InputBuffer::new(alloc)?,
+            alloc,
+            failed: false,
+        })
+    }
+
+    /// Whether a call of [`Lines::next_line`] answered an `Err`. There is no line behind it.
+    pub fn has_failed(&self) -> bool
+        ensures { result ≡ self.now.failed }
+    {
+        self.failed
+    }
+
+    /// The next line; `None` says that the reader told its end and nothing is left. No call before may
+    /// have answered an `Err`. A line is kept up to [`MAX_LINE`] bytes. The time is that of the reads.
+    ///
+    /// # Errors
+    ///
+    /// - `Read` where the reader failed in this call, or was called [`MAX_READS`] times in all.
+    /// - `OutOfMemory` where memory for the line is refused.
+    pub fn next_line(&mut self) -> Result<Option<Line>, EngineFault>
+        requires { self.old.failed ≡ false }
+        ensures bounds { (MAX_LINE ≡ 16777216) × (MAX_READS ≡ 1099511627776) }
+        ensures line { NextLine (S.tape self.old.source) (S.tape self.new.source) self.old.input self.new.input result }
+        ensures going { OnOk result (self.new.failed ≡ false) }
+    {
+        match self.input.line_alone(self.alloc, &mut self.source) {
+            Ok(line) => Ok(line),
+            Err(fault) => {
+                self.failed = true;
+                Err(EngineFault::from(fault))
+            }
+        }
+    }
+}

@@ -1,0 +1,35 @@
+-- What is done with the bytes at hand, and to have more of them.
+use Rattle.std.specs.Prelude.{◌≡◌, ◌⊎◌, ℕ, ◌+◌, ◌<◌, ◌≤◌, List, [], ◌∷◌, ◌++◌, true, false, length, take, drop, Result, OnOk, OnErr, IfErr}
+use Rattle.script_lines.specs.declared.line.Line.{Line}
+use Rattle.script_lines.specs.declared.line_fault.LineFault.{LineFault}
+use Rattle.script_lines.specs.declared.line_fault.LineFault.TheVariants.{Read}
+use Rattle.script_lines.specs.declared.input_buffer.TheConstants.{CHUNK}
+use Rattle.script_lines.specs.declared.input_buffer.Taken.{Taken}
+use Rattle.script_lines.specs.declared.input_buffer.Taken.TheVariants.{Whole, Part}
+use Rattle.script_lines.specs.Cut.{has_feed}
+use Rattle.script_lines.specs.Device.{Told, Tells}
+use Rattle.script_lines.specs.Unread.{Unread, skipped}
+use Rattle.script_lines.specs.Lines.{Shows, HasEnded}
+
+-- a line with more bytes behind it
+abbrev pub IsLonger : Line → List ℕ → Line → Type 0
+IsLonger line more longer = (bytes : List ℕ) → Shows line bytes → Shows longer (bytes ++ more)
+
+-- the bytes before the first line feed are taken off with it; where there is none, all are taken, and stay at hand
+abbrev pub IsTaken : Line → Unread → Unread → Taken → Type 0
+IsTaken line before after (Whole whole) = (at : ℕ) × (at < length before.bytes) × (has_feed (take at before.bytes) ≡ false)
+    × (drop at before.bytes ≡ 10 ∷ drop (at + 1) before.bytes) × (after ≡ skipped (at + 1) before) × IsLonger line (take at before.bytes) whole
+IsTaken line before after (Part part) = (after ≡ before) × (has_feed before.bytes ≡ false) × IsLonger line before.bytes part
+
+-- the reader was called once, and what it told is at hand; or it failed or may not be called again, and told nothing
+pub record Filled (old new : Told) (before after : Unread) (result : Result Unit LineFault) : Type 0 where
+  pub ok : OnOk result (Tells old new after.bytes)
+  pub ended : OnOk result (after.ended ≡ true → (after.bytes ≡ []) × HasEnded old new)
+  pub err : OnErr result (Tells old new [])
+  pub err_ended : OnErr result (after.ended ≡ before.ended)
+  pub later : old.ends ≤ new.ends
+  pub calls : new.calls + after.reads_left ≡ old.calls + before.reads_left
+  pub quiet : OnOk result (new.failures ≡ old.failures)
+  pub cause : IfErr result (λ e. (e ≡ Read) × ((old.failures < new.failures) ⊎ (after.reads_left ≡ 0)))
+  pub fewer : OnOk result (after.reads_left < before.reads_left)
+  pub small : OnOk result (length after.bytes ≤ CHUNK)

@@ -1,0 +1,141 @@
+ghost use Rattle.std.specs.Prelude.{◌≡◌};
+
+use crate::quiet::Quiet;
+use anyhow::{Result, bail};
+use batch_history::WorkItem;
+use batch_ids::{Moment, Parameters, T256};
+use batch_operator::{CopyCount, Operator};
+use job_threads::{Gate, Kit, PoolReport, pool};
+use jsl_json::read_catalogue;
+use jsl_model::Catalogue;
+use op_log::Answer;
+use seat_rules::{BookSeat, SeatTable, Site};
+use std::marker::Brand;
+use std::sync::Wait;
+use std::sync::atomic::{AtomicU64, Ordering};
+use std::thread;
+use std::thread::Threads;
+
+/// A job of a split with a step in each of two flows.
+const SPLIT: &[u8] =
+    b"{\"jobs\":[{\"id\":\"a\",\"elements\":[{\"kind\":\"split\",\"id\":\"p\",\"flows\":[{\"kind\":\"flow\",\"id\":\"f\",\"elements\":[{\"kind\":\"step\",\"id\":\"s\",\"batchlet\":{\"ref\":\"ok\"}}]},{\"kind\":\"flow\",\"id\":\"g\",\"elements\":[{\"kind\":\"step\",\"id\":\"t\",\"batchlet\":{\"ref\":\"ok\"}}]}]}]}]}";
+
+/// A job of a step in five partitions.
+const PARTITIONS: &[u8] =
+    b"{\"jobs\":[{\"id\":\"a\",\"elements\":[{\"kind\":\"step\",\"id\":\"s\",\"partitions\":5,\"batchlet\":{\"ref\":\"ok\"}}]}]}";
+
+/// How often a worker looks whether another has begun.
+const LOOKS: u64 = 10_000_000;
+
+/// Holds each work item until so many have begun, and counts those that saw it.
+#[derive(Drop)]
+struct Together {
+    wanted: u64,
+    begun: AtomicU64,
+    seen: AtomicU64,
+}
+
+impl Gate for Together {
+    fn before(&self, _worker: u64, _item: &WorkItem) {
+        self.begun.fetch_add(1, Ordering::SeqCst);
+        for _look in 0..LOOKS {
+            if self.begun.load(Ordering::SeqCst) >= self.wanted {
+                self.seen.fetch_add(1, Ordering::SeqCst);
+                return;
+            }
+            thread::yield_now();
+        }
+    }
+
+    fn idle(&self, _worker: u64) {
+        thread::yield_now();
+    }
+
+    fn now(&self) -> Moment {
+        0
+    }
+}
+
+fn gate_of(wanted: u64) -> Together {
+    Together {
+        wanted,
+        begun: AtomicU64::new(0),
+        seen: AtomicU64::new(0),
+    }
+}
+
+/// What two workers did with a job execution.
+#[derive(Clone, Copy)]
+struct Ran {
+    report: PoolReport,
+    completed: u64,
+}
+
+/// Starts the job `a` of a catalogue, runs it by two workers, and counts the job executions that are
+/// COMPLETED then.
+fn run_by_two<N: Site + Send + Sync, R: Threads + Wait + AllocGlobal + Sync>(
+    rt: &R,
+    gate: &Together,
+    table: SeatTable,
+    seat: BookSeat,
+    catalogue: Catalogue,
+) -> Result<Ran>
+    requires table { table ≡ N.place }
+    requires seat { seat ≡ N.place.table }
+    requires catalogue { catalogue ≡ N.place.catalogue }
+{
+    let Some(copies) = CopyCount::new(1) else {
+        bail!("one copy is too many");
+    };
+    let operator = Operator::<N>::new(rt.alloc(), table, seat, catalogue, copies)?;
+    let mut session = operator.open_session(rt)?;
+    let job = T256::new(rt.alloc(), "a")?;
+    operator.start(rt, &mut session, job, Parameters::none(rt.alloc()), 0)?;
+    let alloc = rt.alloc();
+    let mut one = Kit::new(alloc);
+    one.add(alloc, "ok", Box::new(alloc, Quiet { alloc })?)?;
+    let mut other = Kit::new(alloc);
+    other.add(alloc, "ok", Box::new(alloc, Quiet { alloc })?)?;
+    let mut kits = Vec::new(alloc);
+    kits.push(one)?;
+    kits.push(other)?;
+    let report = pool(rt, rt.alloc(), &operator, kits, gate)?;
+    match operator.status_counts(rt, &mut session)? {
+        Answer::StatusCounts(counts) => Ok(Ran {
+            report,
+            completed: counts.completed,
+        }),
+        _ => bail!("the counts are of another kind"),
+    }
+}
+
+/// Says what the workers did, and how many saw so many work items begun.
+fn print_ran(rt: &impl Print, name: &str, gate: &Together, ran: Ran) -> Result<()> {
+    let seen = gate.seen.load(Ordering::SeqCst);
+    println!(rt;
+        "{name}: {} work items, {} gave up, {seen} saw {} begun",
+        ran.report.items, ran.report.gave_up, gate.wanted
+    )?;
+    println!(rt; "{name}: {} COMPLETED", ran.completed)?;
+    Ok(())
+}
+
+/// Two workers run the two steps of a split at the same time.
+pub(crate) fn print_together<R: Threads + Wait + Print + AllocGlobal + Sync>(rt: &R) -> Result<()> {
+    let catalogue = read_catalogue(rt.alloc(), SPLIT)?;
+    let (table, seat) = SeatTable::new(rt.alloc(), &catalogue)?;
+    let gate = gate_of(2);
+    let ran = run_by_two::<Brand, _>(rt, &gate, table, seat, catalogue)?;
+    print_ran(rt, "together", &gate, ran)
+}
+
+/// Two workers run a step in five partitions.
+pub(crate) fn print_partitions<R: Threads + Wait + Print + AllocGlobal + Sync>(
+    rt: &R,
+) -> Result<()> {
+    let catalogue = read_catalogue(rt.alloc(), PARTITIONS)?;
+    let (table, seat) = SeatTable::new(rt.alloc(), &catalogue)?;
+    let gate = gate_of(1);
+    let ran = run_by_two::<Brand, _>(rt, &gate, table, seat, catalogue)?;
+    print_ran(rt, "partitions", &gate, ran)
+}

@@ -1,0 +1,111 @@
+use crate::quiet::Quiet;
+use anyhow::Result;
+use batch_history::{WorkItem, WorkTask};
+use batch_ids::{
+    ExecutionId, MetricStep, Moment, OutOfMemory, Refusal, T256, Text, WorkId, WorkOutcome,
+};
+use job_threads::{Claimed, Gate, Kit, Onward, Port, worker};
+use std::alloc::Global;
+
+/// A port that hands out one batchlet, and refuses what is reported of it.
+#[derive(Drop)]
+struct Refusing {
+    alloc: Global,
+    given_up: u64,
+    claims: u64,
+}
+
+fn batchlet(alloc: Global) -> std::result::Result<WorkItem, OutOfMemory> {
+    Ok(WorkItem {
+        work: WorkId::new(1),
+        execution: ExecutionId::new(1),
+        element: T256::empty(alloc),
+        partition: None,
+        task: WorkTask::Batchlet {
+            artifact: T256::empty(alloc),
+        },
+    })
+}
+
+impl Port for Refusing {
+    ghost use Rattle.std.specs.Prelude.{[]};
+
+    ghost reports = { λ _. [] };
+
+    ghost stops = { λ _. [] };
+
+    fn claim(&mut self, _at: Moment) -> std::result::Result<Claimed, Refusal> {
+        self.claims = self.claims.saturating_add(1);
+        let item = batchlet(self.alloc)?;
+        Ok(Claimed::Work(item))
+    }
+
+    fn checkpoint(
+        &mut self,
+        _work: WorkId,
+        _mark: Text<65536>,
+        _step: MetricStep,
+        _at: Moment,
+    ) -> std::result::Result<Onward, Refusal> {
+        Err(Refusal::WorkNotRunning)
+    }
+
+    fn finish(
+        &mut self,
+        _work: WorkId,
+        _outcome: WorkOutcome,
+        _exit: Option<T256>,
+        _step: MetricStep,
+        _at: Moment,
+    ) -> std::result::Result<(), Refusal> {
+        Err(Refusal::WorkNotRunning)
+    }
+
+    fn lose(&mut self, _work: WorkId, _at: Moment) -> std::result::Result<(), Refusal> {
+        self.given_up = self.given_up.saturating_add(1);
+        Err(Refusal::RepositoryFull)
+    }
+
+    fn stop_seen(&mut self, _execution: ExecutionId) -> bool {
+        false
+    }
+
+    fn unfinished(&mut self) -> std::result::Result<bool, Refusal> {
+        Ok(true)
+    }
+}
+
+/// A gate that does nothing.
+#[derive(Drop)]
+struct Open;
+
+impl Gate for Open {
+    fn before(&self, _worker: u64, _item: &WorkItem) {}
+
+    fn idle(&self, _worker: u64) {}
+
+    fn now(&self) -> Moment {
+        0
+    }
+}
+
+/// A worker whose finish is refused gives its work item up once, and answers the first refusal.
+pub(crate) fn print_given_up(rt: &(impl Print + AllocGlobal)) -> Result<()> {
+    let alloc = rt.alloc();
+    let mut kit = Kit::new(alloc);
+    kit.add(alloc, "", Box::new(alloc, Quiet { alloc })?)?;
+    let mut port = Refusing {
+        alloc,
+        given_up: 0,
+        claims: 0,
+    };
+    match worker(alloc, &mut port, &mut kit, &Open, 0, 3) {
+        Ok(report) => println!(rt; "given up: {} work items", report.items)?,
+        Err(refusal) => println!(rt; "given up: {refusal}")?,
+    }
+    println!(rt;
+        "given up: {} claims, {} losses",
+        port.claims, port.given_up
+    )?;
+    Ok(())
+}
