@@ -3,4 +3,9 @@
 pub enum Arguments {
     /// To answer a script.
     Script,
+    /// To run a catalogue's jobs.
+    Run {
+        /// By how many workers, 1 to 16.
+        workers: u64,
+    },
 }

@@ -3,11 +3,19 @@
 
 mod arguments;
 mod command_line;
+mod executions;
+mod help;
 mod program;
+mod replies;
+mod run;
+mod starts;
 
 use program::{program, refuse_words};
+use std::io::{Input, Write};
 use std::process::ExitCode;
 use std::rt::Env;
+use std::sync::Wait;
+use std::thread::Threads;
 use std::{env, io};
 
 /// The words of the command line, without the program's name.
@@ -19,26 +27,24 @@ fn words_of(rt: &(impl Env + AllocGlobal)) -> io::Result<Vec<String>> {
     Ok(words)
 }
 
-fn run(rt: &HostRuntime) -> io::Result<u8> {
+/// Reads the words of the command line, and runs the program on them.
+fn run_words<R: Threads + Wait + AllocGlobal + Env + Input + Print + Sync, F: Write>(
+    rt: &R,
+    faults: &mut F,
+) -> io::Result<u8> {
     let owned = words_of(rt)?;
     let mut words = Vec::new(rt.alloc());
     for word in &owned {
         words.push(word.as_str())?;
     }
-    let mut faults = rt.stderr();
-    Ok(program(
-        rt.alloc(),
-        words.as_slice(),
-        rt.reader(),
-        io::writer(rt),
-        &mut faults,
-    ))
+    Ok(program(rt, words.as_slice(), rt.reader(), io::writer(rt), faults))
 }
 
 fn main(rt: HostRuntime) -> ExitCode {
-    match run(&rt) {
+    let mut faults = rt.stderr();
+    match run_words(&rt, &mut faults) {
         Ok(status) => ExitCode::from(status),
-        Err(error) => ExitCode::from(refuse_words(&error, &mut rt.stderr())),
+        Err(error) => ExitCode::from(refuse_words(&error, &mut faults)),
     }
 }
 

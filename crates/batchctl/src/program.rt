@@ -1,12 +1,16 @@
 ghost use Rattle.std.specs.Prelude.{◌≡◌, ◌≢◌};
 ghost use Rattle.std.specs.IoError.{error_kind};
+ghost use Rattle.batchctl.specs.Asked.{AreInRange};
+ghost use Rattle.batchctl.specs.Statuses.{exit_status};
 
 use crate::arguments::Arguments;
 use crate::command_line::arguments;
+use crate::run::run_jobs;
 use script_engine::{Counted, EngineFault, run_script};
-use std::alloc::Global;
 use std::io;
 use std::io::{ErrorKind, Read, Write};
+use std::sync::Wait;
+use std::thread::Threads;
 
 /// The exit status of a run that is done, also of a request for help.
 pub const DONE: u8 = 0;
@@ -43,16 +47,12 @@ pub fn refuse_words<F: Write>(error: &io::Error, faults: &mut F) -> u8
     }
 }
 
-fn script<R: Read + Drop, W: Write + Drop, F: Write>(
-    alloc: Global,
-    reader: R,
-    writer: W,
-    faults: &mut F,
-) -> u8 {
-    let mut source = Counted::new(reader);
-    let mut sink = Counted::new(writer);
-    match run_script(alloc, &mut source, &mut sink) {
-        Ok(_) => DONE,
+/// Tells why a script or a run was not done to its end, and gives the exit status.
+fn end<F: Write>(outcome: Result<(), EngineFault>, faults: &mut F) -> u8
+    ensures { result ≡ exit_status outcome }
+{
+    match outcome {
+        Ok(()) => DONE,
         Err(EngineFault::Catalogue(_)) => FAULTY_CATALOGUE,
         Err(EngineFault::Read) => {
             tell(faults, "batchctl: read fault");
@@ -69,19 +69,39 @@ fn script<R: Read + Drop, W: Write + Drop, F: Write>(
     }
 }
 
+/// Does what the words of the command line ask for.
+fn run<R: Threads + Wait + AllocGlobal + Sync, D: Read + Drop, W: Write + Drop>(
+    rt: &R,
+    arguments: Arguments,
+    reader: D,
+    writer: W,
+) -> Result<(), EngineFault>
+    requires { AreInRange arguments }
+{
+    let mut source = Counted::new(reader);
+    let mut sink = Counted::new(writer);
+    match arguments {
+        Arguments::Script => {
+            run_script(rt.alloc(), &mut source, &mut sink)?;
+            Ok(())
+        }
+        Arguments::Run { workers } => run_jobs(rt, workers, source, &mut sink),
+    }
+}
+
 /// Runs the program on the words that follow its name, and gives the exit status: 0 done (also a
 /// request for help, its text on `writer`), 2 the command line was refused, 3 the catalogue was
 /// refused (its fault line on `writer`), 4 a read or a write failed, 5 out of memory. What goes to
 /// standard error is told to `faults`.
-pub fn program<R: Read + Drop, W: Write + Drop, F: Write>(
-    alloc: Global,
+pub fn program<R: Threads + Wait + AllocGlobal + Sync, D: Read + Drop, W: Write + Drop, F: Write>(
+    rt: &R,
     words: &[&str],
-    reader: R,
+    reader: D,
     mut writer: W,
     faults: &mut F,
 ) -> u8 {
-    match arguments(alloc, words) {
-        Ok(Arguments::Script) => script(alloc, reader, writer, faults),
+    match arguments(rt.alloc(), words) {
+        Ok(arguments) => end(run(rt, arguments, reader, writer), faults),
         Err(error) => {
             if error.use_stderr() {
                 let _ = write!(faults, "{error}");

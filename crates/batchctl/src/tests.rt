@@ -5,6 +5,22 @@ use std::test::Fail;
 
 const SCRIPT: &[u8] = b"{\"jobs\":[]}\n{\"do\":\"start\",\"by\":1,\"at\":0,\"job\":\"a\"}\n";
 
+/// A job of one chunk that filters, and its start.
+const CHUNK: &[u8] =
+    b"{\"jobs\":[{\"id\":\"c\",\"elements\":[{\"kind\":\"step\",\"id\":\"s\",\"chunk\":{\"item-count\":2,\"reader\":{\"ref\":\"count:5\"},\"processor\":{\"ref\":\"odd\"},\"writer\":{\"ref\":\"sink\"}}}]}]}\n{\"job\":\"c\"}\n";
+
+/// What is told of it.
+const CHUNK_RUN: &str =
+    "{\"execution\":1}\n{\"execution\":1,\"exit\":\"COMPLETED\",\"status\":\"COMPLETED\",\"steps\":[{\"exit\":\"COMPLETED\",\"metrics\":{\"COMMIT_COUNT\":3,\"FILTER_COUNT\":2,\"READ_COUNT\":5,\"WRITE_COUNT\":3},\"status\":\"COMPLETED\",\"step\":\"s\"}]}\n";
+
+/// Lines that start nothing, and one that does.
+const STARTS: &[u8] =
+    b"{\"jobs\":[{\"id\":\"a\",\"elements\":[{\"kind\":\"step\",\"id\":\"t\",\"next\":\"s\",\"batchlet\":{\"ref\":\"ok\"}},{\"kind\":\"step\",\"id\":\"s\",\"batchlet\":{\"ref\":\"fail\"}}]}]}\n{\"job\":\"zz\"}\n\n{\"job\":\"a\",\"by\":1}\n{\"job\":\"a\",\"parameters\":{\"k\":\"v\"}}";
+
+/// What they are answered, and what is told of the job execution: its steps by their ids.
+const STARTS_RUN: &str =
+    "{\"refused\":\"JobStartException\"}\n{\"refused\":\"BadLine\"}\n{\"execution\":1}\n{\"execution\":1,\"exit\":\"FAILED\",\"status\":\"FAILED\",\"steps\":[{\"exit\":\"FAILED\",\"metrics\":{},\"status\":\"FAILED\",\"step\":\"s\"},{\"exit\":\"COMPLETED\",\"metrics\":{},\"status\":\"COMPLETED\",\"step\":\"t\"}]}\n";
+
 /// A reader and a writer that fails at once.
 #[derive(Drop)]
 struct Broken;
@@ -33,7 +49,23 @@ fn a_script_is_answered_on_the_writer(rt: HostRuntime) {
     ] {
         let mut out = Vec::new(rt.alloc());
         let mut faults = Vec::new(rt.alloc());
-        let found = program(rt.alloc(), &["script"], input, &mut out, &mut faults);
+        let found = program(&rt, &["script"], input, &mut out, &mut faults);
+        assert_eq!(rt; found, status);
+        assert_eq!(rt; out.as_slice(), wanted.as_bytes());
+        assert!(rt; faults.is_empty());
+    }
+}
+
+#[test]
+fn a_catalogue_is_run(rt: HostRuntime) {
+    for (words, input, status, wanted) in [
+        (["run"].as_slice(), CHUNK, 0, CHUNK_RUN),
+        (&["run", "--workers", "16"], STARTS, 0, STARTS_RUN),
+        (&["run", "--workers=1"], b"", 3, "{\"fault\":\"NotJson\"}\n"),
+    ] {
+        let mut out = Vec::new(rt.alloc());
+        let mut faults = Vec::new(rt.alloc());
+        let found = program(&rt, words, input, &mut out, &mut faults);
         assert_eq!(rt; found, status);
         assert_eq!(rt; out.as_slice(), wanted.as_bytes());
         assert!(rt; faults.is_empty());
@@ -42,21 +74,23 @@ fn a_script_is_answered_on_the_writer(rt: HostRuntime) {
 
 #[test]
 fn a_failed_device_is_told_on_standard_error(rt: HostRuntime) {
-    let mut out = Vec::new(rt.alloc());
-    let mut faults = Vec::new(rt.alloc());
-    let found = program(rt.alloc(), &["script"], Broken, &mut out, &mut faults);
-    assert_eq!(rt; found, 4);
-    assert_eq!(rt; faults.as_slice(), b"batchctl: read fault\n".as_slice());
-    let mut faults = Vec::new(rt.alloc());
-    let found = program(rt.alloc(), &["script"], SCRIPT, Broken, &mut faults);
-    assert_eq!(rt; found, 4);
-    assert_eq!(rt; faults.as_slice(), b"batchctl: write fault\n".as_slice());
+    for word in ["script", "run"] {
+        let mut out = Vec::new(rt.alloc());
+        let mut faults = Vec::new(rt.alloc());
+        let found = program(&rt, &[word], Broken, &mut out, &mut faults);
+        assert_eq!(rt; found, 4);
+        assert_eq!(rt; faults.as_slice(), b"batchctl: read fault\n".as_slice());
+        let mut faults = Vec::new(rt.alloc());
+        let found = program(&rt, &[word], SCRIPT, Broken, &mut faults);
+        assert_eq!(rt; found, 4);
+        assert_eq!(rt; faults.as_slice(), b"batchctl: write fault\n".as_slice());
+    }
 }
 
 #[test]
 fn a_failed_device_is_told_where_help_was_asked_for(rt: HostRuntime) {
     let mut faults = Vec::new(rt.alloc());
-    let found = program(rt.alloc(), &["--help"], SCRIPT, Broken, &mut faults);
+    let found = program(&rt, &["--help"], SCRIPT, Broken, &mut faults);
     assert_eq!(rt; found, 4);
     assert_eq!(rt; faults.as_slice(), b"batchctl: write fault\n".as_slice());
 }
@@ -65,11 +99,11 @@ fn a_failed_device_is_told_where_help_was_asked_for(rt: HostRuntime) {
 fn help_goes_to_the_writer(rt: HostRuntime) {
     let mut out = Vec::new(rt.alloc());
     let mut faults = Vec::new(rt.alloc());
-    let found = program(rt.alloc(), &["--help"], SCRIPT, &mut out, &mut faults);
+    let found = program(&rt, &["--help"], SCRIPT, &mut out, &mut faults);
     assert_eq!(rt; found, 0);
     assert!(rt; !out.is_empty() && faults.is_empty());
     let mut out = Vec::new(rt.alloc());
-    let found = program(rt.alloc(), &["--version"], SCRIPT, &mut out, &mut faults);
+    let found = program(&rt, &["--version"], SCRIPT, &mut out, &mut faults);
     assert_eq!(rt; found, 0);
     assert_eq!(rt; out.as_slice(), b"batchctl 0.1.0\n".as_slice());
     assert!(rt; faults.is_empty());
@@ -82,10 +116,15 @@ fn mistakes_go_to_standard_error(rt: HostRuntime) {
         &["scrip"],
         &["Script"],
         &["script", "script"],
+        &["script", "--workers", "2"],
+        &["run", "--workers", "0"],
+        &["run", "--workers", "17"],
+        &["run", "--workers"],
+        &["run", "2"],
     ] {
         let mut out = Vec::new(rt.alloc());
         let mut faults = Vec::new(rt.alloc());
-        let found = program(rt.alloc(), words, SCRIPT, &mut out, &mut faults);
+        let found = program(&rt, words, SCRIPT, &mut out, &mut faults);
         assert_eq!(rt; found, 2);
         assert!(rt; out.is_empty() && !faults.is_empty());
     }

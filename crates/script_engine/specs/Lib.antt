@@ -2,6 +2,7 @@ pub use Rattle.script_lines.specs.Device
 pub use Rattle.script_lines.specs.Tape
 pub use Rattle.script_lines.specs.Cut
 pub use Rattle.script_lines.specs.Lines
+pub use Rattle.script_lines.specs.Unread
 pub mod Faults
 pub mod Script
 pub mod Summaries

@@ -28,8 +28,10 @@ pub fn catalogue_in(alloc: Global, first: &Option<Line>) -> Result<Catalogue, Re
     }
 }
 
-/// Replies with the line of a fault, and answers how the run ends by that.
-pub(crate) fn tell_fault<W: Sink>(
+/// Replies with the line of a catalogue's fault, and answers how the run ends by that: with the fault;
+/// with `Write` where the writer failed; or with `OutOfMemory` where memory is refused, also for the
+/// catalogue.
+pub fn tell_fault<W: Sink>(
     alloc: Global,
     output: &mut OutputBuffer,
     writer: &mut W,

@@ -11,7 +11,7 @@ mod run;
 mod start;
 mod summary;
 
-pub use catalogue::catalogue_in;
+pub use catalogue::{catalogue_in, tell_fault};
 pub use fault::EngineFault;
 pub use jsl_json::ReadFault;
 pub use lines::Lines;
@@ -20,7 +20,7 @@ pub use script_lines::{
     Counted, DeviceFault, Line, MAX_LINE, MAX_READS, OutputBuffer, Sink, Source,
 };
 pub use script_text::{
-    StartFault, StartLine, bad_line_text, fault_text, metrics_value, reply_text,
+    StartFault, StartLine, bad_line_text, execution_text, fault_text, metrics_value, reply_text,
 };
 pub use start::read_start;
 pub use summary::Summary;

@@ -1,5 +1,5 @@
-ghost use Rattle.std.specs.Prelude.{◌≡◌, false, IfOk, OnOk};
-ghost use Rattle.script_lines.specs.Unread.{nothing_read};
+ghost use Rattle.std.specs.Prelude.{◌≡◌, ◌<◌, false, IfOk, IsSome, OnOk};
+ghost use Rattle.script_lines.specs.Unread.{nothing_read, weight};
 ghost use Rattle.script_engine.specs.Reading.{NextLine};
 
 use crate::fault::EngineFault;
@@ -54,6 +54,7 @@ impl<S: Source + Drop> Lines<S> {
         ensures bounds { (MAX_LINE ≡ 16777216) × (MAX_READS ≡ 1099511627776) }
         ensures line { NextLine (S.tape self.old.source) (S.tape self.new.source) self.old.input self.new.input result }
         ensures going { OnOk result (self.new.failed ≡ false) }
+        ensures smaller { IfOk result (λ line. IsSome line → weight self.new.input < weight self.old.input) }
     {
         match self.input.line_alone(self.alloc, &mut self.source) {
             Ok(line) => Ok(line),

@@ -23,6 +23,8 @@ use Rattle.script_text.specs.Written.{count, with_members, is_shown, count_named
 use Rattle.script_text.specs.Parameters.{text_named, parameters_data}
 use Rattle.script_text.specs.Metrics.{metric_counts}
 use Rattle.script_text.specs.Faults.{fault_data}
+use Rattle.script_text.specs.Runs as runs
+use Rattle.script_text.specs.Runs.{run_step_data, step_by_id, values_of, run_steps_data}
 use Rattle.script_text.specs.Replies.{item_data, task_members, with_partition, reply_data}
 use Rattle.script_text.specs.Answers.{instance_data, execution_data, step_data, status_counts, answer_data}
 
@@ -77,6 +79,24 @@ execution_has_none e = simp (text_has_none, count_has_none)
 
 step_has_none : (s : StepRecord) → has_float (step_data s) ≡ false
 step_has_none s = simp (text_has_none, count_has_none, counts_have_none (metric_counts s.metrics))
+
+-- nor have the values of members
+values_have_none : (ms : Members) → members_have_float ms ≡ false → items_have_float (values_of ms) ≡ false
+values_have_none no_members none = refl
+values_have_none (member k d ms) none =
+    let apart : (has_float d ≡ false) × (members_have_float ms ≡ false) = or_parts (has_float d) (members_have_float ms) none in
+    rw (apart.0, values_have_none ms apart.1) refl
+
+run_step_has_none : (s : StepRecord) → has_float (run_step_data s) ≡ false
+run_step_has_none s = simp (text_has_none, counts_have_none (metric_counts s.metrics))
+
+run_steps_have_none : (steps : List StepRecord) → has_float (run_steps_data steps) ≡ false
+run_steps_have_none steps =
+    values_have_none (with_members no_members (map step_by_id steps)) (members_have_none step_by_id run_step_has_none no_members steps refl)
+
+-- nor has what a run tells of a job execution
+pub run_has_no_float : (e : ExecutionRecord) (steps : List StepRecord) → has_float (runs.execution_data e steps) ≡ false
+run_has_no_float e steps = simp (text_has_none, run_steps_have_none steps)
 
 -- a reply has none
 pub reply_has_no_float : (reply : Result Reply Refusal) → has_float (reply_data reply) ≡ false

@@ -10,3 +10,4 @@ pub mod Replies
 pub mod Answers
 pub mod Faults
 pub mod Starts
+pub mod Runs

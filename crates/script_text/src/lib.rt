@@ -13,6 +13,7 @@ mod queries;
 mod raw;
 mod records;
 mod reply;
+mod run;
 mod start;
 mod written;
 
@@ -21,4 +22,5 @@ pub use command::{Command, read_command};
 pub use fault::fault_text;
 pub use metrics::metrics_value;
 pub use reply::{bad_line_text, reply_text};
+pub use run::execution_text;
 pub use start::{StartFault, StartLine, read_start};

@@ -77,7 +77,7 @@ impl Port for Refusing {
 
 /// A gate that does nothing.
 #[derive(Drop)]
-struct Open;
+pub(crate) struct Open;
 
 impl Gate for Open {
     fn before(&self, _worker: u64, _item: &WorkItem) {}

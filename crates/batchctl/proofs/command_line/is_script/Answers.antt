@@ -1,4 +1,4 @@
-use Rattle.std.proofs.Common.{◌≡◌, ◌↔◌, ◌∷◌, [], IsTrue, map, ℕ, ◌<◌, ◌≤◌, length, get_or, Bool, true, List, Bor, codes, ap, sym, ◌∙◌, arith}
+use Rattle.std.proofs.Common.{◌≡◌, ◌↔◌, ◌∷◌, [], IsTrue, map, ℕ, ◌<◌, ◌≤◌, length, get_or, Bool, List, Bor, codes, ap, sym, ◌∙◌, arith}
 use Rattle.std.specs.Str.{bytes_eq}
 use Rattle.std.proofs.lemmas.Slice.Eq.{bytes_eq-Decides}
 use Rattle.batchctl.proofs.command_line.is_script.Goals as goal

@@ -1,0 +1,102 @@
+// The texts of help.
+
+/// What the program is for.
+pub const ABOUT: &str =
+    "Drives a repository of batch jobs: starts and restarts them, hands out their work and tells how they stand";
+
+/// What `script` is for.
+pub const SCRIPT_ABOUT: &str =
+    "Answers a script of commands from standard input, one reply line for each line";
+
+/// What stands in the lines of a script.
+pub const SCRIPT_HELP: &str =
+    r#"Standard input is text, one JSON value a line. The first line is the catalogue of jobs; each later
+line is a command or a query. An empty line has no reply; every other line has one, written to
+standard output before the next line is waited for.
+
+Commands (`by` is the session's number from 1, `at` the moment in milliseconds; what stands in
+brackets may be left out):
+  {"do":"start","by":N,"at":N,"job":T[,"parameters":{T:T,..}]}
+                                   makes a job instance and its first execution
+  {"do":"restart","by":N,"at":N,"execution":N[,"parameters":{T:T,..}]}
+                                   goes on with the job instance of a FAILED or STOPPED execution,
+                                   its most recent one, in a further execution
+  {"do":"stop","by":N,"at":N,"execution":N}
+                                   asks an unfinished execution to stop
+  {"do":"abandon","by":N,"at":N,"execution":N}
+                                   gives a finished execution up
+  {"do":"claim","by":N,"at":N}     asks for a work item: a step, a partition of one, or a decision
+  {"do":"checkpoint","by":N,"at":N,"work":N,"data":T[,"metrics":{M:N,..}]}
+                                   keeps where the chunk of a work item goes on
+  {"do":"finish","by":N,"at":N,"work":N,"outcome":O[,"exit":T][,"metrics":{M:N,..}]}
+                                   ends a work item; O is COMPLETED, FAILED or STOPPED
+  {"do":"lose","by":N,"at":N,"work":N}
+                                   gives up a work item whose worker is gone: it is FAILED
+  {"do":"purge","by":N,"at":N,"instance":N}
+                                   removes a job instance whose executions are all finished
+M is READ_COUNT, WRITE_COUNT, COMMIT_COUNT, ROLLBACK_COUNT, READ_SKIP_COUNT, PROCESS_SKIP_COUNT,
+FILTER_COUNT or WRITE_SKIP_COUNT; its number, up to 4294967295, is added to the work item's.
+
+Queries:
+  {"ask":"job_names"}              the jobs that have an instance
+  {"ask":"job_instance_count","job":T}
+  {"ask":"job_instances","job":T,"start":N,"count":N}
+                                   the newest first, the first "start" of them left out
+  {"ask":"running_executions","job":T}
+  {"ask":"parameters","execution":N}
+  {"ask":"job_instance","execution":N}
+  {"ask":"job_executions","instance":N}
+  {"ask":"job_execution","execution":N}
+  {"ask":"step_executions","execution":N}
+  {"ask":"status_counts"}          how many executions have each status
+
+A line that is none of these is answered {"refused":"BadLine"}; a refusal is {"refused":NAME}, and
+changes nothing.
+
+Example:
+  batchctl script <<'END'
+  {"jobs":[{"id":"nightly","elements":[{"kind":"step","id":"load","batchlet":{"ref":"ok"}}]}]}
+  {"do":"start","by":1,"at":10,"job":"nightly"}
+  {"do":"claim","by":2,"at":20}
+  {"do":"finish","by":2,"at":30,"work":1,"outcome":"COMPLETED"}
+  {"ask":"job_execution","execution":1}
+  END
+
+Exit status: 0 done, 2 the command line was refused, 3 the catalogue was refused (its fault is the
+one line of output), 4 a read or a write failed, 5 out of memory."#;
+
+/// What `run` is for.
+pub const RUN_ABOUT: &str =
+    "Starts jobs of a catalogue and runs them by workers with built-in artifacts";
+
+/// What `--workers` is for.
+pub const WORKERS_HELP: &str = "How many workers run the jobs, 1 to 16";
+
+/// What stands in the lines of a run.
+pub const RUN_HELP: &str =
+    r#"Standard input is text, one JSON value a line. The first line is the catalogue of jobs; each later
+line starts a job, at moment 0 (what stands in brackets may be left out):
+  {"job":T[,"parameters":{T:T,..}]}
+
+An empty line has no reply; every other line has one: {"execution":N}, or {"refused":NAME} where
+nothing is started. When the input has ended, the workers run what was started. After that one line
+is written for each job execution, by rising number: its exit status (null for none), its batch
+status, and its step executions, by the step's id, with their metrics.
+
+Artifacts that a catalogue may name (`ref`):
+  ok        a batchlet or decider that completes
+  fail      a batchlet or decider that faults
+  exit:T    a batchlet or decider that completes with the exit status T
+  count:N   a reader of the numbers 1 to N, of at most nine digits
+  odd       a processor that filters out what ends in an even digit
+  sink      a writer that takes everything
+Any other name, and any other use of these, faults when it is called: its work item is FAILED.
+
+Example:
+  batchctl run --workers 2 <<'END'
+  {"jobs":[{"id":"nightly","elements":[{"kind":"step","id":"load","batchlet":{"ref":"ok"}}]}]}
+  {"job":"nightly"}
+  END
+
+Exit status: 0 done, 2 the command line was refused, 3 the catalogue was refused (its fault is the
+one line of output), 4 a read or a write failed, 5 out of memory."#;

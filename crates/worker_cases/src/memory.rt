@@ -1,0 +1,137 @@
+use batch_history::{WorkItem, WorkTask};
+use batch_ids::{ExecutionId, MetricStep, Moment, Refusal, T256, Text, WorkId, WorkOutcome};
+use job_threads::{Claimed, Onward, Port, Report};
+use std::alloc::Global;
+
+/// What a port in memory answers otherwise than a repository with room.
+#[derive(Clone, Copy)]
+pub(crate) struct Answers {
+    /// At which checkpoint, counted from 1, memory is refused.
+    pub(crate) refused_checkpoint: Option<u64>,
+    /// Whether a loss is refused.
+    pub(crate) refuses_loss: bool,
+    /// After how many checkpoints a stop is seen.
+    pub(crate) stop_after: Option<u64>,
+}
+
+/// A port that hands out one work item, and keeps what is reported of it.
+#[derive(Drop)]
+pub(crate) struct Memory {
+    answers: Answers,
+    item: Option<WorkItem>,
+    pub(crate) checkpoints: u64,
+    pub(crate) losses: u64,
+    pub(crate) reports: Vec<Report>,
+    stops: Vec<ExecutionId>,
+}
+
+/// A work item with this to run.
+pub(crate) fn item_of(alloc: Global, task: WorkTask) -> Result<WorkItem, Refusal> {
+    Ok(WorkItem {
+        work: WorkId::new(1),
+        execution: ExecutionId::new(1),
+        element: T256::new(alloc, "s")?,
+        partition: None,
+        task,
+    })
+}
+
+/// A chunk in groups of two items, with these names of its reader and its writer.
+pub(crate) fn chunk(alloc: Global, reader: &str, writer: &str) -> Result<WorkTask, Refusal> {
+    Ok(WorkTask::Chunk {
+        reader: T256::new(alloc, reader)?,
+        processor: Some(T256::new(alloc, "p")?),
+        writer: T256::new(alloc, writer)?,
+        item_count: 2,
+        checkpoint: None,
+    })
+}
+
+impl Memory {
+    pub(crate) fn new(alloc: Global, item: WorkItem, answers: Answers) -> Memory {
+        Memory {
+            answers,
+            item: Some(item),
+            checkpoints: 0,
+            losses: 0,
+            reports: Vec::new(alloc),
+            stops: Vec::new(alloc),
+        }
+    }
+
+    /// Whether a stop is seen by now.
+    fn is_stopped(&self) -> bool {
+        match self.answers.stop_after {
+            None => false,
+            Some(after) => self.checkpoints >= after,
+        }
+    }
+}
+
+impl Port for Memory {
+    ghost reports = { λ p. p.reports.items };
+
+    ghost stops = { λ p. p.stops.items };
+
+    fn claim(&mut self, _at: Moment) -> Result<Claimed, Refusal> {
+        match self.item.take() {
+            None => Ok(Claimed::Nothing),
+            Some(item) => Ok(Claimed::Work(item)),
+        }
+    }
+
+    fn checkpoint(
+        &mut self,
+        work: WorkId,
+        mark: Text<65536>,
+        step: MetricStep,
+        at: Moment,
+    ) -> Result<Onward, Refusal> {
+        self.checkpoints = self.checkpoints.saturating_add(1);
+        if self.answers.refused_checkpoint == Some(self.checkpoints) {
+            return Err(Refusal::OutOfMemory);
+        }
+        self.reports.push(Report::Checkpoint {
+            work,
+            mark,
+            step,
+            at,
+            reply: Onward::Go,
+        })?;
+        Ok(Onward::Go)
+    }
+
+    fn finish(
+        &mut self,
+        work: WorkId,
+        outcome: WorkOutcome,
+        exit: Option<T256>,
+        step: MetricStep,
+        at: Moment,
+    ) -> Result<(), Refusal> {
+        self.reports.push(Report::Finish {
+            work,
+            outcome,
+            exit,
+            step,
+            at,
+        })?;
+        Ok(())
+    }
+
+    fn lose(&mut self, _work: WorkId, _at: Moment) -> Result<(), Refusal> {
+        self.losses = self.losses.saturating_add(1);
+        if self.answers.refuses_loss {
+            return Err(Refusal::WorkNotRunning);
+        }
+        Ok(())
+    }
+
+    fn stop_seen(&mut self, execution: ExecutionId) -> bool {
+        self.is_stopped() && self.stops.push(execution).is_ok()
+    }
+
+    fn unfinished(&mut self) -> Result<bool, Refusal> {
+        Ok(false)
+    }
+}
