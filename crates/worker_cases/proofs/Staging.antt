@@ -23,5 +23,10 @@ pub read-next : (items : List (String Global)) (at : ℕ) (past : Past) (x copy 
     → Reading (Ok (Some copy)) (staged items at past) (staged items (at + 1) past)
 read-next items at past x copy there same =
     let s : at + 1 ≡ suc at = omega arith in
-    rw s (coming x, map coming (drop (suc at) items), ap (map coming) (drop-next items at x there), sym same,
-    ap (λ (mark : List ℕ). record (staged items at past) { left = map coming (drop (suc at) items); mark = mark }) (ap mark_of there))
+    rw s (
+      coming x,
+      map coming (drop (suc at) items),
+      ap (map coming) (drop-next items at x there),
+      sym same,
+      ap (λ (mark : List ℕ). record (staged items at past) { left = map coming (drop (suc at) items); mark = mark }) (ap mark_of there),
+    )
