@@ -1,20 +1,27 @@
 -- A walk that learns something of a work key that it shows.
-use Rattle.std.proofs.Common.{◌≡◌, ◌||◌, ℕ, Bool, true, false, List, refl, ◌∙◌, ap}
+use Rattle.std.proofs.Common.{◌≡◌, ◌||◌, ℕ, Bool, true, false, List, [], ◌++◌, refl, sym, ◌∙◌, ap}
 use Rattle.std.specs.List.{flat_map}
 use Rattle.jsl_model.specs.Jobs.{JobTree}
 use Rattle.jsl_model.specs.declared.element.Element.{Element}
 use Rattle.job_walk.specs.declared.facts.Fact.{Fact}
 use Rattle.job_walk.specs.declared.facts.Known.{Known}
 use Rattle.job_walk.specs.declared.facts.Value.{Value}
+use Rattle.job_walk.specs.declared.kept_list.KeptList.{KeptList}
+use Rattle.job_walk.specs.declared.kept_list.ListChange.{ListChange}
 use Rattle.job_walk.specs.declared.plan.Plan.{Plan}
-use Rattle.job_walk.specs.Cursors.{CursorState, IsCursor, IsWalked, known_keys, known_at_first, value_in, ready_of, busy_of, is_shown, put_fact}
+use Rattle.job_walk.specs.Cursors.{CursorState, IsCursor, known_keys, known_at_first, value_in, ready_of, busy_of, is_shown, put_fact, with_fact}
 use Rattle.job_walk.specs.declared.work_key.WorkKey.{WorkKey}
 use Rattle.job_walk.specs.Keys.{has_key}
 use Rattle.job_walk.specs.Lists.{has_element}
 use Rattle.job_walk.specs.Runnables.{all_leaves, all_keys}
+use Rattle.job_walk.specs.KeptLists.{IsKept, ChangesList, ComesTo, facts_after, first_shows, kept_of, put_all}
+use Rattle.job_walk.specs.Preparing.{kept_in}
 use Rattle.job_walk.specs.Walk.{fact_of, value_of}
 use Rattle.job_walk.proofs.Beginning.{first-keys}
+use Rattle.job_walk.proofs.Descent.{head_in}
+use Rattle.job_walk.proofs.KeptAtFirst.{no-more}
 use Rattle.job_walk.proofs.Newest.{put-keys}
+use Rattle.job_walk.proofs.Reporting.{value_is_kept}
 use Rattle.job_walk.proofs.Shown.{ready-leaf, busy-leaf}
 
 either : (a b c : Bool) → (a ≡ true → c ≡ true) → (b ≡ true → c ≡ true) → (a || b) ≡ true → c ≡ true
@@ -34,21 +41,67 @@ pub still-known : (known new : List Known) (key other : WorkKey) (fact : Fact) �
     → has_key (known_keys known) other ≡ true → has_key (known_keys new) other ≡ true
 still-known known new key other fact is among = ap (λ keys. has_key keys other) (ap known_keys is ∙ put-keys known key fact) ∙ among
 
--- with the value of what is known now, it is a walk as before
-pub still-walked : (cursor : CursorState) (old value : Value) (key : WorkKey) (fact : Fact) (new known : List Known) (elements : List Element) → IsWalked old cursor
-    → new ≡ put_fact cursor.facts key fact → known ≡ new → elements ≡ cursor.job.elements → value ≡ value_of (fact_of known) elements cursor.from
-    → IsWalked value record { job = cursor.job; from = cursor.from; facts = new }
-still-walked cursor old value key fact new known elements walked put same those is = record {
-  same = is ∙ (ap (λ ks. value_of (fact_of ks) elements cursor.from) same ∙ ap (λ es. value_of (fact_of new) es cursor.from) those);
-  state = record { begins = walked.state.begins; each = (ap known_keys put ∙ put-keys cursor.facts key fact) ∙ walked.state.each };
+-- what is kept of the job's lists stands at hand
+pub at-hand : (cursor : CursorState) (old lists : List KeptList) (elements : List Element) (known : List Known) → IsKept old cursor → lists ≡ old → elements ≡ cursor.job.elements
+    → known ≡ cursor.facts → lists ≡ kept_of (fact_of known) elements cursor.from ++ []
+at-hand cursor old lists elements known kept these those same =
+    these ∙ (kept.same ∙ (ap (λ es. kept_of (fact_of cursor.facts) es cursor.from) (sym those)
+    ∙ (ap (λ ks. kept_of (fact_of ks) elements cursor.from) (sym same) ∙ sym (no-more (kept_of (fact_of known) elements cursor.from)))))
+
+-- the job's own list shows what the walk shows
+pub shown-first : (cursor : CursorState) (old lists : List KeptList) (key : WorkKey) → IsKept old cursor → lists ≡ old → is_shown (value_in cursor) key ≡ true → first_shows key lists ≡ true
+shown-first cursor old lists key kept these shown =
+    let facts = fact_of cursor.facts in
+    let es = cursor.job.elements in
+    ap (first_shows key) (these ∙ kept.same)
+    ∙ (ap (λ v. is_shown v key) (value_is_kept facts es cursor.from (kept_of facts es cursor.from) (head_in facts es cursor.from) refl).0 ∙ shown)
+
+-- the changes make of what is kept what is kept then
+pub learnt-lists : (cursor : CursorState) (old lists : List KeptList) (key : WorkKey) (fact : Fact) (others changes : List ListChange) (elements : List Element) (known : List Known) → IsKept old cursor
+    → lists ≡ old → elements ≡ cursor.job.elements → known ≡ cursor.facts → others ≡ []
+    → ChangesList others changes 0 lists (fact_of known) (facts_after known key fact) elements
+    → put_all changes (kept_in cursor) ≡ kept_in (with_fact cursor key fact)
+learnt-lists cursor old lists key fact others changes elements known kept these those same none changed =
+    let is = at-hand cursor old lists elements known kept these those same in
+    let puts = changed cursor.from [] is [] [] refl in
+    let later = kept_of (facts_after known key fact) elements cursor.from in
+    ap (put_all changes) (sym kept.same ∙ (sym these ∙ is)) ∙ (puts ∙ (ap (λ xs. put_all xs (later ++ [])) none ∙ (no-more later
+    ∙ (ap (λ ks. kept_of (fact_of (put_fact ks key fact)) elements cursor.from) same
+    ∙ ap (λ es. kept_of (fact_of (put_fact cursor.facts key fact)) es cursor.from) those))))
+
+-- and the job comes to what its own list comes to
+pub learnt-value : (cursor : CursorState) (old lists : List KeptList) (key : WorkKey) (fact : Fact) (elements : List Element) (known : List Known) (value : Value) → IsKept old cursor
+    → lists ≡ old → elements ≡ cursor.job.elements → known ≡ cursor.facts → ComesTo value lists (fact_of known) (facts_after known key fact) elements
+    → value ≡ value_in (with_fact cursor key fact)
+learnt-value cursor old lists key fact elements known value kept these those same comes =
+    let is = at-hand cursor old lists elements known kept these those same in
+    let later = facts_after known key fact in
+    comes cursor.from [] is ∙ ((value_is_kept later elements cursor.from (kept_of later elements cursor.from) (head_in later elements cursor.from) refl).0
+    ∙ (ap (λ ks. value_of (fact_of (put_fact ks key fact)) elements cursor.from) same
+    ∙ ap (λ es. value_of (fact_of (put_fact cursor.facts key fact)) es cursor.from) those))
+
+-- with what is learnt put into what is kept, it is a walk as before
+pub still-kept : (cursor : CursorState) (old new : List KeptList) (key : WorkKey) (fact : Fact) (changes : List ListChange) (now : List Known) → IsKept old cursor
+    → put_all changes (kept_in cursor) ≡ kept_in (with_fact cursor key fact)
+    → now ≡ put_fact cursor.facts key fact → new ≡ put_all changes old
+    → IsKept new record { job = cursor.job; from = cursor.from; facts = now }
+still-kept cursor old new key fact changes now kept changed learnt put = record {
+  same = put ∙ (ap (put_all changes) kept.same ∙ (changed ∙ ap (λ ks. kept_of (fact_of ks) cursor.job.elements cursor.from) (sym learnt)));
+  state = record { begins = kept.state.begins; each = (ap known_keys learnt ∙ put-keys cursor.facts key fact) ∙ kept.state.each };
 }
 
 -- a walk that begins
-pub walked-first : (plan : Plan) (told : List Known) (job : JobTree) (from : List ℕ) (known new : List Known) (others elements : List Element) (value : Value)
-    → others ≡ job.elements → new ≡ flat_map (known_at_first plan told) (all_leaves others)
-    → known ≡ new → elements ≡ job.elements → value ≡ value_of (fact_of known) elements from → has_element job.elements from ≡ true
-    → IsWalked value record { job = job; from = from; facts = new }
-walked-first plan told job from known new others elements value these made same those is begins = record {
-  same = is ∙ (ap (λ ks. value_of (fact_of ks) elements from) same ∙ ap (λ es. value_of (fact_of new) es from) those);
-  state = record { begins = begins; each = ap known_keys made ∙ (first-keys plan told (all_leaves others) ∙ ap (λ es. all_keys (all_leaves es)) these) };
+pub begins-walk : (plan : Plan) (told : List Known) (job : JobTree) (from : List ℕ) (known : List Known) (others : List Element)
+    → others ≡ job.elements → known ≡ flat_map (known_at_first plan told) (all_leaves others) → has_element job.elements from ≡ true
+    → IsCursor record { job = job; from = from; facts = known }
+begins-walk plan told job from known others these made begins =
+    record { begins = begins; each = ap known_keys made ∙ (first-keys plan told (all_leaves others) ∙ ap (λ es. all_keys (all_leaves es)) these) }
+
+-- what is kept of it at first
+pub kept-first : (job : JobTree) (from : List ℕ) (known shared : List Known) (elements : List Element) (before lists : List KeptList) → IsCursor record { job = job; from = from; facts = known }
+    → shared ≡ known → elements ≡ job.elements → before ≡ [] → lists ≡ before ++ kept_of (fact_of shared) elements from → IsKept lists record { job = job; from = from; facts = known }
+kept-first job from known shared elements before lists state same those none made = record {
+  same =
+      made ∙ (ap (λ xs. xs ++ kept_of (fact_of shared) elements from) none ∙ (ap (λ ks. kept_of (fact_of ks) elements from) same ∙ ap (λ es. kept_of (fact_of known) es from) those));
+  state = state;
 }

@@ -46,7 +46,7 @@ none-passes p (x ∷ xs) h =
     let parts = or_parts (p x) (list_any p xs) h in
     All-cons (λ x. p x ≡ false) x xs parts.0 (none-passes p xs parts.1)
 
-not-fault : (b : Bool) (fault : JobFault) (rest : Option JobFault) → cond b (Some fault) rest ≡ None → b ≡ false
+pub not-fault : (b : Bool) (fault : JobFault) (rest : Option JobFault) → cond b (Some fault) rest ≡ None → b ≡ false
 not-fault true fault rest h = cc
 not-fault false fault rest h = refl
 

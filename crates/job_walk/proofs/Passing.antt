@@ -1,5 +1,5 @@
 -- What a walk shows and where it lets a restart begin: work keys of the tree, and ids that stand in it.
-use Rattle.std.proofs.Common.{◌≡◌, ℕ, zero, suc, Bool, true, false, cond, ◌&&◌, ◌||◌, not, Option, None, Some, List, [], ◌∷◌, ◌++◌, map, find, refl, sym, ◌∙◌, ap, subst}
+use Rattle.std.proofs.Common.{◌≡◌, ℕ, zero, suc, Bool, true, false, cond, ◌&&◌, ◌||◌, Option, None, Some, List, [], ◌∷◌, ◌++◌, map, find, refl, sym, ◌∙◌, ap, subst}
 use Rattle.std.specs.List.{list_all, filter, cons_option}
 use Rattle.std.specs.Str.{bytes_eq}
 use Rattle.std.proofs.lemmas.List.Folds.{list_all-append}
@@ -50,7 +50,7 @@ Passes tests (Done exit) = Unit {0}
 Passes tests (Ended status exit point) = IfThere tests.point point
 
 -- the same of what an element comes to by itself
-abbrev ResultPasses : Tests → ElementResult → Type 0
+abbrev pub ResultPasses : Tests → ElementResult → Type 0
 ResultPasses tests (ListValue value) = Passes tests value
 ResultPasses tests (Outcome outcome exit) = Unit {0}
 
@@ -302,7 +302,7 @@ open-passes tests facts keys h =
       | false ↦ tt
     ]
 
-step-passes : (tests : Tests) (facts : WorkKey → Fact) (id : List ℕ) (partitions : Option ℕ) → list_all tests.shown (keys_of_step id partitions) ≡ true
+pub step-passes : (tests : Tests) (facts : WorkKey → Fact) (id : List ℕ) (partitions : Option ℕ) → list_all tests.shown (keys_of_step id partitions) ≡ true
     → ResultPasses tests (step_result facts id partitions)
 step-passes tests facts id None h = runnable-passes tests (key_of id 0) (facts (key_of id 0)) h
 step-passes tests facts id (Some count) h =

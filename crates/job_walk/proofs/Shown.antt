@@ -48,12 +48,12 @@ pub shown-leaves : (facts : WorkKey → Fact) (elements : List Element) (from : 
 shown-leaves facts elements from =
     walk-passes (of_leaves elements) facts elements from (all-true (restarts (nodes elements))) (all-among (all_keys (all_leaves elements)))
 
-ready-passes : (tests : Tests) (value : Value) (key : WorkKey) → Passes tests value → has_key (ready_of value) key ≡ true → tests.shown key ≡ true
+pub ready-passes : (tests : Tests) (value : Value) (key : WorkKey) → Passes tests value → has_key (ready_of value) key ≡ true → tests.shown key ≡ true
 ready-passes tests (Open ready busy) key h k = any-pass tests.shown ready key h.0 k
 ready-passes tests (Done exit) key h k = cc
 ready-passes tests (Ended status exit point) key h k = cc
 
-busy-passes : (tests : Tests) (value : Value) (key : WorkKey) → Passes tests value → has_key (busy_of value) key ≡ true → tests.shown key ≡ true
+pub busy-passes : (tests : Tests) (value : Value) (key : WorkKey) → Passes tests value → has_key (busy_of value) key ≡ true → tests.shown key ≡ true
 busy-passes tests (Open ready busy) key h k = any-pass tests.shown busy key h.1 k
 busy-passes tests (Done exit) key h k = cc
 busy-passes tests (Ended status exit point) key h k = cc

@@ -1,6 +1,7 @@
 ghost use Rattle.std.specs.Prelude.{◌≡◌, List, ℕ, IfOk, unwrap_or};
 ghost use Rattle.batch_ids.specs.Statuses.{status_name};
 ghost use Rattle.transitions.specs.Transitions.{matching_transition};
+ghost use Rattle.job_walk.specs.KeptLists.{continuation_by, continuation_of};
 ghost use Rattle.job_walk.specs.Walk.{value_by_transition, value_after_outcome, value_of_continuation};
 ghost use Rattle.job_walk.specs.declared.facts.Value.{Value};
 
@@ -36,8 +37,9 @@ fn exit_or_name(
 
 /// What a transition element does.
 fn continuation_by(alloc: Global, then: &Then) -> Result<Continuation, OutOfMemory>
-    ensures { IfOk result (λ made. (on : List ℕ → Value)
+    ensures value { IfOk result (λ made. (on : List ℕ → Value)
         → value_by_transition on then.now ≡ value_of_continuation on made) }
+    ensures is { IfOk result (λ made. made ≡ continuation_by then.now) }
 {
     match then {
         Then::Next { to } => Ok(Continuation::AtElement(to.try_clone()?)),
@@ -69,10 +71,12 @@ pub(crate) fn continuation_after(
     outcome: WorkOutcome,
     exit: T256,
 ) -> Result<Continuation, OutOfMemory>
-    ensures { IfOk result (λ made. (on : List ℕ → Value)
+    ensures value { IfOk result (λ made. (on : List ℕ → Value)
         → value_after_outcome on element.now.next
         (matching_transition element.now.transitions exit) outcome exit
         ≡ value_of_continuation on made) }
+    ensures is { IfOk result (λ made. made ≡ continuation_of element.now.next
+        (matching_transition element.now.transitions exit) outcome exit) }
 {
     match outcome {
         WorkOutcome::Stopped => {

@@ -88,6 +88,22 @@ pub(crate) fn fact_of(known: &[Known], element: &T256, partition: u32) -> Result
     }
 }
 
+/// What a decision, or a step that isn't partitioned, comes to by itself, where this is known of it.
+pub(crate) fn result_by(alloc: Global, id: &T256, fact: &Fact) -> Result<ElementResult, OutOfMemory>
+    ensures { IfOk result (λ made. made ≡ runnable_result (key_of id.now 0) fact.now) }
+{
+    match fact {
+        Fact::Nothing => ready_result(alloc, id),
+        Fact::Carried(exit) => Ok(ElementResult::Outcome(
+            WorkOutcome::Completed,
+            exit.try_clone()?,
+        )),
+        Fact::Busy => busy_result(alloc, id),
+        Fact::Over(outcome, exit) => Ok(ElementResult::Outcome(*outcome, exit.try_clone()?)),
+        Fact::Barred => Ok(ElementResult::ListValue(ended_value(alloc, BatchStatus::Failed)?)),
+    }
+}
+
 /// What a decision, or a step that isn't partitioned, comes to by itself.
 pub(crate) fn runnable_result(
     alloc: Global,
@@ -99,15 +115,6 @@ pub(crate) fn runnable_result(
 {
     match find_known(known, id, 0) {
         None => ready_result(alloc, id),
-        Some(one) => match &one.fact {
-            Fact::Nothing => ready_result(alloc, id),
-            Fact::Carried(exit) => Ok(ElementResult::Outcome(
-                WorkOutcome::Completed,
-                exit.try_clone()?,
-            )),
-            Fact::Busy => busy_result(alloc, id),
-            Fact::Over(outcome, exit) => Ok(ElementResult::Outcome(*outcome, exit.try_clone()?)),
-            Fact::Barred => Ok(ElementResult::ListValue(ended_value(alloc, BatchStatus::Failed)?)),
-        },
+        Some(one) => result_by(alloc, id, &one.fact),
     }
 }

@@ -1,15 +1,22 @@
 //! The walk of a job execution: what the job's lists come to, by what is known of each work key.
 #![tactic(auto)]
 
+mod changes;
 mod continuation;
 mod copies;
 mod cursor;
 mod element_result;
 mod facts;
 mod first_facts;
+mod index;
+mod keeping;
+mod kept_list;
 mod law;
+mod learnt;
 mod partitions;
 mod plan;
+mod prepared;
+mod progress;
 mod runnable;
 mod splits;
 mod walk;
@@ -24,6 +31,7 @@ pub use law::{
     what_is_known_at_first_decides_a_walk, what_is_shown_is_a_step_or_decision,
 };
 pub use plan::Plan;
+pub use prepared::Prepared;
 pub use runnable::{Runnable, find_partitions, find_runnable};
 pub use walk::walk_value;
 pub use work_key::WorkKey;

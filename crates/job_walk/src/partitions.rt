@@ -134,7 +134,10 @@ fn strongest_outcome(partitions: &[Known]) -> WorkOutcome
 }
 
 /// What a partitioned step comes to by itself.
-fn partitioned_result(alloc: Global, partitions: &[Known]) -> Result<ElementResult, OutOfMemory>
+pub(crate) fn partitioned_result(
+    alloc: Global,
+    partitions: &[Known],
+) -> Result<ElementResult, OutOfMemory>
     ensures { IfOk result (λ made. made ≡ partitioned_result partitions.now) }
 {
     if has_barred(partitions) {

@@ -6,10 +6,10 @@ use Rattle.batch_history.specs.declared.rows.ExecutionRow.{ExecutionRow}
 use Rattle.batch_history.specs.declared.rows.WorkRow.{WorkRow}
 use Rattle.records.specs.Left.{is_work_of_instance}
 
-gone-at : (i : ℕ) (instance : Option ℕ) → is_at i instance ≡ is_gone (λ j. j == i) instance
-gone-at i None = refl
-gone-at i (Some j) = refl
+pub gone_at : (i : ℕ) (instance : Option ℕ) → is_at i instance ≡ is_gone (λ j. j == i) instance
+gone_at i None = refl
+gone_at i (Some j) = refl
 
 pub works_of_others : (i : ℕ) (executions : List ExecutionRow) (works : List WorkRow)
     → filter (λ work. not (is_work_of_instance i executions work)) works ≡ works_there (λ j. j == i) executions works
-works_of_others i executions works k = filter (λ work. not (gone-at i (instance_in executions work.execution) k)) works
+works_of_others i executions works k = filter (λ work. not (gone_at i (instance_in executions work.execution) k)) works

@@ -109,7 +109,7 @@ module _ {R : Type 0} (num : R → ℕ) where
   copied rows k None is of = sym (beyond rows k (ltb-false k (length rows) (sym is)))
   copied rows k (Some x) is of = sym (slice_get_read rows (length rows) k x.now refl (ltb-true k (length rows) (sym is)) of)
 
-  absent : (p : R → Bool) (rows : List R) → position p rows ≡ None → find p rows ≡ None
+  pub absent : (p : R → Bool) (rows : List R) → position p rows ≡ None → find p rows ≡ None
   absent p rows is =
       (elim (cases_lt (position_or_len p rows) (length rows)) as (λ side. find p rows ≡ None) [
         | inl under ↦ (let at : position p rows ≡ Some (position_or_len p rows) = position-at p rows (position_or_len p rows) refl under in cc)

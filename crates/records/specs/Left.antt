@@ -1,12 +1,14 @@
 -- What the readers of an index have left: filters of the rows.
-use Rattle.std.specs.Prelude.{ℕ, ◌==◌, Bool, List, map, filter, take, drop}
-use Rattle.jsl_model.specs.Names.{unheld, is_among}
+use Rattle.std.specs.Prelude.{ℕ, Bool, List, find, map, filter, filter_map, slice_get}
 use Rattle.batch_history.specs.declared.rows.JobInstance.{JobInstance}
 use Rattle.batch_history.specs.declared.rows.ExecutionRow.{ExecutionRow}
 use Rattle.batch_history.specs.declared.rows.WorkRow.{WorkRow}
 use Rattle.batch_history.specs.Answers.{instances_of_job}
 use Rattle.batch_history.specs.Lists.{is_at}
-use Rattle.batch_history.specs.Replies.{instance_in}
+use Rattle.batch_history.specs.Replies.{instance_in, is_execution}
+use Rattle.batch_history.specs.Works.{is_work}
+use Rattle.records.specs.Maps.{is_instance, instance_numbers}
+pub use Rattle.records.specs.Belonging.{executions_of, works_of}
 use Rattle.records.specs.declared.readers.Names.{Names}
 use Rattle.records.specs.declared.readers.InstancesOf.{InstancesOf}
 use Rattle.records.specs.declared.readers.ExecutionsOf.{ExecutionsOf}
@@ -16,29 +18,33 @@ use Rattle.records.specs.declared.readers.WorksOf.{WorksOf}
 abbrev pub job_names : List JobInstance → List (List ℕ)
 job_names rows = map (λ row. row.job) rows
 
--- the names from a place on that don't stand before it, each once
-abbrev pub names_from : List JobInstance → ℕ → List (List ℕ)
-names_from rows place = unheld (is_among (job_names (take place rows))) (job_names (drop place rows))
+-- whether a job instance is the first of its job
+abbrev pub is_first_of_job : List JobInstance → JobInstance → Bool
+is_first_of_job rows row = is_at row.instance (slice_get (instance_numbers (instances_of_job row.job rows)) 0)
 
 abbrev pub names_left : Names → List (List ℕ)
-names_left names = names_from names.rows.now names.place
+names_left names = job_names (filter (is_first_of_job names.records.now.instances) names.rows.now)
 
--- the job executions of a job instance
-abbrev pub executions_of : ℕ → List ExecutionRow → List ExecutionRow
-executions_of i rows = filter (λ row. row.instance == i) rows
+-- the rows of these job instances that are there
+abbrev pub instances_numbered : List ℕ → List JobInstance → List JobInstance
+instances_numbered numbers rows = filter_map (λ i. find (is_instance i) rows) numbers
 
--- the work items of a job execution
-abbrev pub works_of : ℕ → List WorkRow → List WorkRow
-works_of x rows = filter (λ row. row.execution == x) rows
+-- the rows of these job executions that are there
+abbrev pub executions_numbered : List ℕ → List ExecutionRow → List ExecutionRow
+executions_numbered numbers rows = filter_map (λ x. find (is_execution x) rows) numbers
+
+-- the rows of these work items that are there
+abbrev pub works_numbered : List ℕ → List WorkRow → List WorkRow
+works_numbered numbers rows = filter_map (λ w. find (is_work w) rows) numbers
 
 abbrev pub instances_left : InstancesOf → List JobInstance
-instances_left instances = instances_of_job instances.name.now instances.rows.now
+instances_left instances = instances_numbered instances.numbers.now instances.records.now.instances
 
 abbrev pub executions_left : ExecutionsOf → List ExecutionRow
-executions_left executions = executions_of executions.instance executions.rows.now
+executions_left executions = executions_numbered executions.numbers.now executions.records.now.executions
 
 abbrev pub works_left : WorksOf → List WorkRow
-works_left works = works_of works.execution works.rows.now
+works_left works = works_numbered works.numbers.now works.records.now.works
 
 -- whether a work item is of a job execution of this job instance
 abbrev pub is_work_of_instance : ℕ → List ExecutionRow → WorkRow → Bool

@@ -1,3 +1,5 @@
+pub mod Belonging
+pub mod Indexes
 pub mod Left
 pub mod Maps
 pub mod Placed

@@ -1,6 +1,8 @@
 //! The rows of a job repository: job instances, job executions, work items and checkpoints.
 #![tactic(auto)]
 
+mod name_lists;
+mod number_lists;
 mod places;
 mod readers;
 mod records;

@@ -9,8 +9,9 @@ use batch_history::{ExecutionRow, JobInstance, WorkRow};
 use batch_ids::{ExecutionId, InstanceId, WorkId};
 
 /// Where the row of a job instance stands, if there is one.
-fn instance_place(rows: &[JobInstance], i: InstanceId) -> Option<usize>
-    ensures { AreRising (instance_numbers rows.now)
+pub(crate) fn instance_place(rows: &[JobInstance], i: InstanceId) -> Option<usize>
+    ensures within { IfSome result (λ place. place < length rows.now) }
+    ensures first { AreRising (instance_numbers rows.now)
         → result ≡ position (is_instance i) rows.now }
 {
     rows.binary_search_by_key(&i.value(), |row| row.instance.value())

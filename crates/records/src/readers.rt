@@ -1,37 +1,25 @@
-ghost use Rattle.std.specs.Prelude.{◌≡◌, [], map, take};
-ghost use Rattle.jsl_model.specs.Names.{distinct, is_among};
-ghost use Rattle.batch_history.specs.Answers.{instances_of_job};
-ghost use Rattle.records.specs.Left.{job_names, names_left, instances_left, executions_of, executions_left, works_of, works_left};
+ghost use Rattle.std.specs.Prelude.{◌≡◌, filter};
+ghost use Rattle.records.specs.Left.{job_names, is_first_of_job, names_left, instances_numbered, instances_left, executions_numbered, executions_left, works_numbered, works_left};
 
+use crate::Records;
 use batch_history::{ExecutionRow, JobInstance, WorkRow};
-use batch_ids::{ExecutionId, InstanceId, T256};
+use batch_ids::{ExecutionId, InstanceId, T256, WorkId};
 
 /// The names of the jobs that have a job instance, by rising number of the first one that is there.
-/// Each step costs time as there are job instances before it.
+/// They cost a look at each job instance up to the first one of the job that came last.
 #[derive(Debug, Drop)]
 pub struct Names<'r> {
+    records: &'r Records,
     rows: &'r [JobInstance],
-    place: usize,
 }
 
 impl<'r> Names<'r> {
-    pub(crate) fn new(rows: &'r [JobInstance]) -> Names<'r>
-        ensures { names_left result ≡ distinct (job_names rows.now) }
+    pub(crate) fn new(records: &'r Records, rows: &'r [JobInstance]) -> Names<'r>
+        ensures { names_left result
+            ≡ job_names (filter (is_first_of_job records.now.instances) rows.now) }
     {
-        Names { rows, place: 0 }
+        Names { records, rows }
     }
-}
-
-/// Whether one of these job instances has this name.
-fn is_among(rows: &[JobInstance], name: &T256) -> bool
-    ensures { result ≡ is_among (job_names rows.now) name.now }
-{
-    for row in rows {
-        if name.as_str() == row.job.as_str() {
-            return true;
-        }
-    }
-    false
 }
 
 impl<'r> Iterator for Names<'r> {
@@ -44,14 +32,11 @@ impl<'r> Iterator for Names<'r> {
 
     ghost remaining = { item_count names_left };
 
-    #[tactic(auto, using(crate::proofs::Naming::name_seen, crate::proofs::Naming::name_new))]
     fn next(&mut self) -> Option<&'r T256> {
-        while self.place < self.rows.len() {
-            let place = self.place;
-            self.place += 1;
-            let name = &self.rows[place].job;
-            if !is_among(&self.rows[..place], name) {
-                return Some(name);
+        while let Some((first, others)) = self.rows.split_first() {
+            self.rows = others;
+            if self.records.is_first_of_job(first) {
+                return Some(&first.job);
             }
         }
         None
@@ -61,15 +46,15 @@ impl<'r> Iterator for Names<'r> {
 /// The job instances of a job, by rising number.
 #[derive(Debug, Drop)]
 pub struct InstancesOf<'r> {
-    rows: &'r [JobInstance],
-    name: &'r str,
+    records: &'r Records,
+    numbers: &'r [u64],
 }
 
 impl<'r> InstancesOf<'r> {
-    pub(crate) fn new(rows: &'r [JobInstance], name: &'r str) -> InstancesOf<'r>
-        ensures { instances_left result ≡ instances_of_job name.now rows.now }
+    pub(crate) fn new(records: &'r Records, numbers: &'r [u64]) -> InstancesOf<'r>
+        ensures { instances_left result ≡ instances_numbered numbers.now records.now.instances }
     {
-        InstancesOf { rows, name }
+        InstancesOf { records, numbers }
     }
 }
 
@@ -84,10 +69,10 @@ impl<'r> Iterator for InstancesOf<'r> {
     ghost remaining = { item_count instances_left };
 
     fn next(&mut self) -> Option<&'r JobInstance> {
-        while let Some((first, others)) = self.rows.split_first() {
-            self.rows = others;
-            if first.job.as_str() == self.name {
-                return Some(first);
+        while let Some((first, others)) = self.numbers.split_first() {
+            self.numbers = others;
+            if let Some(row) = self.records.instance(InstanceId::new(*first)) {
+                return Some(row);
             }
         }
         None
@@ -97,15 +82,15 @@ impl<'r> Iterator for InstancesOf<'r> {
 /// The job executions of a job instance, by rising number.
 #[derive(Debug, Drop)]
 pub struct ExecutionsOf<'r> {
-    rows: &'r [ExecutionRow],
-    instance: InstanceId,
+    records: &'r Records,
+    numbers: &'r [u64],
 }
 
 impl<'r> ExecutionsOf<'r> {
-    pub(crate) fn new(rows: &'r [ExecutionRow], instance: InstanceId) -> ExecutionsOf<'r>
-        ensures { executions_left result ≡ executions_of instance rows.now }
+    pub(crate) fn new(records: &'r Records, numbers: &'r [u64]) -> ExecutionsOf<'r>
+        ensures { executions_left result ≡ executions_numbered numbers.now records.now.executions }
     {
-        ExecutionsOf { rows, instance }
+        ExecutionsOf { records, numbers }
     }
 }
 
@@ -120,10 +105,10 @@ impl<'r> Iterator for ExecutionsOf<'r> {
     ghost remaining = { item_count executions_left };
 
     fn next(&mut self) -> Option<&'r ExecutionRow> {
-        while let Some((first, others)) = self.rows.split_first() {
-            self.rows = others;
-            if first.instance == self.instance {
-                return Some(first);
+        while let Some((first, others)) = self.numbers.split_first() {
+            self.numbers = others;
+            if let Some(row) = self.records.execution(ExecutionId::new(*first)) {
+                return Some(row);
             }
         }
         None
@@ -133,15 +118,15 @@ impl<'r> Iterator for ExecutionsOf<'r> {
 /// The work items of a job execution, by rising number.
 #[derive(Debug, Drop)]
 pub struct WorksOf<'r> {
-    rows: &'r [WorkRow],
-    execution: ExecutionId,
+    records: &'r Records,
+    numbers: &'r [u64],
 }
 
 impl<'r> WorksOf<'r> {
-    pub(crate) fn new(rows: &'r [WorkRow], execution: ExecutionId) -> WorksOf<'r>
-        ensures { works_left result ≡ works_of execution rows.now }
+    pub(crate) fn new(records: &'r Records, numbers: &'r [u64]) -> WorksOf<'r>
+        ensures { works_left result ≡ works_numbered numbers.now records.now.works }
     {
-        WorksOf { rows, execution }
+        WorksOf { records, numbers }
     }
 }
 
@@ -156,10 +141,10 @@ impl<'r> Iterator for WorksOf<'r> {
     ghost remaining = { item_count works_left };
 
     fn next(&mut self) -> Option<&'r WorkRow> {
-        while let Some((first, others)) = self.rows.split_first() {
-            self.rows = others;
-            if first.execution == self.execution {
-                return Some(first);
+        while let Some((first, others)) = self.numbers.split_first() {
+            self.numbers = others;
+            if let Some(row) = self.records.work(WorkId::new(*first)) {
+                return Some(row);
             }
         }
         None

@@ -1,17 +1,21 @@
-ghost use Rattle.std.specs.Prelude.{◌≡◌, ◌==◌, ◌+◌, ◌-◌, ◌^◌, ◌<◌, ◌≤◌, ◌++◌, ◌∷◌, [], ℕ, List, None, true, length, find, slice_set, is_some, option_copied, IsOk, IfOk, map, IfSome, IfNone, OnOk, OnErr};
+ghost use Rattle.std.specs.Prelude.{filter, bytes_eq, if◌then◌else◌, vec_len, vec_capacity, ◌≡◌, ◌==◌, ◌+◌, ◌-◌, ◌^◌, ◌<◌, ◌≤◌, ◌++◌, ◌∷◌, [], ℕ, List, None, true, length, find, slice_set, is_some, option_copied, IsOk, IfOk, map, IfSome, IfNone, OnOk, OnErr};
 ghost use Rattle.jsl_model.specs.Names.{distinct};
 ghost use Rattle.batch_history.specs.Answers.{instances_of_job};
 ghost use Rattle.batch_history.specs.Lists.{change_first};
 ghost use Rattle.batch_history.specs.Replies.{is_execution};
 ghost use Rattle.batch_history.specs.Works.{is_work};
+ghost use Rattle.records.specs.Indexes.{numbers_named, numbers_under};
 ghost use Rattle.records.specs.Maps.{no_rows, is_instance, is_place, mark_at, instance_numbers, execution_numbers, work_numbers, AreBelow, AreKeyed, AreRising, SetsCheckpoint, MayReplaceExecution, MayReplaceWork};
 ghost use Rattle.records.specs.Placed.{is_elsewhere, with_mark, without_mark};
-ghost use Rattle.records.specs.Left.{job_names, names_left, instances_left, executions_of, executions_left, works_of, works_left, works_of_instance};
+ghost use Rattle.records.specs.Left.{job_names, is_first_of_job, names_left, instances_left, executions_of, executions_left, works_of, works_left, works_numbered, works_of_instance};
 ghost use Rattle.batch_history.specs.Rows.{instances_there, executions_there, works_there};
 ghost use Rattle.records.specs.Without.{checkpoints_there, without_instance};
 
+use crate::name_lists::NameLists;
+use crate::number_lists::{NumberLists, are_rising, numbers_through};
 use crate::places::{
-    execution_place, find_execution, find_instance, find_work, is_work_of_instance, work_place,
+    execution_place, find_execution, find_instance, find_work, instance_place, is_work_of_instance,
+    work_place,
 };
 use crate::readers::{ExecutionsOf, InstancesOf, Names, WorksOf};
 use batch_history::{CheckpointRow, ExecutionRow, JobInstance, WorkRow};
@@ -27,22 +31,30 @@ use std::marker::Model;
 /// Job instances, job executions and work items each have a number of their own and stand by rising
 /// number. Where a job instance was removed, its numbers are missing. A step of a job instance, or a
 /// partition of it, has one checkpoint at most.
+///
+/// Indexes lead from the name of a job to its job instances, from a job instance to its job executions,
+/// and from a job execution to its work items. Adding a row costs constant time on average; one call
+/// may cost time as there are rows, where a list of them grows.
 #[derive(Debug, Drop)]
 pub struct Records {
     instances: Vec<JobInstance>,
     executions: Vec<ExecutionRow>,
     works: Vec<WorkRow>,
     checkpoints: Vec<CheckpointRow>,
+    instances_by_name: NameLists,
+    executions_by_instance: NumberLists,
+    works_by_execution: NumberLists,
 }
 
 impl Model for Records {
-    ghost use Rattle.records.specs.Maps.{Maps, AreKeyed};
+    ghost use Rattle.records.specs.Indexes.{AreIndexed, numbers_named, numbers_under};
+    ghost use Rattle.records.specs.Maps.{Maps};
 
     ghost Value = { Maps };
 
     ghost view = { λ r. record { instances = r.instances.items; executions = r.executions.items; works = r.works.items; checkpoints = r.checkpoints.items } };
 
-    ghost invariant = { λ r. AreKeyed record { instances = r.instances.items; executions = r.executions.items; works = r.works.items; checkpoints = r.checkpoints.items } };
+    ghost invariant = { λ r. AreIndexed record { instances = r.instances.items; executions = r.executions.items; works = r.works.items; checkpoints = r.checkpoints.items } (numbers_named r.instances_by_name) (numbers_under r.executions_by_instance) (numbers_under r.works_by_execution) };
 }
 
 impl Records {
@@ -55,6 +67,9 @@ impl Records {
             executions: Vec::new(alloc),
             works: Vec::new(alloc),
             checkpoints: Vec::new(alloc),
+            instances_by_name: NameLists::new(alloc),
+            executions_by_instance: NumberLists::new(alloc),
+            works_by_execution: NumberLists::new(alloc),
         }
     }
 
@@ -108,34 +123,60 @@ impl Records {
     pub fn names(&self) -> Names<'_>
         ensures { names_left result ≡ distinct (job_names self.now.instances) }
     {
-        Names::new(self.instances.as_slice())
+        Names::new(self, self.rows_to_newest_job())
     }
 
-    /// The job instances of this name, by rising number, fewer than 2^64. It takes no memory.
+    /// The job instances up to the last one that is the first of its job.
+    fn rows_to_newest_job(&self) -> &[JobInstance]
+        ensures { job_names (filter (is_first_of_job self.now.instances) result.now)
+            ≡ distinct (job_names self.now.instances) }
+    {
+        let rows = self.instances.as_slice();
+        match instance_place(rows, InstanceId::new(self.instances_by_name.newest())) {
+            Some(place) => &rows[..place + 1],
+            None => rows,
+        }
+    }
+
+    /// Whether this is the number of the first job instance of its job.
+    pub(crate) fn is_first_of_job(&self, row: &JobInstance) -> bool
+        ensures { result ≡ is_first_of_job self.now.instances row.now }
+    {
+        match self.instances_by_name.under(row.job.as_str()).first() {
+            Some(first) => *first == row.instance.value(),
+            None => false,
+        }
+    }
+
+    /// The job instances of this name, by rising number, fewer than 2^64. It takes no memory, and each
+    /// of them costs a binary search.
     #[tactic(auto, using(crate::proofs::Naming::instances_few))]
     pub fn instances_of<'r>(&'r self, name: &'r str) -> InstancesOf<'r>
         ensures named { instances_left result ≡ instances_of_job name.now self.now.instances }
         ensures few { length (instances_of_job name.now self.now.instances) < 2 ^ 64 }
     {
-        InstancesOf::new(self.instances.as_slice(), name)
+        InstancesOf::new(self, self.instances_by_name.under(name))
     }
 
-    /// The job executions of this job instance, by rising number. It takes no memory.
+    /// The job executions of this job instance, by rising number. It takes no memory, and each of them
+    /// costs a binary search.
     pub fn executions_of(&self, i: InstanceId) -> ExecutionsOf<'_>
         ensures { executions_left result ≡ executions_of i self.now.executions }
     {
-        ExecutionsOf::new(self.executions.as_slice(), i)
+        ExecutionsOf::new(self, self.executions_by_instance.under(i.value()))
     }
 
-    /// The work items of this job execution, by rising number. It takes no memory.
+    /// The work items of this job execution, by rising number. It takes no memory, and each of them
+    /// costs a binary search.
     pub fn works_of(&self, x: ExecutionId) -> WorksOf<'_>
         ensures { works_left result ≡ works_of x self.now.works }
     {
-        WorksOf::new(self.works.as_slice(), x)
+        WorksOf::new(self, self.works_by_execution.under(x.value()))
     }
 
     /// The work items of this job instance, of all its job executions, by rising number. It costs time
-    /// as there are work items.
+    /// as there are of them, where those of a job execution come before those of the next one; else as
+    /// there are work items.
     ///
     /// # Errors
     ///
@@ -145,6 +186,34 @@ impl Records {
         alloc: Global,
         i: InstanceId,
     ) -> Result<Vec<&WorkRow>, OutOfMemory>
+        ensures { IfOk result (λ found. map (λ row. row.now) found.items
+            ≡ works_of_instance i self.now.executions self.now.works) }
+    {
+        let executions = &self.executions_by_instance;
+        let numbers = numbers_through(alloc, executions, &self.works_by_execution, i.value())?;
+        if are_rising(numbers.as_slice()) {
+            self.works_numbered(alloc, numbers.as_slice())
+        } else {
+            self.works_searched(alloc, i)
+        }
+    }
+
+    /// The work items of these numbers.
+    fn works_numbered(&self, alloc: Global, numbers: &[u64]) -> Result<Vec<&WorkRow>, OutOfMemory>
+        ensures { IfOk result (λ found. map (λ row. row.now) found.items
+            ≡ works_numbered numbers.now self.now.works) }
+    {
+        let mut found = Vec::new(alloc);
+        for number in numbers {
+            if let Some(row) = self.work(WorkId::new(*number)) {
+                found.push(row)?;
+            }
+        }
+        Ok(found)
+    }
+
+    /// The work items of this job instance, by a look at each work item.
+    fn works_searched(&self, alloc: Global, i: InstanceId) -> Result<Vec<&WorkRow>, OutOfMemory>
         ensures { IfOk result (λ found. map (λ row. row.now) found.items
             ≡ works_of_instance i self.now.executions self.now.works) }
     {
@@ -162,7 +231,6 @@ impl Records {
     /// # Errors
     ///
     /// `OutOfMemory` alone, and then nothing has changed.
-    #[tactic(auto, using(crate::proofs::Numbered::instance_pushed, crate::proofs::Numbered::execution_pushed))]
     pub fn add_instance(
         &mut self,
         instance: JobInstance,
@@ -178,11 +246,16 @@ impl Records {
         ensures unchanged { OnErr result (self.new ≡ self.old) }
     {
         self.instances.reserve(1)?;
-        self.executions.push(first)?;
-        match self.instances.push(instance) {
-            Ok(()) => Ok(()),
-            Err(_) => unreachable!(),
-        }
+        self.executions.reserve(1)?;
+        index_instance(
+            &mut self.instances_by_name,
+            &mut self.executions_by_instance,
+            &instance,
+            &first,
+        )?;
+        put_last(&mut self.executions, first);
+        put_last(&mut self.instances, instance);
+        Ok(())
     }
 
     /// Adds a job execution with a number above those that are there.
@@ -190,14 +263,16 @@ impl Records {
     /// # Errors
     ///
     /// `OutOfMemory` alone, and then nothing has changed.
-    #[tactic(auto, using(crate::proofs::Numbered::execution_pushed))]
     pub fn add_execution(&mut self, row: ExecutionRow) -> Result<(), OutOfMemory>
         requires { AreBelow row.execution (execution_numbers self.old.executions) }
         ensures added { OnOk result (self.new ≡
             record self.old { executions = self.old.executions ++ row ∷ [] }) }
         ensures unchanged { OnErr result (self.new ≡ self.old) }
     {
-        self.executions.push(row)?;
+        self.executions.reserve(1)?;
+        self.executions_by_instance
+            .push(row.instance.value(), row.execution.value())?;
+        put_last(&mut self.executions, row);
         Ok(())
     }
 
@@ -206,20 +281,22 @@ impl Records {
     /// # Errors
     ///
     /// `OutOfMemory` alone, and then nothing has changed.
-    #[tactic(auto, using(crate::proofs::Numbered::work_pushed))]
     pub fn add_work(&mut self, row: WorkRow) -> Result<(), OutOfMemory>
         requires { AreBelow row.work (work_numbers self.old.works) }
         ensures added { OnOk result (self.new ≡
             record self.old { works = self.old.works ++ row ∷ [] }) }
         ensures unchanged { OnErr result (self.new ≡ self.old) }
     {
-        self.works.push(row)?;
+        self.works.reserve(1)?;
+        self.works_by_execution
+            .push(row.execution.value(), row.work.value())?;
+        put_last(&mut self.works, row);
         Ok(())
     }
 
     /// Changes the row of a job execution, which keeps what its start or restart gave it. It takes no
     /// memory.
-    #[tactic(auto, using(crate::proofs::Numbered::execution_changed, crate::proofs::Numbered::execution_kept, crate::proofs::Numbered::execution_there))]
+    #[tactic(auto, using(crate::proofs::Numbered::execution_changed, crate::proofs::Numbered::execution_there))]
     pub fn change_execution(&mut self, x: ExecutionId, row: ExecutionRow)
         requires { MayReplaceExecution self.old.executions x row }
         ensures { self.new ≡ record self.old {
@@ -254,6 +331,13 @@ impl Records {
         requires { is_some (find (is_instance i) self.old.instances) ≡ true }
         ensures { self.new ≡ without_instance i self.old }
     {
+        let Some(row) = find_instance(self.instances.as_slice(), i) else {
+            unreachable!();
+        };
+        self.instances_by_name.remove(row.job.as_str(), i.value());
+        self.works_by_execution
+            .remove_all(self.executions_by_instance.under(i.value()));
+        self.executions_by_instance.remove(i.value());
         remove_works(&mut self.works, self.executions.as_slice(), i);
         remove_executions(&mut self.executions, i);
         remove_checkpoints(&mut self.checkpoints, i);
@@ -337,6 +421,46 @@ impl Records {
             }
         }
         None
+    }
+}
+
+/// Puts a row last, for which there is room.
+fn put_last<T>(rows: &mut Vec<T>, row: T)
+    requires { vec_len rows.old < vec_capacity rows.old }
+    ensures { rows.new.items ≡ rows.old.items ++ row ∷ [] }
+{
+    match rows.push(row) {
+        Ok(()) => (),
+        Err(_) => unreachable!(),
+    }
+}
+
+/// Puts a job instance into the index by its name, and its first job execution into that by the job
+/// instance.
+fn index_instance(
+    by_name: &mut NameLists,
+    by_instance: &mut NumberLists,
+    instance: &JobInstance,
+    first: &ExecutionRow,
+) -> Result<(), OutOfMemory>
+    requires { AreBelow instance.now.instance (numbers_named by_name.old instance.now.job) }
+    ensures named { OnOk result ((q : List ℕ) → numbers_named by_name.new q
+        ≡ (if bytes_eq instance.now.job q then numbers_named by_name.old q ++ instance.now.instance ∷ [] else numbers_named by_name.old q)) }
+    ensures owned { OnOk result ((q : ℕ) → numbers_under by_instance.new q
+        ≡ (if first.now.instance == q then numbers_under by_instance.old q ++ first.now.execution ∷ [] else numbers_under by_instance.old q)) }
+    ensures unnamed { OnErr result ((q : List ℕ)
+        → numbers_named by_name.new q ≡ numbers_named by_name.old q) }
+    ensures unowned { OnErr result ((q : ℕ)
+        → numbers_under by_instance.new q ≡ numbers_under by_instance.old q) }
+{
+    let name = instance.job.as_str();
+    by_name.push(name, instance.instance.value())?;
+    match by_instance.push(first.instance.value(), first.execution.value()) {
+        Ok(()) => Ok(()),
+        Err(refused) => {
+            by_name.remove(name, instance.instance.value());
+            Err(refused)
+        }
     }
 }
 

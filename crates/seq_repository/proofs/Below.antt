@@ -1,5 +1,5 @@
 -- Numbers below a bound stay so.
-use Rattle.std.proofs.Common.{◌≡◌, ℕ, ◌+◌, ◌<◌, ◌≤◌, Bool, true, false, cond, Some, List, [], ◌∷◌, ◌++◌, map, find, filter, refl, sym, ◌∙◌, ap, subst, arith}
+use Rattle.std.proofs.Common.{◌≡◌, ℕ, ◌+◌, ◌≤◌, Bool, true, false, cond, Some, List, [], ◌∷◌, ◌++◌, map, find, filter, refl, sym, ◌∙◌, ap, subst, arith}
 use Rattle.batch_history.specs.Lists.{change_first}
 use Rattle.records.specs.Maps.{AreBelow}
 

@@ -1,13 +1,11 @@
 -- How an operation's changes, one at a time, come to what it changes in the rows.
 use mathlib.Core.Path.{fun_ext}
-use Rattle.std.proofs.Common.{◌≡◌, ℕ, ◌+◌, ◌==◌, ◌||◌, Bool, true, false, cond, Option, None, Some, List, [], ◌∷◌, ◌++◌, length, find, IfSome, refl, sym, ◌∙◌, ap}
+use Rattle.std.proofs.Common.{◌≡◌, ℕ, ◌+◌, ◌==◌, Bool, true, false, cond, Option, None, Some, Bor, is_some, option_copied, List, [], ◌∷◌, ◌++◌, find, refl, sym, ◌∙◌, ap}
 use Rattle.std.specs.Option.{option_map}
 use Rattle.std.proofs.lemmas.Bool.{eqb-true, eq-eqb}
 use Rattle.batch_ids.specs.Parameters.{Pair}
 use Rattle.batch_ids.specs.declared.metric_step.MetricStep.{MetricStep}
 use Rattle.batch_ids.specs.declared.status.WorkOutcome.{WorkOutcome}
-use Rattle.job_walk.specs.declared.facts.Known.{Known}
-use Rattle.job_walk.specs.declared.facts.Value.{Value}
 use Rattle.jsl_model.specs.Jobs.{JobTree}
 use Rattle.batch_history.specs.declared.call.Call.TheVariants.{Start, Restart, Stop, Abandon, Claim, Checkpoint, Finish}
 use Rattle.batch_history.specs.declared.call.Reply.{Reply}
@@ -18,25 +16,23 @@ use Rattle.batch_history.specs.declared.rows.ExecutionRow.{ExecutionRow}
 use Rattle.batch_history.specs.declared.rows.JobInstance.{JobInstance}
 use Rattle.batch_history.specs.declared.rows.WorkRow.{WorkRow}
 use Rattle.batch_history.proofs.Folds.{reported, over, over_as}
-use Rattle.batch_history.proofs.Steps.{fresh_row, again_row, refreshed, refreshed_by, place_in, rows_after}
+use Rattle.batch_history.proofs.Steps.{fresh_row, again_row, refreshed_by, place_in, rows_after}
 use Rattle.batch_history.specs.Checkpoints.{InstanceStep, instance_step_by, is_same_step, checkpoint_left}
 use Rattle.batch_history.specs.Lists.{change_first, is_at}
-use Rattle.batch_history.specs.Moments.{first_moment}
 use Rattle.batch_history.specs.Replies.{instance_in, is_execution, restart_plan}
 use Rattle.batch_history.specs.Rows.{Rows}
 use Rattle.batch_history.specs.Restarts.{first_plan}
-use Rattle.batch_history.specs.Walks.{walk_value, job_named}
-use Rattle.batch_history.proofs.Knowing.{known_elements}
+use Rattle.batch_history.specs.Walks.{job_named}
 use Rattle.batch_history.specs.Works.{is_work, busy_work, work_key}
 use Rattle.job_walk.specs.declared.work_key.WorkKey.{WorkKey}
 use Rattle.restart_rules.specs.Restarting.{rows_over}
 use Rattle.seq_repository.specs.Kept.{Kept, rows_in}
 use Rattle.batch_history.specs.declared.rows.LastNumbers.{LastNumbers}
 use Rattle.batch_history.proofs.Finding.{found-passes}
-use Rattle.records.specs.Maps.{Maps, mark_at, is_over, MayReplaceExecution, MayReplaceWork}
+use Rattle.records.specs.Maps.{Maps, mark_at, is_over, MayReplaceWork}
 use Rattle.seq_repository.specs.declared.rows.Change.{Change}
 use Rattle.seq_repository.specs.declared.rows.Change.TheVariants.{StopRequest, Abandonment, Claim as TakeUp, Report}
-use Rattle.seq_repository.specs.Changes.{effect_of, row_after, put_row, place_at, SetsMark, LeavesMark}
+use Rattle.seq_repository.specs.Changes.{row_after, put_row, place_at, SetsMark, LeavesMark}
 use Rattle.seq_repository.proofs.Marks.{mark-set, mark-left, set-alone, left-alone}
 
 -- Changing the first that passes a test
@@ -50,7 +46,7 @@ change-none p f (x ∷ xs) e =
     ]) e
 
 -- to put the changed one in its place is to change it
-change-found : {X : Type 0} (p : X → Bool) (f : X → X) (xs : List X) (r : X) → find p xs ≡ Some r
+pub change-found : {X : Type 0} (p : X → Bool) (f : X → X) (xs : List X) (r : X) → find p xs ≡ Some r
     → change_first p (λ old. f r) xs ≡ change_first p f xs
 change-found p f [] r e = refl
 change-found p f (x ∷ xs) r e =
@@ -212,41 +208,9 @@ found-execution x rows row e = eqb-true row.execution x (found-passes (is_execut
 pub found-work : (w : ℕ) (rows : List WorkRow) (row : WorkRow) → find (is_work w) rows ≡ Some row → row.work ≡ w
 found-work w rows row e = eqb-true row.work w (found-passes (is_work w) rows row e)
 
--- the new row of a job execution that was found
-pub changed-row : (x : ℕ) (change : Change) (catalogue : List JobTree) (works : List WorkRow) (at : ℕ) (known : List Known) (rows : List ExecutionRow) (row new : ExecutionRow) (value : Value)
-    → find (is_execution x) rows ≡ Some row → known ≡ known_elements x works
-    → ((others : List WorkRow) → known ≡ known_elements row.execution others → value ≡ walk_value catalogue others row.execution row.job row.plan)
-    → new ≡ refreshed (effect_of change) value at row
-    → Some new ≡ option_map (row_after change catalogue works at) (find (is_execution x) rows)
-changed-row x change catalogue works at known rows row new value found is walk made =
-    let walked : value ≡ walk_value catalogue works row.execution row.job row.plan =
-    walk works (is ∙ ap (λ y. known_elements y works) (sym (found-execution x rows row found))) in
-    ap Some (made ∙ ap (λ v. refreshed (effect_of change) v at row) walked)
-    ∙ ap (option_map (row_after change catalogue works at)) (sym found)
-
--- a moment that is there stays
-moment-stays : (earlier : Option ℕ) (counts : Bool) (at : ℕ) (now : Option ℕ) → now ≡ first_moment earlier counts at → IfSome earlier (λ t. now ≡ Some t)
-moment-stays None counts at now is = tt
-moment-stays (Some t) counts at now is = is
-
-pub changed-own : (x : ℕ) (change : Change) (at : ℕ) (rows : List ExecutionRow) (row new : ExecutionRow) (value : Value)
-    → find (is_execution x) rows ≡ Some row → new ≡ refreshed (effect_of change) value at row → MayReplaceExecution rows x new
-changed-own x change at rows row new value found made = (
-  row,
-  found,
-  record {
-    execution = ap (λ (r : ExecutionRow). r.execution) made;
-    instance = ap (λ (r : ExecutionRow). r.instance) made;
-    job = ap (λ (r : ExecutionRow). r.job) made;
-    parameters = ap (λ (r : ExecutionRow). r.parameters) made;
-    create = ap (λ (r : ExecutionRow). r.create) made;
-    plan = ap (λ (r : ExecutionRow). r.plan) made;
-    stop = λ on. ap (λ (r : ExecutionRow). r.stop) made ∙ ap (λ b. b || (effect_of change).asks) on;
-    abandoned = λ on. ap (λ (r : ExecutionRow). r.abandoned) made ∙ ap (λ b. b || (effect_of change).gives_up) on;
-    start = moment-stays row.start (effect_of change).takes at new.start (ap (λ (r : ExecutionRow). r.start) made);
-    end = moment-stays row.end _ at new.end (ap (λ (r : ExecutionRow). r.end) made);
-  },
-)
+pub copied-some : {X : Type 0} (o : Option (Bor X)) → is_some (option_copied o) ≡ is_some o
+copied-some None = refl
+copied-some (Some x) = refl
 
 -- a work item that is reported of may stand in its place
 pub reported-own : (w : ℕ) (step : MetricStep) (rows : List WorkRow) (row new : WorkRow) → find (is_work w) rows ≡ Some row → new ≡ reported step row → MayReplaceWork rows w new

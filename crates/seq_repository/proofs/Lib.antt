@@ -1,8 +1,12 @@
+pub mod Agendas
 pub mod Below
 pub mod Entries
+pub mod Followed
+pub mod Keeping
 pub mod Knowing
 pub mod Lists
 pub mod Metering
+pub mod Numbers
 pub mod Pages
 pub mod Placing
 pub mod Purging
@@ -10,6 +14,7 @@ pub mod Readers
 pub mod Replying
 pub mod Sound
 pub mod Tallies
+pub mod Walked
 pub mod Marks
 pub mod Shown
 pub mod Standing

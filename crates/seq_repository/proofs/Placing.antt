@@ -1,5 +1,5 @@
 -- Each operation leaves the walks of job executions where they begin.
-use Rattle.std.proofs.Common.{◌≡◌, ℕ, zero, suc, ◌<◌, length, get_or, arith, Bool, true, false, cond, Option, None, Some, IfSome, List, [], ◌∷◌, ◌++◌, find, filter, refl, ◌∙◌, ap, subst}
+use Rattle.std.proofs.Common.{◌≡◌, ℕ, Bool, true, false, cond, Option, None, Some, IfSome, List, [], ◌∷◌, ◌++◌, find, filter, refl, ◌∙◌, ap, subst}
 use Rattle.jsl_model.specs.Jobs.{JobTree}
 use Rattle.batch_history.specs.Lists.{change_first}
 use Rattle.batch_history.specs.Replies.{is_execution}
@@ -29,13 +29,6 @@ pub placed_pushed : (catalogue : List JobTree) (rows : List ExecutionRow) (row :
     → ArePlaced catalogue (rows ++ row ∷ [])
 placed_pushed catalogue [] row h placed = (placed, tt)
 placed_pushed catalogue (r ∷ rest) row h placed = (h.0, placed_pushed catalogue rest row h.1 placed)
-
--- the job execution at a place
-pub placed_next : (catalogue : List JobTree) (rows : List ExecutionRow) (i : ℕ) (row : ExecutionRow) → i < length rows → row ≡ get_or rows i row → ArePlaced catalogue rows
-    → is_placed catalogue row ≡ true
-placed_next catalogue [] i row lt is h = absurd (omega (arith, lt))
-placed_next catalogue (r ∷ rest) zero row lt is h = ap (is_placed catalogue) is ∙ h.0
-placed_next catalogue (r ∷ rest) (suc i) row lt is h = placed_next catalogue rest i row (omega (arith, lt)) is h.1
 
 -- some of the job executions
 pub placed_filtered : (catalogue : List JobTree) (p : ExecutionRow → Bool) (rows : List ExecutionRow) → ArePlaced catalogue rows → ArePlaced catalogue (filter p rows)

@@ -34,3 +34,17 @@ purged_there limit r who i given e =
       | true ↦ λ s. refl
       | false ↦ λ s. cc
     ]) e
+
+-- and none of its job executions is unfinished
+pub purged_finished : (limit : ℕ) (r : Rows) (who i : ℕ) (given : Reply) → reply_by limit r who (Purge i) ≡ Ok given
+    → list_any (is_running_in i) r.executions ≡ false
+purged_finished limit r who i given e =
+    (elim (list_any (is_instance i) r.instances) as (λ b. cond b (cond (list_any (is_running_in i) r.executions) (Err JobExecutionIsRunningException) (accepted limit r.count Done)) (Err NoSuchJobInstanceException) ≡ Ok given
+    → list_any (is_running_in i) r.executions ≡ false) [
+      | true ↦ λ s.
+          (elim (list_any (is_running_in i) r.executions) as (λ b. ◌≡◌ {A = Result Reply Refusal} (cond b (Err JobExecutionIsRunningException) (accepted limit r.count Done)) (Ok given) → b ≡ false) [
+            | true ↦ λ t. cc
+            | false ↦ λ t. refl
+          ]) s
+      | false ↦ λ s. cc
+    ]) e

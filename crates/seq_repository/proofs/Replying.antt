@@ -23,7 +23,6 @@ use Rattle.batch_history.specs.Replies.{reply_by, accepted, is_execution, reply_
 use Rattle.batch_history.specs.Rows.{History, Rows}
 use Rattle.seq_repository.specs.Kept.{Kept, rows_in, IsNext}
 use Rattle.batch_history.specs.declared.call.Call.{Call}
-use Rattle.job_walk.specs.declared.facts.Value.{Value}
 use Rattle.job_walk.specs.declared.work_key.WorkKey.{WorkKey}
 use Rattle.batch_history.proofs.Legal.{entered-is, reply_room}
 
@@ -41,11 +40,11 @@ is-due (Ok reply) due same = sym same
 is-due (Err refusal) due same = λ _. sym same
 
 -- the reply to a claim that finds a job execution is due
-pub claim_due : (limit : ℕ) (r : Rows) (row : ExecutionRow) (value : Value) (given : Reply) (result : Result Reply Refusal)
-    → Some row ≡ find (has_something r) r.executions → value ≡ walk_in_rows r row → given ≡ claim_reply r row (first_ready value)
+pub claim_due : (limit : ℕ) (r : Rows) (row : ExecutionRow) (key : Option WorkKey) (given : Reply) (result : Result Reply Refusal)
+    → Some row ≡ find (has_something r) r.executions → key ≡ first_ready (walk_in_rows r row) → given ≡ claim_reply r row key
     → result ≡ accepted limit r.count given → IsDue result (reply_to_claim limit r (find (has_something r) r.executions))
-claim_due limit r row value given result found walked made is =
-    is-due result _ (is ∙ (ap (accepted limit r.count) (made ∙ ap (λ v. claim_reply r row (first_ready v)) walked) ∙ ap (reply_to_claim limit r) found))
+claim_due limit r row key given result found first made is =
+    is-due result _ (is ∙ (ap (accepted limit r.count) (made ∙ ap (claim_reply r row) first) ∙ ap (reply_to_claim limit r) found))
 
 -- what is reported of, is there
 pub checkpointed_there : (limit : ℕ) (r : Rows) (who : ℕ) (found : Option WorkRow) (given : Reply) → reply_to_checkpoint limit r who found ≡ Ok given → is_some found ≡ true

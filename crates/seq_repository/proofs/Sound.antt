@@ -2,12 +2,10 @@
 use Rattle.std.proofs.Common.{◌≡◌, ℕ, ◌+◌, ◌<◌, Bool, true, Option, None, Some, IfSome, List, [], ◌∷◌, ◌++◌, find, sym, ◌∙◌, ap, subst, arith, not, ◌==◌}
 use Rattle.batch_ids.specs.Metrics.{added, most_after, zero_metrics}
 use Rattle.batch_ids.specs.declared.metric_step.MetricStep.{MetricStep}
-use Rattle.jsl_model.specs.Jobs.{JobTree}
 use Rattle.batch_history.specs.Lists.{change_first}
 use Rattle.batch_history.specs.Rows.{instance_in, is_execution, is_gone}
 use Rattle.batch_history.specs.declared.rows.ExecutionRow.{ExecutionRow}
 use Rattle.batch_history.specs.declared.rows.JobInstance.{JobInstance}
-use Rattle.batch_history.specs.declared.rows.LastNumbers.{LastNumbers}
 use Rattle.batch_history.specs.declared.rows.WorkRow.{WorkRow}
 use Rattle.records.specs.Maps.{Maps, AreBelow, MayReplaceExecution, execution_numbers}
 use Rattle.records.specs.Without.{without_instance}

@@ -1,14 +1,18 @@
 -- What a repository keeps, and the histories that it stands for.
-use Rattle.std.specs.Prelude.{ℕ, ◌≡◌, ◌≤◌, ◌+◌, List}
+use Rattle.std.specs.Prelude.{ℕ, ◌≡◌, ◌≤◌, ◌+◌, Option, List}
 use Rattle.batch_ids.specs.Metrics.{most_after}
+use Rattle.job_walk.specs.Cursors.{CursorState}
 use Rattle.jsl_model.specs.Jobs.{JobTree}
+use Rattle.batch_history.proofs.WorkLists.{AllApart}
 use Rattle.batch_history.specs.Legal.{IsLegal, grown}
 use Rattle.batch_history.specs.Rows.{History, Rows, rows}
 use Rattle.batch_history.specs.declared.call.Entry.{Entry}
 use Rattle.batch_history.specs.declared.rows.LastNumbers.{LastNumbers}
-use Rattle.records.specs.Maps.{Maps, AreBelow, instance_numbers, execution_numbers, work_numbers}
+use Rattle.records.specs.Maps.{Maps, AreBelow, AreRising, instance_numbers, execution_numbers, work_numbers}
 use Rattle.restart_rules.specs.Placed.{ArePlaced}
 use Rattle.restart_rules.specs.Restarting.{rows_over}
+use Rattle.seq_repository.specs.Agendas.{agenda_of}
+use Rattle.seq_repository.specs.Following.{AreFollowed}
 use Rattle.seq_repository.specs.Metered.{AreWithin}
 
 -- what a repository keeps: a catalogue, how many operations were accepted, the last number that was given to a job
@@ -40,6 +44,15 @@ pub record IsSound (limit : ℕ) (kept : Kept) : Type 0 where
   pub work : kept.last.work ≤ kept.count
   pub metrics : AreWithin (most_after kept.count) kept.records.works
   pub placed : ArePlaced kept.catalogue kept.records.executions
+
+-- what it keeps to beside: job executions stand by rising number, no work key of one has two work items, its agenda has the
+-- numbers of those that have something to do, and each of its cursors follows the walk of an unfinished one
+pub record IsKept (limit : ℕ) (numbers : List ℕ) (cursors : ℕ → Option CursorState) (kept : Kept) : Type 0 where
+  pub sound : IsSound limit kept
+  pub rising : AreRising (execution_numbers kept.records.executions)
+  pub apart : AllApart kept.records.works
+  pub agenda : numbers ≡ agenda_of kept.catalogue kept.records.works kept.records.executions
+  pub followed : AreFollowed kept.catalogue kept.records.works kept.records.executions cursors
 
 -- a repository stands for a history if it says what the history says
 abbrev pub StandsFor : Kept → History → Type 0

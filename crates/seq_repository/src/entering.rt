@@ -1,28 +1,32 @@
 ghost use Rattle.std.specs.Prelude.{◌≡◌, ◌<◌, ◌+◌, [], true, false, find, is_some, IfOk, IfSome, OnOk, OnErr, List, Ok, if◌then◌else◌};
+ghost use Rattle.std.specs.List.{list_any};
 ghost use Rattle.std.specs.Option.{option_map};
 ghost use Rattle.batch_history.specs.declared.rows.WorkRow.{WorkRow as Work};
 ghost use Rattle.batch_history.specs.Due.{IsDue};
 ghost use Rattle.batch_history.specs.Lists.{change_first};
-ghost use Rattle.batch_history.specs.Replies.{is_execution, reply_by, is_nothing};
-ghost use Rattle.batch_history.proofs.Knowing.{known_elements};
+ghost use Rattle.batch_history.specs.Replies.{is_execution, is_running_in, reply_by, is_nothing};
 ghost use Rattle.batch_history.specs.Walks.{job_named};
 ghost use Rattle.batch_history.specs.Works.{is_work};
 ghost use Rattle.batch_history.proofs.Steps.{rows_after};
 ghost use Rattle.seq_repository.specs.Kept.{rows_in};
 ghost use Rattle.records.specs.Maps.{MayReplaceExecution, is_instance, is_over};
-ghost use Rattle.seq_repository.specs.Changes.{put_row, place_at, row_after, SetsMark, LeavesMark};
+ghost use Rattle.seq_repository.specs.Agendas.{is_ready_row};
+ghost use Rattle.seq_repository.specs.Following.{IsFollowed, Walks};
+ghost use Rattle.jsl_model.specs.Jobs.{JobTree as Tree};
+ghost use Rattle.seq_repository.specs.Changes.{put_row, place_at, row_after, LeavesMark};
 
 use crate::repository::Repository;
 use crate::rows::Change;
-use crate::{rows, search, status};
+use crate::{adding, agenda, cursors, rows, status};
 use batch_history::{Call, ExecutionRow, JobInstance, Reply, WorkItem};
 use batch_ids::{
     ExecutionId, InstanceId, MetricStep, Moment, OutOfMemory, Parameters, Refusal, T256, Text,
     WorkId, WorkOutcome,
 };
-use job_walk::{Known, WorkKey};
+use job_walk::{Cursor, WorkKey};
 use records::Records;
-use restart_rules::{first_plan, known_of, restart_plan, walk_of};
+use restart_rules::{first_plan, restart_plan};
+use std::alloc::Global;
 
 /// Puts a row in place of that of its job execution.
 fn put_row(records: &mut Records, x: ExecutionId, new: Option<ExecutionRow>)
@@ -32,23 +36,6 @@ fn put_row(records: &mut Records, x: ExecutionId, new: Option<ExecutionRow>)
     match new {
         None => {}
         Some(row) => records.change_execution(x, row),
-    }
-}
-
-/// Keeps the checkpoint of a step of the job instance of this job execution, if there is one.
-fn put_mark(
-    records: &mut Records,
-    row: &Option<ExecutionRow>,
-    step: WorkKey,
-    mark: Text<65536>,
-) -> Result<(), OutOfMemory>
-    ensures rows { OnOk result (SetsMark (place_at row.now step) (Some mark)
-        records.old records.new) }
-    ensures unchanged { OnErr result (records.new ≡ records.old) }
-{
-    match row {
-        None => Ok(()),
-        Some(row) => records.set_checkpoint(row.instance, step, Some(mark)),
     }
 }
 
@@ -69,29 +56,49 @@ fn drop_mark(records: &mut Records, outcome: WorkOutcome, row: &Option<Execution
     }
 }
 
-impl<const LIMIT: u64> Repository<LIMIT> {
-    /// The row of a job execution after an operation on it, by what is known of its elements then.
-    fn execution_after(
-        &self,
-        x: ExecutionId,
-        change: Change,
-        known: &[Known],
-        at: Moment,
-    ) -> Result<Option<ExecutionRow>, OutOfMemory>
-        ensures row { (works : List Work) → known.now ≡ known_elements x works
-            → IfOk result (λ new. new
-            ≡ option_map (row_after change self.now.catalogue works at) (find
-            (is_execution x) self.now.records.executions)) }
-        ensures own { IfOk result (λ new. IfSome new
-            (λ row. MayReplaceExecution self.now.records.executions x row)) }
-    {
-        match self.records.execution(x) {
-            None => Ok(None),
-            Some(row) => {
-                let value = walk_of(self.alloc, &self.catalogue, known, row)?;
-                Ok(Some(rows::change_row(self.alloc, change, value, at, row)?))
-            }
+/// The row of a job execution after an operation on it, if it is there, by its walk then, and whether
+/// there is something to do for it.
+fn execution_after(
+    alloc: Global,
+    records: &Records,
+    x: ExecutionId,
+    change: Change,
+    cursor: &Option<Cursor>,
+    at: Moment,
+) -> Result<(Option<ExecutionRow>, bool), OutOfMemory>
+    ensures row { (catalogue : List Tree) (works : List Work)
+        → Walks catalogue works (find (is_execution x) records.now.executions) cursor.now
+        → IfOk result (λ new. new.0 ≡ option_map (row_after change catalogue works at)
+        (find (is_execution x) records.now.executions)) }
+    ensures own { IfOk result (λ new. IfSome new.0
+        (λ row. MayReplaceExecution records.now.executions x row)) }
+    ensures ready { (catalogue : List Tree) (works : List Work)
+        → Walks catalogue works (find (is_execution x) records.now.executions) cursor.now
+        → IfOk result (λ new. new.1 ≡ is_ready_row catalogue works new.0) }
+{
+    let Some(cursor) = cursor else {
+        return Ok((None, false));
+    };
+    match records.execution(x) {
+        None => Ok((None, false)),
+        Some(row) => {
+            let value = cursor.value();
+            let shown = status::first_ready(value).is_some();
+            let new = rows::change_row(alloc, change, value, at, row)?;
+            let ready = status::has_something(new.status(), shown);
+            Ok((Some(new), ready))
         }
+    }
+}
+
+impl<const LIMIT: u64> Repository<LIMIT> {
+    /// Takes the walk of a job execution out of those that are kept.
+    fn take_cursor(&mut self, x: ExecutionId) -> Option<Cursor>
+        ensures same { self.new ≡ self.old }
+        ensures cursor { IfSome result (IsFollowed self.old.catalogue
+            self.old.records.works self.old.records.executions x) }
+    {
+        self.cursors.remove(&x.value())
     }
 
     fn enter_start(
@@ -124,7 +131,7 @@ impl<const LIMIT: u64> Repository<LIMIT> {
             instance,
             job: first,
         };
-        self.records.add_instance(made, row)?;
+        adding::add_instance(&mut self.agenda, &mut self.records, made, row)?;
         self.last.instance += 1;
         self.last.execution += 1;
         self.count += 1;
@@ -156,7 +163,7 @@ impl<const LIMIT: u64> Repository<LIMIT> {
         let parameters = parameters.try_clone()?;
         let x = self.last.execution + 1;
         let row = rows::new_execution(x, instance, at, job, parameters, plan);
-        self.records.add_execution(row)?;
+        adding::add_execution(&mut self.agenda, &mut self.records, row)?;
         self.last.execution += 1;
         self.count += 1;
         Ok(())
@@ -178,8 +185,34 @@ impl<const LIMIT: u64> Repository<LIMIT> {
         }) }
         ensures unchanged { OnErr result (self.new ≡ self.old) }
     {
-        let known = known_of(self.alloc, &self.records, x)?;
-        let row = self.execution_after(x, change, known.as_slice(), at)?;
+        let kept = self.take_cursor(x);
+        self.change_with(kept, x, change, at)
+    }
+
+    /// The same with the walk that was kept of it, if one was.
+    fn change_with(
+        &mut self,
+        kept: Option<Cursor>,
+        x: ExecutionId,
+        change: Change,
+        at: Moment,
+    ) -> Result<(), OutOfMemory>
+        requires room { self.old.count < LIMIT }
+        requires kept { IfSome kept (IsFollowed self.old.catalogue
+            self.old.records.works self.old.records.executions x) }
+        ensures rows { OnOk result (rows_in self.new ≡ record (rows_in self.old) {
+          count = self.old.count + 1;
+          executions = change_first (is_execution x)
+              (row_after change self.old.catalogue self.old.records.works at)
+              self.old.records.executions;
+        }) }
+        ensures unchanged { OnErr result (self.new ≡ self.old) }
+    {
+        let cursor = cursors::current(kept, self.alloc, &self.catalogue, &self.records, x)?;
+        let (row, ready) = execution_after(self.alloc, &self.records, x, change, &cursor, at)?;
+        agenda::put(&mut self.agenda, x, ready)?;
+        agenda::remove_if(&mut self.agenda, x, !ready);
+        cursors::keep(&mut self.cursors, x, &row, cursor);
         put_row(&mut self.records, x, row);
         self.count += 1;
         Ok(())
@@ -187,7 +220,32 @@ impl<const LIMIT: u64> Repository<LIMIT> {
 
     fn enter_work(&mut self, who: u64, at: Moment, item: &WorkItem) -> Result<(), OutOfMemory>
         requires room { self.old.count < LIMIT }
-        requires number { item.now.work ≡ self.old.last.work + 1 }
+        requires due { reply_by LIMIT (rows_in self.old) who Call.Claim ≡ Ok (Reply.Work item.now) }
+        ensures rows { OnOk result (rows_in self.new ≡ rows_after (rows_in self.old) record {
+          who = who;
+          call = Call.Claim;
+          at = at;
+          reply = Reply.Work item.now;
+        }) }
+        ensures unchanged { OnErr result (self.new ≡ self.old) }
+    {
+        let kept = self.take_cursor(item.execution);
+        self.work_with(kept, who, at, item)
+    }
+
+    /// Enters that a work item is handed out, with the walk that was kept of its job execution, if
+    /// one was.
+    fn work_with(
+        &mut self,
+        kept: Option<Cursor>,
+        who: u64,
+        at: Moment,
+        item: &WorkItem,
+    ) -> Result<(), OutOfMemory>
+        requires room { self.old.count < LIMIT }
+        requires due { reply_by LIMIT (rows_in self.old) who Call.Claim ≡ Ok (Reply.Work item.now) }
+        requires kept { IfSome kept (IsFollowed self.old.catalogue
+            self.old.records.works self.old.records.executions item.now.execution) }
         ensures rows { OnOk result (rows_in self.new ≡ rows_after (rows_in self.old) record {
           who = who;
           call = Call.Claim;
@@ -197,10 +255,13 @@ impl<const LIMIT: u64> Repository<LIMIT> {
         ensures unchanged { OnErr result (self.new ≡ self.old) }
     {
         let x = item.execution;
-        let known = search::known_once_claimed(self.alloc, &self.records, item)?;
-        let row = self.execution_after(x, Change::Claim, known.as_slice(), at)?;
+        let cursor = cursors::claimed(kept, self.alloc, &self.catalogue, &self.records, item)?;
+        let change = Change::Claim;
+        let (row, ready) = execution_after(self.alloc, &self.records, x, change, &cursor, at)?;
         let work = rows::new_work(who, at, item)?;
-        self.records.add_work(work)?;
+        adding::add_work(&mut self.agenda, &mut self.records, x, ready, work)?;
+        agenda::remove_if(&mut self.agenda, x, !ready);
+        cursors::keep(&mut self.cursors, x, &row, cursor);
         self.last.work += 1;
         put_row(&mut self.records, x, row);
         self.count += 1;
@@ -228,12 +289,53 @@ impl<const LIMIT: u64> Repository<LIMIT> {
             unreachable!();
         };
         let x = work.execution;
+        let kept = self.take_cursor(x);
+        self.checkpoint_with(kept, at, w, mark, step)
+    }
+
+    /// The same with the walk that was kept of its job execution, if one was.
+    fn checkpoint_with(
+        &mut self,
+        kept: Option<Cursor>,
+        at: Moment,
+        w: WorkId,
+        mark: &Text<65536>,
+        step: &MetricStep,
+    ) -> Result<(), OutOfMemory>
+        requires room { self.old.count < LIMIT }
+        requires held { is_some (find (is_work w) self.old.records.works) ≡ true }
+        requires kept { IfSome (find (is_work w) self.old.records.works) (λ row. IfSome kept
+            (IsFollowed self.old.catalogue self.old.records.works self.old.records.executions
+            row.execution)) }
+        ensures rows { OnOk result (rows_in self.new ≡ rows_after (rows_in self.old) record {
+          who = 0;
+          call = Call.Checkpoint w mark.now step.now;
+          at = at;
+          reply = Reply.Done;
+        }) }
+        ensures unchanged { OnErr result (self.new ≡ self.old) }
+    {
+        let Some(work) = self.records.work(w) else {
+            unreachable!();
+        };
+        let x = work.execution;
         let key = work.key()?;
         let mark = mark.try_clone()?;
         let work = rows::report_counts(*step, work)?;
-        let known = known_of(self.alloc, &self.records, x)?;
-        let row = self.execution_after(x, Change::Report, known.as_slice(), at)?;
-        put_mark(&mut self.records, &row, key, mark)?;
+        let cursor = cursors::current(kept, self.alloc, &self.catalogue, &self.records, x)?;
+        let change = Change::Report;
+        let (row, ready) = execution_after(self.alloc, &self.records, x, change, &cursor, at)?;
+        adding::put_mark(
+            &mut self.agenda,
+            &mut self.records,
+            x,
+            ready,
+            &row,
+            key,
+            mark,
+        )?;
+        agenda::remove_if(&mut self.agenda, x, !ready);
+        cursors::keep(&mut self.cursors, x, &row, cursor);
         self.records.change_work(w, work);
         put_row(&mut self.records, x, row);
         self.count += 1;
@@ -264,11 +366,57 @@ impl<const LIMIT: u64> Repository<LIMIT> {
             unreachable!();
         };
         let x = work.execution;
+        let kept = self.take_cursor(x);
+        self.finish_with(kept, at, w, outcome, exit, step)
+    }
+
+    /// The same with the walk that was kept of its job execution, if one was.
+    fn finish_with(
+        &mut self,
+        kept: Option<Cursor>,
+        at: Moment,
+        w: WorkId,
+        outcome: WorkOutcome,
+        exit: &Option<T256>,
+        step: &MetricStep,
+    ) -> Result<(), OutOfMemory>
+        requires room { self.old.count < LIMIT }
+        requires held { is_some (find (is_work w) self.old.records.works) ≡ true }
+        requires busy { IfSome (find (is_work w) self.old.records.works)
+            (λ row. is_over row.state ≡ false) }
+        requires kept { IfSome (find (is_work w) self.old.records.works) (λ row. IfSome kept
+            (IsFollowed self.old.catalogue self.old.records.works self.old.records.executions
+            row.execution)) }
+        ensures rows { OnOk result (rows_in self.new ≡ rows_after (rows_in self.old) record {
+          who = 0;
+          call = Call.Finish w outcome exit.now step.now;
+          at = at;
+          reply = Reply.Done;
+        }) }
+        ensures unchanged { OnErr result (self.new ≡ self.old) }
+    {
+        let Some(work) = self.records.work(w) else {
+            unreachable!();
+        };
+        let x = work.execution;
         let key = work.key()?;
         let exit = status::exit_or_name(self.alloc, outcome, exit)?;
-        let known = search::known_once_finished(self.alloc, &self.records, x, w, outcome, &exit)?;
-        let row = self.execution_after(x, Change::Report, known.as_slice(), at)?;
+        let cursor = cursors::finished(
+            kept,
+            self.alloc,
+            &self.catalogue,
+            &self.records,
+            work,
+            w,
+            outcome,
+            &exit,
+        )?;
+        let change = Change::Report;
+        let (row, ready) = execution_after(self.alloc, &self.records, x, change, &cursor, at)?;
         let work = rows::end_work(outcome, exit, *step, at, self.count + 1, work)?;
+        agenda::put(&mut self.agenda, x, ready)?;
+        agenda::remove_if(&mut self.agenda, x, !ready);
+        cursors::keep(&mut self.cursors, x, &row, cursor);
         drop_mark(&mut self.records, outcome, &row, key);
         self.records.change_work(w, work);
         put_row(&mut self.records, x, row);
@@ -297,6 +445,7 @@ impl<const LIMIT: u64> Repository<LIMIT> {
     fn enter_purge(&mut self, i: InstanceId)
         requires room { self.old.count < LIMIT }
         requires there { is_some (find (is_instance i) self.old.records.instances) ≡ true }
+        requires finished { list_any (is_running_in i) self.old.records.executions ≡ false }
         ensures { rows_in self.new ≡ rows_after (rows_in self.old) record {
           who = 0;
           call = Call.Purge i;

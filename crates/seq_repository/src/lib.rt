@@ -2,7 +2,10 @@
 //! operations, kept in rows.
 #![tactic(auto)]
 
+mod adding;
+mod agenda;
 mod answers;
+mod cursors;
 mod entering;
 mod replies;
 mod repository;

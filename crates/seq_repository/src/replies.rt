@@ -1,7 +1,7 @@
 ghost use Rattle.std.specs.Prelude.{◌≡◌, [], find, IfOk};
 ghost use Rattle.std.specs.Option.{option_copied};
 ghost use Rattle.batch_history.specs.Due.{IsDue};
-ghost use Rattle.batch_history.specs.Replies.{is_execution, reply_by, accepted, claim_reply, reply_to_stop, reply_to_abandon, reply_to_checkpoint, reply_to_finish, reply_to_loss, reply_to_purge, stop_requested_of, report_refusal, reply_to_kept_checkpoint, reply_to_stopped_step, reply_to_stopped_work, reply_to_end, next_work_item, partition_named, partitions_of_job, work_task, runnable_of_job, walk_in_rows, first_ready};
+ghost use Rattle.batch_history.specs.Replies.{is_execution, reply_by, accepted, claim_reply, reply_to_stop, reply_to_abandon, reply_to_checkpoint, reply_to_finish, reply_to_loss, reply_to_purge, stop_requested_of, report_refusal, reply_to_kept_checkpoint, reply_to_stopped_step, reply_to_stopped_work, reply_to_end, next_work_item, partition_named, partitions_of_job, work_task, runnable_of_job, walk_in_rows};
 ghost use Rattle.batch_history.specs.Walks.{job_named};
 ghost use Rattle.batch_history.specs.Works.{is_work};
 ghost use Rattle.seq_repository.specs.Kept.{rows_in};
@@ -11,7 +11,7 @@ use crate::search::Claimable;
 use crate::{search, status};
 use batch_history::{Call, ExecutionRow, Reply, WorkItem, WorkKind, WorkState, WorkTask};
 use batch_ids::{ExecutionId, InstanceId, OutOfMemory, Refusal, T256, Text, WorkId, WorkOutcome};
-use job_walk::{Runnable, Value, WorkKey};
+use job_walk::{Runnable, WorkKey};
 use jsl_model::Task;
 use restart_rules::may_restart;
 use std::alloc::Global;
@@ -236,12 +236,11 @@ impl<const LIMIT: u64> Repository<LIMIT> {
         })
     }
 
-    /// What a claim of a job execution is answered, whose walk has this value.
-    fn claim_reply(&self, row: &ExecutionRow, value: &Value) -> Result<Reply, OutOfMemory>
-        ensures { IfOk result (λ reply. reply
-            ≡ claim_reply (rows_in self.now) row.now (first_ready value.now)) }
+    /// What a claim of a job execution is answered, by the first work key that may be run now.
+    fn claim_reply(&self, row: &ExecutionRow, key: &Option<WorkKey>) -> Result<Reply, OutOfMemory>
+        ensures { IfOk result (λ reply. reply ≡ claim_reply (rows_in self.now) row.now key.now) }
     {
-        match status::first_ready(value) {
+        match key {
             None => Ok(Reply::Closed(row.execution)),
             Some(key) => Ok(Reply::Work(self.item_of(row, key)?)),
         }
@@ -250,10 +249,16 @@ impl<const LIMIT: u64> Repository<LIMIT> {
     fn reply_to_claim(&self) -> Result<Reply, Refusal>
         ensures { IsDue result (reply_by LIMIT (rows_in self.now) 0 Call.Claim) }
     {
-        match search::find_claimable(self.alloc, &self.catalogue, &self.records)? {
+        match search::find_claimable(
+            self.alloc,
+            &self.catalogue,
+            &self.records,
+            &self.agenda,
+            &self.cursors,
+        )? {
             None => Ok(Reply::Nothing),
-            Some(Claimable { row, value }) => {
-                let reply = self.claim_reply(row, &value)?;
+            Some(Claimable { row, key }) => {
+                let reply = self.claim_reply(row, &key)?;
                 accept::<LIMIT>(self.count, reply)
             }
         }

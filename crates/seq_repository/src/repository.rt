@@ -9,9 +9,11 @@ ghost use Rattle.seq_repository.specs.Kept.{IsNext, StandsFor};
 use crate::answers;
 use batch_history::{Answer, Call, CountsByStatus, Entry, LastNumbers, Query, Reply};
 use batch_ids::{Moment, OutOfMemory, Refusal};
+use job_walk::Cursor;
 use jsl_model::Catalogue;
 use records::Records;
 use std::alloc::Global;
+use std::collections::{BTreeMap, BTreeSet};
 use std::marker::Model;
 
 /// A job repository for one caller, of at most `LIMIT` accepted operations. Contracts see its rows.
@@ -26,12 +28,18 @@ pub struct Repository<const LIMIT: u64> {
     pub(crate) count: u64,
     pub(crate) last: LastNumbers,
     pub(crate) records: Records,
+    /// The numbers of the job executions that have something to do.
+    pub(crate) agenda: BTreeSet<u64>,
+    /// The walks of unfinished job executions that were taken up, by their numbers.
+    pub(crate) cursors: BTreeMap<u64, Cursor>,
 }
 
 impl<const LIMIT: u64> Model for Repository<LIMIT> {
-    ghost use Rattle.seq_repository.specs.Kept.{Kept, IsSound};
+    ghost use Rattle.seq_repository.specs.Kept.{Kept, IsKept};
     ghost use Rattle.jsl_model.specs.contracts.element.Body as body;
+    ghost use Rattle.std.specs.BTreeMap.{get};
     ghost use Rattle.std.specs.Coded.{codes};
+    ghost use Rattle.std.specs.Ordering.{nat_cmp};
 
     ghost Value = { Kept };
 
@@ -39,7 +47,7 @@ impl<const LIMIT: u64> Model for Repository<LIMIT> {
 
     ghost view = { λ r. record { catalogue = r.catalogue; count = r.count; last = r.last; records = r.records } };
 
-    ghost invariant = { λ r. IsSound LIMIT record { catalogue = r.catalogue; count = r.count; last = r.last; records = r.records } };
+    ghost invariant = { λ r. IsKept LIMIT r.agenda.keys (get nat_cmp r.cursors) record { catalogue = r.catalogue; count = r.count; last = r.last; records = r.records } };
 }
 
 impl<const LIMIT: u64> Repository<LIMIT> {
@@ -66,6 +74,8 @@ impl<const LIMIT: u64> Repository<LIMIT> {
                 work: 0,
             },
             records: Records::new(alloc),
+            agenda: BTreeSet::new(alloc),
+            cursors: BTreeMap::new(alloc),
         })
     }
 

@@ -63,16 +63,16 @@ fn row_with(
     stop: bool,
     abandoned: bool,
     start: Option<Moment>,
-    value: Value,
+    value: &Value,
     at: Moment,
     row: &ExecutionRow,
 ) -> Result<ExecutionRow, OutOfMemory>
-    ensures { IfOk result (λ new. new ≡ renewed stop abandoned start value at row.now) }
+    ensures { IfOk result (λ new. new ≡ renewed stop abandoned start value.now at row.now) }
 {
     let job = row.job.try_clone()?;
     let parameters = row.parameters.try_clone()?;
     let plan = row.plan.try_clone(alloc)?;
-    let bare = batch_status(stop, start, &value);
+    let bare = batch_status(stop, start, value);
     let exit = exit_status(alloc, stop, start, value)?;
     Ok(ExecutionRow {
         execution: row.execution,
@@ -95,11 +95,11 @@ fn row_with(
 pub(crate) fn change_row(
     alloc: Global,
     change: Change,
-    value: Value,
+    value: &Value,
     at: Moment,
     row: &ExecutionRow,
 ) -> Result<ExecutionRow, OutOfMemory>
-    ensures { IfOk result (λ new. new ≡ refreshed (effect_of change) value at row.now) }
+    ensures { IfOk result (λ new. new ≡ refreshed (effect_of change) value.now at row.now) }
 {
     match change {
         Change::StopRequest => row_with(alloc, true, row.abandoned, row.start, value, at, row),

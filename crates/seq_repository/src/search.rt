@@ -1,25 +1,30 @@
-ghost use Rattle.std.specs.Prelude.{ℕ, ◌≡◌, ◌++◌, ◌∷◌, [], true, IfOk, IfSome, find, is_some};
+ghost use Rattle.std.specs.Prelude.{ℕ, ◌≡◌, Some, true, IfOk, IfSome, find};
+ghost use Rattle.std.specs.BTreeMap.{get};
 ghost use Rattle.std.specs.List.{list_any};
 ghost use Rattle.std.specs.Option.{option_map};
+ghost use Rattle.std.specs.Ordering.{nat_cmp};
 ghost use Rattle.batch_ids.specs.declared.metric_step.MetricStep.{MetricStep as Step};
 ghost use Rattle.batch_history.proofs.Folds.{over_as};
 ghost use Rattle.batch_history.specs.Lists.{change_first};
-ghost use Rattle.batch_history.specs.Replies.{is_running_in};
+ghost use Rattle.batch_history.specs.Replies.{first_ready, is_execution, is_running_in};
 ghost use Rattle.batch_history.specs.Walks.{walk_value};
 ghost use Rattle.batch_history.proofs.Knowing.{known_elements};
-ghost use Rattle.batch_history.specs.Works.{is_work, busy_work};
-ghost use Rattle.records.specs.Maps.{is_instance};
+ghost use Rattle.batch_history.specs.Works.{is_work};
+ghost use Rattle.records.specs.Maps.{is_instance, execution_numbers, AreRising};
 ghost use Rattle.restart_rules.specs.Placed.{ArePlaced, is_placed};
+ghost use Rattle.seq_repository.specs.Agendas.{agenda_of};
+ghost use Rattle.seq_repository.specs.Following.{AreFollowed};
 ghost use Rattle.seq_repository.specs.Searches.{has_ready};
 
-use crate::status::first_ready;
-use batch_history::{ExecutionRow, WorkItem};
-use batch_ids::{BatchStatus, ExecutionId, InstanceId, OutOfMemory, T256, WorkId, WorkOutcome};
-use job_walk::{Fact, Known, Value};
+use crate::status;
+use batch_history::ExecutionRow;
+use batch_ids::{ExecutionId, InstanceId, OutOfMemory, T256, WorkId, WorkOutcome};
+use job_walk::{Cursor, Fact, Known, Value, WorkKey};
 use jsl_model::Catalogue;
 use records::Records;
-use restart_rules::{known_of, state_fact, walk_value};
+use restart_rules::{state_fact, walk_value};
 use std::alloc::Global;
+use std::collections::{BTreeMap, BTreeSet};
 
 /// Whether there is a job instance of this number.
 #[tactic(auto, using(crate::proofs::Lists::any_found))]
@@ -40,23 +45,6 @@ pub(crate) fn is_running(records: &Records, i: InstanceId) -> bool
         }
     }
     false
-}
-
-/// What is known of the elements of the job execution of a work item, once it is handed out.
-pub(crate) fn known_once_claimed(
-    alloc: Global,
-    records: &Records,
-    item: &WorkItem,
-) -> Result<Vec<Known>, OutOfMemory>
-    ensures { (who at : ℕ) → IfOk result (λ known. known.items
-        ≡ known_elements item.now.execution (records.now.works ++ busy_work who at item.now ∷ [])) }
-{
-    let mut known = known_of(alloc, records, item.execution)?;
-    known.push(Known {
-        key: item.key()?,
-        fact: Fact::Busy,
-    })?;
-    Ok(known)
 }
 
 /// What is known of the elements of a job execution once a work item of it is over.
@@ -94,61 +82,75 @@ pub(crate) fn known_once_finished(
     Ok(known)
 }
 
-/// The value of the walk of a job execution, if there is something to do for it.
-fn claimable_value(
-    alloc: Global,
-    catalogue: &Catalogue,
-    records: &Records,
-    row: &ExecutionRow,
-) -> Result<Option<Value>, OutOfMemory>
-    requires { is_placed catalogue.now row.now ≡ true }
-    ensures some { IfOk result (λ found. is_some found
-        ≡ has_ready catalogue.now records.now.works row.now) }
-    ensures value { IfOk result (λ found. IfSome found (λ value. value
-        ≡ walk_value catalogue.now records.now.works row.now.execution row.now.job row.now.plan)) }
+/// The first work key of a walk that may be run now.
+fn first_key(value: &Value) -> Result<Option<WorkKey>, OutOfMemory>
+    ensures { IfOk result (λ key. key ≡ first_ready value.now) }
 {
-    match row.status() {
-        BatchStatus::Starting => Ok(Some(walk_value(alloc, catalogue, records, row)?)),
-        BatchStatus::Started => {
-            let value = walk_value(alloc, catalogue, records, row)?;
-            if first_ready(&value).is_some() {
-                Ok(Some(value))
-            } else {
-                Ok(None)
-            }
-        }
-        BatchStatus::Stopping => Ok(None),
-        BatchStatus::Stopped => Ok(None),
-        BatchStatus::Failed => Ok(None),
-        BatchStatus::Completed => Ok(None),
-        BatchStatus::Abandoned => Ok(None),
+    match status::first_ready(value) {
+        None => Ok(None),
+        Some(key) => Ok(Some(key.try_clone()?)),
     }
 }
 
-/// A job execution that has something to do, and the value of its walk.
+/// The first work key of a job execution that may be run now, by its walk where that is kept.
+#[tactic(auto, using(crate::proofs::Followed::follows_value, crate::proofs::Followed::followed_at))]
+fn next_key(
+    alloc: Global,
+    catalogue: &Catalogue,
+    records: &Records,
+    cursors: &BTreeMap<u64, Cursor>,
+    row: &ExecutionRow,
+) -> Result<Option<WorkKey>, OutOfMemory>
+    requires placed { is_placed catalogue.now row.now ≡ true }
+    requires there { find (is_execution row.now.execution) records.now.executions ≡ Some row.now }
+    requires followed { AreFollowed catalogue.now records.now.works records.now.executions
+        (get nat_cmp cursors.now) }
+    ensures { IfOk result (λ key. key ≡ first_ready (walk_value catalogue.now records.now.works
+        row.now.execution row.now.job row.now.plan)) }
+{
+    match cursors.get(&row.execution.value()) {
+        Some(cursor) => first_key(cursor.value()),
+        None => {
+            let value = walk_value(alloc, catalogue, records, row)?;
+            first_key(&value)
+        }
+    }
+}
+
+/// A job execution that has something to do, and the first work key of it that may be run now.
 #[derive(Debug, Drop)]
 pub(crate) struct Claimable<'a> {
     pub(crate) row: &'a ExecutionRow,
-    pub(crate) value: Value,
+    pub(crate) key: Option<WorkKey>,
 }
 
-/// The first job execution that has something to do.
+/// The first job execution that has something to do: the least on the agenda.
+#[tactic(auto, using(crate::proofs::Agendas::least_there, crate::proofs::Agendas::least_first, crate::proofs::Agendas::none_due))]
 pub(crate) fn find_claimable<'a>(
     alloc: Global,
     catalogue: &Catalogue,
     records: &'a Records,
+    agenda: &BTreeSet<u64>,
+    cursors: &BTreeMap<u64, Cursor>,
 ) -> Result<Option<Claimable<'a>>, OutOfMemory>
-    requires { ArePlaced catalogue.now records.now.executions }
+    requires placed { ArePlaced catalogue.now records.now.executions }
+    requires rising { AreRising (execution_numbers records.now.executions) }
+    requires agenda { agenda.now.keys
+        ≡ agenda_of catalogue.now records.now.works records.now.executions }
+    requires followed { AreFollowed catalogue.now records.now.works records.now.executions
+        (get nat_cmp cursors.now) }
     ensures first { IfOk result (λ found. option_map (λ c. c.row.now) found
         ≡ find (has_ready catalogue.now records.now.works) records.now.executions) }
-    ensures value { IfOk result (λ found. IfSome found (λ c. c.value
-        ≡ walk_value catalogue.now records.now.works
-        c.row.now.execution c.row.now.job c.row.now.plan)) }
+    ensures key { IfOk result (λ found. IfSome found (λ c. c.key
+        ≡ first_ready (walk_value catalogue.now records.now.works
+        c.row.now.execution c.row.now.job c.row.now.plan))) }
 {
-    for row in records.executions() {
-        if let Some(value) = claimable_value(alloc, catalogue, records, row)? {
-            return Ok(Some(Claimable { row, value }));
-        }
-    }
-    Ok(None)
+    let Some(x) = agenda.first() else {
+        return Ok(None);
+    };
+    let Some(row) = records.execution(ExecutionId::new(*x)) else {
+        unreachable!();
+    };
+    let key = next_key(alloc, catalogue, records, cursors, row)?;
+    Ok(Some(Claimable { row, key }))
 }

@@ -1,9 +1,10 @@
-ghost use Rattle.std.specs.Prelude.{◌≡◌, IfOk};
+ghost use Rattle.std.specs.Prelude.{◌≡◌, IfOk, is_some};
 ghost use Rattle.std.specs.Option.{option_copied};
 ghost use Rattle.batch_history.specs.Moments.{first_moment};
-ghost use Rattle.batch_history.specs.Replies.{first_ready};
+ghost use Rattle.batch_history.specs.Replies.{first_ready, has_something_by};
 ghost use Rattle.batch_history.specs.Statuses.{is_finished, batch_status, exit_status, status_of_walk, exit_of_walk, stopping_status, stopped_exit, stopping_exit_status};
 ghost use Rattle.batch_history.specs.Works.{exit_or_name};
+ghost use Rattle.job_walk.specs.declared.facts.Value.{Value as Walk};
 
 use batch_ids::{BatchStatus, Listed, Moment, OutOfMemory, T256, WorkOutcome};
 use job_walk::{Value, WorkKey};
@@ -31,6 +32,23 @@ pub(crate) fn first_ready(value: &Value) -> Option<&WorkKey>
         Value::Open { ready, .. } => ready.as_slice().first(),
         Value::Done { .. } => None,
         Value::Ended { .. } => None,
+    }
+}
+
+/// Whether there is something to do for a job execution of this status, `ready` telling whether its
+/// walk has a work key that may be run now.
+pub(crate) fn has_something(status: BatchStatus, ready: bool) -> bool
+    ensures { (value : Walk) → ready ≡ is_some (first_ready value)
+        → result ≡ has_something_by status value }
+{
+    match status {
+        BatchStatus::Starting => true,
+        BatchStatus::Started => ready,
+        BatchStatus::Stopping => false,
+        BatchStatus::Stopped => false,
+        BatchStatus::Failed => false,
+        BatchStatus::Completed => false,
+        BatchStatus::Abandoned => false,
     }
 }
 
@@ -106,17 +124,17 @@ fn exit_of_stop(alloc: Global, busy: &Listed<WorkKey>) -> Result<Option<T256>, O
     }
 }
 
-fn exit_of_walk(alloc: Global, stop: bool, value: Value) -> Result<Option<T256>, OutOfMemory>
-    ensures { IfOk result (λ exit. exit ≡ exit_of_walk stop value) }
+fn exit_of_walk(alloc: Global, stop: bool, value: &Value) -> Result<Option<T256>, OutOfMemory>
+    ensures { IfOk result (λ exit. exit ≡ exit_of_walk stop value.now) }
 {
     match value {
         Value::Open { busy, .. } => if stop {
-            exit_of_stop(alloc, &busy)
+            exit_of_stop(alloc, busy)
         } else {
             Ok(None)
         },
         Value::Done { .. } => Ok(Some(T256::within(alloc, BatchStatus::Completed.name())?)),
-        Value::Ended { exit, .. } => Ok(Some(exit)),
+        Value::Ended { exit, .. } => Ok(Some(exit.try_clone()?)),
     }
 }
 
@@ -125,9 +143,9 @@ pub(crate) fn exit_status(
     alloc: Global,
     stop: bool,
     start: Option<Moment>,
-    value: Value,
+    value: &Value,
 ) -> Result<Option<T256>, OutOfMemory>
-    ensures { IfOk result (λ exit. exit ≡ exit_status stop start value) }
+    ensures { IfOk result (λ exit. exit ≡ exit_status stop start value.now) }
 {
     match start {
         None => if stop { stopped_exit(alloc) } else { Ok(None) },

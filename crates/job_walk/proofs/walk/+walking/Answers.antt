@@ -22,7 +22,7 @@ pub walk_value-returns-in-WithValue : goal.walk_value-returns-in-WithValue
 walk_value-returns-in-WithValue t c =
     let e = c.index-elements-place.result in
     let own_result : (walked_element (fact_of c.args.known.now) e).own_result ≡ Outcome c.in-Outcome.outcome c.in-Outcome.exit = cc (c.in_ok-value.ensures, c.in-Outcome.is) in
-    let step = follow-on (fact_of c.args.known.now) c.args.elements.now c.loop-passed.id c.loop-passed.passed c.in-Some.place e c.in-Outcome.outcome c.in-Outcome.exit c.in_ok-value-in-Outcome.field-0 (omega arith) c.in-Some.ensures.some.1 c.in-Some.ensures.some.0 c.index-elements-place.is own_result c.in_ok-value-in-Outcome.ensures in
+    let step = follow-on (fact_of c.args.known.now) c.args.elements.now c.loop-passed.id c.loop-passed.passed c.in-Some.place e c.in-Outcome.outcome c.in-Outcome.exit c.in_ok-value-in-Outcome.field-0 (omega arith) c.in-Some.ensures.some.1 c.in-Some.ensures.some.0 c.index-elements-place.is own_result c.in_ok-value-in-Outcome.ensures.value in
     sym (ap (value_of_continuation (follow (length c.args.elements.now - (c.loop-passed.passed + 1)) (rows (fact_of c.args.known.now) c.args.elements.now))) c.in-WithValue.is)
     ∙ (sym step ∙ c.loop-passed.invariant)
 
@@ -30,6 +30,6 @@ pub walk_value-loop-passed-preserved : goal.walk_value-loop-passed-preserved
 walk_value-loop-passed-preserved t c =
     let e = c.index-elements-place.result in
     let own_result : (walked_element (fact_of c.args.known.now) e).own_result ≡ Outcome c.in-Outcome.outcome c.in-Outcome.exit = cc (c.in_ok-value.ensures, c.in-Outcome.is) in
-    let step = follow-on (fact_of c.args.known.now) c.args.elements.now c.loop-passed.id c.loop-passed.passed c.in-Some.place e c.in-Outcome.outcome c.in-Outcome.exit c.in_ok-value-in-Outcome.field-0 (omega arith) c.in-Some.ensures.some.1 c.in-Some.ensures.some.0 c.index-elements-place.is own_result c.in_ok-value-in-Outcome.ensures in
+    let step = follow-on (fact_of c.args.known.now) c.args.elements.now c.loop-passed.id c.loop-passed.passed c.in-Some.place e c.in-Outcome.outcome c.in-Outcome.exit c.in_ok-value-in-Outcome.field-0 (omega arith) c.in-Some.ensures.some.1 c.in-Some.ensures.some.0 c.index-elements-place.is own_result c.in_ok-value-in-Outcome.ensures.value in
     sym (ap (value_of_continuation (follow (length c.args.elements.now - (c.loop-passed.passed + 1)) (rows (fact_of c.args.known.now) c.args.elements.now))) c.in-AtElement.is)
     ∙ (sym step ∙ c.loop-passed.invariant)

@@ -5,8 +5,8 @@ use Rattle.records.specs.Maps.{is_instance}
 use Rattle.records.proofs.Numbered.{instance_searched}
 use Rattle.records.proofs.places.instance_place.Goals as goal
 
-pub returns : goal.returns
-returns c rising =
+pub returns-clause-first : goal.returns-clause-first
+returns-clause-first c rising =
     let facts = c.binary_search_by_key.ensures in
     let by_key = facts.position (λ (row : JobInstance). row.instance) (answers_always _ _ _ (λ f a r g called. search rules)) in
     c.ok.ensures.value

@@ -6,4 +6,4 @@ abbrev pub invariant-loop-first : goal.invariant-loop-first
 invariant-loop-first l = executions_left l.self ≡ executions_left l.initial.self
 
 abbrev pub decreases-loop-first : goal.decreases-loop-first
-decreases-loop-first l = length l.self.rows.now
+decreases-loop-first l = length l.self.numbers.now

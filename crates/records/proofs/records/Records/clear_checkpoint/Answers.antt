@@ -5,18 +5,14 @@ use Rattle.batch_history.specs.Checkpoints.{InstanceStep}
 use Rattle.records.specs.Maps.{Maps, AreApart}
 use Rattle.records.specs.Placed.{is_elsewhere, without_mark}
 use Rattle.records.proofs.Marks.{apart_without}
+use Rattle.records.proofs.Indexing.{checkpoints_replaced}
 use Rattle.records.proofs.records.Records.clear_checkpoint.Goals as goal
 
 pub invariant_of-self : goal.invariant_of-self
 invariant_of-self c =
     let p : InstanceStep = record { instance = c.args.i; step = c.args.step.now } in
     let left = filter_same _ (is_elsewhere p) _ (λ x b f k. search rules) _ _ c.retain.ensures.filtered in
-    record {
-      instances = c.self.invariant.instances;
-      executions = c.self.invariant.executions;
-      works = c.self.invariant.works;
-      checkpoints = subst AreApart (sym left) (apart_without p c.self.inside.checkpoints.items c.self.invariant.checkpoints);
-    }
+    checkpoints_replaced _ _ _ _ _ c.self.invariant (subst AreApart (sym left) (apart_without p c.self.inside.checkpoints.items c.self.invariant.keyed.checkpoints))
 
 pub returns : goal.returns
 returns c =

@@ -4,6 +4,7 @@ use Rattle.batch_history.specs.declared.rows.CheckpointRow.{CheckpointRow}
 use Rattle.records.specs.Maps.{Maps, AreApart}
 use Rattle.records.specs.Placed.{with_mark, marked}
 use Rattle.records.proofs.Marks.{apart_with}
+use Rattle.records.proofs.Indexing.{checkpoints_replaced}
 use Rattle.records.proofs.records.Records.put_checkpoint.Goals as goal
 
 pub invariant_of-self : goal.invariant_of-self
@@ -13,12 +14,7 @@ invariant_of-self c =
     let placed : with_mark p c.args.row.mark rows ≡ slice_set rows c.in-Some.place (marked p c.args.row.mark) =
     subst (λ (l : List CheckpointRow). with_mark p c.args.row.mark l ≡ slice_set l c.in-Some.place (marked p c.args.row.mark))
     (sym (ap (λ (m : Maps). m.checkpoints) c.self.view_is)) (c.in-Some.ensures.held.1 c.args.row.mark) in
-    record {
-      instances = c.self.invariant.instances;
-      executions = c.self.invariant.executions;
-      works = c.self.invariant.works;
-      checkpoints = subst AreApart placed (apart_with p c.args.row.mark rows c.self.invariant.checkpoints);
-    }
+    checkpoints_replaced _ _ _ _ _ c.self.invariant (subst AreApart placed (apart_with p c.args.row.mark rows c.self.invariant.keyed.checkpoints))
 
 pub invariant_of-self-in-Continue-1 : goal.invariant_of-self-in-Continue-1
 invariant_of-self-in-Continue-1 c =
@@ -27,9 +23,4 @@ invariant_of-self-in-Continue-1 c =
     let placed : with_mark p c.args.row.mark rows ≡ rows ++ marked p c.args.row.mark ∷ [] =
     subst (λ (l : List CheckpointRow). with_mark p c.args.row.mark l ≡ l ++ marked p c.args.row.mark ∷ [])
     (sym (ap (λ (m : Maps). m.checkpoints) c.self.view_is)) (c.in-None.ensures.absent c.args.row.mark) in
-    record {
-      instances = c.self.invariant.instances;
-      executions = c.self.invariant.executions;
-      works = c.self.invariant.works;
-      checkpoints = subst AreApart (placed ∙ sym c.in_ok-push-in-None.ensures.items) (apart_with p c.args.row.mark rows c.self.invariant.checkpoints);
-    }
+    checkpoints_replaced _ _ _ _ _ c.self.invariant (subst AreApart (placed ∙ sym c.in_ok-push-in-None.ensures.items) (apart_with p c.args.row.mark rows c.self.invariant.keyed.checkpoints))

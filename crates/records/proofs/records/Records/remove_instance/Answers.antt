@@ -1,23 +1,34 @@
-use Rattle.std.proofs.Common.{◌==◌, ℕ, List, not, sym, subst}
-use Rattle.batch_history.specs.declared.rows.JobInstance.{JobInstance}
+use Rattle.std.proofs.Common.{◌≡◌, ◌==◌, ℕ, List, [], Some, cond, find, option_copied, bytes_eq, sym, ◌∙◌, ap, subst}
+use Rattle.std.specs.List.{list_any}
+use Rattle.batch_history.specs.Rows.{works_there}
 use Rattle.batch_history.specs.declared.rows.ExecutionRow.{ExecutionRow}
-use Rattle.batch_history.specs.declared.rows.WorkRow.{WorkRow}
-use Rattle.batch_history.specs.Rows.{instance_in, is_gone}
-use Rattle.records.specs.Maps.{AreApart, AreRising, instance_numbers, execution_numbers, work_numbers}
-use Rattle.records.proofs.Numbered.{instances_filtered, executions_filtered, works_filtered}
-use Rattle.records.proofs.Marks.{apart_filtered}
+use Rattle.batch_history.specs.declared.rows.JobInstance.{JobInstance}
+use Rattle.records.specs.Indexes.{AreIndexed, numbers_named, numbers_under, without_number}
+use Rattle.records.specs.Maps.{Maps, is_instance, instance_numbers, AreRising}
+use Rattle.records.specs.Without.{without_instance}
+use Rattle.records.proofs.Indexing.{instance_removed}
 use Rattle.records.proofs.records.Records.remove_instance.Goals as goal
 
 pub invariant_of-self : goal.invariant_of-self
 invariant_of-self c =
     let i : ℕ = c.args.i in
-    record {
-      instances = subst (λ (l : List JobInstance). AreRising (instance_numbers l)) (sym c.remove_instances.ensures)
-          (instances_filtered (λ row. not (row.instance == i)) c.self.inside.instances.items c.self.invariant.instances);
-      executions = subst (λ (l : List ExecutionRow). AreRising (execution_numbers l)) (sym c.remove_executions.ensures)
-          (executions_filtered (λ row. not (row.instance == i)) c.self.inside.executions.items c.self.invariant.executions);
-      works = subst (λ (l : List WorkRow). AreRising (work_numbers l)) (sym c.remove_works.ensures)
-          (works_filtered (λ work. not (is_gone (λ j. j == i) (instance_in c.as_slice.result.now work.execution))) c.self.inside.works.items c.self.invariant.works);
-      checkpoints = subst AreApart (sym c.remove_checkpoints.ensures)
-          (apart_filtered (λ row. not (row.instance == i)) c.self.inside.checkpoints.items c.self.invariant.checkpoints);
-    }
+    let inside : Maps = record { instances = c.self.inside.instances.items; executions = c.self.inside.executions.items; works = c.self.inside.works.items; checkpoints = c.self.inside.checkpoints.items } in
+    let names : List ℕ → List ℕ = numbers_named c.self.inside.instances_by_name in
+    let executions : ℕ → List ℕ = numbers_under c.self.inside.executions_by_instance in
+    let works : ℕ → List ℕ = numbers_under c.self.inside.works_by_execution in
+    let row : JobInstance = c.in-Some.row.now in
+    let rising = subst (λ (l : List JobInstance). AreRising (instance_numbers l)) (sym c.as_slice.ensures.value) c.self.invariant.keyed.instances in
+    let there : find (is_instance i) inside.instances ≡ Some row =
+    sym (c.find_instance.ensures rising ∙ ap (find (is_instance i)) c.as_slice.ensures.value) ∙ ap option_copied c.in-Some.is in
+    let left = c.remove_works.ensures ∙ ap (λ (l : List ExecutionRow). works_there (λ j. j == i) l inside.works) c.as_slice-2.ensures.value in
+    let whole : without_instance i inside ≡ record { instances = c.remove_instances.new.instances.items; executions = c.remove_executions.new.executions.items; works = c.remove_works.new.works.items; checkpoints = c.remove_checkpoints.new.checkpoints.items } =
+    λ k. record { instances = sym c.remove_instances.ensures k; executions = sym c.remove_executions.ensures k; works = sym left k; checkpoints = sym c.remove_checkpoints.ensures k } in
+    subst (λ (m : Maps). AreIndexed m (numbers_named c.remove.new.self) (numbers_under c.remove-2.new.self) (numbers_under c.remove_all.new.self)) whole
+    (instance_removed inside names _ executions works _ _ i row c.self.invariant there record {
+      named = λ q. c.remove.ensures q
+          ∙ (ap (λ (name : List ℕ). cond (bytes_eq name q) (without_number c.value.result (names q)) (names q)) c.as_str.ensures.same
+          ∙ ap (λ (n : ℕ). cond (bytes_eq row.job q) (without_number n (names q)) (names q)) c.value.ensures);
+      own = λ q. c.remove-2.ensures q ∙ ap (λ (n : ℕ). cond (n == q) [] (executions q)) c.value-3.ensures;
+      their-works = λ q. c.remove_all.ensures q
+          ∙ ap (λ (ns : List ℕ). cond (list_any (λ x. x == q) ns) [] (works q)) (c.under.ensures ∙ ap executions c.value-2.ensures);
+    })

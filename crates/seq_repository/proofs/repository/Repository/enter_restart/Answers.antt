@@ -1,7 +1,9 @@
 use Rattle.std.proofs.Common.{◌≡◌, ℕ, ◌+◌, true, List, sym, ◌∙◌, ap, arith}
+use Rattle.std.specs.BTreeMap.{get}
+use Rattle.std.specs.Ordering.{nat_cmp}
 use Rattle.batch_ids.specs.Parameters.{Pair}
 use Rattle.batch_history.proofs.Steps.{fresh_row}
-use Rattle.batch_history.specs.Replies.{is_execution}
+use Rattle.batch_history.specs.Replies.{is_execution, row_status}
 use Rattle.batch_history.specs.Walks.{job_named}
 use Rattle.job_walk.specs.declared.plan.Plan.{Plan}
 use Rattle.restart_rules.specs.Placed.{begins_in_job, is_placed}
@@ -11,7 +13,7 @@ use Rattle.batch_history.specs.declared.rows.LastNumbers.{LastNumbers}
 use Rattle.batch_history.specs.declared.call.Reply.TheVariants.{Done}
 use Rattle.seq_repository.specs.Kept.{Kept}
 use Rattle.seq_repository.proofs.Entries.{restart-entered}
-use Rattle.seq_repository.proofs.Sound.{sound_restart}
+use Rattle.seq_repository.proofs.Keeping.{kept_restart}
 use Rattle.seq_repository.proofs.repository.Repository.enter_restart.Goals as goal
 
 pub invariant_of-self-2 : goal.invariant_of-self-2
@@ -21,11 +23,11 @@ invariant_of-self-2 g c =
     let placed : is_placed kept.catalogue row ≡ true =
     ap (λ (r : ExecutionRow). is_placed kept.catalogue r) c.new_execution-row.ensures
     ∙ (ap (λ job. begins_in_job c.in_ok-plan.plan (job_named kept.catalogue job)) c.in_ok-job.ensures ∙ c.in_ok-plan.ensures.begins) in
-    sound_restart g.row.LIMIT kept c.add_execution.new.self row c.self.invariant (ap (λ (r : ExecutionRow). r.execution) c.new_execution-row.ensures) (omega (arith, c.requires.room, ap (λ (r : Kept). r.count) c.self.view_is)) placed c.in_ok-add_execution.ensures.added
+    kept_restart g.row.LIMIT c.self.inside.agenda.keys c.add_execution.new.agenda.keys (get nat_cmp c.self.inside.cursors) kept c.add_execution.new.records row c.self.invariant (ap (λ (r : ExecutionRow). r.execution) c.new_execution-row.ensures) (ap row_status c.new_execution-row.ensures) (omega (arith, c.requires.room, ap (λ (r : Kept). r.count) c.self.view_is)) placed c.in_ok-add_execution.ensures.added c.in_ok-add_execution.ensures.agenda
 
 pub restart_plan-requires : goal.restart_plan-requires
 restart_plan-requires g c =
-    placed_found c.self.inside.catalogue (is_execution c.args.y) c.self.inside.records.executions c.in-Some.earlier.now (sym c.in-Some.ensures.found) c.self.invariant.placed
+    placed_found c.self.inside.catalogue (is_execution c.args.y) c.self.inside.records.executions c.in-Some.earlier.now (sym c.in-Some.ensures.found) c.self.invariant.sound.placed
 
 pub returns-clause-rows : goal.returns-clause-rows
 returns-clause-rows g c =
@@ -33,7 +35,7 @@ returns-clause-rows g c =
     let earlier : ExecutionRow = c.in-Some.earlier.now in
     let row : List ℕ → List Pair → Plan → ExecutionRow = λ job parameters plan. fresh_row (last.execution + 1) earlier.instance c.args.at job parameters plan in
     rw (← c.self.view_is)
-    (restart-entered c.self.inside.catalogue c.self.inside.count last c.self.inside.records c.add_execution.new.self 0 c.args.at c.args.y c.args.parameters.now Done
+    (restart-entered c.self.inside.catalogue c.self.inside.count last c.self.inside.records c.add_execution.new.records 0 c.args.at c.args.y c.args.parameters.now Done
     earlier c.new_execution-row.result (sym c.in-Some.ensures.found)
     (c.new_execution-row.ensures ∙ (ap (λ job. row job c.in_ok-parameters.parameters c.in_ok-plan.plan) c.in_ok-job.ensures
     ∙ (ap (λ p. row earlier.job p c.in_ok-plan.plan) c.in_ok-parameters.ensures.same

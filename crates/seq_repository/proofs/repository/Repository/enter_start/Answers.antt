@@ -1,6 +1,9 @@
 use Rattle.std.proofs.Common.{◌≡◌, ℕ, ◌+◌, true, Some, List, sym, ◌∙◌, ap, arith}
+use Rattle.std.specs.BTreeMap.{get}
+use Rattle.std.specs.Ordering.{nat_cmp}
 use Rattle.batch_ids.specs.Parameters.{Pair}
 use Rattle.batch_history.proofs.Steps.{fresh_row}
+use Rattle.batch_history.specs.Replies.{row_status}
 use Rattle.batch_history.specs.Restarts.{first_plan}
 use Rattle.batch_history.specs.Walks.{job_named}
 use Rattle.job_walk.specs.declared.plan.Plan.{Plan}
@@ -11,7 +14,7 @@ use Rattle.batch_history.specs.declared.rows.LastNumbers.{LastNumbers}
 use Rattle.batch_history.specs.declared.call.Reply.TheVariants.{Done}
 use Rattle.seq_repository.specs.Kept.{Kept}
 use Rattle.seq_repository.proofs.Entries.{start-entered}
-use Rattle.seq_repository.proofs.Sound.{sound_start}
+use Rattle.seq_repository.proofs.Keeping.{kept_start}
 use Rattle.seq_repository.proofs.repository.Repository.enter_start.Goals as goal
 
 pub invariant_of-self-2 : goal.invariant_of-self-2
@@ -24,7 +27,7 @@ invariant_of-self-2 g c =
     let placed : is_placed kept.catalogue row ≡ true =
     ap (λ (r : ExecutionRow). is_placed kept.catalogue r) c.new_execution-row.ensures
     ∙ (ap (begins_in_job c.in_ok-plan.plan) named ∙ c.in_ok-plan.ensures.begins) in
-    sound_start g.row.LIMIT kept c.add_instance.new.self record { instance = c.new-instance.result; job = c.in_ok-first.first } row c.self.invariant c.new-instance.ensures (ap (λ (r : ExecutionRow). r.execution) c.new_execution-row.ensures) (omega (arith, c.requires.room, ap (λ (r : Kept). r.count) c.self.view_is)) placed c.in_ok-add_instance.ensures.added
+    kept_start g.row.LIMIT c.self.inside.agenda.keys c.add_instance.new.agenda.keys (get nat_cmp c.self.inside.cursors) kept c.add_instance.new.records record { instance = c.new-instance.result; job = c.in_ok-first.first } row c.self.invariant c.new-instance.ensures (ap (λ (r : ExecutionRow). r.execution) c.new_execution-row.ensures) (ap row_status c.new_execution-row.ensures) (omega (arith, c.requires.room, ap (λ (r : Kept). r.count) c.self.view_is)) placed c.in_ok-add_instance.ensures.added c.in_ok-add_instance.ensures.agenda
 
 pub returns-clause-rows : goal.returns-clause-rows
 returns-clause-rows g c =
@@ -34,7 +37,7 @@ returns-clause-rows g c =
     let named : job_named catalogue c.args.job.now ≡ Some c.in-Some.tree.now = ap (job_named catalogue) (sym c.as_str.ensures.same) ∙ sym c.in-Some.ensures in
     let planned : c.in_ok-plan.plan ≡ first_plan (job_named catalogue c.args.job.now) = c.in_ok-plan.ensures.plan ∙ ap first_plan (sym named) in
     rw (← c.self.view_is)
-    (start-entered c.self.inside.catalogue c.self.inside.count last c.self.inside.records c.add_instance.new.self 0 c.args.at c.args.job.now c.args.parameters.now Done
+    (start-entered c.self.inside.catalogue c.self.inside.count last c.self.inside.records c.add_instance.new.records 0 c.args.at c.args.job.now c.args.parameters.now Done
     record { instance = c.new-instance.result; job = c.in_ok-first.first } c.new_execution-row.result
     (ap (λ (i : ℕ). record { instance = i; job = c.in_ok-first.first }) c.new-instance.ensures
     ∙ ap (λ (job : List ℕ). record { instance = last.instance + 1; job = job }) c.in_ok-first.ensures)

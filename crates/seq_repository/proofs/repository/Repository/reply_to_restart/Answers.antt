@@ -1,4 +1,4 @@
-use Rattle.std.proofs.Common.{ℕ, ◌+◌, [], ◌∙◌, ap}
+use Rattle.std.proofs.Common.{ℕ, [], ◌∙◌, ap}
 use Rattle.batch_history.specs.Replies.{accepted}
 use Rattle.batch_history.specs.Rows.{Rows}
 use Rattle.batch_history.specs.declared.call.Reply.TheVariants.{Execution as IsExecution}
@@ -8,7 +8,7 @@ use Rattle.seq_repository.proofs.Replying.{restart_due, restart_refused}
 use Rattle.seq_repository.proofs.repository.Repository.reply_to_restart.Goals as goal
 
 pub may_restart-requires : goal.may_restart-requires
-may_restart-requires g c = placed_at c.self.inside.catalogue c.self.inside.records.executions c.args.x c.self.invariant.placed
+may_restart-requires g c = placed_at c.self.inside.catalogue c.self.inside.records.executions c.args.x c.self.invariant.sound.placed
 
 pub returns-in-Err : goal.returns-in-Err
 returns-in-Err g c =

@@ -1,9 +1,0 @@
-use Rattle.std.proofs.Common.{◌≡◌, true, drop}
-use Rattle.job_walk.specs.Cursors.{known_keys}
-use Rattle.job_walk.specs.Keys.{has_key}
-use Rattle.job_walk.proofs.Newest.{AreOther}
-use Rattle.job_walk.proofs.cursor.put_fact.Given as goal
-
-abbrev pub invariant-loop-place : goal.invariant-loop-place
-invariant-loop-place l =
-    (has_key (known_keys (drop l.place l.known.items)) l.key ≡ true) × AreOther l.known.items l.key l.place × (l.known ≡ l.fn.known)

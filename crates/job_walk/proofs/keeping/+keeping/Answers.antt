@@ -1,0 +1,101 @@
+use Rattle.std.proofs.Common.{◌≡◌, ◌++◌, List, [], ◌∷◌, ◌-◌, length, map, take, rules, sym, ◌∙◌, ap, arith, subst, refl, IfOk}
+use Rattle.std.proofs.lemmas.List.{take_all}
+use Rattle.jsl_model.specs.Trees.{joined}
+use Rattle.jsl_model.specs.declared.element.Element.{Element}
+use Rattle.jsl_model.specs.declared.element.SplitFlow.{SplitFlow}
+use Rattle.jsl_model.specs.declared.element.Body.TheVariants.{Flow, Split}
+use Rattle.job_walk.specs.declared.kept_list.KeptList.{KeptList}
+use Rattle.job_walk.specs.declared.element_result.ElementResult.{ElementResult}
+use Rattle.job_walk.specs.Walk.{fact_of, split_result}
+use Rattle.job_walk.specs.KeptLists.{kept_element, kept_flow, tree_first, value_kept, lists_in}
+use Rattle.job_walk.proofs.Reporting.{states}
+use Rattle.job_walk.proofs.KeptAtFirst.{lists-more, values-more, starts-more, whole-parts, kept-split, list-kept, added-count, on-ok}
+use Rattle.job_walk.proofs.Flows.{flow-all, split-once}
+use Rattle.job_walk.proofs.Places.{at-once}
+use Rattle.job_walk.proofs.Sizes.{nodes-at, nodes-flow, nodes-split}
+use Rattle.job_walk.proofs.keeping.+keeping.Goals as goal
+
+pub keep_element-loop-flow-preserved : goal.keep_element-loop-flow-preserved
+keep_element-loop-flow-preserved t c =
+    let facts = fact_of c.args.known.now in
+    let f : SplitFlow = c.flow-item.result in
+    let whole : tree_first (states facts c.as_slice-in-loop-flow.result.now) ≡ kept_flow facts f =
+    ap (λ es. tree_first (states facts es)) c.as_slice-in-loop-flow.ensures ∙ sym (whole-parts facts f) in (
+      values-more (λ (g : SplitFlow). value_kept (kept_flow facts g)) c.as_slice-flow-items.result.now c.loop-flow.flow-index f c.loop-flow.values.items c.push.new.self.items c.in_ok-keep_first-in-Split.field-0
+          (omega arith) c.flow-item.is c.loop-flow.invariant.0 (search rules) (c.in_ok-keep_first-in-Split.ensures.value ∙ ap value_kept whole),
+      lists-more (λ (g : SplitFlow). lists_in (kept_flow facts g)) c.as_slice-flow-items.result.now c.loop-flow.flow-index f c.args.lists.now.items c.loop-flow.lists.items c.keep_first-in-loop-flow.new.lists.items
+          (omega arith) c.flow-item.is c.loop-flow.invariant.1 (c.in_ok-keep_first-in-Split.ensures.lists ∙ ap (λ w. c.loop-flow.lists.items ++ lists_in w) whole),
+    )
+
+pub keep_element-returns-after-loop-flow-clause-result : goal.keep_element-returns-after-loop-flow-clause-result
+keep_element-returns-after-loop-flow-clause-result t c =
+    let facts = fact_of c.args.known.now in
+    let flows = c.as_slice-flow-items.result.now in
+    let all : take c.loop-flow.flow-index flows ≡ flows = take_all c.loop-flow.flow-index flows c.loop-flow-test.false in
+    let split = kept-split facts c.args.element.now flows (c.in-Split.is ∙ ap Split (sym c.as_slice-flow-items.ensures)) in
+    let eq : split_result c.as_slice-in-Split.result.now ≡ (kept_element facts c.args.element.now).row.own_result =
+    ap split_result (c.as_slice-in-Split.ensures.value ∙ (c.loop-flow.invariant.0 ∙ ap (map (λ (f : SplitFlow). value_kept (kept_flow facts f))) all)) ∙ sym split.0 in
+    subst (λ (o : ElementResult). IfOk c.split_result.result (λ own. own ≡ o)) eq c.split_result.ensures
+
+pub keep_element-returns-after-loop-flow-clause-lists : goal.keep_element-returns-after-loop-flow-clause-lists
+keep_element-returns-after-loop-flow-clause-lists t c =
+    let facts = fact_of c.args.known.now in
+    let flows = c.as_slice-flow-items.result.now in
+    let all : take c.loop-flow.flow-index flows ≡ flows = take_all c.loop-flow.flow-index flows c.loop-flow-test.false in
+    let split = kept-split facts c.args.element.now flows (c.in-Split.is ∙ ap Split (sym c.as_slice-flow-items.ensures)) in
+    on-ok c.split_result.result _ (c.loop-flow.invariant.1
+    ∙ ap (λ (x : List KeptList). c.args.lists.now.items ++ x) (ap (λ (fs : List SplitFlow). joined (map (λ (f : SplitFlow). lists_in (kept_flow facts f)) fs)) all ∙ sym split.1))
+
+pub keep_list-loop-element-preserved : goal.keep_list-loop-element-preserved
+keep_list-loop-element-preserved t c =
+    let facts = fact_of c.args.known.now in
+    let e : Element = c.element-item.result in
+    let es = c.args.elements.now in
+    let i = c.loop-element.element-index in (
+      lists-more (λ (x : Element). (kept_element facts x).inside) es i e c.push.new.self.items c.loop-element.lists.items c.keep_element.new.lists.items (omega arith) c.element-item.is c.loop-element.invariant.0 c.in_ok-result.ensures.lists,
+      values-more (λ (x : Element). (kept_element facts x).row.own_result) es i e c.loop-element.results c.push-in-loop-element-2.new.self c.in_ok-result.result (omega arith) c.element-item.is c.loop-element.invariant.1 c.in_ok-push-3.ensures.ok c.in_ok-result.ensures.result,
+      starts-more (λ (x : Element). (kept_element facts x).inside) es i e c.loop-element.starts c.push-in-loop-element.new.self (c.len.result - c.len-base.result - 1) (omega arith) c.element-item.is c.loop-element.invariant.2 c.in_ok-push-2.ensures.ok
+          (let now : c.len.result ≡ length c.loop-element.lists.items = search rules in
+          let base : c.len-base.result ≡ length c.args.lists.now.items = search rules in
+          let pushed : c.push.new.self.items ≡ c.args.lists.now.items ++ c.nothing_kept.result ∷ [] = search rules in
+          let count = added-count c.args.lists.now.items c.loop-element.lists.items _ c.nothing_kept.result (c.loop-element.invariant.0 ∙ ap (λ (x : List KeptList). x ++ joined (map (λ (y : Element). (kept_element facts y).inside) (take i es))) pushed) in
+          omega (arith, now, base, count)),
+    )
+
+pub keep_list-returns : goal.keep_list-returns
+keep_list-returns t c =
+    let facts = fact_of c.args.known.now in
+    let now : c.len-2.result ≡ length c.loop-element.lists.items = search rules in
+    let base : c.len-base.result ≡ length c.args.lists.now.items = search rules in
+    let pushed : c.push.new.self.items ≡ c.args.lists.now.items ++ c.nothing_kept.result ∷ [] = search rules in
+    list-kept facts c.args.elements.now c.args.from.now c.loop-element.element-index c.args.lists.now.items c.loop-element.lists.items c.nothing_kept.result c.len-base.result c.len-2.result c.in_ok-progress.progress c.loop-element.results c.as_slice.result.now c.loop-element.starts _
+    c.loop-element-test.false base now
+    (c.loop-element.invariant.0 ∙ ap (λ (x : List KeptList). x ++ joined (map (λ (y : Element). (kept_element facts y).inside) (take c.loop-element.element-index c.args.elements.now))) pushed)
+    c.loop-element.invariant.1 c.loop-element.invariant.2 c.as_slice.ensures c.in_ok-progress.ensures
+
+-- ---- What lies inside
+
+pub keep_list-keep_element-requires : goal.keep_list-keep_element-requires
+keep_list-keep_element-requires t c =
+    let less = nodes-at c.args.elements.now c.loop-element.element-index c.element-item.result c.loop-element-test.true c.element-item.is in
+    (omega (arith, less), at-once c.args.elements.now c.loop-element.element-index c.element-item.result c.requires.once c.loop-element-test.true c.element-item.is)
+
+pub keep_element-keep_first-requires : goal.keep_element-keep_first-requires
+keep_element-keep_first-requires t c =
+    let e = c.args.element.now in
+    let es = c.as_slice.result.now in
+    let is = c.in-Flow.is ∙ ap Flow (sym c.as_slice.ensures) in
+    let less = nodes-flow e es es is refl in
+    (omega (arith, less), flow-all e es is c.requires.once)
+
+pub keep_element-keep_first-requires-in-loop-flow : goal.keep_element-keep_first-requires-in-loop-flow
+keep_element-keep_first-requires-in-loop-flow t c =
+    let e = c.args.element.now in
+    let flows = c.as_slice-flow-items.result.now in
+    let i = c.loop-flow.flow-index in
+    let f = c.flow-item.result in
+    let es = c.as_slice-in-loop-flow.result.now in
+    let these = c.as_slice-in-loop-flow.ensures in
+    let is = c.in-Split.is ∙ ap Split (sym c.as_slice-flow-items.ensures) in
+    let less = nodes-split e flows flows i f es is refl c.loop-flow-test.true c.flow-item.is these in
+    (omega (arith, less), λ id. split-once e flows id i f es is (c.requires.once id) c.loop-flow-test.true c.flow-item.is these)

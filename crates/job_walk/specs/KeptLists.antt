@@ -1,0 +1,280 @@
+-- What a cursor keeps of each list of its job, and what a report changes of it.
+use Rattle.std.specs.Prelude.{ℕ, zero, suc, ◌≡◌, ◌≢◌, ◌+◌, Bool, true, false, Option, Some, None, unwrap_or, List, [], ◌∷◌, ◌++◌, length, map, find, slice_set}
+use Rattle.std.specs.List.{position}
+use Rattle.std.specs.Str.{bytes_eq}
+use Rattle.batch_ids.specs.Statuses.{status_name}
+use Rattle.batch_ids.specs.declared.status.BatchStatus.TheVariants.{Completed, Failed, Stopped}
+use Rattle.batch_ids.specs.declared.status.WorkOutcome.{WorkOutcome}
+use Rattle.batch_ids.specs.declared.status.WorkOutcome.TheVariants.{Completed as CameCompleted, Failed as CameFailed, Stopped as CameStopped}
+use Rattle.jsl_model.specs.Trees.{joined}
+use Rattle.jsl_model.specs.declared.element.Then.{Then}
+use Rattle.jsl_model.specs.declared.element.Then.TheVariants.{Next, End, Fail, Stop}
+use Rattle.jsl_model.specs.declared.element.Transition.{Transition}
+use Rattle.jsl_model.specs.declared.element.Element.{Element, Element-F, fold-Element}
+use Rattle.jsl_model.specs.declared.element.SplitFlow.{SplitFlow, SplitFlow-F, fold-SplitFlow}
+use Rattle.jsl_model.specs.declared.element.Body.{Body, Body-F, fold-Body}
+use Rattle.jsl_model.specs.declared.element.Body.TheOpen.{Step, Flow, Split, Decision}
+use Rattle.transitions.specs.Transitions.{matching_transition}
+use Rattle.job_walk.specs.declared.facts.Fact.{Fact}
+use Rattle.job_walk.specs.declared.continuation.Continuation.{Continuation}
+use Rattle.job_walk.specs.declared.continuation.Continuation.TheVariants.{AtElement, WithValue}
+use Rattle.job_walk.specs.declared.facts.Known.{Known}
+use Rattle.job_walk.specs.declared.facts.Value.{Value}
+use Rattle.job_walk.specs.declared.facts.Value.TheVariants.{Done, Ended}
+use Rattle.job_walk.specs.declared.element_result.ElementResult.{ElementResult}
+use Rattle.job_walk.specs.declared.element_result.ElementResult.TheVariants.{ListValue, Outcome}
+use Rattle.job_walk.specs.declared.kept_list.KeptList.{KeptList}
+use Rattle.job_walk.specs.declared.kept_list.ListChange.{ListChange}
+use Rattle.job_walk.specs.declared.kept_list.Progress.{Progress}
+use Rattle.job_walk.specs.declared.work_key.WorkKey.{WorkKey}
+use Rattle.job_walk.specs.Keys.{is_same_key}
+use Rattle.job_walk.specs.Cursors.{CursorState, IsCursor, is_shown, put_fact}
+use Rattle.job_walk.specs.Walk.{WalkedElement, BodyResult, IsStep, IsDecision, HasResult, fact_of, element_result, first_id, follow, flow_result, split_result}
+
+-- ---- Where a list goes after an outcome
+
+abbrev pub continuation_by : Then → Continuation
+continuation_by (Next to) = AtElement to
+continuation_by (End exit) = WithValue (Ended Completed (unwrap_or exit (status_name Completed)) None)
+continuation_by (Fail exit) = WithValue (Ended Failed (unwrap_or exit (status_name Failed)) None)
+continuation_by (Stop exit point) = WithValue (Ended Stopped (unwrap_or exit (status_name Stopped)) point)
+
+abbrev pub continuation_of : Option (List ℕ) → Option Transition → WorkOutcome → List ℕ → Continuation
+continuation_of next transition CameStopped exit = WithValue (Ended Stopped (status_name Stopped) None)
+continuation_of next (Some transition) CameCompleted exit = continuation_by transition.then
+continuation_of next (Some transition) CameFailed exit = continuation_by transition.then
+continuation_of next None CameFailed exit = WithValue (Ended Failed (status_name Failed) None)
+continuation_of (Some to) None CameCompleted exit = AtElement to
+continuation_of None None CameCompleted exit = WithValue (Done exit)
+
+-- ---- Where a walk stands: at an element that halts or ends it, and how many elements it may still go over
+
+pub record Stand : Type 0 where
+  pub id : List ℕ
+  pub left : ℕ
+
+abbrev pub stand_by_continuation : Stand → (List ℕ → Stand) → Continuation → Stand
+stand_by_continuation here on (AtElement to) = on to
+stand_by_continuation here on (WithValue value) = here
+
+abbrev pub stand_by_result : Stand → (List ℕ → Stand) → WalkedElement → ElementResult → Stand
+stand_by_result here on row (ListValue value) = here
+stand_by_result here on row (Outcome outcome exit) = stand_by_continuation here on (continuation_of row.next (matching_transition row.transitions exit) outcome exit)
+
+abbrev pub stand_at : Stand → (List ℕ → Stand) → Option WalkedElement → Stand
+stand_at here on None = here
+stand_at here on (Some row) = stand_by_result here on row row.own_result
+
+abbrev pub stands : ℕ → List WalkedElement → List ℕ → Stand
+stands zero rows id = record { id = id; left = 0 }
+stands (suc n) rows id = stand_at record { id = id; left = suc n } (stands n rows) (find (λ row. bytes_eq row.id id) rows)
+
+-- the place of the element with this id
+abbrev pub row_place : List WalkedElement → List ℕ → Option ℕ
+row_place rows id = position (λ row. bytes_eq row.id id) rows
+
+-- what a walk over these rows has come to, from an id on
+abbrev pub progress : ℕ → List WalkedElement → List ℕ → Progress
+progress n rows id =
+    record { value = follow n rows id; place = row_place rows (stands n rows id).id; left = (stands n rows id).left }
+
+-- the rows of elements that came to these by themselves
+abbrev pub rows_by : List Element → List ElementResult → List WalkedElement
+rows_by [] results = []
+rows_by (e ∷ es) [] = []
+rows_by (e ∷ es) (own ∷ owns) = record { id = e.id; next = e.next; transitions = e.transitions; own_result = own } ∷ rows_by es owns
+
+-- ---- What is kept
+
+-- an element, with what is kept of the lists inside it
+pub record KeptElement : Type 0 where
+  pub row : WalkedElement
+  pub inside : List KeptList
+
+-- a body
+pub record KeptBody : Type 0 where
+  pub part : BodyResult
+  pub inside : List KeptList
+
+-- a list: what is kept of it, and of the lists inside it
+pub record KeptTree : Type 0 where
+  pub head : KeptList
+  pub inside : List KeptList
+
+-- how many lists stand before those inside each element
+abbrev pub starts_from : ℕ → List (List KeptList) → List ℕ
+starts_from n [] = []
+starts_from n (inside ∷ rest) = n ∷ starts_from (n + length inside) rest
+
+abbrev pub rows_in : List KeptElement → List WalkedElement
+rows_in all = map (λ (s : KeptElement). s.row) all
+
+abbrev pub insides : List KeptElement → List (List KeptList)
+insides all = map (λ (s : KeptElement). s.inside) all
+
+abbrev pub head_of : List WalkedElement → List (List KeptList) → List ℕ → KeptList
+head_of rows inner from =
+    record {
+      progress = progress (length rows) rows from;
+      results = map (λ (row : WalkedElement). row.own_result) rows;
+      starts = starts_from 0 inner;
+      size = length (joined inner) + 1;
+    }
+
+abbrev pub tree_from : List KeptElement → List ℕ → KeptTree
+tree_from all from = record { head = head_of (rows_in all) (insides all) from; inside = joined (insides all) }
+
+abbrev pub tree_first : List KeptElement → KeptTree
+tree_first all = tree_from all (first_id (rows_in all))
+
+-- the list itself, and then those inside it
+abbrev pub lists_in : KeptTree → List KeptList
+lists_in w = w.head ∷ w.inside
+
+abbrev pub value_kept : KeptTree → Value
+value_kept w = w.head.progress.value
+
+abbrev pub body_kept : Body-F KeptBody KeptElement KeptTree → KeptBody
+body_kept (Step step) = record { part = IsStep step; inside = [] }
+body_kept (Decision artifact) = record { part = IsDecision; inside = [] }
+body_kept (Flow all) = record { part = HasResult (flow_result (value_kept (tree_first all))); inside = lists_in (tree_first all) }
+body_kept (Split flows) = record { part = HasResult (split_result (map value_kept flows)); inside = joined (map lists_in flows) }
+
+abbrev pub element_kept : (WorkKey → Fact) → Element-F KeptBody KeptElement KeptTree → KeptElement
+element_kept facts x =
+    record {
+      row = record { id = x.id; next = x.next; transitions = x.transitions; own_result = element_result facts x.id x.body.part };
+      inside = x.body.inside;
+    }
+
+abbrev pub flow_kept : SplitFlow-F KeptBody KeptElement KeptTree → KeptTree
+flow_kept x = tree_first x.elements
+
+abbrev pub kept_element : (WorkKey → Fact) → Element → KeptElement
+kept_element facts = fold-Element KeptBody KeptElement KeptTree body_kept (element_kept facts) flow_kept
+
+abbrev pub kept_body : (WorkKey → Fact) → Body → KeptBody
+kept_body facts = fold-Body KeptBody KeptElement KeptTree body_kept (element_kept facts) flow_kept
+
+abbrev pub kept_flow : (WorkKey → Fact) → SplitFlow → KeptTree
+kept_flow facts = fold-SplitFlow KeptBody KeptElement KeptTree body_kept (element_kept facts) flow_kept
+
+-- what is kept of a list of elements, from one of them on
+abbrev pub tree_of : (WorkKey → Fact) → List Element → List ℕ → KeptTree
+tree_of facts elements from = tree_from (map (kept_element facts) elements) from
+
+-- what is kept of a list, and of those inside it
+abbrev pub kept_of : (WorkKey → Fact) → List Element → List ℕ → List KeptList
+kept_of facts elements from = lists_in (tree_of facts elements from)
+
+-- ---- How often an id stands
+
+abbrev pub total : List ℕ → ℕ
+total [] = 0
+total (n ∷ rest) = n + total rest
+
+abbrev pub body_count : Body-F ℕ ℕ ℕ → ℕ
+body_count (Step step) = 0
+body_count (Decision artifact) = 0
+body_count (Flow elements) = total elements
+body_count (Split flows) = total flows
+
+abbrev pub one_if : Bool → ℕ
+one_if true = 1
+one_if false = 0
+
+abbrev pub element_count : List ℕ → Element-F ℕ ℕ ℕ → ℕ
+element_count id x = one_if (bytes_eq x.id id) + x.body
+
+abbrev pub flow_count : List ℕ → SplitFlow-F ℕ ℕ ℕ → ℕ
+flow_count id x = one_if (bytes_eq x.id id) + total x.elements
+
+abbrev pub count_in : List ℕ → Element → ℕ
+count_in id = fold-Element ℕ ℕ ℕ body_count (element_count id) (flow_count id)
+
+abbrev pub count_in_body : List ℕ → Body → ℕ
+count_in_body id = fold-Body ℕ ℕ ℕ body_count (element_count id) (flow_count id)
+
+abbrev pub count_in_flow : List ℕ → SplitFlow → ℕ
+count_in_flow id = fold-SplitFlow ℕ ℕ ℕ body_count (element_count id) (flow_count id)
+
+-- how often an id stands among elements, at all depths
+abbrev pub count_of : List ℕ → List Element → ℕ
+count_of id elements = total (map (count_in id) elements)
+
+-- how often a work key stands in a list
+abbrev pub key_count : WorkKey → List WorkKey → ℕ
+key_count key [] = 0
+key_count key (one ∷ rest) = one_if (is_same_key key one) + key_count key rest
+
+-- ---- What a report changes
+
+-- whether a value shows this work key: it may be run now or is being run
+abbrev pub shows : WorkKey → Value → Bool
+shows key value = is_shown value key
+
+-- whether what an element comes to by itself shows it
+abbrev pub result_shows : WorkKey → ElementResult → Bool
+result_shows key (ListValue value) = shows key value
+result_shows key (Outcome outcome exit) = false
+
+-- whether the first of these lists shows it
+abbrev pub first_shows : WorkKey → List KeptList → Bool
+first_shows key [] = false
+first_shows key (kept ∷ rest) = shows key kept.progress.value
+
+-- a kept list with what one element comes to changed, and so what the list comes to
+abbrev pub put_in : ListChange → KeptList → KeptList
+put_in change kept = record kept { progress = change.progress; results = slice_set kept.results change.place change.result }
+
+abbrev pub put_at : ℕ → ListChange → List KeptList → List KeptList
+put_at n change [] = []
+put_at zero change (kept ∷ rest) = put_in change kept ∷ rest
+put_at (suc n) change (kept ∷ rest) = kept ∷ put_at n change rest
+
+-- the last of these first
+abbrev pub put_all : List ListChange → List KeptList → List KeptList
+put_all [] lists = lists
+put_all (change ∷ rest) lists = put_at change.list change (put_all rest lists)
+
+-- what is learnt makes the old lists the new ones, where they begin at this number: with these changes put before those
+abbrev pub Puts : List ListChange → List ListChange → ℕ → List KeptList → List KeptList → Type 0
+Puts others changes base old new =
+    (before after : List KeptList) → length before ≡ base
+    → put_all changes ((before ++ old) ++ after) ≡ put_all others ((before ++ new) ++ after)
+
+-- what is kept of a list that begins somewhere, with what is kept of those inside it, and then others
+abbrev pub Keeps : (WorkKey → Fact) → List Element → List KeptList → Type 0
+Keeps facts elements lists = (from : List ℕ) × (rest : List KeptList) × (lists ≡ kept_of facts elements from ++ rest)
+
+-- what is kept of a list that begins at its first element, and then others
+abbrev pub KeepsFirst : (WorkKey → Fact) → List Element → List KeptList → Type 0
+KeepsFirst facts elements lists = (rest : List KeptList) × (lists ≡ lists_in (tree_first (map (kept_element facts) elements)) ++ rest)
+
+-- what is kept of the lists inside an element, and then others
+abbrev pub KeepsInside : (WorkKey → Fact) → Element → List KeptList → Type 0
+KeepsInside facts element lists = (rest : List KeptList) × (lists ≡ (kept_element facts element).inside ++ rest)
+
+-- what is known, once this is learnt of a work key
+abbrev pub facts_after : List Known → WorkKey → Fact → WorkKey → Fact
+facts_after known key fact = fact_of (put_fact known key fact)
+
+-- where this is kept of a list, what is learnt changes that into what is kept of it then
+abbrev pub ChangesList : List ListChange → List ListChange → ℕ → List KeptList → (WorkKey → Fact) → (WorkKey → Fact) → List Element → Type 0
+ChangesList others changes base lists facts later elements =
+    (from : List ℕ) (rest : List KeptList) → lists ≡ kept_of facts elements from ++ rest
+    → Puts others changes base (kept_of facts elements from) (kept_of later elements from)
+
+-- and then the list comes to this
+abbrev pub ComesTo : Value → List KeptList → (WorkKey → Fact) → (WorkKey → Fact) → List Element → Type 0
+ComesTo value lists facts later elements =
+    (from : List ℕ) (rest : List KeptList) → lists ≡ kept_of facts elements from ++ rest → value ≡ value_kept (tree_of later elements from)
+
+-- facts that differ at the work keys of one id alone
+abbrev pub DifferAt : List ℕ → (WorkKey → Fact) → (WorkKey → Fact) → Type 0
+DifferAt id facts later = (key : WorkKey) → key.element ≢ id → later key ≡ facts key
+
+-- a walk that keeps these of its job's lists
+pub record IsKept (lists : List KeptList) (cursor : CursorState) : Type 0 where
+  pub same : lists ≡ kept_of (fact_of cursor.facts) cursor.job.elements cursor.from
+  pub state : IsCursor cursor

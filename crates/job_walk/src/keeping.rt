@@ -1,0 +1,155 @@
+//! What is kept of a job at first.
+ghost use Rattle.std.specs.Prelude.{◌≡◌, ◌++◌, ◌≤◌, ℕ, List, map, IfOk, OnOk};
+ghost use Rattle.job_walk.specs.Walk.{fact_of, flow_result};
+ghost use Rattle.job_walk.specs.KeptLists.{count_of, count_in, kept_of, kept_element, tree_first, value_kept, lists_in};
+
+use crate::element_result::{ElementResult, runnable_result};
+use crate::facts::{Known, Value};
+use crate::index::Index;
+use crate::kept_list::{KeptList, Progress};
+use crate::partitions::step_result;
+use crate::progress::{place_in, walk_on};
+use crate::splits::split_result;
+use batch_ids::{Listed, OutOfMemory, T256, WorkOutcome};
+use jsl_model::{Body, Element};
+use std::alloc::Global;
+
+/// What stands in the place of what is kept of a list, until that is known.
+fn nothing_kept(alloc: Global) -> KeptList {
+    KeptList {
+        progress: Progress {
+            value: Value::Done {
+                exit: T256::empty(alloc),
+            },
+            place: None,
+            left: 0,
+        },
+        results: Listed::new(alloc),
+        starts: Listed::new(alloc),
+        size: 0,
+    }
+}
+
+/// Adds what is kept of a list, and of those inside it.
+#[cycle(keeping)]
+pub(crate) fn keep_list(
+    alloc: Global,
+    lists: &mut Vec<KeptList>,
+    known: &[Known],
+    index: &Index,
+    elements: &[Element],
+    from: &T256,
+) -> Result<(), OutOfMemory>
+    requires once { (id : List ℕ) → count_of id elements.now ≤ 1 }
+    ensures { OnOk result (lists.new.items
+        ≡ lists.old.items ++ kept_of (fact_of known.now) elements.now from.now) }
+{
+    let base = lists.len();
+    lists.push(nothing_kept(alloc))?;
+    let mut results = Listed::new(alloc);
+    let mut starts = Listed::new(alloc);
+    for element in elements {
+        starts.push(lists.len() - base - 1)?;
+        let result = keep_element(alloc, lists, known, index, element)?;
+        results.push(result)?;
+    }
+    let none = ElementResult::Outcome(WorkOutcome::Completed, T256::empty(alloc));
+    let progress = walk_on(
+        alloc,
+        index,
+        elements,
+        results.as_slice(),
+        elements.len(),
+        &none,
+        from,
+        place_in(index, elements, from),
+        elements.len(),
+    )?;
+    let size = lists.len() - base;
+    lists[base] = KeptList {
+        progress,
+        results,
+        starts,
+        size,
+    };
+    Ok(())
+}
+
+/// The same of a list that begins at its first element; what it comes to.
+#[cycle(keeping)]
+fn keep_first(
+    alloc: Global,
+    lists: &mut Vec<KeptList>,
+    known: &[Known],
+    index: &Index,
+    elements: &[Element],
+) -> Result<Value, OutOfMemory>
+    requires once { (id : List ℕ) → count_of id elements.now ≤ 1 }
+    ensures value { IfOk result (λ value.
+        value ≡ value_kept (tree_first (map (kept_element (fact_of known.now)) elements.now))) }
+    ensures lists { OnOk result (lists.new.items ≡ lists.old.items
+        ++ lists_in (tree_first (map (kept_element (fact_of known.now)) elements.now))) }
+{
+    let base = lists.len();
+    match elements.first() {
+        None => {
+            let from = T256::empty(alloc);
+            keep_list(alloc, lists, known, index, elements, &from)?;
+        }
+        Some(first) => keep_list(alloc, lists, known, index, elements, &first.id)?,
+    }
+    lists[base].progress.value.try_clone(alloc)
+}
+
+/// What an element comes to by itself. Adds what is kept of the lists inside it.
+#[cycle(keeping)]
+fn keep_element(
+    alloc: Global,
+    lists: &mut Vec<KeptList>,
+    known: &[Known],
+    index: &Index,
+    element: &Element,
+) -> Result<ElementResult, OutOfMemory>
+    requires once { (id : List ℕ) → count_in id element.now ≤ 1 }
+    ensures result { IfOk result (λ made.
+        made ≡ (kept_element (fact_of known.now) element.now).row.own_result) }
+    ensures lists { OnOk result (lists.new.items ≡ lists.old.items
+        ++ (kept_element (fact_of known.now) element.now).inside) }
+{
+    match &element.body {
+        Body::Step(step) => step_result(alloc, known, &element.id, step.partitions),
+        Body::Decision { .. } => runnable_result(alloc, known, &element.id),
+        Body::Flow(elements) => {
+            let value = keep_first(alloc, lists, known, index, elements.as_slice())?;
+            Ok(flow_result(value))
+        }
+        Body::Split(flows) => {
+            let mut values = Vec::new(alloc);
+            for flow in flows.as_slice() {
+                values.push(keep_first(alloc, lists, known, index, flow.elements.as_slice())?)?;
+            }
+            split_result(alloc, values.as_slice())
+        }
+    }
+}
+
+/// What a flow comes to by itself.
+pub(crate) fn flow_result(value: Value) -> ElementResult
+    ensures { result ≡ flow_result value }
+{
+    match value {
+        Value::Done { exit } => ElementResult::Outcome(WorkOutcome::Completed, exit),
+        Value::Open { ready, busy } => ElementResult::ListValue(Value::Open { ready, busy }),
+        Value::Ended {
+            status,
+            exit,
+            point,
+        } => {
+            ElementResult::ListValue(Value::Ended {
+                status,
+                exit,
+                point,
+            })
+        }
+    }
+}

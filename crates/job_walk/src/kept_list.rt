@@ -1,0 +1,41 @@
+//! What a cursor keeps of each list of its job, and what changes of it.
+use crate::element_result::ElementResult;
+use crate::facts::Value;
+use batch_ids::Listed;
+
+/// How far the walk over a list has come.
+#[derive(Debug, Drop)]
+pub(crate) struct Progress {
+    /// What the list comes to.
+    pub value: Value,
+    /// The place of the element at which the walk stands.
+    pub place: Option<usize>,
+    /// Over how many elements the walk may go from there.
+    pub left: usize,
+}
+
+/// What is kept of a list of elements.
+#[derive(Debug, Drop)]
+pub(crate) struct KeptList {
+    /// How far its walk has come.
+    pub progress: Progress,
+    /// What each of its elements comes to by itself.
+    pub results: Listed<ElementResult>,
+    /// How many lists stand before those inside each of its elements.
+    pub starts: Listed<usize>,
+    /// How many lists these are, with those inside.
+    pub size: usize,
+}
+
+/// What changes of one list.
+#[derive(Debug, Drop)]
+pub(crate) struct ListChange {
+    /// The number of the list.
+    pub list: usize,
+    /// How far its walk has come.
+    pub progress: Progress,
+    /// The place of the element inside which something was learnt.
+    pub place: usize,
+    /// What this element comes to by itself.
+    pub result: ElementResult,
+}

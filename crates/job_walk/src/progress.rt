@@ -1,0 +1,113 @@
+//! How far the walk over a list has come.
+ghost use Rattle.std.specs.Prelude.{◌≡◌, ◌<◌, ◌≤◌, ℕ, List, length, IfOk, slice_set, slice_index_or};
+ghost use Rattle.std.specs.List.{position};
+ghost use Rattle.std.specs.Str.{bytes_eq};
+ghost use Rattle.job_walk.specs.declared.element_result.ElementResult.{ElementResult};
+ghost use Rattle.job_walk.specs.KeptLists.{rows_by, progress, count_of};
+
+use crate::continuation::{Continuation, continuation_after};
+use crate::element_result::ElementResult;
+use crate::facts::Value;
+use crate::index::Index;
+use crate::kept_list::Progress;
+use batch_ids::{OutOfMemory, T256};
+use jsl_model::Element;
+use std::alloc::Global;
+
+/// The place of the first element with this id. Where it is the one that the index has, this takes
+/// no search.
+pub(crate) fn place_in(index: &Index, elements: &[Element], id: &T256) -> Option<usize>
+    requires once { count_of id.now elements.now ≤ 1 }
+    ensures { result ≡ position (λ e. bytes_eq e.id id.now) elements.now }
+{
+    let place = index.place_of(id);
+    if place < elements.len() && elements[place].id == *id {
+        return Some(place);
+    }
+    elements.iter().position(|element| element.id == *id)
+}
+
+/// What the element at a place comes to by itself, where the one at the changed place comes to this.
+fn result_at<'a>(
+    results: &'a [ElementResult],
+    changed: usize,
+    comes_to: &'a ElementResult,
+    place: usize,
+) -> &'a ElementResult
+    requires { place < length results.now }
+    ensures { (d : ElementResult)
+        → result.now ≡ slice_index_or (slice_set results.now changed comes_to.now) place d }
+{
+    if place == changed {
+        comes_to
+    } else {
+        &results[place]
+    }
+}
+
+/// How far the walk over a list comes from an element on, over at most so many elements. `results`
+/// is what its elements come to by themselves, but for the changed one.
+pub(crate) fn walk_on(
+    alloc: Global,
+    index: &Index,
+    elements: &[Element],
+    results: &[ElementResult],
+    changed: usize,
+    comes_to: &ElementResult,
+    from: &T256,
+    place: Option<usize>,
+    left: usize,
+) -> Result<Progress, OutOfMemory>
+    requires once { (id : List ℕ) → count_of id elements.now ≤ 1 }
+    requires same { length results.now ≡ length elements.now }
+    requires place { place ≡ position (λ e. bytes_eq e.id from.now) elements.now }
+    ensures { IfOk result (λ come. come ≡ progress left
+        (rows_by elements.now (slice_set results.now changed comes_to.now)) from.now) }
+{
+    let mut id = from.try_clone()?;
+    let mut at = place;
+    for passed in 0..left {
+        let Some(here) = at else {
+            return Ok(Progress {
+                value: Value::Done {
+                    exit: T256::empty(alloc),
+                },
+                place: None,
+                left: left - passed,
+            });
+        };
+        let element = &elements[here];
+        match result_at(results, changed, comes_to, here) {
+            ElementResult::ListValue(value) => {
+                return Ok(Progress {
+                    value: value.try_clone(alloc)?,
+                    place: at,
+                    left: left - passed,
+                });
+            }
+            ElementResult::Outcome(outcome, exit) => {
+                let exit = exit.try_clone()?;
+                match continuation_after(alloc, element, *outcome, exit)? {
+                    Continuation::WithValue(value) => {
+                        return Ok(Progress {
+                            value,
+                            place: at,
+                            left: left - passed,
+                        });
+                    }
+                    Continuation::AtElement(to) => {
+                        at = place_in(index, elements, &to);
+                        id = to;
+                    }
+                }
+            }
+        }
+    }
+    Ok(Progress {
+        value: Value::Done {
+            exit: T256::empty(alloc),
+        },
+        place: at,
+        left: 0,
+    })
+}

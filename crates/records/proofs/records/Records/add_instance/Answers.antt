@@ -1,0 +1,27 @@
+use Rattle.std.proofs.Common.{◌++◌, ◌∷◌, [], List, sym, ◌∙◌, ap, subst}
+use Rattle.batch_history.specs.declared.rows.JobInstance.{JobInstance}
+use Rattle.batch_history.specs.declared.rows.ExecutionRow.{ExecutionRow}
+use Rattle.records.specs.Indexes.{AreIndexed, numbers_named, numbers_under}
+use Rattle.records.specs.Maps.{Maps, AreBelow, instance_numbers, execution_numbers}
+use Rattle.records.proofs.Indexing.{instance_added, execution_added, name_below}
+use Rattle.records.proofs.records.Records.add_instance.Goals as goal
+
+pub index_instance-requires : goal.index_instance-requires
+index_instance-requires c =
+    let below = subst (λ (m : Maps). AreBelow c.args.instance.instance (instance_numbers m.instances)) (sym c.self.view_is) c.requires.instance in
+    name_below _ _ _ _ c.args.instance c.self.invariant below
+
+pub invariant_of-self-2 : goal.invariant_of-self-2
+invariant_of-self-2 c =
+    let first_below = subst (λ (m : Maps). AreBelow c.args.first.execution (execution_numbers m.executions)) (sym c.self.view_is) c.requires.first in
+    let below = subst (λ (m : Maps). AreBelow c.args.instance.instance (instance_numbers m.instances)) (sym c.self.view_is) c.requires.instance in
+    let first_added = c.put_last.ensures ∙ ap (λ (l : List ExecutionRow). l ++ c.args.first ∷ []) c.reserve-2.ensures.items in
+    let added = c.put_last-2.ensures ∙ ap (λ (l : List JobInstance). l ++ c.args.instance ∷ []) c.reserve.ensures.items in
+    let more = execution_added _ _ _ _ _ c.args.first c.self.invariant first_below c.in_ok-index_instance.ensures.owned in
+    subst (λ (l : List JobInstance).
+    AreIndexed record { instances = l; executions = c.put_last.new.rows.items; works = c.self.inside.works.items; checkpoints = c.self.inside.checkpoints.items }
+    (numbers_named c.index_instance.new.by_name) (numbers_under c.index_instance.new.by_instance) (numbers_under c.self.inside.works_by_execution)) (sym added)
+    (subst (λ (l : List ExecutionRow).
+    AreIndexed record { instances = c.self.inside.instances.items ++ c.args.instance ∷ []; executions = l; works = c.self.inside.works.items; checkpoints = c.self.inside.checkpoints.items }
+    (numbers_named c.index_instance.new.by_name) (numbers_under c.index_instance.new.by_instance) (numbers_under c.self.inside.works_by_execution)) (sym first_added)
+    (instance_added _ _ _ _ _ c.args.instance more below c.in_ok-index_instance.ensures.named))

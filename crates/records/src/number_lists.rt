@@ -1,0 +1,104 @@
+ghost use Rattle.std.specs.List.{flat_map, list_any};
+ghost use Rattle.std.specs.Prelude.{◌≡◌, ℕ, ◌==◌, ◌++◌, ◌∷◌, [], true, IfOk, OnOk, OnErr, if◌then◌else◌};
+ghost use Rattle.records.specs.Indexes.{numbers_under};
+ghost use Rattle.records.specs.Maps.{AreRising};
+
+use batch_ids::{Listed, OutOfMemory};
+use indexmap::IndexMap;
+use std::alloc::Global;
+
+/// Lists of numbers, each under a number: which rows belong to what. A number with none has an empty
+/// list.
+#[derive(Debug, Drop)]
+pub struct NumberLists {
+    alloc: Global,
+    lists: IndexMap<u64, Listed<u64>>,
+}
+
+impl NumberLists {
+    /// Empty lists. It takes no memory.
+    pub(crate) fn new(alloc: Global) -> NumberLists
+        ensures { (q : ℕ) → numbers_under result q ≡ [] }
+    {
+        NumberLists {
+            alloc,
+            lists: IndexMap::new(alloc),
+        }
+    }
+
+    /// The numbers under this one.
+    pub(crate) fn under(&self, key: u64) -> &[u64]
+        ensures { result.now ≡ numbers_under self.now key }
+    {
+        match self.lists.get(&key) {
+            Some(numbers) => numbers.as_slice(),
+            None => &[],
+        }
+    }
+
+    /// Puts a number last under this one.
+    pub(crate) fn push(&mut self, key: u64, number: u64) -> Result<(), OutOfMemory>
+        ensures added { OnOk result ((q : ℕ) → numbers_under self.new q
+            ≡ (if key == q then numbers_under self.old q ++ number ∷ [] else numbers_under self.old q)) }
+        ensures unchanged { OnErr result ((q : ℕ)
+            → numbers_under self.new q ≡ numbers_under self.old q) }
+    {
+        if let Some(known) = self.lists.get_mut(&key) {
+            known.push(number)?;
+            return Ok(());
+        }
+        let mut first = Listed::new(self.alloc);
+        first.push(number)?;
+        self.lists.insert(key, first)?;
+        Ok(())
+    }
+
+    /// Removes what is under a number. It takes no memory.
+    pub(crate) fn remove(&mut self, key: u64)
+        ensures { (q : ℕ) → numbers_under self.new q
+            ≡ (if key == q then [] else numbers_under self.old q) }
+    {
+        self.lists.swap_remove(&key);
+    }
+
+    /// Removes what is under these numbers. It takes no memory.
+    pub(crate) fn remove_all(&mut self, keys: &[u64])
+        ensures { (q : ℕ) → numbers_under self.new q
+            ≡ (if list_any (λ key. key == q) keys.now then [] else numbers_under self.old q) }
+    {
+        for key in keys {
+            self.remove(*key);
+        }
+    }
+}
+
+/// The numbers under each of those that are under a key, one list after the other.
+pub(crate) fn numbers_through(
+    alloc: Global,
+    first: &NumberLists,
+    second: &NumberLists,
+    key: u64,
+) -> Result<Vec<u64>, OutOfMemory>
+    ensures { IfOk result (λ numbers. numbers.items
+        ≡ flat_map (numbers_under second.now) (numbers_under first.now key)) }
+{
+    let mut numbers = Vec::new(alloc);
+    for middle in first.under(key) {
+        numbers.extend_from_slice(second.under(*middle))?;
+    }
+    Ok(numbers)
+}
+
+/// Whether each of these numbers is above the one before it.
+pub(crate) fn are_rising(numbers: &[u64]) -> bool
+    ensures { result ≡ true → AreRising numbers.now }
+{
+    let mut place = numbers.len();
+    while 1 < place {
+        place -= 1;
+        if numbers[place] <= numbers[place - 1] {
+            return false;
+        }
+    }
+    true
+}

@@ -1,0 +1,49 @@
+-- The cursors that a repository keeps, each of which follows the walk of an unfinished job execution.
+use Rattle.std.specs.Prelude.{ℕ, ◌≡◌, true, Option, None, Some, IfSome, List, find}
+use Rattle.batch_history.specs.Rows.{is_execution}
+use Rattle.batch_history.specs.Replies.{first_ready}
+use Rattle.batch_history.specs.Walks.{facts_by_work, job_named, planned_facts, walk_value}
+use Rattle.batch_history.specs.Works.{item_key}
+use Rattle.batch_history.specs.declared.call.WorkItem.{WorkItem}
+use Rattle.batch_history.specs.declared.rows.ExecutionRow.{ExecutionRow}
+use Rattle.batch_history.specs.declared.rows.WorkRow.{WorkRow}
+use Rattle.job_walk.specs.Cursors.{CursorState, known_keys}
+use Rattle.job_walk.specs.Runnables.{all_keys, all_leaves}
+use Rattle.job_walk.specs.Walk.{fact_of}
+use Rattle.job_walk.specs.declared.work_key.WorkKey.{WorkKey}
+use Rattle.jsl_model.specs.Jobs.{JobTree}
+use Rattle.seq_repository.specs.Searches.{is_open}
+
+-- a cursor is in the job of a job execution, began where its plan says, and knows of each work key of the job what the plan
+-- and the work items tell
+pub record Follows (catalogue : List JobTree) (works : List WorkRow) (row : ExecutionRow) (cursor : CursorState) : Type 0 where
+  pub named : job_named catalogue row.job ≡ Some cursor.job
+  pub from : cursor.from ≡ row.plan.from
+  pub each : known_keys cursor.facts ≡ all_keys (all_leaves cursor.job.elements)
+  pub facts : (key : WorkKey) → fact_of cursor.facts key ≡ planned_facts row.plan (all_leaves cursor.job.elements) (facts_by_work row.execution works) key
+
+-- a cursor is kept of job execution x: it is there and unfinished, and the cursor follows its walk
+pub record IsFollowed (catalogue : List JobTree) (works : List WorkRow) (executions : List ExecutionRow) (x : ℕ) (cursor : CursorState) : Type 0 where
+  pub row : ExecutionRow
+  pub found : find (is_execution x) executions ≡ Some row
+  pub unfinished : is_open row ≡ true
+  pub follows : Follows catalogue works row cursor
+
+-- so is each that is kept
+abbrev pub AreFollowed : List JobTree → List WorkRow → List ExecutionRow → (ℕ → Option CursorState) → Type 0
+AreFollowed catalogue works executions kept = (x : ℕ) → IfSome (kept x) (IsFollowed catalogue works executions x)
+
+-- the cursor of a job execution, if it is there, follows its walk
+abbrev pub Walks : List JobTree → List WorkRow → Option ExecutionRow → Option CursorState → Type 0
+Walks catalogue works None None = Unit {0}
+Walks catalogue works None (Some cursor) = ⊥
+Walks catalogue works (Some row) None = ⊥
+Walks catalogue works (Some row) (Some cursor) = Follows catalogue works row cursor
+
+-- a work item is of the first ready work key of a job execution, if it is there
+abbrev pub IsFirst : List JobTree → List WorkRow → Option ExecutionRow → WorkItem → Type 0
+IsFirst catalogue works row item = IfSome row (λ r. first_ready (walk_value catalogue works r.execution r.job r.plan) ≡ Some (item_key item))
+
+-- what is kept of a job execution after an operation on it: its cursor, or nothing once it is over
+abbrev pub IsKeptOf : Option ExecutionRow → Option CursorState → CursorState → Type 0
+IsKeptOf row cursor kept = (cursor ≡ Some kept) × ((r : ExecutionRow) × (row ≡ Some r) × (is_open r ≡ true))

@@ -1,0 +1,200 @@
+//! The walks of job executions, each in a cursor that is kept from its first claim to its end.
+ghost use Rattle.std.specs.Prelude.{ℕ, ◌≡◌, ◌++◌, ◌∷◌, [], true, false, Some, List, find, IfOk, IfSome};
+ghost use Rattle.std.specs.BTreeMap.{get};
+ghost use Rattle.std.specs.Ordering.{nat_cmp, is_eq};
+ghost use Rattle.batch_ids.specs.declared.metric_step.MetricStep.{MetricStep as Counts};
+ghost use Rattle.batch_history.proofs.Folds.{over_as};
+ghost use Rattle.batch_history.proofs.Knowing.{known_elements};
+ghost use Rattle.batch_history.proofs.WorkLists.{AllApart};
+ghost use Rattle.batch_history.specs.Lists.{change_first};
+ghost use Rattle.batch_history.specs.Replies.{is_execution};
+ghost use Rattle.batch_history.specs.Works.{is_work, busy_work};
+ghost use Rattle.batch_history.specs.declared.rows.WorkRow.{WorkRow as Work};
+ghost use Rattle.restart_rules.specs.Placed.{is_placed, IsPlaced};
+ghost use Rattle.seq_repository.specs.Following.{Follows, IsFirst, IsFollowed, IsKeptOf, Walks};
+
+use crate::search;
+use batch_history::{ExecutionRow, WorkItem, WorkRow};
+use batch_ids::{ExecutionId, OutOfMemory, T256, WorkId, WorkOutcome};
+use job_walk::{Cursor, Known};
+use jsl_model::Catalogue;
+use records::Records;
+use restart_rules::known_of;
+use std::alloc::Global;
+use std::collections::BTreeMap;
+
+/// The walk of a job execution, where its work items tell this of its work keys.
+fn resumed(
+    alloc: Global,
+    catalogue: &Catalogue,
+    known: &[Known],
+    row: &ExecutionRow,
+) -> Result<Cursor, OutOfMemory>
+    requires { is_placed catalogue.now row.now ≡ true }
+    ensures { (works : List Work) → known.now ≡ known_elements row.now.execution works
+        → IfOk result (λ cursor. Follows catalogue.now works row.now cursor) }
+{
+    match catalogue.job(row.job.as_str()) {
+        Some(job) => Cursor::resume(alloc, job, &row.plan, known),
+        None => unreachable!(),
+    }
+}
+
+fn current_of(
+    kept: Option<Cursor>,
+    alloc: Global,
+    catalogue: &Catalogue,
+    records: &Records,
+    row: &ExecutionRow,
+) -> Result<Cursor, OutOfMemory>
+    requires placed { is_placed catalogue.now row.now ≡ true }
+    requires kept { IfSome kept (λ cursor. Follows catalogue.now records.now.works row.now cursor) }
+    ensures { IfOk result (λ cursor. Follows catalogue.now records.now.works row.now cursor) }
+{
+    match kept {
+        Some(cursor) => Ok(cursor),
+        None => {
+            let known = known_of(alloc, records, row.execution)?;
+            resumed(alloc, catalogue, known.as_slice(), row)
+        }
+    }
+}
+
+/// The walk of a job execution as it stands, if it is there: the one that was kept, or else one that
+/// is made anew.
+pub(crate) fn current(
+    kept: Option<Cursor>,
+    alloc: Global,
+    catalogue: &Catalogue,
+    records: &Records,
+    x: ExecutionId,
+) -> Result<Option<Cursor>, OutOfMemory>
+    requires placed { IsPlaced catalogue.now records.now.executions x }
+    requires kept { IfSome kept (IsFollowed catalogue.now records.now.works
+        records.now.executions x) }
+    ensures { IfOk result (λ cursor. Walks catalogue.now records.now.works
+        (find (is_execution x) records.now.executions) cursor) }
+{
+    match records.execution(x) {
+        None => Ok(None),
+        Some(row) => {
+            let cursor = current_of(kept, alloc, catalogue, records, row)?;
+            Ok(Some(cursor))
+        }
+    }
+}
+
+/// The walk of a job execution, if it is there, once this work item of its first ready work key is
+/// handed out.
+pub(crate) fn claimed(
+    kept: Option<Cursor>,
+    alloc: Global,
+    catalogue: &Catalogue,
+    records: &Records,
+    item: &WorkItem,
+) -> Result<Option<Cursor>, OutOfMemory>
+    requires placed { IsPlaced catalogue.now records.now.executions item.now.execution }
+    requires kept { IfSome kept (IsFollowed catalogue.now records.now.works
+        records.now.executions item.now.execution) }
+    requires first { IsFirst catalogue.now records.now.works
+        (find (is_execution item.now.execution) records.now.executions) item.now }
+    ensures { (who at : ℕ) → IfOk result (λ cursor. Walks catalogue.now
+        (records.now.works ++ busy_work who at item.now ∷ [])
+        (find (is_execution item.now.execution) records.now.executions) cursor) }
+{
+    let key = item.key()?;
+    match records.execution(item.execution) {
+        None => Ok(None),
+        Some(row) => {
+            let mut cursor = current_of(kept, alloc, catalogue, records, row)?;
+            cursor.take(&key)?;
+            Ok(Some(cursor))
+        }
+    }
+}
+
+/// The walk of a job execution once a work item of it is over. One that was kept goes on where it
+/// shows the work item as being run.
+fn finished_of(
+    kept: Option<Cursor>,
+    alloc: Global,
+    catalogue: &Catalogue,
+    records: &Records,
+    row: &ExecutionRow,
+    work: &WorkRow,
+    w: WorkId,
+    outcome: WorkOutcome,
+    exit: &T256,
+) -> Result<Cursor, OutOfMemory>
+    requires placed { is_placed catalogue.now row.now ≡ true }
+    requires kept { IfSome kept (λ cursor. Follows catalogue.now records.now.works row.now cursor) }
+    requires apart { AllApart records.now.works }
+    requires there { find (is_work w) records.now.works ≡ Some work.now }
+    requires own { work.now.execution ≡ row.now.execution }
+    ensures { (step : Counts) (at number : ℕ) → IfOk result (λ cursor. Follows catalogue.now
+        (change_first (is_work w) (over_as outcome exit.now step at number) records.now.works)
+        row.now cursor) }
+{
+    if let Some(mut cursor) = kept {
+        let key = work.key()?;
+        if cursor.is_busy(&key) {
+            cursor.report(&key, outcome, exit)?;
+            return Ok(cursor);
+        }
+    }
+    let known = search::known_once_finished(alloc, records, row.execution, w, outcome, exit)?;
+    resumed(alloc, catalogue, known.as_slice(), row)
+}
+
+/// The walk of the job execution of a work item, if it is there, once the work item is over.
+pub(crate) fn finished(
+    kept: Option<Cursor>,
+    alloc: Global,
+    catalogue: &Catalogue,
+    records: &Records,
+    work: &WorkRow,
+    w: WorkId,
+    outcome: WorkOutcome,
+    exit: &T256,
+) -> Result<Option<Cursor>, OutOfMemory>
+    requires placed { IsPlaced catalogue.now records.now.executions work.now.execution }
+    requires kept { IfSome kept (IsFollowed catalogue.now records.now.works
+        records.now.executions work.now.execution) }
+    requires apart { AllApart records.now.works }
+    requires there { find (is_work w) records.now.works ≡ Some work.now }
+    ensures { (step : Counts) (at number : ℕ) → IfOk result (λ cursor. Walks catalogue.now
+        (change_first (is_work w) (over_as outcome exit.now step at number) records.now.works)
+        (find (is_execution work.now.execution) records.now.executions) cursor) }
+{
+    match records.execution(work.execution) {
+        None => Ok(None),
+        Some(row) => {
+            let cursor = finished_of(kept, alloc, catalogue, records, row, work, w, outcome, exit)?;
+            Ok(Some(cursor))
+        }
+    }
+}
+
+/// Keeps the walk of a job execution that is unfinished still. Where memory is refused it is not
+/// kept, and is made anew when it is needed.
+pub(crate) fn keep(
+    cursors: &mut BTreeMap<u64, Cursor>,
+    x: ExecutionId,
+    row: &Option<ExecutionRow>,
+    cursor: Option<Cursor>,
+)
+    ensures others { (q : ℕ) → is_eq (nat_cmp x q) ≡ false
+        → get nat_cmp cursors.new q ≡ get nat_cmp cursors.old q }
+    ensures own { IfSome (get nat_cmp cursors.new x) (IsKeptOf row.now cursor) }
+{
+    cursors.remove(&x.value());
+    let (Some(row), Some(cursor)) = (row, cursor) else {
+        return;
+    };
+    if row.status().is_unfinished() {
+        match cursors.insert(x.value(), cursor) {
+            Ok(_) => {}
+            Err(_) => {}
+        }
+    }
+}
