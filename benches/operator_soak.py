@@ -4,7 +4,7 @@ were answered. Printed are operations a second with 1, 2, 4 and 8 threads.
     python3 benches/operator_soak.py [OPERATIONS]
     python3 benches/operator_soak.py copies [OPERATIONS]
 
-A call costs as the history is long, so that the time grows with the square of OPERATIONS, which is 2,000 if it is not given.
+OPERATIONS is 2,000 if it is not given.
 With `copies` four threads write, four read by the read copies, and one publishes, 200,000 operations if no number is given: it
 ends with an error where a reader finds less than it had found, or where a copy answers otherwise than the book in the end.
 """
