@@ -7,8 +7,8 @@ ghost use Rattle.batch_history.specs.Works.{work_key};
 use crate::call::WorkKind;
 use crate::query::{JobExecution, StepExecution};
 use batch_ids::{
-    BatchStatus, ExecutionId, InstanceId, Metrics, Moment, OutOfMemory, Parameters, T256, Text,
-    WorkId, WorkOutcome, try_clone_option,
+    BatchStatus, ExecutionId, InstanceId, Metrics, Moment, OutOfMemory, Parameters, Shared, T256,
+    Text, WorkId, WorkOutcome, try_clone_option,
 };
 use job_walk::{Plan, WorkKey};
 
@@ -46,7 +46,7 @@ pub struct ExecutionRow {
     pub parameters: Parameters,
     /// Where it begins, and what it takes over from earlier job executions (Jakarta Batch 2.1, "Job
     /// Restart Processing").
-    pub plan: Plan,
+    pub plan: Shared<Plan>,
     /// Whether it was asked to stop.
     pub stop: bool,
     /// Whether it was abandoned.

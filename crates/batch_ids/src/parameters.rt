@@ -4,7 +4,7 @@ ghost use Rattle.std.specs.Slice.Iter.{iter_rest};
 ghost use Rattle.std.specs.Iterator.Adapters.{IterYieldsInOrder};
 ghost use Rattle.batch_ids.specs.Parameters.{Pair, AreParameters, with_pair, parameters_of, pairs_of, is_long, is_too_large, value_of};
 
-use crate::{OutOfMemory, Refusal, T256, Text};
+use crate::{OutOfMemory, Refusal, Shared, T256, Text};
 use std::alloc::Global;
 use std::cmp::Ordering;
 use std::marker::Model;
@@ -45,25 +45,15 @@ impl Parameter {
     {
         &self.value
     }
-
-    fn try_clone(&self) -> Result<Parameter, OutOfMemory>
-        ensures { IfOk result (λ copy. copy ≡ self.now) }
-    {
-        Ok(Parameter {
-            key: self.key.try_clone()?,
-            value: self.value.try_clone()?,
-        })
-    }
 }
 
-/// The parameters of a job execution: at most 64, by rising keys, each key once. Contracts see the
-/// list of pairs. See Jakarta Batch 2.1, "JobOperator" (`start`, `getParameters`).
+/// Parameters by rising keys.
 #[derive(Debug, Drop)]
-pub struct Parameters {
+struct SortedParameters {
     held: Vec<Parameter>,
 }
 
-impl Model for Parameters {
+impl Model for SortedParameters {
     ghost use Rattle.std.specs.Prelude.{List};
     ghost use Rattle.batch_ids.specs.Parameters.{Pair, AreParameters};
 
@@ -74,19 +64,9 @@ impl Model for Parameters {
     ghost invariant = { λ parameters. AreParameters parameters.held.items };
 }
 
-impl Parameters {
-    /// The parameters that these pairs of a key and a value give. Of a key given twice the last value
-    /// counts.
-    ///
-    /// For each pair it copies the texts and compares at most 64 keys. Where none is given, it takes no
-    /// memory.
-    ///
-    /// # Errors
-    ///
-    /// Where a given key has more than 256 bytes, a given value more than 4,096, or more than 64
-    /// different keys are given, `TextTooLong`, or `OutOfMemory` if memory is refused before that is
-    /// seen; else `OutOfMemory` where memory is refused.
-    pub fn new(alloc: Global, given: Vec<(String, String)>) -> Result<Parameters, Refusal>
+impl SortedParameters {
+    /// The parameters that these pairs give. Of a key given twice the last value counts.
+    fn new(alloc: Global, given: Vec<(String, String)>) -> Result<SortedParameters, Refusal>
         ensures same { IfOk result (λ made. made ≡ parameters_of (pairs_of given.items)) }
         ensures fits { OnOk result (is_too_large (pairs_of given.items) ≡ false) }
         ensures refused { is_too_large (pairs_of given.items) ≡ true
@@ -95,81 +75,13 @@ impl Parameters {
             ⊎ (refusal ≡ Refusal.TextTooLong × (is_too_large (pairs_of given.items) ≡ true))) }
         ensures none_given { given.items ≡ [] → result ≡ Ok [] }
     {
-        let mut made = Parameters::none(alloc);
+        let mut made = SortedParameters {
+            held: Vec::new(alloc),
+        };
         for pair in &given {
             made.put(alloc, pair.0.as_str(), pair.1.as_str())?;
         }
         Ok(made)
-    }
-
-    /// No parameters. It takes no memory.
-    pub fn none(alloc: Global) -> Parameters
-        ensures { result ≡ [] }
-    {
-        Parameters {
-            held: Vec::new(alloc),
-        }
-    }
-
-    /// The value of this key, if there is one. It compares at most 64 keys.
-    pub fn get(&self, key: &str) -> Option<&str>
-        ensures { option_copied result ≡ value_of self.now key.now }
-    {
-        for parameter in self.held.as_slice() {
-            if parameter.key.as_str() == key {
-                return Some(parameter.value.as_str());
-            }
-        }
-        None
-    }
-
-    /// The parameters, by rising keys (in the order of their bytes).
-    pub fn pairs(&self) -> &[Parameter]
-        ensures same { result.now ≡ self.now }
-        ensures kept { AreParameters self.now }
-    {
-        self.held.as_slice()
-    }
-
-    /// The parameters one after another, by rising keys (in the order of their bytes).
-    pub fn iter(&self) -> slice::Iter<'_, Parameter>
-        ensures rest { iter_rest result ≡ self.now }
-        ensures few { length (iter_rest result) ≤ 64 }
-        ensures runs { IterYieldsInOrder Pair }
-    {
-        self.held.as_slice().iter()
-    }
-
-    /// How many there are, at most 64.
-    pub fn len(&self) -> usize
-        ensures number { result ≡ length self.now }
-        ensures few { result ≤ 64 }
-    {
-        self.held.len()
-    }
-
-    /// Whether there are none.
-    pub fn is_empty(&self) -> bool
-        ensures { IsTrue result ↔ (self.now ≡ []) }
-    {
-        self.held.is_empty()
-    }
-
-    /// Equal parameters. It costs time and memory as their texts have bytes, and none where there are
-    /// none.
-    ///
-    /// # Errors
-    ///
-    /// `OutOfMemory` where memory is refused.
-    pub fn try_clone(&self) -> Result<Parameters, OutOfMemory>
-        ensures same { IfOk result (λ copy. copy ≡ self.now) }
-        ensures none_held { self.now ≡ [] → result ≡ Ok [] }
-    {
-        let mut held = Vec::new(*self.held.allocator());
-        for parameter in self.held.as_slice() {
-            held.push(parameter.try_clone()?)?;
-        }
-        Ok(Parameters { held })
     }
 
     /// Puts a pair in its place.
@@ -188,7 +100,7 @@ impl Parameters {
         match self.place(key) {
             Ok(at) => self.held[at] = parameter,
             Err(at) => {
-                if self.len() >= MOST_PARAMETERS {
+                if self.held.len() >= MOST_PARAMETERS {
                     return Err(Refusal::TextTooLong);
                 }
                 self.held.insert(at, parameter)?;
@@ -212,7 +124,131 @@ impl Parameters {
                 Ordering::Greater => return Err(at),
             }
         }
-        Err(self.len())
+        Err(self.held.len())
+    }
+}
+
+/// The parameters of a job execution, which its copies share: at most 64, by rising keys, each key
+/// once. Contracts see the list of pairs. See Jakarta Batch 2.1, "JobOperator" (`start`,
+/// `getParameters`).
+#[derive(Debug, Drop)]
+pub struct Parameters {
+    shared: Option<Shared<SortedParameters>>,
+}
+
+impl Model for Parameters {
+    ghost use Rattle.std.specs.Prelude.{List, [], ◌<◌, length, IfSome};
+    ghost use Rattle.std.specs.Option.{unwrap_or};
+    ghost use Rattle.batch_ids.specs.Parameters.{Pair, AreParameters};
+
+    ghost Value = { List Pair };
+
+    ghost view = { λ parameters. unwrap_or parameters.shared [] };
+
+    ghost invariant = { λ parameters. AreParameters (unwrap_or parameters.shared [])
+        × IfSome parameters.shared (λ held. 0 < length held) };
+}
+
+impl Parameters {
+    /// The parameters that these pairs of a key and a value give. Of a key given twice the last value
+    /// counts.
+    ///
+    /// For each pair it copies the texts and compares at most 64 keys. Where none is given, it takes no
+    /// memory.
+    ///
+    /// # Errors
+    ///
+    /// Where a given key has more than 256 bytes, a given value more than 4,096, or more than 64
+    /// different keys are given, `TextTooLong`, or `OutOfMemory` if memory is refused before that is
+    /// seen; else `OutOfMemory` where memory is refused.
+    pub fn new(alloc: Global, given: Vec<(String, String)>) -> Result<Parameters, Refusal>
+        ensures same { IfOk result (λ made. made ≡ parameters_of (pairs_of given.items)) }
+        ensures fits { OnOk result (is_too_large (pairs_of given.items) ≡ false) }
+        ensures refused { is_too_large (pairs_of given.items) ≡ true
+            → (result ≡ Err Refusal.TextTooLong) ⊎ (result ≡ Err Refusal.OutOfMemory) }
+        ensures fault { IfErr result (λ refusal. (refusal ≡ Refusal.OutOfMemory)
+            ⊎ (refusal ≡ Refusal.TextTooLong × (is_too_large (pairs_of given.items) ≡ true))) }
+        ensures none_given { given.items ≡ [] → result ≡ Ok [] }
+    {
+        let sorted = SortedParameters::new(alloc, given)?;
+        if sorted.held.is_empty() {
+            return Ok(Parameters::none());
+        }
+        let shared = Shared::new(alloc, sorted)?;
+        Ok(Parameters {
+            shared: Some(shared),
+        })
+    }
+
+    /// No parameters. It takes no memory.
+    pub fn none() -> Parameters
+        ensures { result ≡ [] }
+    {
+        Parameters { shared: None }
+    }
+
+    /// The value of this key, if there is one. It compares at most 64 keys.
+    pub fn get(&self, key: &str) -> Option<&str>
+        ensures { option_copied result ≡ value_of self.now key.now }
+    {
+        for parameter in self.pairs() {
+            if parameter.key.as_str() == key {
+                return Some(parameter.value.as_str());
+            }
+        }
+        None
+    }
+
+    /// The parameters, by rising keys (in the order of their bytes).
+    pub fn pairs(&self) -> &[Parameter]
+        ensures same { result.now ≡ self.now }
+        ensures kept { AreParameters self.now }
+    {
+        match &self.shared {
+            None => &[],
+            Some(sorted) => sorted.get().held.as_slice(),
+        }
+    }
+
+    /// The parameters one after another, by rising keys (in the order of their bytes).
+    pub fn iter(&self) -> slice::Iter<'_, Parameter>
+        ensures rest { iter_rest result ≡ self.now }
+        ensures few { length (iter_rest result) ≤ 64 }
+        ensures runs { IterYieldsInOrder Pair }
+    {
+        self.pairs().iter()
+    }
+
+    /// How many there are, at most 64.
+    pub fn len(&self) -> usize
+        ensures number { result ≡ length self.now }
+        ensures few { result ≤ 64 }
+    {
+        self.pairs().len()
+    }
+
+    /// Whether there are none.
+    pub fn is_empty(&self) -> bool
+        ensures { IsTrue result ↔ (self.now ≡ []) }
+    {
+        self.pairs().is_empty()
+    }
+
+    /// Equal parameters, which share the pairs. It takes no memory.
+    ///
+    /// # Errors
+    ///
+    /// `OutOfMemory` where 2^63 parameters share them already, of which there are some.
+    pub fn try_clone(&self) -> Result<Parameters, OutOfMemory>
+        ensures same { IfOk result (λ copy. copy ≡ self.now) }
+        ensures none_held { self.now ≡ [] → result ≡ Ok [] }
+    {
+        match &self.shared {
+            None => Ok(Parameters::none()),
+            Some(sorted) => Ok(Parameters {
+                shared: Some(sorted.try_clone()?),
+            }),
+        }
     }
 }
 
@@ -242,7 +278,7 @@ impl PartialEq for Parameters {
     ghost laws = { Prim.search (comparing, rules) };
 
     fn eq(&self, other: &Parameters) -> bool {
-        self.held.as_slice() == other.held.as_slice()
+        self.pairs() == other.pairs()
     }
 }
 

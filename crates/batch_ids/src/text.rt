@@ -5,24 +5,27 @@ use std::alloc::Global;
 use std::cmp::Ordering;
 use std::hash::{Hash, Hasher};
 use std::marker::Model;
+use std::sync::ArcStr;
 
-/// A text of at most `MAX` bytes of UTF-8. Contracts see its bytes.
+/// A text of at most `MAX` bytes of UTF-8, which its copies share. Contracts see its bytes.
 #[derive(Debug, Drop)]
 pub struct Text<const MAX: usize> {
-    inner: String,
+    inner: Option<ArcStr>,
 }
 
 /// A text of at most 256 bytes: a name or an exit status.
 pub type T256 = Text<256>;
 
 impl<const MAX: usize> Model for Text<MAX> {
-    ghost use Rattle.std.specs.Prelude.{ℕ, List, length, string_bytes, ◌≤◌};
+    ghost use Rattle.std.specs.Prelude.{ℕ, List, [], length, ◌≤◌};
+    ghost use Rattle.std.specs.Option.{option_map, unwrap_or};
+    ghost use Rattle.std.specs.Arc.{arc_str_bytes};
 
     ghost Value = { List ℕ };
 
-    ghost view = { λ text. string_bytes text.inner };
+    ghost view = { λ text. unwrap_or (option_map arc_str_bytes text.inner) [] };
 
-    ghost invariant = { λ text. length (string_bytes text.inner) ≤ MAX };
+    ghost invariant = { λ text. length (unwrap_or (option_map arc_str_bytes text.inner) []) ≤ MAX };
 }
 
 impl<const MAX: usize> Text<MAX> {
@@ -41,8 +44,8 @@ impl<const MAX: usize> Text<MAX> {
         if text.len() > MAX {
             return Err(Refusal::TextTooLong);
         }
-        match String::from_str(alloc, text) {
-            Ok(inner) => Ok(Text { inner }),
+        match ArcStr::from_str(alloc, text) {
+            Ok(inner) => Ok(Text { inner: Some(inner) }),
             Err(_) => Err(Refusal::OutOfMemory),
         }
     }
@@ -56,17 +59,15 @@ impl<const MAX: usize> Text<MAX> {
         requires { length text.now ≤ MAX }
         ensures { IfOk result (λ made. made ≡ text.now) }
     {
-        let inner = String::from_str(alloc, text)?;
-        Ok(Text { inner })
+        let inner = ArcStr::from_str(alloc, text)?;
+        Ok(Text { inner: Some(inner) })
     }
 
     /// The empty text. It takes no memory.
-    pub fn empty(alloc: Global) -> Text<MAX>
+    pub fn empty() -> Text<MAX>
         ensures { result ≡ [] }
     {
-        Text {
-            inner: String::new(alloc),
-        }
+        Text { inner: None }
     }
 
     /// The text.
@@ -74,19 +75,26 @@ impl<const MAX: usize> Text<MAX> {
         ensures same { result.now ≡ self.now }
         ensures fits { length self.now ≤ MAX }
     {
-        self.inner.as_str()
+        match &self.inner {
+            None => "",
+            Some(inner) => inner.as_str(),
+        }
     }
 
-    /// An equal text.
+    /// An equal text, which shares the bytes. It takes no memory.
     ///
     /// # Errors
     ///
-    /// `OutOfMemory` where memory is refused.
+    /// `OutOfMemory` where 2^63 texts share them already.
     pub fn try_clone(&self) -> Result<Text<MAX>, OutOfMemory>
         ensures { IfOk result (λ copy. copy ≡ self.now) }
     {
-        let inner = self.inner.clone()?;
-        Ok(Text { inner })
+        match &self.inner {
+            None => Ok(Text { inner: None }),
+            Some(inner) => Ok(Text {
+                inner: Some(inner.clone()?),
+            }),
+        }
     }
 }
 
@@ -118,7 +126,7 @@ impl<const MAX: usize> PartialEq for Text<MAX> {
     ghost laws = { Prim.search (comparing, rules) };
 
     fn eq(&self, other: &Text<MAX>) -> bool {
-        self.inner.as_str() == other.inner.as_str()
+        self.as_str() == other.as_str()
     }
 }
 
@@ -144,7 +152,7 @@ impl<const MAX: usize> Ord for Text<MAX> {
     ghost matches_eq = { Prim.search (comparing, rules) };
 
     fn cmp(&self, other: &Text<MAX>) -> Ordering {
-        self.inner.as_str().cmp(other.inner.as_str())
+        self.as_str().cmp(other.as_str())
     }
 }
 
@@ -174,6 +182,6 @@ impl<const MAX: usize> Hash for Text<MAX> {
     ghost respects_eq = { Prim.search (hashing, rules) };
 
     fn hash<H: Hasher>(&self, state: &mut H) {
-        self.inner.as_str().hash(state);
+        self.as_str().hash(state);
     }
 }

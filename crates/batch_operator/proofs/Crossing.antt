@@ -4,18 +4,10 @@ use denote.Param.Send.{IsSend, IsSync, sendable}
 use Rattle.std.proofs.Crossing.{crosses}
 use Rattle.std.proofs.MapsCrossing as maps
 use Rattle.std.proofs.MapsCrossingOver as sets
-use Rattle.jsl_model.proofs.element.Body.TheLaws.TheKnot as knot
-use Rattle.jsl_model.specs.contracts.catalogue.Catalogue as catalogue
-use Rattle.jsl_model.specs.contracts.job.Job as job
 use Rattle.job_walk.proofs.facts.Known.TheSendSync as known_crosses
 use Rattle.job_walk.proofs.kept_list.KeptList.TheSendSync as list_crosses
 use Rattle.job_walk.specs.contracts.cursor.Cursor as cursor
-use Rattle.job_walk.specs.contracts.index.Index as index
 use Rattle.batch_history.proofs.call.Entry.TheSendSync as entry_crosses
-use Rattle.batch_history.proofs.rows.JobInstance.TheSendSync as instance_crosses
-use Rattle.batch_history.proofs.rows.ExecutionRow.TheSendSync as execution_crosses
-use Rattle.batch_history.proofs.rows.WorkRow.TheSendSync as work_crosses
-use Rattle.batch_history.proofs.rows.CheckpointRow.TheSendSync as checkpoint_crosses
 use Rattle.seq_repository.specs.contracts.repository.Repository as repository
 use Rattle.op_log.specs.contracts.book.Book as book
 use Rattle.seat_rules.proofs.desk_seat.DeskSeat.TheSendSync as seat_crosses
@@ -24,21 +16,14 @@ use Rattle.seat_rules.proofs.place.SeatTable.TheSendSync as table_crosses
 use Rattle.seat_rules.specs.declared.place.Site
 use Rattle.read_copies.specs.contracts.status_counts.StatusCounts as status_counts
 use Rattle.batch_operator.specs.contracts.operator.Operator as operator
-
-catalogue_send : IsSend catalogue.the_row
-catalogue_send = search (crosses, knot.crosses, sendable) depth 60 fits 20000
-
-job_send : IsSend (job.the_field).row
-job_send = search (crosses, knot.crosses, sendable) depth 60 fits 20000
-
-index_send : IsSend (index.the_field).row
-index_send = search (maps.crosses, crosses, sendable) depth 60 fits 20000
+use Rattle.batch_operator.proofs.JobCrossing.{job_send, catalogue_send}
+use Rattle.batch_operator.proofs.RowsCrossing.{records_send}
 
 cursor_send : IsSend cursor.the_row
-cursor_send = search (job_send, index_send, known_crosses.the_send, list_crosses.the_send, crosses, sendable) depth 60 fits 20000
+cursor_send = search (job_send, known_crosses.the_send, list_crosses.the_send, crosses, sendable) depth 60 fits 20000
 
 repository_send : (L : RattleType) → IsSend (repository.the_row L)
-repository_send L = search (catalogue_send, cursor_send, instance_crosses.the_send, execution_crosses.the_send, work_crosses.the_send, checkpoint_crosses.the_send, maps.crosses, sets.crosses, crosses, sendable) depth 60 fits 20000
+repository_send L = search (catalogue_send, cursor_send, records_send, maps.crosses, sets.crosses, crosses, sendable) depth 60 fits 20000
 
 book_send : (L : RattleType) → IsSend (book.the_row L)
 book_send L = search (repository_send, entry_crosses.the_send, crosses, sendable) depth 60 fits 20000

@@ -1,2 +1,4 @@
 mod Replied
 pub mod Crossing
+mod JobCrossing
+mod RowsCrossing

@@ -5,13 +5,12 @@ ghost use Rattle.job_walk.specs.KeptLists.{count_of, count_in, kept_of, kept_ele
 
 use crate::element_result::{ElementResult, runnable_result};
 use crate::facts::{Known, Value};
-use crate::index::Index;
 use crate::kept_list::{KeptList, Progress};
 use crate::partitions::step_result;
 use crate::progress::{place_in, walk_on};
 use crate::splits::split_result;
 use batch_ids::{Listed, OutOfMemory, T256, WorkOutcome};
-use jsl_model::{Body, Element};
+use jsl_model::{Body, Element, ElementIndex};
 use std::alloc::Global;
 
 /// What stands in the place of what is kept of a list, until that is known.
@@ -19,7 +18,7 @@ fn nothing_kept(alloc: Global) -> KeptList {
     KeptList {
         progress: Progress {
             value: Value::Done {
-                exit: T256::empty(alloc),
+                exit: T256::empty(),
             },
             place: None,
             left: 0,
@@ -36,7 +35,7 @@ pub(crate) fn keep_list(
     alloc: Global,
     lists: &mut Vec<KeptList>,
     known: &[Known],
-    index: &Index,
+    index: &ElementIndex,
     elements: &[Element],
     from: &T256,
 ) -> Result<(), OutOfMemory>
@@ -53,7 +52,7 @@ pub(crate) fn keep_list(
         let result = keep_element(alloc, lists, known, index, element)?;
         results.push(result)?;
     }
-    let none = ElementResult::Outcome(WorkOutcome::Completed, T256::empty(alloc));
+    let none = ElementResult::Outcome(WorkOutcome::Completed, T256::empty());
     let progress = walk_on(
         alloc,
         index,
@@ -81,7 +80,7 @@ fn keep_first(
     alloc: Global,
     lists: &mut Vec<KeptList>,
     known: &[Known],
-    index: &Index,
+    index: &ElementIndex,
     elements: &[Element],
 ) -> Result<Value, OutOfMemory>
     requires once { (id : List ℕ) → count_of id elements.now ≤ 1 }
@@ -93,7 +92,7 @@ fn keep_first(
     let base = lists.len();
     match elements.first() {
         None => {
-            let from = T256::empty(alloc);
+            let from = T256::empty();
             keep_list(alloc, lists, known, index, elements, &from)?;
         }
         Some(first) => keep_list(alloc, lists, known, index, elements, &first.id)?,
@@ -107,7 +106,7 @@ fn keep_element(
     alloc: Global,
     lists: &mut Vec<KeptList>,
     known: &[Known],
-    index: &Index,
+    index: &ElementIndex,
     element: &Element,
 ) -> Result<ElementResult, OutOfMemory>
     requires once { (id : List ℕ) → count_in id element.now ≤ 1 }

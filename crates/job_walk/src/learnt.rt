@@ -10,7 +10,6 @@ ghost use Rattle.job_walk.specs.Walk.{fact_of, runnable_result, step_result};
 
 use crate::element_result::{ElementResult, fact_of, result_by};
 use crate::facts::{Fact, Known, Value};
-use crate::index::Index;
 use crate::keeping::flow_result;
 use crate::kept_list::{KeptList, ListChange};
 use crate::partitions::partitioned_result;
@@ -18,7 +17,7 @@ use crate::progress::walk_on;
 use crate::splits::split_result;
 use crate::work_key::{WorkKey, has_key, key_of};
 use batch_ids::{OutOfMemory, T256};
-use jsl_model::{Body, Element};
+use jsl_model::{Body, Element, ElementIndex};
 use std::alloc::Global;
 
 /// Whether a value shows this work key as ready or busy.
@@ -37,7 +36,7 @@ fn shows(value: &Value, key: &WorkKey) -> bool
 /// takes no search.
 #[tactic(auto, using(crate::proofs::KeysOnce::known_there))]
 fn known_fact(
-    index: &Index,
+    index: &ElementIndex,
     known: &[Known],
     id: &T256,
     partition: u32,
@@ -45,7 +44,7 @@ fn known_fact(
     requires each { (one : WorkKey) → key_count one (known_keys known.now) ≤ 1 }
     ensures { IfOk result (λ fact. fact ≡ fact_of known.now (key_of id.now partition)) }
 {
-    let place = index.known_of(id, partition);
+    let place = index.key_place_of(id, partition);
     if place < known.len() {
         let one = &known[place];
         if one.key.is_of(id, partition) {
@@ -57,7 +56,7 @@ fn known_fact(
 
 /// What is known of a partition of an element, once this is learnt of a work key.
 fn fact_after(
-    index: &Index,
+    index: &ElementIndex,
     known: &[Known],
     key: &WorkKey,
     fact: &Fact,
@@ -79,7 +78,7 @@ fn fact_after(
 /// What a decision, or a step that isn't partitioned, comes to by itself, once this is learnt.
 fn runnable_after(
     alloc: Global,
-    index: &Index,
+    index: &ElementIndex,
     known: &[Known],
     key: &WorkKey,
     fact: &Fact,
@@ -97,7 +96,7 @@ fn runnable_after(
 /// What a step comes to by itself, once this is learnt.
 fn step_after(
     alloc: Global,
-    index: &Index,
+    index: &ElementIndex,
     known: &[Known],
     key: &WorkKey,
     fact: &Fact,
@@ -151,7 +150,7 @@ pub(crate) fn list_changes(
     base: usize,
     lists: &[KeptList],
     elements: &[Element],
-    index: &Index,
+    index: &ElementIndex,
     known: &[Known],
     key: &WorkKey,
     fact: &Fact,
@@ -214,7 +213,7 @@ fn element_changes(
     base: usize,
     lists: &[KeptList],
     element: &Element,
-    index: &Index,
+    index: &ElementIndex,
     known: &[Known],
     key: &WorkKey,
     fact: &Fact,
@@ -273,7 +272,7 @@ fn first_changes(
     base: usize,
     lists: &[KeptList],
     elements: &[Element],
-    index: &Index,
+    index: &ElementIndex,
     known: &[Known],
     key: &WorkKey,
     fact: &Fact,

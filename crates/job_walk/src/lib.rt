@@ -8,7 +8,6 @@ mod cursor;
 mod element_result;
 mod facts;
 mod first_facts;
-mod index;
 mod keeping;
 mod kept_list;
 mod law;

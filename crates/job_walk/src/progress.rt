@@ -1,5 +1,5 @@
 //! How far the walk over a list has come.
-ghost use Rattle.std.specs.Prelude.{◌≡◌, ◌<◌, ◌≤◌, ℕ, List, length, IfOk, slice_set, slice_index_or};
+ghost use Rattle.std.specs.Prelude.{◌≡◌, [], ◌<◌, ◌≤◌, ℕ, List, length, IfOk, slice_set, slice_index_or};
 ghost use Rattle.std.specs.List.{position};
 ghost use Rattle.std.specs.Str.{bytes_eq};
 ghost use Rattle.job_walk.specs.declared.element_result.ElementResult.{ElementResult};
@@ -8,15 +8,14 @@ ghost use Rattle.job_walk.specs.KeptLists.{rows_by, progress, count_of};
 use crate::continuation::{Continuation, continuation_after};
 use crate::element_result::ElementResult;
 use crate::facts::Value;
-use crate::index::Index;
 use crate::kept_list::Progress;
 use batch_ids::{OutOfMemory, T256};
-use jsl_model::Element;
+use jsl_model::{Element, ElementIndex};
 use std::alloc::Global;
 
 /// The place of the first element with this id. Where it is the one that the index has, this takes
 /// no search.
-pub(crate) fn place_in(index: &Index, elements: &[Element], id: &T256) -> Option<usize>
+pub(crate) fn place_in(index: &ElementIndex, elements: &[Element], id: &T256) -> Option<usize>
     requires once { count_of id.now elements.now ≤ 1 }
     ensures { result ≡ position (λ e. bytes_eq e.id id.now) elements.now }
 {
@@ -45,11 +44,24 @@ fn result_at<'a>(
     }
 }
 
+/// A walk that has left its list, or has gone over as many elements as it may.
+fn ended_at(place: Option<usize>, left: usize) -> Progress
+    ensures { result ≡ record { value = Value.Done []; place = place; left = left } }
+{
+    Progress {
+        value: Value::Done {
+            exit: T256::empty(),
+        },
+        place,
+        left,
+    }
+}
+
 /// How far the walk over a list comes from an element on, over at most so many elements. `results`
 /// is what its elements come to by themselves, but for the changed one.
 pub(crate) fn walk_on(
     alloc: Global,
-    index: &Index,
+    index: &ElementIndex,
     elements: &[Element],
     results: &[ElementResult],
     changed: usize,
@@ -68,13 +80,7 @@ pub(crate) fn walk_on(
     let mut at = place;
     for passed in 0..left {
         let Some(here) = at else {
-            return Ok(Progress {
-                value: Value::Done {
-                    exit: T256::empty(alloc),
-                },
-                place: None,
-                left: left - passed,
-            });
+            return Ok(ended_at(None, left - passed));
         };
         let element = &elements[here];
         match result_at(results, changed, comes_to, here) {
@@ -103,11 +109,5 @@ pub(crate) fn walk_on(
             }
         }
     }
-    Ok(Progress {
-        value: Value::Done {
-            exit: T256::empty(alloc),
-        },
-        place: at,
-        left: 0,
-    })
+    Ok(ended_at(at, 0))
 }

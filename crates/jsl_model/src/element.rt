@@ -1,7 +1,6 @@
 ghost use Rattle.std.specs.Prelude.{◌≡◌, IfOk};
 
 use batch_ids::{Listed, OutOfMemory, T256, try_clone_option};
-use std::alloc::Global;
 
 /// Where a transition element leads (Jakarta Batch 2.1, "Job Specification Language", section
 /// "Transition Elements").
@@ -119,57 +118,6 @@ pub struct SplitFlow {
     pub elements: Listed<Element>,
 }
 
-impl Then {
-    /// An equal target.
-    ///
-    /// # Errors
-    ///
-    /// `OutOfMemory` where memory is refused.
-    pub fn try_clone(&self) -> Result<Then, OutOfMemory>
-        ensures { IfOk result (λ copy. copy ≡ self.now) }
-    {
-        match self {
-            Then::Next { to } => Ok(Then::Next {
-                to: to.try_clone()?,
-            }),
-            Then::End { exit_status } => {
-                Ok(Then::End {
-                    exit_status: try_clone_option(exit_status)?,
-                })
-            }
-            Then::Fail { exit_status } => {
-                Ok(Then::Fail {
-                    exit_status: try_clone_option(exit_status)?,
-                })
-            }
-            Then::Stop {
-                exit_status,
-                restart,
-            } => {
-                Ok(Then::Stop {
-                    exit_status: try_clone_option(exit_status)?,
-                    restart: try_clone_option(restart)?,
-                })
-            }
-        }
-    }
-}
-
-impl Transition {
-    /// An equal transition element.
-    ///
-    /// # Errors
-    ///
-    /// `OutOfMemory` where memory is refused.
-    pub fn try_clone(&self) -> Result<Transition, OutOfMemory>
-        ensures { IfOk result (λ copy. copy ≡ self.now) }
-    {
-        let on = self.on.try_clone()?;
-        let then = self.then.try_clone()?;
-        Ok(Transition { on, then })
-    }
-}
-
 impl Task {
     /// An equal task.
     ///
@@ -200,94 +148,4 @@ impl Task {
             }
         }
     }
-}
-
-impl Step {
-    /// An equal step.
-    ///
-    /// # Errors
-    ///
-    /// `OutOfMemory` where memory is refused.
-    pub fn try_clone(&self) -> Result<Step, OutOfMemory>
-        ensures { IfOk result (λ copy. copy ≡ self.now) }
-    {
-        let task = self.task.try_clone()?;
-        Ok(Step {
-            start_limit: self.start_limit,
-            allow_start_if_complete: self.allow_start_if_complete,
-            partitions: self.partitions,
-            task,
-        })
-    }
-}
-
-fn copies_of_transitions(
-    alloc: Global,
-    transitions: &[Transition],
-) -> Result<Listed<Transition>, OutOfMemory>
-    ensures { IfOk result (λ copies. copies ≡ transitions.now) }
-{
-    let mut copies = Vec::new(alloc);
-    for transition in transitions {
-        copies.push(transition.try_clone()?)?;
-    }
-    Ok(Listed::from_vec(copies))
-}
-
-/// An equal element.
-#[cycle(copying)]
-fn copy_of(alloc: Global, element: &Element) -> Result<Element, OutOfMemory>
-    ensures { IfOk result (λ copy. copy ≡ element.now) }
-{
-    let id = element.id.try_clone()?;
-    let next = try_clone_option(&element.next)?;
-    let transitions = copies_of_transitions(alloc, element.transitions.as_slice())?;
-    let body = copy_of_body(alloc, &element.body)?;
-    Ok(Element {
-        id,
-        next,
-        transitions,
-        body,
-    })
-}
-
-#[cycle(copying)]
-fn copy_of_body(alloc: Global, body: &Body) -> Result<Body, OutOfMemory>
-    ensures { IfOk result (λ copy. copy ≡ body.now) }
-{
-    match body {
-        Body::Step(step) => Ok(Body::Step(step.try_clone()?)),
-        Body::Flow(elements) => Ok(Body::Flow(copies_of(alloc, elements.as_slice())?)),
-        Body::Split(flows) => Ok(Body::Split(copies_of_flows(alloc, flows.as_slice())?)),
-        Body::Decision { artifact } => {
-            Ok(Body::Decision {
-                artifact: artifact.try_clone()?,
-            })
-        }
-    }
-}
-
-/// Equal elements.
-#[cycle(copying)]
-pub fn copies_of(alloc: Global, elements: &[Element]) -> Result<Listed<Element>, OutOfMemory>
-    ensures { IfOk result (λ copies. copies ≡ elements.now) }
-{
-    let mut copies = Vec::new(alloc);
-    for element in elements {
-        copies.push(copy_of(alloc, element)?)?;
-    }
-    Ok(Listed::from_vec(copies))
-}
-
-#[cycle(copying)]
-fn copies_of_flows(alloc: Global, flows: &[SplitFlow]) -> Result<Listed<SplitFlow>, OutOfMemory>
-    ensures { IfOk result (λ copies. copies ≡ flows.now) }
-{
-    let mut copies = Vec::new(alloc);
-    for flow in flows {
-        let id = flow.id.try_clone()?;
-        let elements = copies_of(alloc, flow.elements.as_slice())?;
-        copies.push(SplitFlow { id, elements })?;
-    }
-    Ok(Listed::from_vec(copies))
 }

@@ -5,13 +5,15 @@ ghost use Rattle.jsl_model.specs.Trees.{all_elements};
 ghost use Rattle.jsl_model.specs.Faults.{fault_name, is_out_of_memory, job_fault, IsChecked};
 
 use crate::building::{build_elements, build_text};
-use crate::element::{Body, Element, copies_of};
+use crate::element::{Body, Element};
+use crate::element_index::ElementIndex;
 use crate::faults::fault_in;
 use crate::finding::find_element;
 use crate::parts::JobParts;
 use batch_ids::{Listed, OutOfMemory, T256};
 use std::alloc::{AllocError, AllocFailed, Global};
 use std::marker::Model;
+use std::sync::Arc;
 use thiserror::Error;
 
 /// What keeps parts from being a job, or a job from entering a catalogue. It prints as its name.
@@ -90,31 +92,44 @@ impl<T: Drop> From<AllocFailed<T>> for JobFault {
     }
 }
 
-/// A checked job (Jakarta Batch 2.1, "Job Specification Language", section "Job"). Contracts see its
-/// id, whether it may be restarted, and its elements.
+/// What the copies of a job share.
 #[derive(Debug, Drop)]
-pub struct Job {
-    alloc: Global,
+struct Shared {
     id: T256,
     restartable: bool,
     elements: Listed<Element>,
+    index: ElementIndex,
+}
+
+/// A checked job (Jakarta Batch 2.1, "Job Specification Language", section "Job"), which its copies
+/// share. Contracts see its id, whether it may be restarted, and its elements.
+#[derive(Debug, Drop)]
+pub struct Job {
+    shared: Arc<Shared>,
 }
 
 impl Model for Job {
     ghost use Rattle.jsl_model.specs.Jobs.{JobTree};
     ghost use Rattle.jsl_model.specs.Faults.{IsChecked};
     ghost use Rattle.jsl_model.specs.contracts.element.Body as body;
+    ghost use Rattle.std.specs.Arc.{arc_value};
     ghost use Rattle.std.specs.Coded.{codes};
 
     ghost Value = { JobTree };
 
     ghost coded = { Prim.hlevel (codes, body.the_row.coded) };
 
-    ghost view = { λ job.
-        record { id = job.id; restartable = job.restartable; elements = job.elements } };
+    ghost view = { λ job. record {
+      id = (arc_value job.shared).id;
+      restartable = (arc_value job.shared).restartable;
+      elements = (arc_value job.shared).elements;
+    } };
 
-    ghost invariant = { λ job.
-        IsChecked record { id = job.id; restartable = job.restartable; elements = job.elements } };
+    ghost invariant = { λ job. IsChecked record {
+      id = (arc_value job.shared).id;
+      restartable = (arc_value job.shared).restartable;
+      elements = (arc_value job.shared).elements;
+    } };
 }
 
 impl Job {
@@ -148,12 +163,19 @@ impl Job {
         let elements = build_elements(alloc, parts.elements.as_slice())?;
         match fault_in(alloc, &id, elements.as_slice())? {
             Some(fault) => Err(fault),
-            None => Ok(Job {
-                alloc,
-                id,
-                restartable: parts.restartable,
-                elements,
-            }),
+            None => {
+                let index = ElementIndex::of(alloc, elements.as_slice())?;
+                let shared = Arc::new(
+                    alloc,
+                    Shared {
+                        id,
+                        restartable: parts.restartable,
+                        elements,
+                        index,
+                    },
+                )?;
+                Ok(Job { shared })
+            }
         }
     }
 
@@ -162,14 +184,14 @@ impl Job {
         ensures same { result.now ≡ self.now.id }
         ensures checked { IsChecked self.now }
     {
-        &self.id
+        &self.shared.id
     }
 
     /// Whether a job execution of it may be restarted.
     pub fn restartable(&self) -> bool
         ensures { result ≡ self.now.restartable }
     {
-        self.restartable
+        self.shared.restartable
     }
 
     /// Its elements, at least one; the job begins at the first.
@@ -177,7 +199,12 @@ impl Job {
         ensures same { result.now ≡ self.now.elements }
         ensures checked { IsChecked self.now }
     {
-        self.elements.as_slice()
+        self.shared.elements.as_slice()
+    }
+
+    /// Where to look for its elements and their work keys.
+    pub fn index(&self) -> &ElementIndex {
+        &self.shared.index
     }
 
     /// The element that has this id, at any depth, if there is one. A flow that stands directly in a
@@ -191,21 +218,15 @@ impl Job {
         find_element(self.elements(), id)
     }
 
-    /// An equal job. It costs time and memory as the job has elements.
+    /// An equal job, which shares the elements. It takes no memory.
     ///
     /// # Errors
     ///
-    /// `OutOfMemory` where memory is refused.
+    /// `OutOfMemory` where 2^63 jobs share them already.
     pub fn try_clone(&self) -> Result<Job, OutOfMemory>
         ensures { IfOk result (λ copy. copy ≡ self.now) }
     {
-        let id = self.id.try_clone()?;
-        let elements = copies_of(self.alloc, self.elements())?;
-        Ok(Job {
-            alloc: self.alloc,
-            id,
-            restartable: self.restartable(),
-            elements,
-        })
+        let shared = self.shared.clone()?;
+        Ok(Job { shared })
     }
 }

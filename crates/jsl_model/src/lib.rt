@@ -6,6 +6,7 @@ mod building;
 mod catalogue;
 mod depth;
 mod element;
+mod element_index;
 mod emptiness;
 mod faults;
 mod finding;
@@ -19,6 +20,7 @@ mod targets;
 
 pub use catalogue::Catalogue;
 pub use element::{Body, Element, SplitFlow, Step, Task, Then, Transition};
+pub use element_index::ElementIndex;
 pub use job::{Job, JobFault};
 pub use parts::{
     BodyParts, ElementParts, JobParts, SplitFlowParts, StepParts, TaskParts, ThenParts,

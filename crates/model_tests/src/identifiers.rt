@@ -10,7 +10,7 @@ fn a_text_has_its_bound_in_bytes(rt: HostRuntime) -> Result<(), Fail> {
     let alloc = rt.alloc();
     assert_eq!(rt; Text::<4>::new(alloc, "éé")?.as_str(), "éé");
     assert_eq!(rt; Text::<4>::new(alloc, "abcde"), Err(Refusal::TextTooLong));
-    assert_eq!(rt; T256::new(alloc, "")?.try_clone()?, T256::empty(alloc));
+    assert_eq!(rt; T256::new(alloc, "")?.try_clone()?, T256::empty());
     Ok(())
 }
 

@@ -20,7 +20,7 @@ fn begun(alloc: Global) -> Result<Cursor, Fail> {
     let catalogue = read_catalogue(alloc, CATALOGUE)?;
     let job = catalogue.job("j").ok_or("no job")?;
     let mut carried = Listed::new(alloc);
-    carried.push((T256::new(alloc, "a")?, T256::empty(alloc)))?;
+    carried.push((T256::new(alloc, "a")?, T256::empty()))?;
     let plan = Plan {
         from: T256::new(alloc, "a")?,
         carried,
@@ -85,7 +85,7 @@ fn report(
 
 #[test]
 fn a_walk_is_told_what_is_taken_and_reported(rt: HostRuntime) -> Result<(), Fail> {
-    let exit = T256::empty(rt.alloc());
+    let exit = T256::empty();
     let s = key_of(rt.alloc(), "s")?;
     let t = key_of(rt.alloc(), "t")?;
     let mut cursor = begun(rt.alloc())?;

@@ -70,7 +70,7 @@ fn start<N: Site>(
     let Ok(job) = T256::new(alloc, "a") else {
         return "no memory";
     };
-    let parameters = Parameters::none(alloc);
+    let parameters = Parameters::none();
     match desk.act(session, Call::Start { job, parameters }, 0, table) {
         Ok(_) => "accepted",
         Err(refusal) => refusal.name(),

@@ -78,7 +78,7 @@ fn start_many<N: Site>(
     let mut started = Vec::new(rt.alloc());
     for at in 0..STARTS {
         let job = T256::new(rt.alloc(), "a")?;
-        let parameters = Parameters::none(rt.alloc());
+        let parameters = Parameters::none();
         if let Reply::Execution(execution) = operator.start(
             rt,
             &mut session,

@@ -38,7 +38,7 @@ fn start_jobs<N: Site>(
 ) -> Ended<N> {
     for turn in 0..STARTS {
         let job = T256::new(rt.alloc(), "report")?;
-        let parameters = Parameters::none(rt.alloc());
+        let parameters = Parameters::none();
         operator.start(rt, &mut session, job, parameters, turn)?;
     }
     Ok(session)

@@ -84,7 +84,7 @@ module _ {R : Type 0} (num key : R → ℕ) where
 
   -- rows that stand by rising number are found again by their numbers
 
-  above_filtered : (p : R → Bool) (rows : List R) (n : ℕ) → AreAbove n (map num rows) → AreAbove n (map num (filter p rows))
+  pub above_filtered : (p : R → Bool) (rows : List R) (n : ℕ) → AreAbove n (map num rows) → AreAbove n (map num (filter p rows))
   above_filtered p [] n h = tt
   above_filtered p (row ∷ rest) n h =
       elim (p row) as (λ b. AreAbove n (map num (cond b (row ∷ filter p rest) (filter p rest)))) [

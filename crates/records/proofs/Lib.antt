@@ -5,3 +5,5 @@ pub mod Leaving
 pub mod Indexed
 pub mod Indexing
 pub mod Lists
+pub mod Newest
+pub mod Stepped

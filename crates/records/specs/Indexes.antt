@@ -1,11 +1,13 @@
 -- Indexes: the numbers of rows under that of what they belong to.
-use Rattle.std.specs.Prelude.{◌≡◌, ℕ, ◌==◌, List, [], ◌∷◌, nat_eq, unwrap_or, if◌then◌else◌}
+use Rattle.std.specs.Prelude.{◌≡◌, ℕ, ◌==◌, Bool, true, Option, None, Some, is_some, List, [], ◌∷◌, nat_eq, unwrap_or, if◌then◌else◌}
 use Rattle.indexmap.specs.IndexMap.{get, get_by_text}
 use Rattle.batch_history.specs.Answers.{instances_of_job}
 use Rattle.records.specs.declared.name_lists.NameLists.{NameLists}
+use Rattle.batch_history.specs.Restarts.{works_of_step}
 use Rattle.records.specs.declared.number_lists.NumberLists.{NumberLists}
+use Rattle.records.specs.declared.step_lists.StepLists.{StepLists}
 use Rattle.records.specs.Maps.{Maps, instance_numbers, execution_numbers, work_numbers, AreKeyed}
-use Rattle.records.specs.Belonging.{executions_of, works_of}
+use Rattle.records.specs.Belonging.{executions_of, works_of, works_of_instance}
 
 -- the numbers under a number
 abbrev pub numbers_under : NumberLists → ℕ → List ℕ
@@ -14,6 +16,19 @@ numbers_under index q = unwrap_or (get nat_eq index.lists q) []
 -- the numbers under a name
 abbrev pub numbers_named : NameLists → List ℕ → List ℕ
 numbers_named index q = unwrap_or (get_by_text index.lists q) []
+
+-- the numbers under a name of lists that may not be there
+abbrev pub numbers_if_there : Option NameLists → List ℕ → List ℕ
+numbers_if_there None q = []
+numbers_if_there (Some names) q = numbers_named names q
+
+-- the numbers under a step of a job instance
+abbrev pub numbers_of_step : StepLists → ℕ → List ℕ → List ℕ
+numbers_of_step index i q = numbers_if_there (get nat_eq index.lists i) q
+
+-- whether the steps of a job instance are looked up
+abbrev pub has_steps : StepLists → ℕ → Bool
+has_steps index i = is_some (get nat_eq index.lists i)
 
 -- the numbers without the first that is this one
 abbrev pub without_number : ℕ → List ℕ → List ℕ
@@ -27,3 +42,11 @@ pub record AreIndexed (maps : Maps) (names : List ℕ → List ℕ) (executions 
   pub instances_by_name : (q : List ℕ) → names q ≡ instance_numbers (instances_of_job q maps.instances)
   pub executions_by_instance : (i : ℕ) → executions i ≡ execution_numbers (executions_of i maps.executions)
   pub works_by_execution : (x : ℕ) → works x ≡ work_numbers (works_of x maps.works)
+
+-- the numbers of the work items of each step of a job instance
+abbrev pub AreStepsOf : ℕ → Maps → (List ℕ → List ℕ) → Type 0
+AreStepsOf i maps names = (q : List ℕ) → names q ≡ work_numbers (works_of_step q (works_of_instance i maps.executions maps.works))
+
+-- those of each job instance whose steps are looked up
+abbrev pub AreStepped : Maps → (ℕ → List ℕ → List ℕ) → (ℕ → Bool) → Type 0
+AreStepped maps steps has = (i : ℕ) → has i ≡ true → AreStepsOf i maps (steps i)

@@ -5,10 +5,10 @@ use Rattle.batch_history.specs.declared.rows.ExecutionRow.{ExecutionRow}
 use Rattle.batch_history.specs.declared.rows.WorkRow.{WorkRow}
 use Rattle.batch_history.specs.Answers.{instances_of_job}
 use Rattle.batch_history.specs.Lists.{is_at}
-use Rattle.batch_history.specs.Replies.{instance_in, is_execution}
+use Rattle.batch_history.specs.Replies.{is_execution}
 use Rattle.batch_history.specs.Works.{is_work}
 use Rattle.records.specs.Maps.{is_instance, instance_numbers}
-pub use Rattle.records.specs.Belonging.{executions_of, works_of}
+pub use Rattle.records.specs.Belonging.{executions_of, works_of, is_work_of_instance, works_of_instance}
 use Rattle.records.specs.declared.readers.Names.{Names}
 use Rattle.records.specs.declared.readers.InstancesOf.{InstancesOf}
 use Rattle.records.specs.declared.readers.ExecutionsOf.{ExecutionsOf}
@@ -45,11 +45,3 @@ executions_left executions = executions_numbered executions.numbers.now executio
 
 abbrev pub works_left : WorksOf → List WorkRow
 works_left works = works_numbered works.numbers.now works.records.now.works
-
--- whether a work item is of a job execution of this job instance
-abbrev pub is_work_of_instance : ℕ → List ExecutionRow → WorkRow → Bool
-is_work_of_instance i executions work = is_at i (instance_in executions work.execution)
-
--- the work items of a job instance
-abbrev pub works_of_instance : ℕ → List ExecutionRow → List WorkRow → List WorkRow
-works_of_instance i executions works = filter (is_work_of_instance i executions) works

@@ -6,6 +6,8 @@ mod number_lists;
 mod places;
 mod readers;
 mod records;
+mod step_lists;
 
+pub use name_lists::NameLists;
 pub use readers::{ExecutionsOf, InstancesOf, Names, WorksOf};
 pub use records::Records;

@@ -1,10 +1,14 @@
-ghost use Rattle.std.specs.Prelude.{filter, bytes_eq, if◌then◌else◌, vec_len, vec_capacity, ◌≡◌, ◌==◌, ◌+◌, ◌-◌, ◌^◌, ◌<◌, ◌≤◌, ◌++◌, ◌∷◌, [], ℕ, List, None, true, length, find, slice_set, is_some, option_copied, IsOk, IfOk, map, IfSome, IfNone, OnOk, OnErr};
+ghost use Rattle.std.specs.List.{list_any};
+ghost use Rattle.std.specs.Prelude.{nat_lt, filter, false, ◌&&◌, bytes_eq, if◌then◌else◌, vec_len, vec_capacity, ◌≡◌, ◌==◌, ◌+◌, ◌-◌, ◌^◌, ◌<◌, ◌≤◌, ◌++◌, ◌∷◌, [], ℕ, List, None, true, length, find, slice_set, is_some, option_copied, IsOk, IfOk, map, IfSome, IfNone, OnOk, OnErr};
 ghost use Rattle.jsl_model.specs.Names.{distinct};
 ghost use Rattle.batch_history.specs.Answers.{instances_of_job};
 ghost use Rattle.batch_history.specs.Lists.{change_first};
 ghost use Rattle.batch_history.specs.Replies.{is_execution};
 ghost use Rattle.batch_history.specs.Works.{is_work};
-ghost use Rattle.records.specs.Indexes.{numbers_named, numbers_under};
+ghost use Rattle.batch_history.specs.Lists.{is_at};
+ghost use Rattle.batch_history.specs.Replies.{instance_in};
+ghost use Rattle.batch_history.specs.Restarts.{newest_work, works_of_step};
+ghost use Rattle.records.specs.Indexes.{AreStepped, AreStepsOf, has_steps, numbers_named, numbers_of_step, numbers_under};
 ghost use Rattle.records.specs.Maps.{no_rows, is_instance, is_place, mark_at, instance_numbers, execution_numbers, work_numbers, AreBelow, AreKeyed, AreRising, SetsCheckpoint, MayReplaceExecution, MayReplaceWork};
 ghost use Rattle.records.specs.Placed.{is_elsewhere, with_mark, without_mark};
 ghost use Rattle.records.specs.Left.{job_names, is_first_of_job, names_left, instances_left, executions_of, executions_left, works_of, works_left, works_numbered, works_of_instance};
@@ -18,6 +22,7 @@ use crate::places::{
     work_place,
 };
 use crate::readers::{ExecutionsOf, InstancesOf, Names, WorksOf};
+use crate::step_lists::StepLists;
 use batch_history::{CheckpointRow, ExecutionRow, JobInstance, WorkRow};
 use batch_ids::{ExecutionId, InstanceId, OutOfMemory, Text, WorkId};
 use job_walk::WorkKey;
@@ -44,17 +49,18 @@ pub struct Records {
     instances_by_name: NameLists,
     executions_by_instance: NumberLists,
     works_by_execution: NumberLists,
+    works_by_step: StepLists,
 }
 
 impl Model for Records {
-    ghost use Rattle.records.specs.Indexes.{AreIndexed, numbers_named, numbers_under};
+    ghost use Rattle.records.specs.Indexes.{AreIndexed, AreStepped, has_steps, numbers_named, numbers_of_step, numbers_under};
     ghost use Rattle.records.specs.Maps.{Maps};
 
     ghost Value = { Maps };
 
     ghost view = { λ r. record { instances = r.instances.items; executions = r.executions.items; works = r.works.items; checkpoints = r.checkpoints.items } };
 
-    ghost invariant = { λ r. AreIndexed record { instances = r.instances.items; executions = r.executions.items; works = r.works.items; checkpoints = r.checkpoints.items } (numbers_named r.instances_by_name) (numbers_under r.executions_by_instance) (numbers_under r.works_by_execution) };
+    ghost invariant = { λ r. AreIndexed record { instances = r.instances.items; executions = r.executions.items; works = r.works.items; checkpoints = r.checkpoints.items } (numbers_named r.instances_by_name) (numbers_under r.executions_by_instance) (numbers_under r.works_by_execution) × AreStepped record { instances = r.instances.items; executions = r.executions.items; works = r.works.items; checkpoints = r.checkpoints.items } (numbers_of_step r.works_by_step) (has_steps r.works_by_step) };
 }
 
 impl Records {
@@ -70,6 +76,7 @@ impl Records {
             instances_by_name: NameLists::new(alloc),
             executions_by_instance: NumberLists::new(alloc),
             works_by_execution: NumberLists::new(alloc),
+            works_by_step: StepLists::new(alloc),
         }
     }
 
@@ -166,6 +173,17 @@ impl Records {
         ExecutionsOf::new(self, self.executions_by_instance.under(i.value()))
     }
 
+    /// Whether a job instance has a job execution of a number above this one, in constant time.
+    pub fn has_execution_above(&self, i: InstanceId, x: ExecutionId) -> bool
+        ensures { result
+            ≡ list_any (λ row. nat_lt x row.execution) (executions_of i self.now.executions) }
+    {
+        match self.executions_by_instance.under(i.value()).last() {
+            Some(newest) => x.value() < *newest,
+            None => false,
+        }
+    }
+
     /// The work items of this job execution, by rising number. It takes no memory, and each of them
     /// costs a binary search.
     pub fn works_of(&self, x: ExecutionId) -> WorksOf<'_>
@@ -196,6 +214,95 @@ impl Records {
         } else {
             self.works_searched(alloc, i)
         }
+    }
+
+    /// Which work items each step of a job instance has, by the ids of the steps, if that is looked up:
+    /// it is where the job instance was restarted.
+    pub fn steps_of(&self, i: InstanceId) -> Option<&NameLists>
+        ensures { IfSome result (λ names. AreStepsOf i self.now (numbers_named names.now)) }
+    {
+        self.works_by_step.of(i.value())
+    }
+
+    /// The same made anew. It costs a look-up for each work item of the job instance.
+    ///
+    /// # Errors
+    ///
+    /// `OutOfMemory` where memory is refused.
+    pub fn steps_made(&self, alloc: Global, i: InstanceId) -> Result<NameLists, OutOfMemory>
+        ensures { IfOk result (λ names. AreStepsOf i self.now (numbers_named names)) }
+    {
+        let works = self.works_of_instance(alloc, i)?;
+        steps_among(alloc, works.as_slice())
+    }
+
+    /// The numbers of the work items of a step by these lists.
+    fn step_numbers<'s>(&self, steps: &'s NameLists, step: &str) -> &'s [u64]
+        ensures numbers { result.now ≡ numbers_named steps.now step.now }
+        ensures keyed { AreKeyed self.now }
+    {
+        let _ = &self.works;
+        steps.under(step)
+    }
+
+    /// The work items of a step by these lists of its job instance, by rising number. It costs a binary
+    /// search for each of them.
+    ///
+    /// # Errors
+    ///
+    /// `OutOfMemory` where memory is refused.
+    pub fn works_of_step(
+        &self,
+        alloc: Global,
+        steps: &NameLists,
+        step: &str,
+    ) -> Result<Vec<&WorkRow>, OutOfMemory>
+        ensures { (i : ℕ) → AreStepsOf i self.now (numbers_named steps.now)
+            → IfOk result (λ found. map (λ row. row.now) found.items
+            ≡ works_of_step step.now (works_of_instance i self.now.executions self.now.works)) }
+    {
+        self.works_numbered(alloc, self.step_numbers(steps, step))
+    }
+
+    /// The newest work item of a step by these lists of its job instance, if there is one, by a binary
+    /// search.
+    pub fn newest_of_step(&self, steps: &NameLists, step: &str) -> Option<&WorkRow>
+        ensures { (i : ℕ) → AreStepsOf i self.now (numbers_named steps.now)
+            → option_copied result ≡ newest_work
+            (works_of_step step.now (works_of_instance i self.now.executions self.now.works)) }
+    {
+        match self.step_numbers(steps, step).last() {
+            Some(number) => self.work(WorkId::new(*number)),
+            None => None,
+        }
+    }
+
+    /// How many work items a step has by these lists of its job instance.
+    pub fn count_of_step(&self, steps: &NameLists, step: &str) -> usize
+        ensures { (i : ℕ) → AreStepsOf i self.now (numbers_named steps.now)
+            → result ≡ length
+            (works_of_step step.now (works_of_instance i self.now.executions self.now.works)) }
+    {
+        steps.under(step).len()
+    }
+
+    /// Looks up the steps of a job instance from now on.
+    fn index_steps(&mut self, i: InstanceId) -> Result<(), OutOfMemory>
+        ensures { self.new ≡ self.old }
+    {
+        if self.works_by_step.of(i.value()).is_some() {
+            return Ok(());
+        }
+        let alloc = *self.works.allocator();
+        let names = self.steps_made(alloc, i)?;
+        self.works_by_step.put(i.value(), names)
+    }
+
+    /// Whether there is no work of a job execution of this number.
+    fn has_no_work(&self, x: ExecutionId) -> bool
+        ensures { result ≡ true → works_of x self.now.works ≡ [] }
+    {
+        self.works_by_execution.under(x.value()).is_empty()
     }
 
     /// The work items of these numbers.
@@ -245,6 +352,7 @@ impl Records {
             }) }
         ensures unchanged { OnErr result (self.new ≡ self.old) }
     {
+        let has_no_work = self.has_no_work(first.execution);
         self.instances.reserve(1)?;
         self.executions.reserve(1)?;
         index_instance(
@@ -253,6 +361,7 @@ impl Records {
             &instance,
             &first,
         )?;
+        self.works_by_step.keep_if(has_no_work);
         put_last(&mut self.executions, first);
         put_last(&mut self.instances, instance);
         Ok(())
@@ -269,9 +378,12 @@ impl Records {
             record self.old { executions = self.old.executions ++ row ∷ [] }) }
         ensures unchanged { OnErr result (self.new ≡ self.old) }
     {
+        let has_no_work = self.has_no_work(row.execution);
+        self.index_steps(row.instance)?;
         self.executions.reserve(1)?;
         self.executions_by_instance
             .push(row.instance.value(), row.execution.value())?;
+        self.works_by_step.keep_if(has_no_work);
         put_last(&mut self.executions, row);
         Ok(())
     }
@@ -288,8 +400,13 @@ impl Records {
         ensures unchanged { OnErr result (self.new ≡ self.old) }
     {
         self.works.reserve(1)?;
-        self.works_by_execution
-            .push(row.execution.value(), row.work.value())?;
+        let owner = owner_of(self.executions.as_slice(), row.execution);
+        index_work(
+            &mut self.works_by_step,
+            &mut self.works_by_execution,
+            owner,
+            &row,
+        )?;
         put_last(&mut self.works, row);
         Ok(())
     }
@@ -338,6 +455,7 @@ impl Records {
         self.works_by_execution
             .remove_all(self.executions_by_instance.under(i.value()));
         self.executions_by_instance.remove(i.value());
+        self.works_by_step.remove(i.value());
         remove_works(&mut self.works, self.executions.as_slice(), i);
         remove_executions(&mut self.executions, i);
         remove_checkpoints(&mut self.checkpoints, i);
@@ -459,6 +577,84 @@ fn index_instance(
         Ok(()) => Ok(()),
         Err(refused) => {
             by_name.remove(name, instance.instance.value());
+            Err(refused)
+        }
+    }
+}
+
+/// Which of these work items each step has, by the ids of the steps.
+fn steps_among(alloc: Global, works: &[&WorkRow]) -> Result<NameLists, OutOfMemory>
+    ensures { IfOk result (λ names. (q : List ℕ) → numbers_named names q
+        ≡ work_numbers (works_of_step q (map (λ row. row.now) works.now))) }
+{
+    let mut names = NameLists::new(alloc);
+    for row in works {
+        names.push(row.element.as_str(), row.work.value())?;
+    }
+    Ok(names)
+}
+
+/// The job instance of a job execution, if it is there.
+fn owner_of(executions: &[ExecutionRow], x: ExecutionId) -> Option<InstanceId>
+    ensures { AreRising (execution_numbers executions.now) → result ≡ instance_in executions.now x }
+{
+    let row = find_execution(executions, x)?;
+    Some(row.instance)
+}
+
+/// Puts a work item into the index by the step of its job instance, if that is given, and into that by
+/// its job execution.
+fn index_work(
+    by_step: &mut StepLists,
+    by_execution: &mut NumberLists,
+    owner: Option<InstanceId>,
+    row: &WorkRow,
+) -> Result<(), OutOfMemory>
+    requires { IfSome owner (λ i. has_steps by_step.old i ≡ true
+        → AreBelow row.now.work (numbers_of_step by_step.old i row.now.element)) }
+    ensures has { (i : ℕ) → has_steps by_step.new i ≡ has_steps by_step.old i }
+    ensures stepped { OnOk result ((i : ℕ) (q : List ℕ) → has_steps by_step.old i ≡ true
+        → numbers_of_step by_step.new i q
+        ≡ (if is_at i owner && bytes_eq row.now.element q then numbers_of_step by_step.old i q ++ row.now.work ∷ [] else numbers_of_step by_step.old i q)) }
+    ensures owned { OnOk result ((q : ℕ) → numbers_under by_execution.new q
+        ≡ (if row.now.execution == q then numbers_under by_execution.old q ++ row.now.work ∷ [] else numbers_under by_execution.old q)) }
+    ensures unstepped { OnErr result ((i : ℕ) (q : List ℕ) → has_steps by_step.old i ≡ true
+        → numbers_of_step by_step.new i q ≡ numbers_of_step by_step.old i q) }
+    ensures unowned { OnErr result ((q : ℕ)
+        → numbers_under by_execution.new q ≡ numbers_under by_execution.old q) }
+{
+    match owner {
+        Some(owner) => index_step(by_step, by_execution, owner.value(), row),
+        None => by_execution.push(row.execution.value(), row.work.value()),
+    }
+}
+
+/// Puts a work item into the index by the step of this job instance, and into that by the job execution.
+fn index_step(
+    by_step: &mut StepLists,
+    by_execution: &mut NumberLists,
+    owner: u64,
+    row: &WorkRow,
+) -> Result<(), OutOfMemory>
+    requires { has_steps by_step.old owner ≡ true
+        → AreBelow row.now.work (numbers_of_step by_step.old owner row.now.element) }
+    ensures has { (i : ℕ) → has_steps by_step.new i ≡ has_steps by_step.old i }
+    ensures stepped { OnOk result ((i : ℕ) (q : List ℕ) → has_steps by_step.old i ≡ true
+        → numbers_of_step by_step.new i q
+        ≡ (if owner == i && bytes_eq row.now.element q then numbers_of_step by_step.old i q ++ row.now.work ∷ [] else numbers_of_step by_step.old i q)) }
+    ensures owned { OnOk result ((q : ℕ) → numbers_under by_execution.new q
+        ≡ (if row.now.execution == q then numbers_under by_execution.old q ++ row.now.work ∷ [] else numbers_under by_execution.old q)) }
+    ensures unstepped { OnErr result ((i : ℕ) (q : List ℕ) → has_steps by_step.old i ≡ true
+        → numbers_of_step by_step.new i q ≡ numbers_of_step by_step.old i q) }
+    ensures unowned { OnErr result ((q : ℕ)
+        → numbers_under by_execution.new q ≡ numbers_under by_execution.old q) }
+{
+    let step = row.element.as_str();
+    by_step.push(owner, step, row.work.value())?;
+    match by_execution.push(row.execution.value(), row.work.value()) {
+        Ok(()) => Ok(()),
+        Err(refused) => {
+            by_step.leave_out(owner, step, row.work.value());
             Err(refused)
         }
     }

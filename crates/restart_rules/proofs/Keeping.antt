@@ -48,15 +48,3 @@ pub done_at : (n : ℕ) (works : List WorkRow) (executions : List ℕ) (place d 
     ≡ cond (is_done_after n (done_among n works (drop (place + 1) executions)) works (get_or executions place d))
     (get_or executions place d ∷ done_among n works (drop (place + 1) executions)) (done_among n works (drop (place + 1) executions))
 done_at n works executions place d lt = ap (done_among n works) (drop_more executions place d lt)
-
--- the newest work item is the last
-last_read : (o : Option WorkRow) (row : Bor WorkRow) (rows : List (Bor WorkRow))
-    → option_copied (slice_get (row ∷ rows) (length (row ∷ rows) - 1)) ≡ last_or o (map (λ row. row.now) (row ∷ rows))
-last_read o row [] = refl
-last_read o row (next ∷ rows) =
-    let further : length (row ∷ next ∷ rows) - 1 ≡ suc (length (next ∷ rows) - 1) = omega arith in
-    ap (λ k. option_copied (slice_get (row ∷ next ∷ rows) k)) further ∙ last_read (Some row.now) next rows
-
-pub newest_read : (rows : List (Bor WorkRow)) → option_copied (slice_get rows (length rows - 1)) ≡ newest_work (map (λ row. row.now) rows)
-newest_read [] = refl
-newest_read (row ∷ rows) = last_read None row rows

@@ -9,7 +9,11 @@ use Rattle.batch_history.specs.Replies.{is_execution, restart_refusal, restart_p
 use Rattle.batch_history.specs.Rows.{Rows}
 use Rattle.batch_history.specs.declared.rows.ExecutionRow.{ExecutionRow}
 use Rattle.batch_history.specs.declared.rows.LastNumbers.{LastNumbers}
+use Rattle.batch_history.specs.declared.rows.WorkRow.{WorkRow}
+use Rattle.records.specs.Indexes.{AreStepsOf, numbers_named}
+use Rattle.records.specs.Left.{works_of_instance}
 use Rattle.records.specs.Maps.{Maps, mark_at}
+use Rattle.restart_rules.specs.declared.plan.Earlier.{Earlier}
 use Rattle.restart_rules.specs.declared.steps.StepOf.{StepOf}
 
 -- what these rows say, over a catalogue, after so many operations, which gave these numbers last
@@ -42,3 +46,11 @@ plan_due r x = plan_due_for r (find (is_execution x) r.executions)
 -- a step as it stands in its job
 abbrev pub job_step : StepOf → JobStep
 job_step s = record { id = s.id.now; step = s.step.now }
+
+-- the work items of a job instance
+abbrev pub earlier_works : Earlier → List WorkRow
+earlier_works e = works_of_instance e.instance e.records.now.executions e.records.now.works
+
+-- the lists are those of their steps
+abbrev pub AreLookedUp : Earlier → Type 0
+AreLookedUp e = AreStepsOf e.instance e.records.now (numbers_named e.steps.now)

@@ -229,7 +229,11 @@ pub(crate) fn is_done(alloc: Global, count: u32, works: &[&WorkRow]) -> Result<b
 
 /// The partitions that are kept after this work of a step of so many partitions, by rising number.
 #[tactic(auto, using(crate::proofs::Keeping::passing_ahead, crate::proofs::Keeping::failing_ahead))]
-fn kept_of(alloc: Global, count: u32, works: &[&WorkRow]) -> Result<Vec<u32>, OutOfMemory>
+pub(crate) fn partitions_kept(
+    alloc: Global,
+    count: u32,
+    works: &[&WorkRow],
+) -> Result<Vec<u32>, OutOfMemory>
     ensures { IfOk result (λ kept. kept.items
         ≡ partitions_kept (Some count) (map (λ row. row.now) works.now)) }
 {
@@ -241,19 +245,4 @@ fn kept_of(alloc: Global, count: u32, works: &[&WorkRow]) -> Result<Vec<u32>, Ou
         }
     }
     Ok(kept)
-}
-
-/// The partitions of a step that are kept after this work, by rising number.
-pub(crate) fn partitions_kept(
-    alloc: Global,
-    partitions: Option<u32>,
-    works: &[&WorkRow],
-) -> Result<Vec<u32>, OutOfMemory>
-    ensures { IfOk result (λ kept. kept.items
-        ≡ partitions_kept partitions (map (λ row. row.now) works.now)) }
-{
-    match partitions {
-        None => Ok(Vec::new(alloc)),
-        Some(count) => kept_of(alloc, count, works),
-    }
 }

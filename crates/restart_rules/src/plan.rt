@@ -3,17 +3,20 @@
 ghost use Rattle.std.specs.Prelude.{◌≡◌, ◌++◌, ◌∷◌, [], true, Some, map, filter, length, IfOk, OnOk};
 ghost use Rattle.std.specs.List.{filter_map, flat_map};
 ghost use Rattle.std.specs.Option.{option_copied, option_map};
-ghost use Rattle.batch_history.specs.Restarts.{carried_step, exit_carried, exit_if_done, exit_of_newest, first_plan, is_barred, kept_partitions, newest_work, plan_by, starts_of, works_of_step};
+ghost use Rattle.batch_history.specs.Restarts.{carried_step, exit_carried, exit_if_done, exit_of_newest, first_plan, is_barred, kept_partitions, plan_by, starts_of, works_of_step};
 ghost use Rattle.job_walk.specs.Cursors.{begins_in};
 ghost use Rattle.jsl_model.specs.Jobs.{JobTree};
-ghost use Rattle.restart_rules.specs.Restarting.{job_step};
+ghost use Rattle.batch_history.specs.Partitions.{partitions_kept};
+ghost use Rattle.records.specs.Left.{works_of_instance};
+ghost use Rattle.restart_rules.specs.Restarting.{AreLookedUp, earlier_works, job_step};
 
 use crate::partitions::{completed_exit, executions_with, is_done, partitions_kept};
 use crate::steps::{StepOf, steps_in};
 use batch_history::WorkRow;
-use batch_ids::{BatchStatus, Listed, OutOfMemory, T256};
+use batch_ids::{BatchStatus, InstanceId, Listed, OutOfMemory, T256};
 use job_walk::{Plan, WorkKey};
 use jsl_model::{Element, Job};
+use records::{NameLists, Records};
 use std::alloc::Global;
 
 /// The plan of a job's first job execution: it begins at the job's first element, with nothing
@@ -38,36 +41,33 @@ pub fn first_plan(alloc: Global, job: &Job) -> Result<Plan, OutOfMemory>
     })
 }
 
-/// The work items of a step among these.
-fn works_of_step<'a>(
+/// The work items of a job instance, which are looked up by their step.
+#[derive(Clone, Copy)]
+pub(crate) struct Earlier<'a> {
     alloc: Global,
-    id: &T256,
-    earlier: &[&'a WorkRow],
-) -> Result<Vec<&'a WorkRow>, OutOfMemory>
-    ensures { IfOk result (λ works. map (λ row. row.now) works.items
-        ≡ works_of_step id.now (map (λ row. row.now) earlier.now)) }
-{
-    let mut works = Vec::new(alloc);
-    for row in earlier {
-        if row.element == *id {
-            works.push(*row)?;
-        }
-    }
-    Ok(works)
+    records: &'a Records,
+    instance: InstanceId,
+    steps: &'a NameLists,
 }
 
-/// The newest of these work items.
-fn newest_work<'a>(works: &[&'a WorkRow]) -> Option<&'a WorkRow>
-    ensures { option_copied result ≡ newest_work (map (λ row. row.now) works.now) }
+/// The work items of a step among these.
+fn works_of_step<'a>(earlier: &Earlier<'a>, id: &T256) -> Result<Vec<&'a WorkRow>, OutOfMemory>
+    requires { AreLookedUp earlier.now }
+    ensures { IfOk result (λ works. map (λ row. row.now) works.items
+        ≡ works_of_step id.now (earlier_works earlier.now)) }
 {
-    works.last().copied()
+    earlier
+        .records
+        .works_of_step(earlier.alloc, earlier.steps, id.as_str())
 }
 
 /// The exit status with which a step is carried that is not partitioned.
-fn exit_of_newest(works: &[&WorkRow]) -> Result<Option<T256>, OutOfMemory>
-    ensures { IfOk result (λ exit. exit ≡ exit_of_newest (map (λ row. row.now) works.now)) }
+fn exit_of_newest(earlier: &Earlier<'_>, id: &T256) -> Result<Option<T256>, OutOfMemory>
+    requires { AreLookedUp earlier.now }
+    ensures { IfOk result (λ exit. exit
+        ≡ exit_of_newest (works_of_step id.now (earlier_works earlier.now))) }
 {
-    let Some(row) = newest_work(works) else {
+    let Some(row) = earlier.records.newest_of_step(earlier.steps, id.as_str()) else {
         return Ok(None);
     };
     match completed_exit(&row.state) {
@@ -88,77 +88,93 @@ fn exit_if_done(alloc: Global, count: u32, works: &[&WorkRow]) -> Result<Option<
 }
 
 /// The exit status with which a step is carried, by its work items.
-fn exit_carried(
-    alloc: Global,
-    partitions: Option<u32>,
-    works: &[&WorkRow],
-) -> Result<Option<T256>, OutOfMemory>
-    ensures { IfOk result (λ exit. exit
-        ≡ exit_carried partitions (map (λ row. row.now) works.now)) }
+fn exit_carried(earlier: &Earlier<'_>, one: &StepOf<'_>) -> Result<Option<T256>, OutOfMemory>
+    requires { AreLookedUp earlier.now }
+    ensures { IfOk result (λ exit. exit ≡ exit_carried one.now.step.now.partitions
+        (works_of_step one.now.id.now (earlier_works earlier.now))) }
 {
-    match partitions {
-        None => exit_of_newest(works),
-        Some(count) => exit_if_done(alloc, count, works),
+    match one.step.partitions {
+        None => exit_of_newest(earlier, one.id),
+        Some(count) => {
+            let works = works_of_step(earlier, one.id)?;
+            exit_if_done(earlier.alloc, count, works.as_slice())
+        }
     }
 }
 
 /// How often a step was started, by its work items.
-fn starts_of(
-    alloc: Global,
-    partitions: Option<u32>,
-    works: &[&WorkRow],
-) -> Result<usize, OutOfMemory>
-    ensures { IfOk result (λ starts. starts
-        ≡ starts_of partitions (map (λ row. row.now) works.now)) }
+fn starts_of(earlier: &Earlier<'_>, one: &StepOf<'_>) -> Result<usize, OutOfMemory>
+    requires { AreLookedUp earlier.now }
+    ensures { IfOk result (λ starts. starts ≡ starts_of one.now.step.now.partitions
+        (works_of_step one.now.id.now (earlier_works earlier.now))) }
 {
-    match partitions {
-        None => Ok(works.len()),
-        Some(_) => Ok(executions_with(alloc, works)?.len()),
+    match one.step.partitions {
+        None => Ok(
+            earlier
+                .records
+                .count_of_step(earlier.steps, one.id.as_str()),
+        ),
+        Some(_) => {
+            let works = works_of_step(earlier, one.id)?;
+            Ok(executions_with(earlier.alloc, works.as_slice())?.len())
+        }
     }
 }
 
 /// A step that is carried, with its exit status.
 fn carried_step(
-    alloc: Global,
-    earlier: &[&WorkRow],
+    earlier: &Earlier<'_>,
     one: &StepOf<'_>,
 ) -> Result<Option<(T256, T256)>, OutOfMemory>
+    requires { AreLookedUp earlier.now }
     ensures { IfOk result (λ step. step
-        ≡ carried_step (map (λ row. row.now) earlier.now) (job_step one.now)) }
+        ≡ carried_step (earlier_works earlier.now) (job_step one.now)) }
 {
     if one.step.allow_start_if_complete {
         return Ok(None);
     }
-    let works = works_of_step(alloc, one.id, earlier)?;
-    match exit_carried(alloc, one.step.partitions, works.as_slice())? {
+    match exit_carried(earlier, one)? {
         None => Ok(None),
         Some(exit) => Ok(Some((one.id.try_clone()?, exit))),
     }
 }
 
 /// Whether a step has reached its start limit.
-fn is_barred(alloc: Global, earlier: &[&WorkRow], one: &StepOf<'_>) -> Result<bool, OutOfMemory>
-    ensures { IfOk result (λ is. is
-        ≡ is_barred (map (λ row. row.now) earlier.now) (job_step one.now)) }
+fn is_barred(earlier: &Earlier<'_>, one: &StepOf<'_>) -> Result<bool, OutOfMemory>
+    requires { AreLookedUp earlier.now }
+    ensures { IfOk result (λ is. is ≡ is_barred (earlier_works earlier.now) (job_step one.now)) }
 {
-    let works = works_of_step(alloc, one.id, earlier)?;
-    let starts = starts_of(alloc, one.step.partitions, works.as_slice())?;
+    let starts = starts_of(earlier, one)?;
     let limit = one.step.start_limit as u64;
     Ok(0 < limit && limit <= starts as u64)
 }
 
+/// The partitions of a step that are kept, by rising number.
+fn kept_of_step(earlier: &Earlier<'_>, one: &StepOf<'_>) -> Result<Vec<u32>, OutOfMemory>
+    requires { AreLookedUp earlier.now }
+    ensures { IfOk result (λ kept. kept.items ≡ partitions_kept one.now.step.now.partitions
+        (works_of_step one.now.id.now (earlier_works earlier.now))) }
+{
+    match one.step.partitions {
+        None => Ok(Vec::new(earlier.alloc)),
+        Some(count) => {
+            let works = works_of_step(earlier, one.id)?;
+            partitions_kept(earlier.alloc, count, works.as_slice())
+        }
+    }
+}
+
 /// Adds the partitions of a step that are kept.
 fn add_kept(
-    alloc: Global,
     kept: &mut Vec<WorkKey>,
-    earlier: &[&WorkRow],
+    earlier: &Earlier<'_>,
     one: &StepOf<'_>,
 ) -> Result<(), OutOfMemory>
+    requires { AreLookedUp earlier.now }
     ensures { OnOk result (kept.new.items ≡ kept.old.items
-        ++ kept_partitions (map (λ row. row.now) earlier.now) (job_step one.now)) }
+        ++ kept_partitions (earlier_works earlier.now) (job_step one.now)) }
 {
-    let works = works_of_step(alloc, one.id, earlier)?;
-    let numbers = partitions_kept(alloc, one.step.partitions, works.as_slice())?;
+    let numbers = kept_of_step(earlier, one)?;
     for partition in numbers.as_slice() {
         kept.push(WorkKey {
             element: one.id.try_clone()?,
@@ -169,16 +185,16 @@ fn add_kept(
 }
 
 fn carried_steps(
-    alloc: Global,
-    earlier: &[&WorkRow],
+    earlier: &Earlier<'_>,
     steps: &[StepOf<'_>],
 ) -> Result<Listed<(T256, T256)>, OutOfMemory>
+    requires { AreLookedUp earlier.now }
     ensures { IfOk result (λ carried. carried
-        ≡ filter_map (carried_step (map (λ row. row.now) earlier.now)) (map job_step steps.now)) }
+        ≡ filter_map (carried_step (earlier_works earlier.now)) (map job_step steps.now)) }
 {
-    let mut carried = Vec::new(alloc);
+    let mut carried = Vec::new(earlier.alloc);
     for one in steps {
-        if let Some(step) = carried_step(alloc, earlier, one)? {
+        if let Some(step) = carried_step(earlier, one)? {
             carried.push(step)?;
         }
     }
@@ -186,31 +202,28 @@ fn carried_steps(
 }
 
 fn kept_partitions(
-    alloc: Global,
-    earlier: &[&WorkRow],
+    earlier: &Earlier<'_>,
     steps: &[StepOf<'_>],
 ) -> Result<Listed<WorkKey>, OutOfMemory>
+    requires { AreLookedUp earlier.now }
     ensures { IfOk result (λ kept. kept
-        ≡ flat_map (kept_partitions (map (λ row. row.now) earlier.now)) (map job_step steps.now)) }
+        ≡ flat_map (kept_partitions (earlier_works earlier.now)) (map job_step steps.now)) }
 {
-    let mut kept = Vec::new(alloc);
+    let mut kept = Vec::new(earlier.alloc);
     for one in steps {
-        add_kept(alloc, &mut kept, earlier, one)?;
+        add_kept(&mut kept, earlier, one)?;
     }
     Ok(Listed::from_vec(kept))
 }
 
-fn barred_steps(
-    alloc: Global,
-    earlier: &[&WorkRow],
-    steps: &[StepOf<'_>],
-) -> Result<Listed<T256>, OutOfMemory>
+fn barred_steps(earlier: &Earlier<'_>, steps: &[StepOf<'_>]) -> Result<Listed<T256>, OutOfMemory>
+    requires { AreLookedUp earlier.now }
     ensures { IfOk result (λ barred. barred ≡ map (λ s. s.id)
-        (filter (is_barred (map (λ row. row.now) earlier.now)) (map job_step steps.now))) }
+        (filter (is_barred (earlier_works earlier.now)) (map job_step steps.now))) }
 {
-    let mut barred = Vec::new(alloc);
+    let mut barred = Vec::new(earlier.alloc);
     for one in steps {
-        if is_barred(alloc, earlier, one)? {
+        if is_barred(earlier, one)? {
             barred.push(one.id.try_clone()?)?;
         }
     }
@@ -219,20 +232,47 @@ fn barred_steps(
 
 /// The plan of a job execution that begins at this element, of a job with these elements, by the
 /// work items of the earlier job executions of its job instance.
-pub(crate) fn plan_by(
+fn plan_by(earlier: &Earlier<'_>, from: T256, elements: &[Element]) -> Result<Plan, OutOfMemory>
+    requires { AreLookedUp earlier.now }
+    ensures { (job : JobTree) → job.elements ≡ elements.now → IfOk result (λ plan. plan
+        ≡ plan_by from (earlier_works earlier.now) (Some job)) }
+{
+    let steps = steps_in(earlier.alloc, elements)?;
+    Ok(Plan {
+        from,
+        carried: carried_steps(earlier, steps.as_slice())?,
+        kept: kept_partitions(earlier, steps.as_slice())?,
+        barred: barred_steps(earlier, steps.as_slice())?,
+    })
+}
+
+/// The same by the rows of the job instance.
+pub(crate) fn plan_after(
     alloc: Global,
+    records: &Records,
+    instance: InstanceId,
     from: T256,
-    earlier: &[&WorkRow],
     elements: &[Element],
 ) -> Result<Plan, OutOfMemory>
     ensures { (job : JobTree) → job.elements ≡ elements.now → IfOk result (λ plan. plan
-        ≡ plan_by from (map (λ row. row.now) earlier.now) (Some job)) }
+        ≡ plan_by from (works_of_instance instance records.now.executions records.now.works)
+        (Some job)) }
 {
-    let steps = steps_in(alloc, elements)?;
-    Ok(Plan {
-        from,
-        carried: carried_steps(alloc, earlier, steps.as_slice())?,
-        kept: kept_partitions(alloc, earlier, steps.as_slice())?,
-        barred: barred_steps(alloc, earlier, steps.as_slice())?,
-    })
+    if let Some(steps) = records.steps_of(instance) {
+        let earlier = Earlier {
+            alloc,
+            records,
+            instance,
+            steps,
+        };
+        return plan_by(&earlier, from, elements);
+    }
+    let made = records.steps_made(alloc, instance)?;
+    let earlier = Earlier {
+        alloc,
+        records,
+        instance,
+        steps: &made,
+    };
+    plan_by(&earlier, from, elements)
 }

@@ -10,7 +10,7 @@ ghost use Rattle.batch_history.specs.Walks.{job_named};
 ghost use Rattle.restart_rules.specs.Placed.{begins_in_job, is_placed, IsPlaced};
 ghost use Rattle.restart_rules.specs.Restarting.{plan_due, rows_over};
 
-use crate::plan::plan_by;
+use crate::plan::plan_after;
 use crate::walks::{job_of, walk_value};
 use batch_history::ExecutionRow;
 use batch_ids::{BatchStatus, ExecutionId, OutOfMemory, Refusal, T256};
@@ -24,12 +24,7 @@ use std::alloc::Global;
 fn has_later(records: &Records, row: &ExecutionRow) -> bool
     ensures { result ≡ list_any (is_later_than row.now) records.now.executions }
 {
-    for other in records.executions_of(row.instance) {
-        if row.execution.value() < other.execution.value() {
-            return true;
-        }
-    }
-    false
+    records.has_execution_above(row.instance, row.execution)
 }
 
 /// Why a job execution of this status may not be restarted.
@@ -88,9 +83,8 @@ pub fn restart_plan(
 {
     let job = job_of(catalogue, row);
     let value = walk_value(alloc, catalogue, records, row)?;
-    let from = restart_point(row.start.is_some(), value, &row.plan.from)?;
-    let earlier = records.works_of_instance(alloc, row.instance)?;
-    plan_by(alloc, from, earlier.as_slice(), job.elements())
+    let from = restart_point(row.start.is_some(), value, &row.plan.get().from)?;
+    plan_after(alloc, records, row.instance, from, job.elements())
 }
 
 /// What the next job execution of a job instance goes by, where this one may be restarted (Jakarta

@@ -86,7 +86,7 @@ pub fn walk_of(
         row.now.execution row.now.job row.now.plan) }
 {
     let job = job_of(catalogue, row);
-    let cursor = Cursor::resume(alloc, job, &row.plan, known)?;
+    let cursor = Cursor::resume(alloc, job, row.plan.get(), known)?;
     Ok(cursor.into_value())
 }
 

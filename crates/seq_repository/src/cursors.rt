@@ -35,7 +35,7 @@ fn resumed(
         → IfOk result (λ cursor. Follows catalogue.now works row.now cursor) }
 {
     match catalogue.job(row.job.as_str()) {
-        Some(job) => Cursor::resume(alloc, job, &row.plan, known),
+        Some(job) => Cursor::resume(alloc, job, row.plan.get(), known),
         None => unreachable!(),
     }
 }

@@ -20,8 +20,8 @@ use crate::rows::Change;
 use crate::{adding, agenda, cursors, rows, status};
 use batch_history::{Call, ExecutionRow, JobInstance, Reply, WorkItem};
 use batch_ids::{
-    ExecutionId, InstanceId, MetricStep, Moment, OutOfMemory, Parameters, Refusal, T256, Text,
-    WorkId, WorkOutcome,
+    ExecutionId, InstanceId, MetricStep, Moment, OutOfMemory, Parameters, Refusal, Shared, T256,
+    Text, WorkId, WorkOutcome,
 };
 use job_walk::{Cursor, WorkKey};
 use records::Records;
@@ -121,12 +121,13 @@ impl<const LIMIT: u64> Repository<LIMIT> {
             unreachable!();
         };
         let plan = first_plan(self.alloc, tree)?;
+        let shared = Shared::new(self.alloc, plan)?;
         let first = job.try_clone()?;
         let second = job.try_clone()?;
         let parameters = parameters.try_clone()?;
         let instance = InstanceId::new(self.last.instance + 1);
         let x = self.last.execution + 1;
-        let row = rows::new_execution(x, instance, at, second, parameters, plan);
+        let row = rows::new_execution(x, instance, at, second, parameters, shared);
         let made = JobInstance {
             instance,
             job: first,
@@ -158,11 +159,12 @@ impl<const LIMIT: u64> Repository<LIMIT> {
             unreachable!();
         };
         let plan = restart_plan(self.alloc, &self.records, &self.catalogue, earlier)?;
+        let shared = Shared::new(self.alloc, plan)?;
         let instance = earlier.instance;
         let job = earlier.job.try_clone()?;
         let parameters = parameters.try_clone()?;
         let x = self.last.execution + 1;
-        let row = rows::new_execution(x, instance, at, job, parameters, plan);
+        let row = rows::new_execution(x, instance, at, job, parameters, shared);
         adding::add_execution(&mut self.agenda, &mut self.records, row)?;
         self.last.execution += 1;
         self.count += 1;

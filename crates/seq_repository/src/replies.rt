@@ -37,7 +37,7 @@ fn task_of(
 {
     match found {
         None => Ok(WorkTask::Decision {
-            artifact: T256::empty(alloc),
+            artifact: T256::empty(),
         }),
         Some(Runnable::Decision(artifact)) => Ok(WorkTask::Decision { artifact }),
         Some(Runnable::Step(task)) => match task {

@@ -11,7 +11,7 @@ use crate::status::{batch_status, earliest, exit_status, is_finished};
 use batch_history::{ExecutionRow, WorkItem, WorkRow, WorkState};
 use batch_ids::{
     BatchStatus, ExecutionId, InstanceId, MetricStep, Metrics, Moment, OutOfMemory, Parameters,
-    T256, WorkOutcome,
+    Shared, T256, WorkOutcome,
 };
 use job_walk::{Plan, Value};
 use std::alloc::Global;
@@ -36,7 +36,7 @@ pub(crate) fn new_execution(
     at: Moment,
     job: T256,
     parameters: Parameters,
-    plan: Plan,
+    plan: Shared<Plan>,
 ) -> ExecutionRow
     ensures { result ≡ fresh_row x instance at job parameters plan }
 {
@@ -71,7 +71,7 @@ fn row_with(
 {
     let job = row.job.try_clone()?;
     let parameters = row.parameters.try_clone()?;
-    let plan = row.plan.try_clone(alloc)?;
+    let plan = row.plan.try_clone()?;
     let bare = batch_status(stop, start, value);
     let exit = exit_status(alloc, stop, start, value)?;
     Ok(ExecutionRow {

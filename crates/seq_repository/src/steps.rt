@@ -27,7 +27,7 @@ use std::alloc::Global;
 fn is_kept(owner: &ExecutionRow, step: &T256, partition: u32) -> bool
     ensures { result ≡ is_kept owner.now.plan (key_of step.now partition) }
 {
-    for key in owner.plan.kept.as_slice() {
+    for key in owner.plan.get().kept.as_slice() {
         if *step == key.element && partition == key.partition {
             return true;
         }

@@ -21,7 +21,7 @@ skipped
 // Session 1 starts a job. Session 2 learns of it from session 1, and not from the copy, which has nothing yet.
 fn events(alloc: Global) -> Result<Vec<Event>, Fail> {
     let job = T256::new(alloc, "a")?;
-    let parameters = Parameters::none(alloc);
+    let parameters = Parameters::none();
     let mut events = Vec::new(alloc);
     events.push(Event::Call {
         who: 1,

@@ -70,7 +70,7 @@ fn run_by_two<N: Site + Send + Sync, R: Threads + Wait + AllocGlobal + Sync>(
 ) -> Result<PoolReport> {
     let alloc = rt.alloc();
     let job = T256::new(alloc, "a")?;
-    operator.start(rt, session, job, Parameters::none(alloc), 0)?;
+    operator.start(rt, session, job, Parameters::none(), 0)?;
     Ok(pool_with_built_ins(rt, alloc, operator, names, 2, &Open)?)
 }
 

@@ -90,7 +90,7 @@ fn run_by_two<N: Site + Send + Sync, R: Threads + Wait + AllocGlobal + Sync>(
     let operator = Operator::<N>::new(rt.alloc(), table, seat, catalogue, copies)?;
     let mut session = operator.open_session(rt)?;
     let job = T256::new(rt.alloc(), "a")?;
-    operator.start(rt, &mut session, job, Parameters::none(rt.alloc()), 0)?;
+    operator.start(rt, &mut session, job, Parameters::none(), 0)?;
     let alloc = rt.alloc();
     let mut one = Kit::new(alloc);
     one.add(alloc, "ok", Box::new(alloc, Quiet { alloc })?)?;

@@ -19,10 +19,10 @@ fn batchlet(alloc: Global) -> std::result::Result<WorkItem, OutOfMemory> {
     Ok(WorkItem {
         work: WorkId::new(1),
         execution: ExecutionId::new(1),
-        element: T256::empty(alloc),
+        element: T256::empty(),
         partition: None,
         task: WorkTask::Batchlet {
-            artifact: T256::empty(alloc),
+            artifact: T256::empty(),
         },
     })
 }

@@ -40,7 +40,7 @@ fn started<N: Site, R: Wait + AllocGlobal>(
     let operator = Operator::<N>::new(rt.alloc(), table, seat, catalogue, copies)?;
     let mut session = operator.open_session(rt)?;
     let job = T256::new(rt.alloc(), "c")?;
-    operator.start(rt, &mut session, job, Parameters::none(rt.alloc()), 0)?;
+    operator.start(rt, &mut session, job, Parameters::none(), 0)?;
     Ok(operator)
 }
 

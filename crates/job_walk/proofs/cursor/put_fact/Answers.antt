@@ -9,7 +9,7 @@ pub returns-then-is_of : goal.returns-then-is_of
 returns-then-is_of c =
     let known = c.args.known.now.items in
     let key = c.args.key.now in
-    let place = c.known_of-place.result in
+    let place = c.key_place_of-place.result in
     let on : is_same_key key c.index.result.now.key ≡ true = sym c.is_of.ensures ∙ c.if-is_of.true in
     let lt : place < length known = search rules in
     put-read known known key c.args.fact c.args.fact place c.index.result.now c.index_mut.result.now lt refl

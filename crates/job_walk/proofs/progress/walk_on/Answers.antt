@@ -2,7 +2,6 @@ use Rattle.std.proofs.Common.{◌≡◌, ◌<◌, ◌-◌, ◌+◌, length, set,
 use Rattle.std.proofs.lemmas.List.{length-set}
 use Rattle.job_walk.specs.declared.element_result.ElementResult.{ElementResult}
 use Rattle.job_walk.specs.declared.element_result.ElementResult.TheVariants.{Outcome}
-use Rattle.job_walk.specs.declared.facts.Value.TheVariants.{Done}
 use Rattle.job_walk.specs.KeptLists.{rows_by, stands, stand_by_continuation}
 use Rattle.job_walk.specs.Walk.{follow, value_of_continuation}
 use Rattle.job_walk.proofs.Stands.{here-row, progress-here, none-here, halts-here, turns-here, end-here}
@@ -15,8 +14,8 @@ returns-in_default c =
     let lt : c.loop-passed.passed < c.args.left = c.loop-passed-test.true in
     let at = sym c.loop-passed.invariant.0 ∙ c.in_default.is in
     let here = none-here c.args.elements.now owns c.loop-passed.id c.args.left c.loop-passed.passed l lt at in
-    progress-here c.args.elements.now owns c.args.from.now c.loop-passed.id c.args.left c.loop-passed.passed _ _ l (sym at) c.loop-passed.invariant.1 c.loop-passed.invariant.2
-    (here.0 ∙ ap Done (sym c.empty.ensures)) here.1
+    c.ended_at.ensures
+    ∙ progress-here c.args.elements.now owns c.args.from.now c.loop-passed.id c.args.left c.loop-passed.passed _ _ l (sym at) c.loop-passed.invariant.1 c.loop-passed.invariant.2 here.0 here.1
 
 pub returns-in-ListValue : goal.returns-in-ListValue
 returns-in-ListValue c =
@@ -67,5 +66,5 @@ returns c =
     let l : length owns ≡ length c.args.elements.now = length-set c.args.results.now c.args.changed c.args.comes_to.now ∙ c.requires.same in
     let here = end-here (rows_by c.args.elements.now owns) c.loop-passed.id c.args.left c.loop-passed.passed c.loop-passed-test.false in
     let is : c.args.left - c.loop-passed.passed ≡ 0 = omega arith in
-    rw (← is) (progress-here c.args.elements.now owns c.args.from.now c.loop-passed.id c.args.left c.loop-passed.passed _ _ l c.loop-passed.invariant.0 c.loop-passed.invariant.1 c.loop-passed.invariant.2
-    (here.0 ∙ ap Done (sym c.empty-2.ensures)) here.1)
+    c.ended_at-2.ensures
+    ∙ rw (← is) (progress-here c.args.elements.now owns c.args.from.now c.loop-passed.id c.args.left c.loop-passed.passed _ _ l c.loop-passed.invariant.0 c.loop-passed.invariant.1 c.loop-passed.invariant.2 here.0 here.1)

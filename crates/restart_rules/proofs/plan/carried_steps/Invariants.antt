@@ -1,10 +1,10 @@
 use Rattle.std.proofs.Common.{◌≡◌, ◌++◌, map, drop}
 use Rattle.std.specs.List.{filter_map}
 use Rattle.batch_history.specs.Restarts.{carried_step}
-use Rattle.restart_rules.specs.Restarting.{job_step}
+use Rattle.restart_rules.specs.Restarting.{earlier_works, job_step}
 use Rattle.restart_rules.proofs.plan.carried_steps.Given as goal
 
 abbrev pub invariant-loop-one : goal.invariant-loop-one
 invariant-loop-one l =
-    l.carried.items ++ filter_map (carried_step (map (λ row. row.now) l.earlier)) (map job_step (drop l.one-index l.steps))
-    ≡ filter_map (carried_step (map (λ row. row.now) l.earlier)) (map job_step l.steps)
+    l.carried.items ++ filter_map (carried_step (earlier_works l.earlier)) (map job_step (drop l.one-index l.steps))
+    ≡ filter_map (carried_step (earlier_works l.earlier)) (map job_step l.steps)

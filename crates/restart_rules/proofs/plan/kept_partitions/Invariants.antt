@@ -1,10 +1,10 @@
 use Rattle.std.proofs.Common.{◌≡◌, ◌++◌, map, drop}
 use Rattle.std.specs.List.{flat_map}
 use Rattle.batch_history.specs.Restarts.{kept_partitions}
-use Rattle.restart_rules.specs.Restarting.{job_step}
+use Rattle.restart_rules.specs.Restarting.{earlier_works, job_step}
 use Rattle.restart_rules.proofs.plan.kept_partitions.Given as goal
 
 abbrev pub invariant-loop-one : goal.invariant-loop-one
 invariant-loop-one l =
-    l.kept.items ++ flat_map (kept_partitions (map (λ row. row.now) l.earlier)) (map job_step (drop l.one-index l.steps))
-    ≡ flat_map (kept_partitions (map (λ row. row.now) l.earlier)) (map job_step l.steps)
+    l.kept.items ++ flat_map (kept_partitions (earlier_works l.earlier)) (map job_step (drop l.one-index l.steps))
+    ≡ flat_map (kept_partitions (earlier_works l.earlier)) (map job_step l.steps)

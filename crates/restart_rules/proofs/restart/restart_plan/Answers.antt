@@ -1,5 +1,6 @@
-use Rattle.std.proofs.Common.{◌≡◌, ℕ, Some, is_some, List, map, sym, ◌∙◌, ap}
+use Rattle.std.proofs.Common.{◌≡◌, ℕ, Some, is_some, List, refl, sym, ◌∙◌, ap}
 use Rattle.jsl_model.specs.Jobs.{JobTree}
+use Rattle.job_walk.specs.declared.plan.Plan.{Plan}
 use Rattle.batch_history.specs.Replies.{restart_plan, walk_in_rows}
 use Rattle.batch_history.specs.Restarts.{plan_by, restart_point}
 use Rattle.batch_history.specs.Walks.{facts_by_work, job_named}
@@ -13,25 +14,26 @@ use Rattle.restart_rules.proofs.restart.restart_plan.Goals as goal
 pub returns-clause-plan : goal.returns-clause-plan
 returns-clause-plan c count last =
     let job : JobTree = c.job_of-job.result.now in
-    let earlier : List WorkRow = map (λ row. row.now) c.as_slice.result.now in
-    if_ok_same c.plan_by.result (plan_by c.in_ok-from.from earlier (Some job)) (restart_plan (rows_over c.args.catalogue.now count last c.args.records.now) c.args.row.now)
-    (c.plan_by.ensures job (sym c.elements.ensures.same))
+    let earlier : List WorkRow = works_of_instance c.args.row.now.instance c.args.records.now.executions c.args.records.now.works in
+    if_ok_same c.plan_after.result (plan_by c.in_ok-from.from earlier (Some job)) (restart_plan (rows_over c.args.catalogue.now count last c.args.records.now) c.args.row.now)
+    (c.plan_after.ensures job (sym c.elements.ensures.same))
     (planned_alike job (job_named c.args.catalogue.now c.args.row.now.job) c.in_ok-from.from
     (restart_point (is_some c.args.row.now.start) (walk_in_rows (rows_over c.args.catalogue.now count last c.args.records.now) c.args.row.now) c.args.row.now.plan.from)
     earlier (works_of_instance c.args.row.now.instance c.args.records.now.executions c.args.records.now.works)
     c.job_of-job.ensures.named
-    (c.in_ok-from.ensures
+    ((c.in_ok-from.ensures ∙ ap (λ (plan : Plan). restart_point c.is_some.result c.in_ok-value.value plan.from) c.get.ensures)
     ∙ (ap (λ b. restart_point b c.in_ok-value.value c.args.row.now.plan.from) c.is_some.ensures
     ∙ ap (λ v. restart_point (is_some c.args.row.now.start) v c.args.row.now.plan.from) c.in_ok-value.ensures))
-    (ap (map (λ row. row.now)) c.as_slice.ensures.value ∙ c.in_ok-earlier.ensures))
+    refl)
 
 pub returns-clause-begins : goal.returns-clause-begins
 returns-clause-begins c =
     let job : JobTree = c.job_of-job.result.now in
-    let earlier : List WorkRow = map (λ row. row.now) c.as_slice.result.now in
-    if_ok_then c.plan_by.result (plan_by c.in_ok-from.from earlier (Some job))
+    let earlier : List WorkRow = works_of_instance c.args.row.now.instance c.args.records.now.executions c.args.records.now.works in
+    if_ok_then c.plan_after.result (plan_by c.in_ok-from.from earlier (Some job))
     (λ plan. begins_in_job plan (job_named c.args.catalogue.now c.args.row.now.job) ≡ Rattle.std.proofs.Common.true)
-    (c.plan_by.ensures job (sym c.elements.ensures.same))
+    (c.plan_after.ensures job (sym c.elements.ensures.same))
     (λ plan made. begins_after job c.elements.ensures.checked c.args.row.now.plan (job_named c.args.catalogue.now c.args.row.now.job)
     (facts_by_work c.args.row.now.execution c.args.records.now.works) c.is_some.result c.in_ok-value.value c.in_ok-from.from earlier plan
-    c.job_of-job.ensures.named c.requires c.in_ok-value.ensures c.in_ok-from.ensures made)
+    c.job_of-job.ensures.named c.requires c.in_ok-value.ensures
+    (c.in_ok-from.ensures ∙ ap (λ (plan : Plan). restart_point c.is_some.result c.in_ok-value.value plan.from) c.get.ensures) made)

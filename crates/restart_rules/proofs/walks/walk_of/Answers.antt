@@ -1,10 +1,11 @@
 use Rattle.std.proofs.Common.{◌∙◌, ap}
-use Rattle.job_walk.specs.Cursors.{value_in}
+use Rattle.job_walk.specs.declared.plan.Plan.{Plan}
+use Rattle.job_walk.specs.Cursors.{resumed, value_in}
 use Rattle.batch_history.proofs.Resuming.{resumed_value}
 use Rattle.restart_rules.proofs.walks.walk_of.Goals as goal
 
 pub returns : goal.returns
 returns c works is =
     c.into_value.ensures
-    ∙ (ap value_in c.in_ok-cursor.ensures
+    ∙ (ap value_in (c.in_ok-cursor.ensures ∙ ap (λ (plan : Plan). resumed c.job_of-job.result.now plan c.args.known.now) c.get.ensures)
     ∙ resumed_value c.args.catalogue.now works c.args.row.now.execution c.args.row.now.job c.job_of-job.result.now c.args.row.now.plan c.args.known.now c.job_of-job.ensures.named is)

@@ -6,9 +6,9 @@ use Rattle.job_walk.proofs.cursor.Cursor.of_known.Goals as goal
 
 pub invariant_of-result : goal.invariant_of-result
 invariant_of-result c =
-    kept-first c.args.job c.args.from c.args.known.items c.as_slice.result.now c.elements-2.result.now c.new-lists.result.items c.keep_list.new.lists.items c.requires
-    c.as_slice.ensures.value c.elements-2.ensures.same c.new-lists.ensures.items c.in_ok-keep_list.ensures
+    kept-first c.args.job c.args.from c.args.known.items c.as_slice.result.now c.elements.result.now c.new-lists.result.items c.keep_list.new.lists.items c.requires
+    c.as_slice.ensures.value c.elements.ensures.same c.new-lists.ensures.items c.in_ok-keep_list.ensures
 
 pub keep_list-requires : goal.keep_list-requires
 keep_list-requires c =
-    record { once = λ id. subst (λ es. count_of id es ≤ 1) (sym c.elements-2.ensures.same) (ids-once c.args.job c.elements-2.ensures.checked id) }
+    record { once = λ id. subst (λ es. count_of id es ≤ 1) (sym c.elements.ensures.same) (ids-once c.args.job c.elements.ensures.checked id) }

@@ -1,4 +1,5 @@
-use Rattle.std.proofs.Common.{rules, ◌∙◌}
+use Rattle.std.proofs.Common.{rules, ◌∙◌, sym, subst}
+use Rattle.jsl_model.specs.Faults.{IsChecked}
 use Rattle.jsl_model.proofs.Judging.{found_fault, checked, same_ranked}
 use Rattle.jsl_model.proofs.job.Job.check.Goals as goal
 
@@ -19,4 +20,5 @@ pub invariant_of-result : goal.invariant_of-result
 invariant_of-result c =
     let none = found_fault c.args.parts c.in_ok-id.id c.as_slice-2.result.now c.in_ok-fault.field-0 (search rules) (search rules) (search rules) (search rules) c.in_ok-fault.ensures.first
     ∙ c.in-None.is in
-    checked record { id = c.in_ok-id.id; restartable = c.args.parts.restartable; elements = c.in_ok-elements.elements } (search rules) (same_ranked c.as_slice-2.result.now c.in_ok-elements.elements (search rules) (c.in_ok-fault.ensures.ranked c.in-None.is))
+    subst (λ shared. IsChecked record { id = shared.id; restartable = shared.restartable; elements = shared.elements }) (sym c.in_ok-shared-in-None.ensures.ok)
+    (checked record { id = c.in_ok-id.id; restartable = c.args.parts.restartable; elements = c.in_ok-elements.elements } (search rules) (same_ranked c.as_slice-2.result.now c.in_ok-elements.elements (search rules) (c.in_ok-fault.ensures.ranked c.in-None.is)))

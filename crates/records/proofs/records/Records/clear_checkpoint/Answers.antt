@@ -11,8 +11,10 @@ use Rattle.records.proofs.records.Records.clear_checkpoint.Goals as goal
 pub invariant_of-self : goal.invariant_of-self
 invariant_of-self c =
     let p : InstanceStep = record { instance = c.args.i; step = c.args.step.now } in
-    let left = filter_same _ (is_elsewhere p) _ (λ x b f k. search rules) _ _ c.retain.ensures.filtered in
-    checkpoints_replaced _ _ _ _ _ c.self.invariant (subst AreApart (sym left) (apart_without p c.self.inside.checkpoints.items c.self.invariant.keyed.checkpoints))
+    let left = filter_same _ (is_elsewhere p) _ (λ x b f k. search rules) _ _ c.retain.ensures.filtered in (
+      checkpoints_replaced _ _ _ _ _ c.self.invariant.0 (subst AreApart (sym left) (apart_without p c.self.inside.checkpoints.items c.self.invariant.0.keyed.checkpoints)),
+      c.self.invariant.1,
+    )
 
 pub returns : goal.returns
 returns c =

@@ -11,4 +11,4 @@ returns-clause-named c =
     let named : List ℕ → List ℕ = numbers_named c.self.inside.instances_by_name in
     c.new.ensures
     ∙ (ap (λ (ns : List ℕ). instances_numbered ns c.args.self.now.instances) c.under.ensures
-    ∙ subst (λ (m : Maps). instances_numbered (named c.args.name.now) m.instances ≡ instances_of_job c.args.name.now m.instances) c.self.view_is (instances_found _ _ _ _ c.args.name.now c.self.invariant))
+    ∙ subst (λ (m : Maps). instances_numbered (named c.args.name.now) m.instances ≡ instances_of_job c.args.name.now m.instances) c.self.view_is (instances_found _ _ _ _ c.args.name.now c.self.invariant.0))

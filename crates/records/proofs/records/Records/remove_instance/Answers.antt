@@ -1,12 +1,13 @@
-use Rattle.std.proofs.Common.{◌≡◌, ◌==◌, ℕ, List, [], Some, cond, find, option_copied, bytes_eq, sym, ◌∙◌, ap, subst}
+use Rattle.std.proofs.Common.{◌≡◌, ◌==◌, ℕ, List, [], Some, false, cond, find, option_copied, bytes_eq, sym, ◌∙◌, ap, subst}
 use Rattle.std.specs.List.{list_any}
 use Rattle.batch_history.specs.Rows.{works_there}
 use Rattle.batch_history.specs.declared.rows.ExecutionRow.{ExecutionRow}
 use Rattle.batch_history.specs.declared.rows.JobInstance.{JobInstance}
-use Rattle.records.specs.Indexes.{AreIndexed, numbers_named, numbers_under, without_number}
+use Rattle.records.specs.Indexes.{AreIndexed, numbers_named, numbers_under, without_number, AreStepped, has_steps, numbers_of_step}
 use Rattle.records.specs.Maps.{Maps, is_instance, instance_numbers, AreRising}
 use Rattle.records.specs.Without.{without_instance}
 use Rattle.records.proofs.Indexing.{instance_removed}
+use Rattle.records.proofs.Stepped as stepped
 use Rattle.records.proofs.records.Records.remove_instance.Goals as goal
 
 pub invariant_of-self : goal.invariant_of-self
@@ -17,18 +18,23 @@ invariant_of-self c =
     let executions : ℕ → List ℕ = numbers_under c.self.inside.executions_by_instance in
     let works : ℕ → List ℕ = numbers_under c.self.inside.works_by_execution in
     let row : JobInstance = c.in-Some.row.now in
-    let rising = subst (λ (l : List JobInstance). AreRising (instance_numbers l)) (sym c.as_slice.ensures.value) c.self.invariant.keyed.instances in
+    let rising = subst (λ (l : List JobInstance). AreRising (instance_numbers l)) (sym c.as_slice.ensures.value) c.self.invariant.0.keyed.instances in
     let there : find (is_instance i) inside.instances ≡ Some row =
     sym (c.find_instance.ensures rising ∙ ap (find (is_instance i)) c.as_slice.ensures.value) ∙ ap option_copied c.in-Some.is in
     let left = c.remove_works.ensures ∙ ap (λ (l : List ExecutionRow). works_there (λ j. j == i) l inside.works) c.as_slice-2.ensures.value in
     let whole : without_instance i inside ≡ record { instances = c.remove_instances.new.instances.items; executions = c.remove_executions.new.executions.items; works = c.remove_works.new.works.items; checkpoints = c.remove_checkpoints.new.checkpoints.items } =
-    λ k. record { instances = sym c.remove_instances.ensures k; executions = sym c.remove_executions.ensures k; works = sym left k; checkpoints = sym c.remove_checkpoints.ensures k } in
-    subst (λ (m : Maps). AreIndexed m (numbers_named c.remove.new.self) (numbers_under c.remove-2.new.self) (numbers_under c.remove_all.new.self)) whole
-    (instance_removed inside names _ executions works _ _ i row c.self.invariant there record {
-      named = λ q. c.remove.ensures q
-          ∙ (ap (λ (name : List ℕ). cond (bytes_eq name q) (without_number c.value.result (names q)) (names q)) c.as_str.ensures.same
-          ∙ ap (λ (n : ℕ). cond (bytes_eq row.job q) (without_number n (names q)) (names q)) c.value.ensures);
-      own = λ q. c.remove-2.ensures q ∙ ap (λ (n : ℕ). cond (n == q) [] (executions q)) c.value-3.ensures;
-      their-works = λ q. c.remove_all.ensures q
-          ∙ ap (λ (ns : List ℕ). cond (list_any (λ x. x == q) ns) [] (works q)) (c.under.ensures ∙ ap executions c.value-2.ensures);
-    })
+    λ k. record { instances = sym c.remove_instances.ensures k; executions = sym c.remove_executions.ensures k; works = sym left k; checkpoints = sym c.remove_checkpoints.ensures k } in (
+      subst (λ (m : Maps). AreIndexed m (numbers_named c.remove.new.self) (numbers_under c.remove-2.new.self) (numbers_under c.remove_all.new.self)) whole
+          (instance_removed inside names _ executions works _ _ i row c.self.invariant.0 there record {
+            named = λ q. c.remove.ensures q
+                ∙ (ap (λ (name : List ℕ). cond (bytes_eq name q) (without_number c.value.result (names q)) (names q)) c.as_str.ensures.same
+                ∙ ap (λ (n : ℕ). cond (bytes_eq row.job q) (without_number n (names q)) (names q)) c.value.ensures);
+            own = λ q. c.remove-2.ensures q ∙ ap (λ (n : ℕ). cond (n == q) [] (executions q)) c.value-3.ensures;
+            their-works = λ q. c.remove_all.ensures q
+                ∙ ap (λ (ns : List ℕ). cond (list_any (λ x. x == q) ns) [] (works q)) (c.under.ensures ∙ ap executions c.value-2.ensures);
+          }),
+      subst (λ (m : Maps). AreStepped m (numbers_of_step c.remove-3.new.self) (has_steps c.remove-3.new.self)) whole
+          (stepped.instance_removed inside (numbers_of_step c.self.inside.works_by_step) _ (has_steps c.self.inside.works_by_step) _ i c.self.invariant.1
+          (λ j. c.remove-3.ensures.has j ∙ ap (λ (n : ℕ). cond (n == j) false (has_steps c.self.inside.works_by_step j)) c.value-4.ensures)
+          (λ j q. c.remove-3.ensures.left j q ∙ ap (λ (n : ℕ). cond (n == j) [] (numbers_of_step c.self.inside.works_by_step j q)) c.value-4.ensures)),
+    )

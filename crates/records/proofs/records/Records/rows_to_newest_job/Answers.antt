@@ -11,11 +11,11 @@ pub returns-in-Some : goal.returns-in-Some
 returns-in-Some c =
     let rows : List JobInstance = c.self.inside.instances.items in
     let k : ℕ = c.in-Some.place in
-    let up = c.self.invariant.keyed.instances in
+    let up = c.self.invariant.0.keyed.instances in
     let same = c.as_slice-rows.ensures.value in
     let rising = subst (λ (l : List JobInstance). AreRising (instance_numbers l)) (sym same) up in
     let each : (q : List ℕ) → IfSome (slice_get (instance_numbers (instances_of_job q rows)) 0) (λ n. n ≤ c.newest.result) =
-    λ q. subst (λ (ns : List ℕ). IfSome (slice_get ns 0) (λ n. n ≤ c.newest.result)) (c.self.invariant.instances_by_name q) (c.newest.ensures q) in
+    λ q. subst (λ (ns : List ℕ). IfSome (slice_get ns 0) (λ n. n ≤ c.newest.result)) (c.self.invariant.0.instances_by_name q) (c.newest.ensures q) in
     let there : Some k ≡ position (is_instance c.newest.result) rows =
     sym c.in-Some.is
     ∙ (c.instance_place.ensures.first rising
@@ -30,4 +30,4 @@ returns-in-None c =
     let rows : List JobInstance = c.self.inside.instances.items in
     subst (λ (m : Maps). job_names (filter (is_first_of_job m.instances) c.as_slice-rows.result.now) ≡ distinct (job_names m.instances)) c.self.view_is
     (ap (λ (l : List JobInstance). job_names (filter (is_first_of_job rows) l)) c.as_slice-rows.ensures.value
-    ∙ firsts_distinct rows c.self.invariant.keyed.instances)
+    ∙ firsts_distinct rows c.self.invariant.0.keyed.instances)

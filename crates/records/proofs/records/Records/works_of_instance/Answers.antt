@@ -14,6 +14,6 @@ returns-then-are_rising c =
     let gathered = c.in_ok-numbers.ensures ∙ ap (λ (i : ℕ). flat_map works (executions i)) c.value.ensures in
     let up = subst AreRising c.as_slice.ensures.value (c.are_rising.ensures c.if-are_rising.true) in
     let all = subst (λ (m : Maps). works_numbered c.in_ok-numbers.numbers.items m.works ≡ works_of_instance c.args.i m.executions m.works) c.self.view_is
-    (works_gathered _ _ executions works c.args.i c.in_ok-numbers.numbers.items c.self.invariant gathered up) in
+    (works_gathered _ _ executions works c.args.i c.in_ok-numbers.numbers.items c.self.invariant.0 gathered up) in
     IfOk-weaker c.works_numbered.result _ _
     (λ found is. is ∙ (ap (λ (ns : List ℕ). works_numbered ns c.args.self.now.works) c.as_slice-then-are_rising.ensures.value ∙ all)) c.works_numbered.ensures

@@ -22,7 +22,8 @@ invariant_of-self-2 g c =
     let row : ExecutionRow = c.new_execution-row.result in
     let placed : is_placed kept.catalogue row ≡ true =
     ap (λ (r : ExecutionRow). is_placed kept.catalogue r) c.new_execution-row.ensures
-    ∙ (ap (λ job. begins_in_job c.in_ok-plan.plan (job_named kept.catalogue job)) c.in_ok-job.ensures ∙ c.in_ok-plan.ensures.begins) in
+    ∙ (ap (λ job. begins_in_job c.in_ok-shared.shared (job_named kept.catalogue job)) c.in_ok-job.ensures
+    ∙ (ap (λ (plan : Plan). begins_in_job plan (job_named kept.catalogue c.in-Some.earlier.now.job)) c.in_ok-shared.ensures ∙ c.in_ok-plan.ensures.begins)) in
     kept_restart g.row.LIMIT c.self.inside.agenda.keys c.add_execution.new.agenda.keys (get nat_cmp c.self.inside.cursors) kept c.add_execution.new.records row c.self.invariant (ap (λ (r : ExecutionRow). r.execution) c.new_execution-row.ensures) (ap row_status c.new_execution-row.ensures) (omega (arith, c.requires.room, ap (λ (r : Kept). r.count) c.self.view_is)) placed c.in_ok-add_execution.ensures.added c.in_ok-add_execution.ensures.agenda
 
 pub restart_plan-requires : goal.restart_plan-requires
@@ -37,7 +38,7 @@ returns-clause-rows g c =
     rw (← c.self.view_is)
     (restart-entered c.self.inside.catalogue c.self.inside.count last c.self.inside.records c.add_execution.new.records 0 c.args.at c.args.y c.args.parameters.now Done
     earlier c.new_execution-row.result (sym c.in-Some.ensures.found)
-    (c.new_execution-row.ensures ∙ (ap (λ job. row job c.in_ok-parameters.parameters c.in_ok-plan.plan) c.in_ok-job.ensures
-    ∙ (ap (λ p. row earlier.job p c.in_ok-plan.plan) c.in_ok-parameters.ensures.same
-    ∙ ap (row earlier.job c.args.parameters.now) (c.in_ok-plan.ensures.plan c.self.inside.count last))))
+    (c.new_execution-row.ensures ∙ (ap (λ job. row job c.in_ok-parameters.parameters c.in_ok-shared.shared) c.in_ok-job.ensures
+    ∙ (ap (λ p. row earlier.job p c.in_ok-shared.shared) c.in_ok-parameters.ensures.same
+    ∙ ap (row earlier.job c.args.parameters.now) (c.in_ok-shared.ensures ∙ c.in_ok-plan.ensures.plan c.self.inside.count last))))
     c.in_ok-add_execution.ensures.added)

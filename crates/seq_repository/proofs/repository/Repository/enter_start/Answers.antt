@@ -26,7 +26,8 @@ invariant_of-self-2 g c =
     let row : ExecutionRow = c.new_execution-row.result in
     let placed : is_placed kept.catalogue row ≡ true =
     ap (λ (r : ExecutionRow). is_placed kept.catalogue r) c.new_execution-row.ensures
-    ∙ (ap (begins_in_job c.in_ok-plan.plan) named ∙ c.in_ok-plan.ensures.begins) in
+    ∙ (ap (begins_in_job c.in_ok-shared.shared) named
+    ∙ (ap (λ (plan : Plan). begins_in_job plan (Some tree)) c.in_ok-shared.ensures ∙ c.in_ok-plan.ensures.begins)) in
     kept_start g.row.LIMIT c.self.inside.agenda.keys c.add_instance.new.agenda.keys (get nat_cmp c.self.inside.cursors) kept c.add_instance.new.records record { instance = c.new-instance.result; job = c.in_ok-first.first } row c.self.invariant c.new-instance.ensures (ap (λ (r : ExecutionRow). r.execution) c.new_execution-row.ensures) (ap row_status c.new_execution-row.ensures) (omega (arith, c.requires.room, ap (λ (r : Kept). r.count) c.self.view_is)) placed c.in_ok-add_instance.ensures.added c.in_ok-add_instance.ensures.agenda
 
 pub returns-clause-rows : goal.returns-clause-rows
@@ -35,14 +36,14 @@ returns-clause-rows g c =
     let catalogue : List JobTree = c.self.inside.catalogue in
     let row : ℕ → List ℕ → List Pair → Plan → ExecutionRow = λ i job parameters plan. fresh_row (last.execution + 1) i c.args.at job parameters plan in
     let named : job_named catalogue c.args.job.now ≡ Some c.in-Some.tree.now = ap (job_named catalogue) (sym c.as_str.ensures.same) ∙ sym c.in-Some.ensures in
-    let planned : c.in_ok-plan.plan ≡ first_plan (job_named catalogue c.args.job.now) = c.in_ok-plan.ensures.plan ∙ ap first_plan (sym named) in
+    let planned : c.in_ok-shared.shared ≡ first_plan (job_named catalogue c.args.job.now) = c.in_ok-shared.ensures ∙ (c.in_ok-plan.ensures.plan ∙ ap first_plan (sym named)) in
     rw (← c.self.view_is)
     (start-entered c.self.inside.catalogue c.self.inside.count last c.self.inside.records c.add_instance.new.records 0 c.args.at c.args.job.now c.args.parameters.now Done
     record { instance = c.new-instance.result; job = c.in_ok-first.first } c.new_execution-row.result
     (ap (λ (i : ℕ). record { instance = i; job = c.in_ok-first.first }) c.new-instance.ensures
     ∙ ap (λ (job : List ℕ). record { instance = last.instance + 1; job = job }) c.in_ok-first.ensures)
-    (c.new_execution-row.ensures ∙ (ap (λ i. row i c.in_ok-second.second c.in_ok-parameters.parameters c.in_ok-plan.plan) c.new-instance.ensures
-    ∙ (ap (λ job. row (last.instance + 1) job c.in_ok-parameters.parameters c.in_ok-plan.plan) c.in_ok-second.ensures
-    ∙ (ap (λ p. row (last.instance + 1) c.args.job.now p c.in_ok-plan.plan) c.in_ok-parameters.ensures.same
+    (c.new_execution-row.ensures ∙ (ap (λ i. row i c.in_ok-second.second c.in_ok-parameters.parameters c.in_ok-shared.shared) c.new-instance.ensures
+    ∙ (ap (λ job. row (last.instance + 1) job c.in_ok-parameters.parameters c.in_ok-shared.shared) c.in_ok-second.ensures
+    ∙ (ap (λ p. row (last.instance + 1) c.args.job.now p c.in_ok-shared.shared) c.in_ok-parameters.ensures.same
     ∙ ap (row (last.instance + 1) c.args.job.now c.args.parameters.now) planned))))
     c.in_ok-add_instance.ensures.added)

@@ -1,0 +1,23 @@
+-- Rows may be sent to other threads.
+use denote.Param.Send.{IsSend, sendable}
+use Rattle.std.proofs.Crossing.{crosses}
+use Rattle.batch_history.proofs.rows.JobInstance.TheSendSync as instance_crosses
+use Rattle.batch_history.proofs.rows.ExecutionRow.TheSendSync as execution_crosses
+use Rattle.batch_history.proofs.rows.WorkRow.TheSendSync as work_crosses
+use Rattle.batch_history.proofs.rows.CheckpointRow.TheSendSync as checkpoint_crosses
+use Rattle.records.specs.contracts.name_lists.NameLists as names
+use Rattle.records.specs.contracts.number_lists.NumberLists as numbers
+use Rattle.records.specs.contracts.step_lists.StepLists as steps
+use Rattle.records.specs.contracts.records.Records as records
+
+names_send : IsSend (names.the_field).row
+names_send = search (crosses, sendable) depth 60 fits 20000
+
+numbers_send : IsSend (numbers.the_field).row
+numbers_send = search (crosses, sendable) depth 60 fits 20000
+
+steps_send : IsSend (steps.the_field).row
+steps_send = search (names_send, crosses, sendable) depth 60 fits 20000
+
+pub records_send : IsSend records.the_row
+records_send = search (names_send, numbers_send, steps_send, instance_crosses.the_send, execution_crosses.the_send, work_crosses.the_send, checkpoint_crosses.the_send, crosses, sendable) depth 60 fits 20000

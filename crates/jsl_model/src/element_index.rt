@@ -1,0 +1,98 @@
+//! Where to look for an element of a job, and for its work keys.
+use crate::element::{Body, Element};
+use batch_ids::{OutOfMemory, T256};
+use std::alloc::{AllocError, Global};
+use std::collections::BTreeMap;
+
+/// Where to look for an element.
+#[derive(Debug, Drop)]
+struct Spot {
+    /// Its place in its list.
+    place: usize,
+    /// The place of its first work key, among those of the job.
+    first: usize,
+}
+
+/// Where to look for each element of a job, and for its work keys, by its id.
+///
+/// No contract says what it holds: who looks compares what stands there, and searches where it is
+/// something else.
+#[derive(Debug, Drop)]
+pub struct ElementIndex {
+    spots: BTreeMap<T256, Spot>,
+}
+
+impl ElementIndex {
+    /// The index of these elements and of those inside them.
+    pub(crate) fn of(alloc: Global, elements: &[Element]) -> Result<ElementIndex, OutOfMemory> {
+        let mut spots = BTreeMap::new(alloc);
+        add_all(&mut spots, elements, 0)?;
+        Ok(ElementIndex { spots })
+    }
+
+    /// The place of the element with this id in its list, and 0 where there is none. It compares as many
+    /// ids as the number of elements has binary digits.
+    pub fn place_of(&self, id: &T256) -> usize {
+        match self.spots.get(id) {
+            Some(spot) => spot.place,
+            None => 0,
+        }
+    }
+
+    /// The place of the work key of this partition of the element with this id, among those of the job
+    /// in written order, and 0 where there is none. It costs as much.
+    pub fn key_place_of(&self, id: &T256, partition: u32) -> usize {
+        match self.spots.get(id) {
+            Some(spot) => spot.first.saturating_add(partition as usize),
+            None => 0,
+        }
+    }
+}
+
+/// Adds an element that stands there.
+fn add_spot(spots: &mut BTreeMap<T256, Spot>, id: T256, spot: Spot) -> Result<(), OutOfMemory> {
+    match spots.insert(id, spot) {
+        Ok(_) => Ok(()),
+        Err(_) => Err(AllocError),
+    }
+}
+
+/// Adds the elements of a list and those inside them, of which the first work key has this place;
+/// the place of the next one.
+#[cycle(indexing)]
+fn add_all(
+    spots: &mut BTreeMap<T256, Spot>,
+    elements: &[Element],
+    first: usize,
+) -> Result<usize, OutOfMemory> {
+    let mut next = first;
+    for (place, element) in elements.iter().enumerate() {
+        add_spot(spots, element.id.try_clone()?, Spot { place, first: next })?;
+        next = add_inside(spots, element, next)?;
+    }
+    Ok(next)
+}
+
+/// Adds the elements inside one; the place of the next work key.
+#[cycle(indexing)]
+fn add_inside(
+    spots: &mut BTreeMap<T256, Spot>,
+    element: &Element,
+    first: usize,
+) -> Result<usize, OutOfMemory> {
+    match &element.body {
+        Body::Step(step) => match step.partitions {
+            Some(count) => Ok(first.saturating_add(count as usize)),
+            None => Ok(first.saturating_add(1)),
+        },
+        Body::Decision { .. } => Ok(first.saturating_add(1)),
+        Body::Flow(elements) => Ok(add_all(spots, elements.as_slice(), first)?),
+        Body::Split(flows) => {
+            let mut next = first;
+            for flow in flows.as_slice() {
+                next = add_all(spots, flow.elements.as_slice(), next)?;
+            }
+            Ok(next)
+        }
+    }
+}
