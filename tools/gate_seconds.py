@@ -1,4 +1,4 @@
-"""Runs the gate, and prints what it took of the processors by crate: proofs with tests, and must-fail edits.
+"""Runs the gate, and prints what it took of the processors by crate: proofs, tests, builds of programs, and must-fail edits.
 
     python3 tools/gate_seconds.py [LOG]
 
@@ -21,6 +21,7 @@ from pathlib import Path
 
 ROOT = Path(__file__).resolve().parent.parent
 TICKS = os.sysconf("SC_CLK_TCK")
+KINDS = ("proofs", "tests", "builds", "edits")
 
 
 def words_of(process: Path) -> list[str]:
@@ -44,37 +45,48 @@ def seconds_of(fields: list[str]) -> float:
     return (int(fields[11]) + int(fields[12])) / TICKS
 
 
-def sample(gate: int, seen: dict[str, tuple[str, bool, float]]) -> None:
-    """Notes of each check of the gate that runs: its crate, whether it tries an edit, and what it took so far."""
+def kind_of(words: list[str], folder: str) -> str:
+    """What a process of the compiler is for: one of KINDS."""
+    if "rt-edit" in folder:
+        return "edits"
+    if "--test" in words:
+        return "tests"
+    return "builds" if "--crate-checked" in words else "proofs"
+
+
+def sample(gate: int, seen: dict[str, tuple[str, str, float]]) -> None:
+    """Notes of each check of the gate that runs: its crate, what it is for, and what it took so far."""
     for process in Path("/proc").glob("[0-9]*"):
         try:
             words = words_of(process)
             if "--crate-name" not in words or not words[0].endswith("rattle") or not is_below(process, gate):
                 continue
             crate = words[words.index("--crate-name") + 1]
-            is_edit = "rt-edit" in os.readlink(process / "cwd")
+            kind = kind_of(words, os.readlink(process / "cwd"))
             fields = fields_of(process)
-            seen[f"{process.name} {fields[19]}"] = (crate, is_edit, seconds_of(fields))
+            seen[f"{process.name} {fields[19]}"] = (crate, kind, seconds_of(fields))
         except OSError:
             continue
 
 
-def table(seen: dict[str, tuple[str, bool, float]]) -> str:
-    proofs: Counter[str] = Counter()
-    edits: Counter[str] = Counter()
-    for crate, is_edit, seconds in seen.values():
-        (edits if is_edit else proofs)[crate] += seconds
-    lines = ["| crate | proofs and tests (s) | edits (s) | all (s) |", "|---|---|---|---|"]
-    both = proofs + edits
-    for crate, seconds in both.most_common():
-        lines.append(f"| {crate} | {proofs[crate]:.0f} | {edits[crate]:.0f} | {seconds:.0f} |")
-    lines.append(f"| all | {proofs.total():.0f} | {edits.total():.0f} | {both.total():.0f} |")
+def table(seen: dict[str, tuple[str, str, float]]) -> str:
+    by_kind: dict[str, Counter[str]] = {kind: Counter() for kind in KINDS}
+    for crate, kind, seconds in seen.values():
+        by_kind[kind][crate] += seconds
+    heads = [f"{kind} (s)" for kind in (*KINDS, "all")]
+    lines = [f"| crate | {' | '.join(heads)} |", "|---" * (len(heads) + 1) + "|"]
+    whole = sum(by_kind.values(), Counter())
+    for crate, seconds in whole.most_common():
+        figures = [f"{by_kind[kind][crate]:.0f}" for kind in KINDS]
+        lines.append(f"| {crate} | {' | '.join(figures)} | {seconds:.0f} |")
+    sums = [f"{by_kind[kind].total():.0f}" for kind in KINDS]
+    lines.append(f"| all | {' | '.join(sums)} | {whole.total():.0f} |")
     return "\n".join(lines)
 
 
 def main() -> int:
     log = Path(sys.argv[1]) if len(sys.argv) > 1 else Path(tempfile.gettempdir()) / "gate.log"
-    seen: dict[str, tuple[str, bool, float]] = {}
+    seen: dict[str, tuple[str, str, float]] = {}
     began = time.monotonic()
     with log.open("w") as out:
         gate = subprocess.Popen([str(ROOT / ".ci" / "run")], cwd=ROOT, stdout=out, stderr=subprocess.STDOUT)
