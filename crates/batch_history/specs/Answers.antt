@@ -90,6 +90,16 @@ with_one_more Failed counts = record counts { failed = counts.failed + 1 }
 with_one_more Completed counts = record counts { completed = counts.completed + 1 }
 with_one_more Abandoned counts = record counts { abandoned = counts.abandoned + 1 }
 
+-- how many of this status are counted
+abbrev pub counted : BatchStatus → CountsByStatus → ℕ
+counted Starting counts = counts.starting
+counted Started counts = counts.started
+counted Stopping counts = counts.stopping
+counted Stopped counts = counts.stopped
+counted Failed counts = counts.failed
+counted Completed counts = counts.completed
+counted Abandoned counts = counts.abandoned
+
 -- how many are counted
 abbrev pub total : CountsByStatus → ℕ
 total counts =

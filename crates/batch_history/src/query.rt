@@ -1,5 +1,5 @@
-ghost use Rattle.std.specs.Prelude.{◌≡◌, ◌+◌, ◌<◌, ◌^◌};
-ghost use Rattle.batch_history.specs.Answers.{no_counts, with_one_more, total};
+ghost use Rattle.std.specs.Prelude.{◌≡◌, ◌+◌, ◌<◌, ◌≤◌, ◌^◌};
+ghost use Rattle.batch_history.specs.Answers.{no_counts, counted, with_one_more, total};
 
 use crate::rows::JobInstance;
 use batch_ids::{
@@ -179,6 +179,22 @@ impl CountsByStatus {
             BatchStatus::Failed => self.failed += 1,
             BatchStatus::Completed => self.completed += 1,
             BatchStatus::Abandoned => self.abandoned += 1,
+        }
+    }
+
+    /// Counts a job execution of this status, which is counted, no more.
+    pub fn remove(&mut self, status: BatchStatus)
+        requires { 1 ≤ counted status self.old }
+        ensures { self.old ≡ with_one_more status self.new }
+    {
+        match status {
+            BatchStatus::Starting => self.starting -= 1,
+            BatchStatus::Started => self.started -= 1,
+            BatchStatus::Stopping => self.stopping -= 1,
+            BatchStatus::Stopped => self.stopped -= 1,
+            BatchStatus::Failed => self.failed -= 1,
+            BatchStatus::Completed => self.completed -= 1,
+            BatchStatus::Abandoned => self.abandoned -= 1,
         }
     }
 }

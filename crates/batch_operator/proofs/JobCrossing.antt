@@ -11,7 +11,7 @@ use Rattle.jsl_model.specs.contracts.element_index.ElementIndex as index
 use Rattle.jsl_model.specs.contracts.job.Job as job
 use Rattle.jsl_model.specs.contracts.job.Shared as shared
 
-text_send : (n : RattleType) → IsSend (text.the_row n)
+pub text_send : (n : RattleType) → IsSend (text.the_row n)
 text_send n = search (crosses, sendable) depth 60 fits 20000
 
 text_sync : (n : RattleType) → IsSync (text.the_row n)

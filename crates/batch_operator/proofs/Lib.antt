@@ -1,4 +1,4 @@
 mod Replied
 pub mod Crossing
-mod JobCrossing
+pub mod JobCrossing
 mod RowsCrossing

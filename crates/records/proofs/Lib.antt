@@ -2,8 +2,12 @@ pub mod Numbered
 pub mod Naming
 pub mod Marks
 pub mod Leaving
+pub mod Listing
 pub mod Indexed
 pub mod Indexing
 pub mod Lists
 pub mod Newest
 pub mod Stepped
+pub mod Tallies
+pub mod Unfinished
+pub mod Slices

@@ -107,10 +107,10 @@ nothing false = refl
 
 -- A checkpoint more
 
-with-mark : (q : InstanceStep) (mark : List ℕ) (p : InstanceStep) (rows : List CheckpointRow)
+pub mark_with : (q : InstanceStep) (mark : List ℕ) (p : InstanceStep) (rows : List CheckpointRow)
     → mark_at (with_mark q mark rows) p ≡ cond (is_same_step p (Some q)) (Some mark) (mark_at rows p)
-with-mark q mark p [] = mark-head (marked q mark) [] p
-with-mark q mark p (row ∷ rest) =
+mark_with q mark p [] = mark-head (marked q mark) [] p
+mark_with q mark p (row ∷ rest) =
     let here : Bool = is_same_step p (Some q) in
     (elim (is_place q row) as (λ b. is_place q row ≡ b
     → mark_at (cond b (marked q mark ∷ rest) (row ∷ with_mark q mark rest)) p ≡ cond here (Some mark) (mark_at (row ∷ rest) p)) [
@@ -122,21 +122,21 @@ with-mark q mark p (row ∷ rest) =
           ∙ (ap (λ b. cond here (Some mark) (mark_if b row (mark_at rest p))) (sym (at-place p q row is))
           ∙ ap (cond here (Some mark)) (sym (mark-head row rest p))))
       | false ↦ λ is. mark-head row (with_mark q mark rest) p
-          ∙ (ap (mark_if (is_place p row) row) (with-mark q mark p rest)
+          ∙ (ap (mark_if (is_place p row) row) (mark_with q mark p rest)
           ∙ (other-row q p row (Some mark) (mark_at rest p) is
           ∙ ap (cond here (Some mark)) (sym (mark-head row rest p))))
     ]) refl
 
 -- A checkpoint less
 
-without-mark : (q p : InstanceStep) (rows : List CheckpointRow)
+pub mark_without : (q p : InstanceStep) (rows : List CheckpointRow)
     → mark_at (without_mark q rows) p ≡ cond (is_same_step p (Some q)) None (mark_at rows p)
-without-mark q p [] = sym (nothing (is_same_step p (Some q)))
-without-mark q p (row ∷ rest) =
+mark_without q p [] = sym (nothing (is_same_step p (Some q)))
+mark_without q p (row ∷ rest) =
     let here : Bool = is_same_step p (Some q) in
     (elim (is_place q row) as (λ b. is_place q row ≡ b
     → mark_at (cond (cond b false true) (row ∷ without_mark q rest) (without_mark q rest)) p ≡ cond here None (mark_at (row ∷ rest) p)) [
-      | true ↦ λ is. without-mark q p rest
+      | true ↦ λ is. mark_without q p rest
           ∙ (elim here as (λ b. cond b None (mark_at rest p) ≡ cond b None (mark_if b row (mark_at rest p))) [
             | true ↦ refl
             | false ↦ refl
@@ -144,7 +144,7 @@ without-mark q p (row ∷ rest) =
           ∙ (ap (λ b. cond here None (mark_if b row (mark_at rest p))) (sym (at-place p q row is))
           ∙ ap (cond here None) (sym (mark-head row rest p))))
       | false ↦ λ is. mark-head row (without_mark q rest) p
-          ∙ (ap (mark_if (is_place p row) row) (without-mark q p rest)
+          ∙ (ap (mark_if (is_place p row) row) (mark_without q p rest)
           ∙ (other-row q p row None (mark_at rest p) is
           ∙ ap (cond here None) (sym (mark-head row rest p))))
     ]) refl
@@ -170,7 +170,7 @@ apart_with p mark (row ∷ rest) apart =
     (elim (is_place p row) as (λ b. is_place p row ≡ b → AreApart (cond b (marked p mark ∷ rest) (row ∷ with_mark p mark rest))) [
       | true ↦ λ is. (ap (mark_at rest) (sym (same-place p (step_of row) is)) ∙ apart.0, apart.1)
       | false ↦ λ is. (
-        with-mark p mark (step_of row) rest
+        mark_with p mark (step_of row) rest
             ∙ (ap (λ b. cond b (Some mark) (mark_at rest (step_of row))) (other-own p row is) ∙ apart.0),
         apart_with p mark rest apart.1,
       )
@@ -182,7 +182,7 @@ apart_without p (row ∷ rest) apart =
     elim (is_place p row) as (λ b. AreApart (cond (cond b false true) (row ∷ without_mark p rest) (without_mark p rest))) [
       | true ↦ apart_without p rest apart.1
       | false ↦ (
-        without-mark p (step_of row) rest
+        mark_without p (step_of row) rest
             ∙ (ap (cond (is_same_step (step_of row) (Some p)) None) apart.0 ∙ nothing (is_same_step (step_of row) (Some p))),
         apart_without p rest apart.1,
       )
@@ -246,10 +246,10 @@ marks_there gone (row ∷ rest) q =
 -- What is set
 
 -- the checkpoint at a step is set, and no other
-set-one : (before after : Maps) (p : InstanceStep) (mark : Option (List ℕ)) (rows : List CheckpointRow)
+pub set_one : (before after : Maps) (p : InstanceStep) (mark : Option (List ℕ)) (rows : List CheckpointRow)
     → ((q : InstanceStep) → mark_at rows q ≡ cond (is_same_step q (Some p)) mark (mark_at before.checkpoints q))
     → after ≡ record before { checkpoints = rows } → SetsCheckpoint before after p mark
-set-one before after p mark rows at is =
+set_one before after p mark rows at is =
     record {
       here = ap (λ (m : Maps). mark_at m.checkpoints p) is ∙ (at p ∙ ap (λ b. cond b mark (mark_at before.checkpoints p)) (own-place p));
       others = λ q apart. ap (λ (m : Maps). mark_at m.checkpoints q) is ∙ (at q ∙ ap (λ b. cond b mark (mark_at before.checkpoints q)) (apart-place p q apart));
@@ -257,16 +257,6 @@ set-one before after p mark rows at is =
       executions = ap (λ (m : Maps). m.executions) is;
       works = ap (λ (m : Maps). m.works) is;
     }
-
-pub set_with : (before after : Maps) (p : InstanceStep) (mark : List ℕ) → after ≡ record before { checkpoints = with_mark p mark before.checkpoints }
-    → SetsCheckpoint before after p (Some mark)
-set_with before after p mark is =
-    set-one before after p (Some mark) (with_mark p mark before.checkpoints) (λ q. with-mark p mark q before.checkpoints) is
-
-pub set_without : (before after : Maps) (p : InstanceStep) → after ≡ record before { checkpoints = without_mark p before.checkpoints }
-    → SetsCheckpoint before after p None
-set_without before after p is =
-    set-one before after p None (without_mark p before.checkpoints) (λ q. without-mark p q before.checkpoints) is
 
 -- the checkpoint of each step, once that of one is set
 pub marks_set : (before after : Maps) (p : InstanceStep) (mark : Option (List ℕ)) → SetsCheckpoint before after p mark

@@ -54,11 +54,11 @@ module _ {R : Type 0} (num : R → ℕ) where
       ap (λ (b : Bool). cond b (Some row) (numbered rest n) ∷ map (numbered (row ∷ rest)) ns) off
       ∙ ap (λ (os : List (Option R)). numbered rest n ∷ os) (behind row rest ns h.1)
 
-  found-each : (p : R → Bool) (rows : List R) → AreRising (map num rows) → map (numbered rows) (map num (filter p rows)) ≡ map (λ row. Some row) (filter p rows)
-  found-each p [] h = refl
-  found-each p (row ∷ rest) h =
+  pub found_each : (p : R → Bool) (rows : List R) → AreRising (map num rows) → map (numbered rows) (map num (filter p rows)) ≡ map (λ row. Some row) (filter p rows)
+  found_each p [] h = refl
+  found_each p (row ∷ rest) h =
       let more : map (numbered (row ∷ rest)) (map num (filter p rest)) ≡ map (λ row. Some row) (filter p rest) =
-      behind row rest (map num (filter p rest)) (above_filtered num num p rest (num row) h.0) ∙ found-each p rest h.1 in
+      behind row rest (map num (filter p rest)) (above_filtered num num p rest (num row) h.0) ∙ found_each p rest h.1 in
       elim (p row) as (λ b. map (numbered (row ∷ rest)) (map num (cond b (row ∷ filter p rest) (filter p rest))) ≡ map (λ row. Some row) (cond b (row ∷ filter p rest) (filter p rest))) [
         | true ↦ ap (λ (b : Bool). cond b (Some row) (numbered rest (num row)) ∷ map (numbered (row ∷ rest)) (map num (filter p rest))) (eq-eqb (num row) (num row) refl)
             ∙ ap (λ (os : List (Option R)). Some row ∷ os) more
@@ -77,7 +77,7 @@ module _ {R : Type 0} (num : R → ℕ) where
 
   -- the last of the rows that pass is found by its number
   last-found : (p : R → Bool) (rows : List R) (n : ℕ) → AreRising (map num rows) → last_or None (map num (filter p rows)) ≡ Some n → numbered rows n ≡ last_or None (filter p rows)
-  last-found p rows n h is = last-mapped (numbered rows) (map num (filter p rows)) (filter p rows) None None n (λ m none. cc) (found-each p rows h) is
+  last-found p rows n h is = last-mapped (numbered rows) (map num (filter p rows)) (filter p rows) None None n (λ m none. cc) (found_each p rows h) is
 
 abbrev of_step : ℕ → List ℕ → List ExecutionRow → List WorkRow → List WorkRow
 of_step i q executions works = works_of_step q (works_of_instance i executions works)

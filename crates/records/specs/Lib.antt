@@ -1,6 +1,7 @@
 pub mod Belonging
 pub mod Indexes
 pub mod Left
+pub mod Listed
 pub mod Maps
 pub mod Placed
 pub mod Without

@@ -1,8 +1,8 @@
 -- The checkpoints as they stand in a list, with one set or cleared.
-use Rattle.std.specs.Prelude.{ℕ, Bool, true, false, List, [], ◌∷◌, filter, if◌then◌else◌}
+use Rattle.std.specs.Prelude.{◌≡◌, ℕ, Bool, true, false, Option, Some, List, [], ◌∷◌, filter, if◌then◌else◌}
 use Rattle.batch_history.specs.declared.rows.CheckpointRow.{CheckpointRow}
-use Rattle.batch_history.specs.Checkpoints.{InstanceStep}
-use Rattle.records.specs.Maps.{is_place}
+use Rattle.batch_history.specs.Checkpoints.{InstanceStep, is_same_step}
+use Rattle.records.specs.Maps.{is_place, mark_at}
 
 abbrev pub is_elsewhere : InstanceStep → CheckpointRow → Bool
 is_elsewhere p row = if is_place p row then false else true
@@ -18,3 +18,8 @@ with_mark p mark (row ∷ rest) = if is_place p row then marked p mark ∷ rest 
 -- the checkpoints without those at this place
 abbrev pub without_mark : InstanceStep → List CheckpointRow → List CheckpointRow
 without_mark p rows = filter (is_elsewhere p) rows
+
+-- the checkpoint of step p is this mark, if there is one, and that of every other step is what it was
+abbrev pub SetsMark : List CheckpointRow → List CheckpointRow → InstanceStep → Option (List ℕ) → Type 0
+SetsMark before after p mark =
+    (q : InstanceStep) → mark_at after q ≡ (if is_same_step q (Some p) then mark else mark_at before q)

@@ -1,11 +1,13 @@
 //! The rows of a job repository: job instances, job executions, work items and checkpoints.
 #![tactic(auto)]
 
+mod checkpoint_lists;
 mod name_lists;
 mod number_lists;
 mod places;
 mod readers;
 mod records;
+mod running;
 mod step_lists;
 
 pub use name_lists::NameLists;

@@ -1,9 +1,10 @@
 ghost use Rattle.std.specs.List.{list_any};
-ghost use Rattle.std.specs.Prelude.{nat_lt, filter, false, ◌&&◌, bytes_eq, if◌then◌else◌, vec_len, vec_capacity, ◌≡◌, ◌==◌, ◌+◌, ◌-◌, ◌^◌, ◌<◌, ◌≤◌, ◌++◌, ◌∷◌, [], ℕ, List, None, true, length, find, slice_set, is_some, option_copied, IsOk, IfOk, map, IfSome, IfNone, OnOk, OnErr};
+ghost use Rattle.std.specs.Prelude.{nat_lt, drop, take, filter, false, ◌&&◌, bytes_eq, if◌then◌else◌, vec_len, vec_capacity, ◌≡◌, ◌==◌, ◌+◌, ◌-◌, ◌^◌, ◌<◌, ◌≤◌, ◌++◌, ◌∷◌, [], ℕ, List, None, true, length, find, slice_set, is_some, option_copied, IsOk, IfOk, map, IfSome, IfNone, OnOk, OnErr};
 ghost use Rattle.jsl_model.specs.Names.{distinct};
-ghost use Rattle.batch_history.specs.Answers.{instances_of_job};
+ghost use Rattle.batch_history.specs.Answers.{counts_of, instances_of_job, running_executions};
+ghost use Rattle.batch_ids.specs.Statuses.{is_unfinished};
 ghost use Rattle.batch_history.specs.Lists.{change_first};
-ghost use Rattle.batch_history.specs.Replies.{is_execution};
+ghost use Rattle.batch_history.specs.Replies.{is_execution, row_status};
 ghost use Rattle.batch_history.specs.Works.{is_work};
 ghost use Rattle.batch_history.specs.Lists.{is_at};
 ghost use Rattle.batch_history.specs.Replies.{instance_in};
@@ -15,6 +16,7 @@ ghost use Rattle.records.specs.Left.{job_names, is_first_of_job, names_left, ins
 ghost use Rattle.batch_history.specs.Rows.{instances_there, executions_there, works_there};
 ghost use Rattle.records.specs.Without.{checkpoints_there, without_instance};
 
+use crate::checkpoint_lists::CheckpointLists;
 use crate::name_lists::NameLists;
 use crate::number_lists::{NumberLists, are_rising, numbers_through};
 use crate::places::{
@@ -22,8 +24,11 @@ use crate::places::{
     work_place,
 };
 use crate::readers::{ExecutionsOf, InstancesOf, Names, WorksOf};
+use crate::running::{
+    add_running, change_running, executions_numbered, forget_if, running_searched,
+};
 use crate::step_lists::StepLists;
-use batch_history::{CheckpointRow, ExecutionRow, JobInstance, WorkRow};
+use batch_history::{CheckpointRow, CountsByStatus, ExecutionRow, JobInstance, WorkRow};
 use batch_ids::{ExecutionId, InstanceId, OutOfMemory, Text, WorkId};
 use job_walk::WorkKey;
 use std::alloc::Global;
@@ -37,30 +42,36 @@ use std::marker::Model;
 /// number. Where a job instance was removed, its numbers are missing. A step of a job instance, or a
 /// partition of it, has one checkpoint at most.
 ///
-/// Indexes lead from the name of a job to its job instances, from a job instance to its job executions,
-/// and from a job execution to its work items. Adding a row costs constant time on average; one call
-/// may cost time as there are rows, where a list of them grows.
+/// Indexes lead from the name of a job to its job instances and to its unfinished job executions, from a
+/// job instance to its job executions and to its checkpoints, from a step of a job instance to its work
+/// items, and from a job execution to its work items. How many job executions have each batch status is
+/// kept beside them. Adding a row costs constant time on average, but for a search of the numbers beside
+/// it; one call may cost time as there are rows, where a list of them grows.
 #[derive(Debug, Drop)]
 pub struct Records {
     instances: Vec<JobInstance>,
     executions: Vec<ExecutionRow>,
     works: Vec<WorkRow>,
-    checkpoints: Vec<CheckpointRow>,
+    checkpoints: CheckpointLists,
     instances_by_name: NameLists,
     executions_by_instance: NumberLists,
     works_by_execution: NumberLists,
     works_by_step: StepLists,
+    counts: CountsByStatus,
+    running_by_name: Option<NameLists>,
 }
 
 impl Model for Records {
-    ghost use Rattle.records.specs.Indexes.{AreIndexed, AreStepped, has_steps, numbers_named, numbers_of_step, numbers_under};
+    ghost use Rattle.std.specs.Prelude.{◌≡◌};
+    ghost use Rattle.batch_history.specs.Answers.{counts_of};
+    ghost use Rattle.records.specs.Indexes.{AreIndexed, AreRunning, AreStepped, has_steps, numbers_named, numbers_of_step, numbers_under};
     ghost use Rattle.records.specs.Maps.{Maps};
 
     ghost Value = { Maps };
 
-    ghost view = { λ r. record { instances = r.instances.items; executions = r.executions.items; works = r.works.items; checkpoints = r.checkpoints.items } };
+    ghost view = { λ r. record { instances = r.instances.items; executions = r.executions.items; works = r.works.items; checkpoints = r.checkpoints } };
 
-    ghost invariant = { λ r. AreIndexed record { instances = r.instances.items; executions = r.executions.items; works = r.works.items; checkpoints = r.checkpoints.items } (numbers_named r.instances_by_name) (numbers_under r.executions_by_instance) (numbers_under r.works_by_execution) × AreStepped record { instances = r.instances.items; executions = r.executions.items; works = r.works.items; checkpoints = r.checkpoints.items } (numbers_of_step r.works_by_step) (has_steps r.works_by_step) };
+    ghost invariant = { λ r. AreIndexed record { instances = r.instances.items; executions = r.executions.items; works = r.works.items; checkpoints = r.checkpoints } (numbers_named r.instances_by_name) (numbers_under r.executions_by_instance) (numbers_under r.works_by_execution) × AreStepped record { instances = r.instances.items; executions = r.executions.items; works = r.works.items; checkpoints = r.checkpoints } (numbers_of_step r.works_by_step) (has_steps r.works_by_step) × (r.counts ≡ counts_of r.executions.items) × AreRunning r.running_by_name r.executions.items };
 }
 
 impl Records {
@@ -72,11 +83,13 @@ impl Records {
             instances: Vec::new(alloc),
             executions: Vec::new(alloc),
             works: Vec::new(alloc),
-            checkpoints: Vec::new(alloc),
+            checkpoints: CheckpointLists::new(alloc),
             instances_by_name: NameLists::new(alloc),
             executions_by_instance: NumberLists::new(alloc),
             works_by_execution: NumberLists::new(alloc),
             works_by_step: StepLists::new(alloc),
+            counts: CountsByStatus::zero(),
+            running_by_name: Some(NameLists::new(alloc)),
         }
     }
 
@@ -103,19 +116,14 @@ impl Records {
     }
 
     /// The checkpoint of a step of a job instance, or of a partition of it, if there is one, in time
-    /// proportional to the number of checkpoints.
+    /// proportional to the number of checkpoints of the job instance.
     pub fn checkpoint(&self, i: InstanceId, step: &WorkKey) -> Option<&Text<65536>>
         ensures { option_copied result ≡ mark_at self.now.checkpoints record {
           instance = i;
           step = step.now;
         } }
     {
-        for row in self.checkpoints.as_slice() {
-            if is_place(i, step, row) {
-                return Some(&row.mark);
-            }
-        }
-        None
+        self.checkpoints.mark(i, step)
     }
 
     /// All job executions, by rising number.
@@ -163,6 +171,24 @@ impl Records {
         ensures few { length (instances_of_job name.now self.now.instances) < 2 ^ 64 }
     {
         InstancesOf::new(self, self.instances_by_name.under(name))
+    }
+
+    /// How many job instances a job has, in constant time.
+    pub fn instance_count(&self, name: &str) -> usize
+        ensures { result ≡ length (instances_of_job name.now self.now.instances) }
+    {
+        self.instances_by_name.under(name).len()
+    }
+
+    /// The job instances of this name, by rising number, from the place `from` of them to the place
+    /// before `to`. It takes no memory, and each of them costs a binary search.
+    pub fn instances_between(&self, name: &str, from: usize, to: usize) -> InstancesOf<'_>
+        requires order { from ≤ to }
+        requires within { to ≤ length (instances_of_job name.now self.now.instances) }
+        ensures { instances_left result
+            ≡ take (to - from) (drop from (instances_of_job name.now self.now.instances)) }
+    {
+        InstancesOf::new(self, &self.instances_by_name.under(name)[from..to])
     }
 
     /// The job executions of this job instance, by rising number. It takes no memory, and each of them
@@ -362,6 +388,8 @@ impl Records {
             &first,
         )?;
         self.works_by_step.keep_if(has_no_work);
+        self.counts.add(first.status());
+        add_running(&mut self.running_by_name, &first);
         put_last(&mut self.executions, first);
         put_last(&mut self.instances, instance);
         Ok(())
@@ -384,6 +412,8 @@ impl Records {
         self.executions_by_instance
             .push(row.instance.value(), row.execution.value())?;
         self.works_by_step.keep_if(has_no_work);
+        self.counts.add(row.status());
+        add_running(&mut self.running_by_name, &row);
         put_last(&mut self.executions, row);
         Ok(())
     }
@@ -424,6 +454,10 @@ impl Records {
         let Some(place) = execution_place(self.executions.as_slice(), x) else {
             unreachable!();
         };
+        let was = self.executions[place].status();
+        self.counts.remove(was);
+        self.counts.add(row.status());
+        change_running(&mut self.running_by_name, was.is_unfinished(), &row);
         self.executions[place] = row;
     }
 
@@ -442,12 +476,61 @@ impl Records {
         self.works[place] = row;
     }
 
+    /// The numbers of the unfinished job executions of a job, rising. It costs time as there are of
+    /// them; as there are job executions, once memory for looking them up was refused.
+    ///
+    /// # Errors
+    ///
+    /// `OutOfMemory` where memory is refused.
+    pub fn running_of(&self, alloc: Global, name: &str) -> Result<Vec<ExecutionId>, OutOfMemory>
+        ensures { IfOk result (λ found. found.items
+            ≡ running_executions name.now self.now.executions) }
+    {
+        match self.running_by_name.as_ref() {
+            Some(names) => executions_numbered(alloc, names.under(name)),
+            None => running_searched(alloc, self.executions.as_slice(), name),
+        }
+    }
+
+    /// Whether a job instance has an unfinished job execution.
+    fn has_unfinished(&self, i: InstanceId) -> bool
+        ensures { result ≡ list_any (λ row. is_unfinished (row_status row))
+            (executions_of i self.now.executions) }
+    {
+        for row in self.executions_of(i) {
+            if row.status().is_unfinished() {
+                return true;
+            }
+        }
+        false
+    }
+
+    /// How many job executions have each batch status, in constant time.
+    pub fn counts(&self) -> CountsByStatus
+        ensures { result ≡ counts_of self.now.executions }
+    {
+        self.counts
+    }
+
+    /// The same without those of a job instance, in time as it has job executions.
+    fn counts_without(&self, i: InstanceId) -> CountsByStatus
+        ensures { result ≡ counts_of (executions_there (λ j. j == i) self.now.executions) }
+    {
+        let mut counts = self.counts;
+        for row in self.executions_of(i) {
+            counts.remove(row.status());
+        }
+        counts
+    }
+
     /// Removes a job instance, its job executions, their work items and its checkpoints. It takes no
     /// memory, and time as there are rows.
     pub fn remove_instance(&mut self, i: InstanceId)
         requires { is_some (find (is_instance i) self.old.instances) ≡ true }
         ensures { self.new ≡ without_instance i self.old }
     {
+        let counts = self.counts_without(i);
+        let has_unfinished = self.has_unfinished(i);
         let Some(row) = find_instance(self.instances.as_slice(), i) else {
             unreachable!();
         };
@@ -458,8 +541,10 @@ impl Records {
         self.works_by_step.remove(i.value());
         remove_works(&mut self.works, self.executions.as_slice(), i);
         remove_executions(&mut self.executions, i);
-        remove_checkpoints(&mut self.checkpoints, i);
+        self.checkpoints.remove_instance(i);
         remove_instances(&mut self.instances, i);
+        self.counts = counts;
+        forget_if(&mut self.running_by_name, has_unfinished);
     }
 
     /// Sets the checkpoint of a step of a job instance, or of a partition of it, or clears it where
@@ -468,7 +553,7 @@ impl Records {
     /// # Errors
     ///
     /// `OutOfMemory` alone, where a mark is set, and then nothing has changed. Clearing takes no memory.
-    #[tactic(auto, using(crate::proofs::Marks::set_with))]
+    #[tactic(auto, using(crate::proofs::Marks::set_one))]
     pub fn set_checkpoint(
         &mut self,
         i: InstanceId,
@@ -481,64 +566,16 @@ impl Records {
         ensures cleared { mark ≡ None → IsOk result }
     {
         match mark {
-            Some(mark) => self.put_checkpoint(CheckpointRow {
+            Some(mark) => self.checkpoints.put(CheckpointRow {
                 instance: i,
                 step,
                 mark,
             }),
             None => {
-                self.clear_checkpoint(i, &step);
+                self.checkpoints.clear(i, &step);
                 Ok(())
             }
         }
-    }
-
-    fn put_checkpoint(&mut self, row: CheckpointRow) -> Result<(), OutOfMemory>
-        ensures set { OnOk result (self.new ≡ record self.old {
-          checkpoints = with_mark
-              record { instance = row.instance; step = row.step } row.mark self.old.checkpoints;
-        }) }
-        ensures unchanged { OnErr result (self.new ≡ self.old) }
-    {
-        match self.checkpoint_place(row.instance, &row.step) {
-            Some(place) => self.checkpoints[place] = row,
-            None => self.checkpoints.push(row)?,
-        }
-        Ok(())
-    }
-
-    fn clear_checkpoint(&mut self, i: InstanceId, step: &WorkKey)
-        ensures { self.new ≡ record self.old {
-          checkpoints = without_mark record {
-            instance = i;
-            step = step.now;
-          } self.old.checkpoints;
-        } }
-    {
-        self.checkpoints.retain(|row| is_elsewhere(i, step, row));
-    }
-
-    fn checkpoint_place(&self, i: InstanceId, step: &WorkKey) -> Option<usize>
-        ensures held { IfSome result (λ k. (k < length self.now.checkpoints)
-            × ((mark : List ℕ) → with_mark record {
-              instance = i;
-              step = step.now;
-            } mark self.now.checkpoints
-            ≡ slice_set self.now.checkpoints k record {
-              instance = i;
-              step = step.now;
-              mark = mark;
-            })) }
-        ensures absent { IfNone result ((mark : List ℕ)
-            → with_mark record { instance = i; step = step.now } mark self.now.checkpoints
-            ≡ self.now.checkpoints ++ record { instance = i; step = step.now; mark = mark } ∷ []) }
-    {
-        for (place, row) in self.checkpoints.iter().enumerate() {
-            if is_place(i, step, row) {
-                return Some(place);
-            }
-        }
-        None
     }
 }
 
@@ -675,30 +712,9 @@ fn remove_executions(executions: &mut Vec<ExecutionRow>, i: InstanceId)
     executions.retain(|row| row.instance != i);
 }
 
-/// Removes the checkpoints of a job instance.
-fn remove_checkpoints(checkpoints: &mut Vec<CheckpointRow>, i: InstanceId)
-    ensures { checkpoints.new.items ≡ checkpoints_there (λ j. j == i) checkpoints.old.items }
-{
-    checkpoints.retain(|row| row.instance != i);
-}
-
 /// Removes the row of a job instance.
 fn remove_instances(instances: &mut Vec<JobInstance>, i: InstanceId)
     ensures { instances.new.items ≡ instances_there (λ j. j == i) instances.old.items }
 {
     instances.retain(|row| row.instance != i);
-}
-
-/// Whether a row is that of this step of this job instance.
-fn is_place(i: InstanceId, step: &WorkKey, row: &CheckpointRow) -> bool
-    ensures { result ≡ is_place record { instance = i; step = step.now } row.now }
-{
-    row.instance == i && row.step == *step
-}
-
-/// Whether a row is that of another step or job instance.
-fn is_elsewhere(i: InstanceId, step: &WorkKey, row: &CheckpointRow) -> bool
-    ensures { result ≡ is_elsewhere record { instance = i; step = step.now } row.now }
-{
-    !is_place(i, step, row)
 }

@@ -13,7 +13,6 @@ pub mod Purging
 pub mod Readers
 pub mod Replying
 pub mod Sound
-pub mod Tallies
 pub mod Walked
 pub mod Marks
 pub mod Shown

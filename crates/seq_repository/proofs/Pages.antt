@@ -1,5 +1,5 @@
 -- A page of the newest job instances, gathered from the oldest on.
-use Rattle.std.proofs.Common.{◌≡◌, ℕ, zero, suc, ◌-◌, ◌<◌, ◌≤◌, Bool, true, false, cond, nat_lt, List, [], ◌∷◌, ◌++◌, length, take, drop, reverse, refl, sym, ◌∙◌, ap, arith}
+use Rattle.std.proofs.Common.{◌≡◌, ℕ, zero, suc, ◌+◌, ◌-◌, ◌<◌, ◌≤◌, Bool, true, false, cond, nat_lt, List, [], ◌∷◌, ◌++◌, length, take, drop, reverse, refl, sym, ◌∙◌, ap, arith}
 use Rattle.std.proofs.lemmas.Bool.{ltb-true, ltb-false}
 use Rattle.std.proofs.lemmas.List.{append-nil, take-append-le, drop-append-le, length-append, length-drop, length-reverse, reverse-append}
 use Rattle.batch_history.specs.declared.rows.JobInstance.{JobInstance}
@@ -87,3 +87,42 @@ page_turned start count (row ∷ rest) =
     ∙ (ap (λ (l : List JobInstance). l ++ shown-if (is_on_page start count (length rest)) row) (page_turned start count rest)
     ∙ (sym (older-one start count (length rest) (reverse rest) row (sym (length-reverse rest)))
     ∙ ap (page start count) (sym (reverse-append (row ∷ []) rest))))
+
+-- a page is a slice
+pub on_slice : (start count : ℕ) (rows : List JobInstance)
+    → on_page start count rows ≡ take (length rows - start - (length rows - start - count)) (drop (length rows - start - count) rows)
+on_slice start count [] =
+    let none : 0 - start - (0 - start - count) ≡ 0 = omega arith in
+    let first : 0 - start - count ≡ 0 = omega arith in
+    sym (ap (λ (k : ℕ). take k (drop (0 - start - count) [])) none)
+on_slice start count (x ∷ rest) =
+    let m : ℕ = length rest in
+    let n : ℕ = length (x ∷ rest) in
+    let one : n ≡ m + 1 = omega arith in
+    let later : on_page start count rest ≡ take (m - start - (m - start - count)) (drop (m - start - count) rest) = on_slice start count rest in
+    (elim (nat_lt m start) as (λ b. nat_lt m start ≡ b
+    → cond (cond b false (nat_lt (m - start) count)) (x ∷ on_page start count rest) (on_page start count rest) ≡ take (n - start - (n - start - count)) (drop (n - start - count) (x ∷ rest))) [
+      | true ↦ λ lt.
+          let few : m < start = ltb-true m start lt in
+          let none : m - start - (m - start - count) ≡ 0 = omega (arith, few) in
+          let none_too : n - start - (n - start - count) ≡ 0 = omega (arith, few, one) in
+          later ∙ (ap (λ (k : ℕ). take k (drop (m - start - count) rest)) none ∙ sym (ap (λ (k : ℕ). take k (drop (n - start - count) (x ∷ rest))) none_too))
+      | false ↦ λ ge.
+          let enough : start ≤ m = ltb-false m start ge in
+          (elim (nat_lt (m - start) count) as (λ b. nat_lt (m - start) count ≡ b
+          → cond b (x ∷ on_page start count rest) (on_page start count rest) ≡ take (n - start - (n - start - count)) (drop (n - start - count) (x ∷ rest))) [
+            | true ↦ λ lt.
+                let room : m - start < count = ltb-true (m - start) count lt in
+                let no_drop : n - start - count ≡ 0 = omega (arith, room, one, enough) in
+                let no_drop_later : m - start - count ≡ 0 = omega (arith, room) in
+                let so_many : n - start - 0 ≡ suc (m - start) = omega (arith, one, enough) in
+                let all : m - start - 0 ≡ m - start = omega arith in
+                ap (λ l. x ∷ l) (later ∙ (ap (λ (k : ℕ). take (m - start - k) (drop k rest)) no_drop_later ∙ ap (λ (k : ℕ). take k rest) all))
+                ∙ sym (ap (λ (k : ℕ). take (n - start - k) (drop k (x ∷ rest))) no_drop ∙ ap (λ (k : ℕ). take k (x ∷ rest)) so_many)
+            | false ↦ λ full.
+                let most : count ≤ m - start = ltb-false (m - start) count full in
+                let further : n - start - count ≡ suc (m - start - count) = omega (arith, most, one, enough) in
+                let as_many : n - start - suc (m - start - count) ≡ m - start - (m - start - count) = omega (arith, most, one, enough) in
+                later ∙ sym (ap (λ (k : ℕ). take (n - start - k) (drop k (x ∷ rest))) further ∙ ap (λ (k : ℕ). take k (drop (m - start - count) rest)) as_many)
+          ]) refl
+    ]) refl

@@ -3,16 +3,15 @@ ghost use Rattle.std.specs.List.{list_any};
 ghost use Rattle.jsl_model.specs.Names.{distinct};
 ghost use Rattle.batch_ids.specs.Metrics.{most_after};
 ghost use Rattle.batch_history.specs.declared.query.Answer.{Answer};
-ghost use Rattle.batch_history.specs.Answers.{instances_of_job, page, running_executions, is_running_of, records_of, counts_of, if_job_known, if_execution_known, answer_by};
+ghost use Rattle.batch_history.specs.Answers.{instances_of_job, page, running_executions, records_of, if_job_known, if_execution_known, answer_by};
 ghost use Rattle.batch_history.specs.Due.{IsDue};
 ghost use Rattle.batch_history.specs.Replies.{is_execution};
 ghost use Rattle.batch_history.specs.Rows.{Rows};
 ghost use Rattle.records.specs.Left.{job_names};
 ghost use Rattle.seq_repository.specs.Metered.{AreWithin};
-ghost use Rattle.seq_repository.specs.Searches.{is_on_page};
 
 use crate::steps;
-use batch_history::{Answer, CountsByStatus, ExecutionRow, JobExecution, JobInstance, Query};
+use batch_history::{Answer, ExecutionRow, JobExecution, JobInstance, Query};
 use batch_ids::{ExecutionId, InstanceId, Listed, OutOfMemory, Refusal, T256};
 use jsl_model::Catalogue;
 use records::Records;
@@ -36,7 +35,7 @@ pub(crate) fn answer(
         Query::JobInstances { job, start, count } => instances(alloc, rows, job, *start, *count),
         Query::RunningExecutions { job } => running(alloc, rows, job),
         Query::JobExecutions { instance } => executions(alloc, rows, *instance),
-        Query::StatusCounts => Ok(Answer::StatusCounts(counts(rows))),
+        Query::StatusCounts => Ok(Answer::StatusCounts(rows.counts())),
         Query::Parameters { execution } => {
             let row = known(rows, *execution)?;
             Ok(Answer::Parameters(row.parameters.try_clone()?))
@@ -97,18 +96,8 @@ fn instance_count(rows: &Records, job: &T256) -> Result<Answer, Refusal>
     if !is_known(rows, job) {
         return Err(Refusal::NoSuchJobException);
     }
-    Ok(Answer::JobInstanceCount(count_named(rows, job)))
-}
-
-/// How many job instances a job has.
-fn count_named(rows: &Records, job: &T256) -> u64
-    ensures { result ≡ length (instances_of_job job.now rows.now.instances) }
-{
-    let mut count = 0;
-    for _instance in rows.instances_of(job.as_str()) {
-        count += 1;
-    }
-    count
+    let count = rows.instance_count(job.as_str());
+    Ok(Answer::JobInstanceCount(count as u64))
 }
 
 fn instances(
@@ -125,43 +114,28 @@ fn instances(
     if !is_known(rows, job) {
         return Err(Refusal::NoSuchJobException);
     }
-    let all = count_named(rows, job);
-    let page = newest(alloc, rows, all, job, start, count)?;
+    let page = newest(alloc, rows, job, start, count)?;
     Ok(Answer::JobInstances(Listed::from_vec(page)))
 }
 
-/// Whether a page of at most `count`, without the `start` newest, shows one that so many are newer
-/// than.
-fn is_on_page(start: u64, count: u64, newer: u64) -> bool
-    ensures { result ≡ is_on_page start count newer }
-{
-    if newer < start {
-        false
-    } else {
-        newer - start < count
-    }
-}
-
-/// At most `count` of all job instances of a job, the newest first, without the `start` newest.
+/// At most `count` of the job instances of a job, the newest first, without the `start` newest.
 fn newest(
     alloc: Global,
     rows: &Records,
-    all: u64,
     job: &T256,
     start: u64,
     count: u64,
 ) -> Result<Vec<JobInstance>, OutOfMemory>
-    requires { all ≡ length (instances_of_job job.now rows.now.instances) }
     ensures { IfOk result (λ found. found.items
         ≡ page start count (reverse (instances_of_job job.now rows.now.instances))) }
 {
+    let to = rows
+        .instance_count(job.as_str())
+        .saturating_sub(start as usize);
+    let from = to.saturating_sub(count as usize);
     let mut found = Vec::new(alloc);
-    let mut newer = all;
-    for row in rows.instances_of(job.as_str()) {
-        newer -= 1;
-        if is_on_page(start, count, newer) {
-            found.push(row.try_clone()?)?;
-        }
+    for row in rows.instances_between(job.as_str(), from, to) {
+        found.push(row.try_clone()?)?;
     }
     found.reverse();
     Ok(found)
@@ -174,28 +148,8 @@ fn running(alloc: Global, rows: &Records, job: &T256) -> Result<Answer, Refusal>
     if !is_known(rows, job) {
         return Err(Refusal::NoSuchJobException);
     }
-    let running = unfinished(alloc, rows, job)?;
+    let running = rows.running_of(alloc, job.as_str())?;
     Ok(Answer::RunningExecutions(Listed::from_vec(running)))
-}
-
-/// The numbers of the unfinished job executions of a job, rising.
-fn unfinished(alloc: Global, rows: &Records, job: &T256) -> Result<Vec<ExecutionId>, OutOfMemory>
-    ensures { IfOk result (λ found. found.items
-        ≡ running_executions job.now rows.now.executions) }
-{
-    let mut found = Vec::new(alloc);
-    for row in rows.executions() {
-        if is_running_of(job, row) {
-            found.push(row.execution)?;
-        }
-    }
-    Ok(found)
-}
-
-fn is_running_of(job: &T256, row: &ExecutionRow) -> bool
-    ensures { result ≡ is_running_of job.now row.now }
-{
-    row.job.as_str() == job.as_str() && row.status().is_unfinished()
 }
 
 #[tactic(auto, using(crate::proofs::Lists::any_found))]
@@ -225,16 +179,4 @@ fn records_of(
     }
     found.reverse();
     Ok(found)
-}
-
-/// How many job executions have each status.
-#[tactic(auto, using(crate::proofs::Tallies::both_counted, crate::proofs::Tallies::none_before, crate::proofs::Tallies::none_after, crate::proofs::Tallies::total_counted))]
-pub fn counts(rows: &Records) -> CountsByStatus
-    ensures { result ≡ counts_of rows.now.executions }
-{
-    let mut counts = CountsByStatus::zero();
-    for row in rows.executions() {
-        counts.add(row.status());
-    }
-    counts
 }

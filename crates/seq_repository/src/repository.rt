@@ -146,11 +146,10 @@ impl<const LIMIT: u64> Repository<LIMIT> {
         answers::answer(self.alloc, &self.catalogue, &self.records, query)
     }
 
-    /// How many job executions have each batch status. It takes no memory, and goes over all job
-    /// executions.
+    /// How many job executions have each batch status. It takes no memory and constant time.
     pub fn status_counts(&self) -> CountsByStatus
         ensures { (h : History) → StandsFor self.now h → answer h Query.StatusCounts ≡ Ok (Answer.StatusCounts result) }
     {
-        answers::counts(&self.records)
+        self.records.counts()
     }
 }

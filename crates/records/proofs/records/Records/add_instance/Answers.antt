@@ -1,17 +1,25 @@
-use Rattle.std.proofs.Common.{◌≡◌, ◌++◌, ◌∷◌, [], List, sym, ◌∙◌, ap, subst}
+use Rattle.std.proofs.Common.{◌≡◌, ◌++◌, ◌∷◌, [], List, length, sym, ◌∙◌, ap, subst, arith}
 use Rattle.batch_history.specs.declared.rows.JobInstance.{JobInstance}
 use Rattle.batch_history.specs.declared.rows.ExecutionRow.{ExecutionRow}
 use Rattle.records.specs.Belonging.{works_of}
-use Rattle.records.specs.Indexes.{AreIndexed, numbers_named, numbers_under, AreStepped, has_steps, numbers_of_step}
+use Rattle.records.specs.Indexes.{AreIndexed, AreRunning, numbers_named, numbers_under, AreStepped, has_steps, numbers_of_step}
 use Rattle.records.specs.Maps.{Maps, AreBelow, instance_numbers, execution_numbers}
 use Rattle.records.proofs.Indexing.{instance_added, execution_added, name_below}
+use Rattle.batch_history.specs.Answers.{counts_of, total, with_one_more}
+use Rattle.batch_history.specs.Replies.{row_status}
 use Rattle.records.proofs.Stepped as stepped
+use Rattle.records.proofs.Tallies.{counts_added, total_rows}
 use Rattle.records.proofs.records.Records.add_instance.Goals as goal
 
 pub index_instance-requires : goal.index_instance-requires
 index_instance-requires c =
     let below = subst (λ (m : Maps). AreBelow c.args.instance.instance (instance_numbers m.instances)) (sym c.self.view_is) c.requires.instance in
     name_below _ _ _ _ c.args.instance c.self.invariant.0 below
+
+pub add-requires : goal.add-requires
+add-requires c =
+    let same : total c.self.inside.counts ≡ length c.self.inside.executions.items = ap total c.self.invariant.2 ∙ total_rows c.self.inside.executions.items in
+    omega (arith, same, c.self.inside.executions.small)
 
 pub invariant_of-self-2 : goal.invariant_of-self-2
 invariant_of-self-2 c =
@@ -21,13 +29,18 @@ invariant_of-self-2 c =
     let added = c.put_last-2.ensures ∙ ap (λ (l : List JobInstance). l ++ c.args.instance ∷ []) c.reserve.ensures.items in
     let more = execution_added _ _ _ _ _ c.args.first c.self.invariant.0 first_below c.in_ok-index_instance.ensures.owned in (
       subst (λ (l : List JobInstance).
-          AreIndexed record { instances = l; executions = c.put_last.new.rows.items; works = c.self.inside.works.items; checkpoints = c.self.inside.checkpoints.items }
+          AreIndexed record { instances = l; executions = c.put_last.new.rows.items; works = c.self.inside.works.items; checkpoints = c.self.inside.checkpoints }
           (numbers_named c.index_instance.new.by_name) (numbers_under c.index_instance.new.by_instance) (numbers_under c.self.inside.works_by_execution)) (sym added)
           (subst (λ (l : List ExecutionRow).
-          AreIndexed record { instances = c.self.inside.instances.items ++ c.args.instance ∷ []; executions = l; works = c.self.inside.works.items; checkpoints = c.self.inside.checkpoints.items }
+          AreIndexed record { instances = c.self.inside.instances.items ++ c.args.instance ∷ []; executions = l; works = c.self.inside.works.items; checkpoints = c.self.inside.checkpoints }
           (numbers_named c.index_instance.new.by_name) (numbers_under c.index_instance.new.by_instance) (numbers_under c.self.inside.works_by_execution)) (sym first_added)
           (instance_added _ _ _ _ _ c.args.instance more below c.in_ok-index_instance.ensures.named)),
-      subst (λ (l : List ExecutionRow). AreStepped record { instances = c.put_last-2.new.rows.items; executions = l; works = c.self.inside.works.items; checkpoints = c.self.inside.checkpoints.items } (numbers_of_step c.keep_if.new.self) (has_steps c.keep_if.new.self)) (sym first_added)
-          (stepped.execution_added record { instances = c.put_last-2.new.rows.items; executions = c.self.inside.executions.items; works = c.self.inside.works.items; checkpoints = c.self.inside.checkpoints.items } (numbers_of_step c.self.inside.works_by_step) _ (has_steps c.self.inside.works_by_step) _ c.has_no_work-has_no_work.result c.args.first c.self.invariant.1
+      subst (λ (l : List ExecutionRow). AreStepped record { instances = c.put_last-2.new.rows.items; executions = l; works = c.self.inside.works.items; checkpoints = c.self.inside.checkpoints } (numbers_of_step c.keep_if.new.self) (has_steps c.keep_if.new.self)) (sym first_added)
+          (stepped.execution_added record { instances = c.put_last-2.new.rows.items; executions = c.self.inside.executions.items; works = c.self.inside.works.items; checkpoints = c.self.inside.checkpoints } (numbers_of_step c.self.inside.works_by_step) _ (has_steps c.self.inside.works_by_step) _ c.has_no_work-has_no_work.result c.args.first c.self.invariant.1
           (λ none. subst (λ (m : Maps). works_of c.args.first.execution m.works ≡ []) (sym c.self.view_is) (c.has_no_work-has_no_work.ensures none)) c.keep_if.ensures.has c.keep_if.ensures.left),
+      c.add.ensures
+          ∙ (ap (λ s. with_one_more s c.self.inside.counts) c.status.ensures
+          ∙ (ap (with_one_more (row_status c.args.first)) c.self.invariant.2
+          ∙ (sym (counts_added c.args.first c.self.inside.executions.items) ∙ ap counts_of (sym first_added)))),
+      subst (λ (l : List ExecutionRow). AreRunning c.add_running.new.running l) (sym first_added) (c.add_running.ensures c.self.inside.executions.items c.self.invariant.3),
     )

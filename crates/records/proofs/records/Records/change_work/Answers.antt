@@ -29,11 +29,13 @@ invariant_of-self c =
     let rises = subst (λ (l : List WorkRow). AreRising (work_numbers l)) placed
     (work_kept rows c.args.w c.in-Some.place c.args.row c.self.invariant.0.keyed.works there may) in (
       subst (λ (l : List WorkRow).
-          AreIndexed record { instances = c.self.inside.instances.items; executions = c.self.inside.executions.items; works = l; checkpoints = c.self.inside.checkpoints.items }
+          AreIndexed record { instances = c.self.inside.instances.items; executions = c.self.inside.executions.items; works = l; checkpoints = c.self.inside.checkpoints }
           (numbers_named c.self.inside.instances_by_name) (numbers_under c.self.inside.executions_by_instance) (numbers_under c.self.inside.works_by_execution)) (sym placed)
           (work_replaced _ _ _ _ c.args.w c.args.row c.self.invariant.0 rises may),
-      subst (λ (l : List WorkRow). AreStepped record { instances = c.self.inside.instances.items; executions = c.self.inside.executions.items; works = l; checkpoints = c.self.inside.checkpoints.items } (numbers_of_step c.self.inside.works_by_step) (has_steps c.self.inside.works_by_step)) (sym placed)
-          (stepped.work_changed record { instances = c.self.inside.instances.items; executions = c.self.inside.executions.items; works = c.self.inside.works.items; checkpoints = c.self.inside.checkpoints.items } (numbers_of_step c.self.inside.works_by_step) (has_steps c.self.inside.works_by_step) c.args.w c.args.row c.self.invariant.1 may),
+      subst (λ (l : List WorkRow). AreStepped record { instances = c.self.inside.instances.items; executions = c.self.inside.executions.items; works = l; checkpoints = c.self.inside.checkpoints } (numbers_of_step c.self.inside.works_by_step) (has_steps c.self.inside.works_by_step)) (sym placed)
+          (stepped.work_changed record { instances = c.self.inside.instances.items; executions = c.self.inside.executions.items; works = c.self.inside.works.items; checkpoints = c.self.inside.checkpoints } (numbers_of_step c.self.inside.works_by_step) (has_steps c.self.inside.works_by_step) c.args.w c.args.row c.self.invariant.1 may),
+      c.self.invariant.2,
+      c.self.invariant.3,
     )
 
 pub returns : goal.returns
@@ -42,5 +44,5 @@ returns c =
     let rising = subst (λ (l : List WorkRow). AreRising (work_numbers l)) (sym c.as_slice.ensures.value) c.self.invariant.0.keyed.works in
     let there : Some c.in-Some.place ≡ position (is_work c.args.w) rows =
     sym c.in-Some.is ∙ (c.work_place.ensures.first rising ∙ ap (position (is_work c.args.w)) c.as_slice.ensures.value) in
-    ap (λ (l : List WorkRow). record { instances = c.self.inside.instances.items; executions = c.self.inside.executions.items; works = l; checkpoints = c.self.inside.checkpoints.items }) (work_changed rows c.args.w c.in-Some.place c.args.row there)
+    ap (λ (l : List WorkRow). record { instances = c.self.inside.instances.items; executions = c.self.inside.executions.items; works = l; checkpoints = c.self.inside.checkpoints }) (work_changed rows c.args.w c.in-Some.place c.args.row there)
     ∙ ap (λ (m : Maps). record m { works = change_first (is_work c.args.w) (λ old. c.args.row) m.works }) c.self.view_is

@@ -1,6 +1,6 @@
 use Rattle.std.proofs.Common.{◌≡◌, drop}
 use Rattle.records.specs.Maps.{mark_at}
-use Rattle.records.proofs.records.Records.checkpoint.Given as goal
+use Rattle.records.proofs.checkpoint_lists.CheckpointLists.mark.Given as goal
 
 abbrev pub invariant-loop-row : goal.invariant-loop-row
 invariant-loop-row l =

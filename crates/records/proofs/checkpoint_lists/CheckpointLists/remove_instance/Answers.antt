@@ -1,0 +1,24 @@
+use Rattle.std.proofs.Common.{◌≡◌, ◌==◌, ℕ, Vec, Global, List, sym, ◌∙◌, ap, subst}
+use Rattle.std.specs.Map.{remove_entry}
+use Rattle.std.specs.BTreeMap.{is_at}
+use Rattle.std.specs.Ordering.{nat_cmp}
+use Rattle.batch_history.specs.declared.rows.CheckpointRow.{CheckpointRow}
+use Rattle.records.specs.Listed.{rows_listed}
+use Rattle.records.specs.Without.{checkpoints_there}
+use Rattle.records.proofs.Listing.{removed, without_of}
+use Rattle.records.proofs.checkpoint_lists.CheckpointLists.remove_instance.Goals as goal
+
+-- the checkpoints of a list
+abbrev listed : Vec CheckpointRow Global → List CheckpointRow
+listed rows = rows.items
+
+pub invariant_of-self : goal.invariant_of-self
+invariant_of-self c =
+    removed listed c.value.result c.self.inside.lists.entries c.remove.new.self.entries c.self.invariant c.remove.ensures.entries c.remove.ensures.ordered
+
+pub returns : goal.returns
+returns c =
+    ap (rows_listed listed) c.remove.ensures.entries
+    ∙ (without_of listed c.value.result c.self.inside.lists.entries c.self.invariant
+    ∙ (ap (λ (i : ℕ). checkpoints_there (λ j. j == i) (rows_listed listed c.self.inside.lists.entries)) c.value.ensures
+    ∙ ap (checkpoints_there (λ j. j == c.args.i)) c.self.view_is))

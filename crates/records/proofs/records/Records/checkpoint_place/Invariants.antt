@@ -1,8 +1,0 @@
-use Rattle.std.proofs.Common.{◌≡◌, ◌++◌, ℕ, List, take, drop}
-use Rattle.records.specs.Placed.{with_mark}
-use Rattle.records.proofs.records.Records.checkpoint_place.Given as goal
-
-abbrev pub invariant-loop-place : goal.invariant-loop-place
-invariant-loop-place l =
-    (mark : List ℕ) → with_mark record { instance = l.i; step = l.step } mark l.row-items
-    ≡ take l.place l.row-items ++ with_mark record { instance = l.i; step = l.step } mark (drop l.place l.row-items)

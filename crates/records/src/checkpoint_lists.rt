@@ -1,0 +1,169 @@
+ghost use Rattle.std.specs.Prelude.{ℕ, ◌≡◌, ◌==◌, [], List, None, Some, filter, option_copied, slice_set, IfNone, IfSome, OnErr, OnOk, length, ◌<◌, ◌++◌, ◌∷◌};
+ghost use Rattle.records.specs.Maps.{is_place, mark_at, AreApart};
+ghost use Rattle.records.specs.Placed.{is_elsewhere, with_mark, without_mark, SetsMark};
+ghost use Rattle.records.specs.Without.{checkpoints_there};
+
+use batch_history::CheckpointRow;
+use batch_ids::{InstanceId, OutOfMemory, Text};
+use job_walk::WorkKey;
+use std::alloc::Global;
+use std::collections::BTreeMap;
+use std::marker::Model;
+
+/// Checkpoints, in a list for each job instance that has one, by its number. Contracts see all of them
+/// in one list.
+#[derive(Debug, Drop)]
+pub struct CheckpointLists {
+    alloc: Global,
+    lists: BTreeMap<u64, Vec<CheckpointRow>>,
+}
+
+impl Model for CheckpointLists {
+    ghost use Rattle.std.specs.Prelude.{List};
+    ghost use Rattle.batch_history.specs.declared.rows.CheckpointRow.{CheckpointRow as Row};
+    ghost use Rattle.records.specs.Listed.{rows_listed, AreListed};
+
+    ghost Value = { List Row };
+
+    ghost view = { λ c. rows_listed (λ rows. rows.items) c.lists.entries };
+
+    ghost invariant = { λ c. AreListed (λ rows. rows.items) c.lists.entries };
+}
+
+impl CheckpointLists {
+    /// No checkpoint. It takes no memory.
+    pub(crate) fn new(alloc: Global) -> CheckpointLists
+        ensures { result ≡ [] }
+    {
+        CheckpointLists {
+            alloc,
+            lists: BTreeMap::new(alloc),
+        }
+    }
+
+    /// The checkpoints of a job instance.
+    fn of_instance(&self, i: InstanceId) -> &[CheckpointRow]
+        ensures { result.now ≡ filter (λ row. row.instance == i) self.now }
+    {
+        match self.lists.get(&i.value()) {
+            Some(rows) => rows.as_slice(),
+            None => &[],
+        }
+    }
+
+    /// The checkpoint of a step of a job instance, or of a partition of it, if there is one.
+    pub(crate) fn mark(&self, i: InstanceId, step: &WorkKey) -> Option<&Text<65536>>
+        ensures { option_copied result
+            ≡ mark_at self.now record { instance = i; step = step.now } }
+    {
+        for row in self.of_instance(i) {
+            if is_place(i, step, row) {
+                return Some(&row.mark);
+            }
+        }
+        None
+    }
+
+    /// Puts a checkpoint in place of that of its step, if there is one.
+    pub(crate) fn put(&mut self, row: CheckpointRow) -> Result<(), OutOfMemory>
+        ensures set { OnOk result (SetsMark self.old self.new
+            record { instance = row.instance; step = row.step } (Some row.mark)) }
+        ensures unchanged { OnErr result (self.new ≡ self.old) }
+        ensures apart { OnOk result (AreApart self.new) }
+    {
+        let instance = row.instance.value();
+        if let Some(known) = self.lists.get_mut(&instance) {
+            put_row(known, row)?;
+            return Ok(());
+        }
+        let mut first = Vec::new(self.alloc);
+        first.push(row)?;
+        self.lists.insert(instance, first)?;
+        Ok(())
+    }
+
+    /// Removes the checkpoint of a step, if there is one. It takes no memory.
+    pub(crate) fn clear(&mut self, i: InstanceId, step: &WorkKey)
+        ensures set { SetsMark self.old self.new record { instance = i; step = step.now } None }
+        ensures apart { AreApart self.new }
+    {
+        self.leave_out(i, step);
+        if self.of_instance(i).is_empty() {
+            self.remove_instance(i);
+        }
+    }
+
+    fn leave_out(&mut self, i: InstanceId, step: &WorkKey)
+        ensures set { SetsMark self.old self.new record { instance = i; step = step.now } None }
+        ensures apart { AreApart self.new }
+    {
+        if let Some(known) = self.lists.get_mut(&i.value()) {
+            remove_row(known, i, step);
+        }
+    }
+
+    /// Removes the checkpoints of a job instance. It takes no memory.
+    pub(crate) fn remove_instance(&mut self, i: InstanceId)
+        ensures { self.new ≡ checkpoints_there (λ j. j == i) self.old }
+    {
+        self.lists.remove(&i.value());
+    }
+}
+
+/// Puts a checkpoint among those of its job instance.
+fn put_row(rows: &mut Vec<CheckpointRow>, row: CheckpointRow) -> Result<(), OutOfMemory>
+    ensures put { OnOk result (rows.new.items
+        ≡ with_mark record { instance = row.instance; step = row.step } row.mark rows.old.items) }
+    ensures unchanged { OnErr result (rows.new.items ≡ rows.old.items) }
+{
+    match place_of(rows.as_slice(), row.instance, &row.step) {
+        Some(place) => rows[place] = row,
+        None => rows.push(row)?,
+    }
+    Ok(())
+}
+
+fn remove_row(rows: &mut Vec<CheckpointRow>, i: InstanceId, step: &WorkKey)
+    ensures { rows.new.items
+        ≡ without_mark record { instance = i; step = step.now } rows.old.items }
+{
+    rows.retain(|row| is_elsewhere(i, step, row));
+}
+
+/// Where the checkpoint of a step stands.
+fn place_of(rows: &[CheckpointRow], i: InstanceId, step: &WorkKey) -> Option<usize>
+    ensures held { IfSome result (λ k. (k < length rows.now)
+        × ((mark : List ℕ) → with_mark record {
+          instance = i;
+          step = step.now;
+        } mark rows.now
+        ≡ slice_set rows.now k record {
+          instance = i;
+          step = step.now;
+          mark = mark;
+        })) }
+    ensures absent { IfNone result ((mark : List ℕ)
+        → with_mark record { instance = i; step = step.now } mark rows.now
+        ≡ rows.now ++ record { instance = i; step = step.now; mark = mark } ∷ []) }
+{
+    for (place, row) in rows.iter().enumerate() {
+        if is_place(i, step, row) {
+            return Some(place);
+        }
+    }
+    None
+}
+
+/// Whether a row is that of this step of this job instance.
+fn is_place(i: InstanceId, step: &WorkKey, row: &CheckpointRow) -> bool
+    ensures { result ≡ is_place record { instance = i; step = step.now } row.now }
+{
+    row.instance == i && row.step == *step
+}
+
+/// Whether a row is that of another step or job instance.
+fn is_elsewhere(i: InstanceId, step: &WorkKey, row: &CheckpointRow) -> bool
+    ensures { result ≡ is_elsewhere record { instance = i; step = step.now } row.now }
+{
+    !is_place(i, step, row)
+}
