@@ -49,16 +49,31 @@ fn calls_are_copied(rt: HostRuntime) -> Result<(), Fail> {
     Ok(())
 }
 
+// A copy of the catalogue.
+fn copied(alloc: Global) -> Result<Catalogue, Fail> {
+    let catalogue = catalogue(alloc)?;
+    Ok(catalogue.try_clone()?)
+}
+
+// How many of the calls are entered by a log over this catalogue that has room for three.
+fn entries_of(alloc: Global, catalogue: Catalogue) -> Result<usize, Fail> {
+    let mut book = Book::<3>::new(alloc, catalogue)?;
+    enter(&mut book, calls(alloc)?);
+    Ok(book.len())
+}
+
+// Makes calls on a log.
+fn enter(book: &mut Book<3>, calls: Vec<Call>) {
+    for call in calls {
+        let _reply = book.act(1, call, 0);
+    }
+}
+
 // The copy has the job: it is started, handed out and finished, and the log is full then.
 #[test]
 fn a_catalogue_is_copied(rt: HostRuntime) -> Result<(), Fail> {
-    let alloc = rt.alloc();
-    let copy = catalogue(alloc)?.try_clone()?;
+    let copy = copied(rt.alloc())?;
     assert_eq!(rt; copy.len(), 1);
-    let mut book = Book::<3>::new(alloc, copy)?;
-    for call in calls(alloc)? {
-        let _reply = book.act(1, call, 0);
-    }
-    assert_eq!(rt; book.len(), 3);
+    assert_eq!(rt; entries_of(rt.alloc(), copy)?, 3);
     Ok(())
 }

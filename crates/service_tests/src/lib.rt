@@ -1,4 +1,5 @@
-//! Tests of the service that no script in a file can show: copies, a full log, lines at their bound, scripts that are cut
+//! Tests that no script in a file can be. Of what lies below the repository: identifiers, jobs, graphs, members of JSON
+//! objects, transition elements and walks. Of the service: copies, a full log, lines at their bound, scripts that are cut
 //! off, readers and writers that fail, and a list of events.
 #![tactic(auto)]
 
@@ -10,5 +11,17 @@ mod bounds;
 mod copies;
 #[cfg(test)]
 mod devices;
+#[cfg(test)]
+mod identifiers;
+#[cfg(test)]
+mod jobs;
+#[cfg(test)]
+mod object_members;
+#[cfg(test)]
+mod patterns;
+#[cfg(test)]
+mod target_graphs;
+#[cfg(test)]
+mod walks;
 #[cfg(test)]
 mod worlds;

@@ -22,20 +22,21 @@ skipped
 fn events(alloc: Global) -> Result<Vec<Event>, Fail> {
     let job = T256::new(alloc, "a")?;
     let parameters = Parameters::none();
-    let mut events = Vec::new(alloc);
-    events.push(Event::Call {
+    let start = Event::Call {
         who: 1,
         call: Call::Start { job, parameters },
         at: 0,
-    })?;
-    events.push(names_read_by(2))?;
-    events.push(names_read_by(1))?;
-    events.push(Event::Meet { one: 1, other: 2 })?;
-    events.push(names_read_by(2))?;
-    events.push(Event::Publish { copy: 0, upto: 1 })?;
-    events.push(Event::Glance { who: 2 })?;
-    events.push(names_read_by(3))?;
-    Ok(events)
+    };
+    Ok(vec![in alloc;
+        start,
+        names_read_by(2),
+        names_read_by(1),
+        Event::Meet { one: 1, other: 2 },
+        names_read_by(2),
+        Event::Publish { copy: 0, upto: 1 },
+        Event::Glance { who: 2 },
+        names_read_by(3),
+    ]?)
 }
 
 // A session asks the copy for the names of jobs.
@@ -60,14 +61,26 @@ fn line(alloc: Global, outcome: &Outcome) -> Result<Vec<u8>, OutOfMemory> {
     Ok(text.into_bytes())
 }
 
-#[test]
-fn a_session_learns_what_another_has_seen(rt: HostRuntime) -> Result<(), Fail> {
-    let alloc = rt.alloc();
-    let outcomes = run(alloc, catalogue(alloc)?, 2, 1, &events(alloc)?)?;
+// Outcomes as lines.
+fn lines(alloc: Global, outcomes: &[Outcome]) -> Result<Vec<u8>, Fail> {
     let mut lines = Vec::new(alloc);
-    for outcome in &outcomes {
+    for outcome in outcomes {
         lines.extend_from_slice(&line(alloc, outcome)?)?;
     }
+    Ok(lines)
+}
+
+// What comes of the events over two sessions and a copy.
+fn outcomes(alloc: Global) -> Result<Vec<Outcome>, Fail> {
+    let events = events(alloc)?;
+    let catalogue = catalogue(alloc)?;
+    Ok(run(alloc, catalogue, 2, 1, &events)?)
+}
+
+#[test]
+fn a_session_learns_what_another_has_seen(rt: HostRuntime) -> Result<(), Fail> {
+    let outcomes = outcomes(rt.alloc())?;
+    let lines = lines(rt.alloc(), outcomes.as_slice())?;
     assert_eq!(rt; lines.as_slice(), LINES);
     Ok(())
 }

@@ -63,17 +63,21 @@ fn a_refusal_prints_as_its_name(rt: HostRuntime) -> Result<(), Fail> {
     Ok(())
 }
 
-#[test]
-fn the_last_value_of_a_key_counts(rt: HostRuntime) -> Result<(), Fail> {
-    let alloc = rt.alloc();
+/// The parameters of these keys with these values.
+fn parameters_of(alloc: Global, pairs: [(&str, &str); 3]) -> Result<Parameters, Fail> {
     let mut given = Vec::new(alloc);
-    for (key, value) in [("to", "1"), ("from", "2"), ("to", "3")] {
+    for (key, value) in pairs {
         given.push((
             String::from_str(alloc, key)?,
             String::from_str(alloc, value)?,
         ))?;
     }
-    let parameters = Parameters::new(alloc, given)?;
+    Ok(Parameters::new(alloc, given)?)
+}
+
+#[test]
+fn the_last_value_of_a_key_counts(rt: HostRuntime) -> Result<(), Fail> {
+    let parameters = parameters_of(rt.alloc(), [("to", "1"), ("from", "2"), ("to", "3")])?;
     assert_eq!(rt; parameters.len(), 2);
     assert_eq!(rt; parameters.get("to"), Some("3"));
     assert_eq!(rt; parameters.get("via"), None);
@@ -224,16 +228,8 @@ fn counts_are_zero_by_default(rt: HostRuntime) {
 
 #[test]
 fn parameters_are_walked_over_by_rising_keys(rt: HostRuntime) -> Result<(), Fail> {
-    let alloc = rt.alloc();
-    let mut given = Vec::new(alloc);
-    for (key, value) in [("b", "1"), ("a", "2"), ("c", "3")] {
-        given.push((
-            String::from_str(alloc, key)?,
-            String::from_str(alloc, value)?,
-        ))?;
-    }
-    let parameters = Parameters::new(alloc, given)?;
-    let mut walked = String::new(alloc);
+    let parameters = parameters_of(rt.alloc(), [("b", "1"), ("a", "2"), ("c", "3")])?;
+    let mut walked = String::new(rt.alloc());
     for parameter in &parameters {
         walked.push_str(parameter.key().as_str())?;
         walked.push_str(parameter.value().as_str())?;

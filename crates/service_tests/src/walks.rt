@@ -1,0 +1,225 @@
+use batch_ids::{BatchStatus, Listed, OutOfMemory, T256, WorkOutcome};
+use job_walk::{Cursor, Plan, Value, WorkKey, find_partitions};
+use jsl_json::read_catalogue;
+use jsl_model::Catalogue;
+use std::alloc::Global;
+use std::test::Fail;
+
+/// A step `a`, and then a split of a flow with `s` and a flow with `t`.
+const CATALOGUE: &[u8] = br#"{"jobs":[{"id":"j","elements":[
+    {"kind":"step","id":"a","next":"k","batchlet":{"ref":"ok"}},
+    {"kind":"split","id":"k","flows":[
+        {"kind":"flow","id":"f","elements":[{"kind":"step","id":"s","batchlet":{"ref":"ok"}}]},
+        {"kind":"flow","id":"g","elements":[{"kind":"step","id":"t","batchlet":{"ref":"ok"}}]}]}]}]}"#;
+
+/// A step `p` in three partitions.
+const PARTITIONED: &[u8] = br#"{"jobs":[{"id":"j","elements":[
+    {"kind":"step","id":"p","partitions":3,"batchlet":{"ref":"ok"}}]}]}"#;
+
+/// The walk of the job of a catalogue by a plan that begins in it.
+fn walk_by(alloc: Global, catalogue: &Catalogue, plan: &Plan) -> Result<Cursor, Fail> {
+    let job = catalogue.job("j").ok_or("no job")?;
+    if !plan.begins_in(job) {
+        return Err("the walk begins at no element".into());
+    }
+    Ok(Cursor::new(alloc, job, plan)?)
+}
+
+/// A walk of the job, whose step `a` was completed by an earlier job execution.
+fn begun(alloc: Global) -> Result<Cursor, Fail> {
+    let mut carried = Listed::new(alloc);
+    carried.push((T256::new(alloc, "a")?, T256::empty()))?;
+    let from = T256::new(alloc, "a")?;
+    walked(
+        alloc,
+        CATALOGUE,
+        Plan {
+            from,
+            carried,
+            kept: Listed::new(alloc),
+            barred: Listed::new(alloc),
+        },
+    )
+}
+
+/// A walk of the job with the partitioned step, whose partition 1 was completed by an earlier job
+/// execution.
+fn begun_in_partitions(alloc: Global) -> Result<Cursor, Fail> {
+    let mut kept = Listed::new(alloc);
+    kept.push(partition_of(alloc, "p", 1)?)?;
+    let from = T256::new(alloc, "p")?;
+    walked(
+        alloc,
+        PARTITIONED,
+        Plan {
+            from,
+            carried: Listed::new(alloc),
+            kept,
+            barred: Listed::new(alloc),
+        },
+    )
+}
+
+/// The walk by a plan of the job of the catalogue that a text is.
+fn walked(alloc: Global, text: &[u8], plan: Plan) -> Result<Cursor, Fail> {
+    let catalogue = read_catalogue(alloc, text)?;
+    walk_by(alloc, &catalogue, &plan)
+}
+
+fn partition_of(alloc: Global, id: &str, partition: u32) -> Result<WorkKey, Fail> {
+    let element = T256::new(alloc, id)?;
+    Ok(WorkKey { element, partition })
+}
+
+/// The work key of a step that isn't partitioned.
+fn key_of(alloc: Global, id: &str) -> Result<WorkKey, Fail> {
+    partition_of(alloc, id, 0)
+}
+
+/// Takes a work key, if it is ready.
+fn take(cursor: &mut Cursor, key: &WorkKey) -> Result<(), OutOfMemory> {
+    if cursor.is_ready(key) {
+        cursor.take(key)?;
+    }
+    Ok(())
+}
+
+/// Reports a work key, if it is being run.
+fn report(
+    cursor: &mut Cursor,
+    key: &WorkKey,
+    outcome: WorkOutcome,
+    exit: &T256,
+) -> Result<(), OutOfMemory> {
+    if cursor.is_busy(key) {
+        cursor.report(key, outcome, exit)?;
+    }
+    Ok(())
+}
+
+/// Whether a walk is over, and has failed.
+fn has_failed(cursor: &Cursor) -> bool {
+    let failed = BatchStatus::Failed;
+    matches!(cursor.value(), Value::Ended { status, .. } if *status == failed)
+}
+
+/// Takes and reports the steps `s` and `t` of a walk. Whether both are ready at first; then `s` is taken, and `t` is ready;
+/// once `s` has failed and `t` is taken, none is ready; and in the end the walk has failed.
+fn walk_both(
+    cursor: &mut Cursor,
+    s: &WorkKey,
+    t: &WorkKey,
+    exit: &T256,
+) -> Result<[bool; 4], OutOfMemory> {
+    let both_ready = cursor.is_ready(s) && cursor.is_ready(t);
+    take(cursor, s)?;
+    let one_taken = cursor.is_busy(s) && cursor.is_ready(t);
+    report(cursor, s, WorkOutcome::Failed, exit)?;
+    take(cursor, t)?;
+    let none_ready = cursor.ready().len() == 0;
+    report(cursor, t, WorkOutcome::Completed, exit)?;
+    Ok([both_ready, one_taken, none_ready, has_failed(cursor)])
+}
+
+/// The same of these steps by their ids.
+fn walk_s_and_t(alloc: Global, cursor: &mut Cursor) -> Result<[bool; 4], Fail> {
+    let s = key_of(alloc, "s")?;
+    let t = key_of(alloc, "t")?;
+    Ok(walk_both(cursor, &s, &t, &T256::empty())?)
+}
+
+#[test]
+fn a_walk_is_told_what_is_taken_and_reported(rt: HostRuntime) -> Result<(), Fail> {
+    let mut cursor = begun(rt.alloc())?;
+    assert_eq!(rt; walk_s_and_t(rt.alloc(), &mut cursor)?, [true; 4]);
+    Ok(())
+}
+
+/// A walk whose step `s` is taken.
+fn begun_and_taken(alloc: Global) -> Result<Cursor, Fail> {
+    let s = key_of(alloc, "s")?;
+    let mut cursor = begun(alloc)?;
+    take(&mut cursor, &s)?;
+    Ok(cursor)
+}
+
+/// Whether two walks print alike.
+fn print_alike(alloc: Global, one: &Cursor, other: &Cursor) -> Result<bool, Fail> {
+    let printed = format!(in alloc; "{one:?}")?;
+    let wanted = format!(in alloc; "{other:?}")?;
+    Ok(printed == wanted)
+}
+
+/// Takes the step `t` of a copy. Whether it is taken there, and ready in the walk that was copied.
+fn take_in_copy(alloc: Global, cursor: &Cursor, copy: &mut Cursor) -> Result<[bool; 2], Fail> {
+    let t = key_of(alloc, "t")?;
+    take(copy, &t)?;
+    Ok([copy.is_busy(&t), cursor.is_ready(&t)])
+}
+
+/// Whether a copy prints as its walk does, and goes on by itself.
+fn goes_on(alloc: Global, cursor: &Cursor, copy: &mut Cursor) -> Result<[bool; 3], Fail> {
+    let alike = print_alike(alloc, copy, cursor)?;
+    let [taken, ready] = take_in_copy(alloc, cursor, copy)?;
+    Ok([alike, taken, ready])
+}
+
+#[test]
+fn a_copied_walk_goes_on_by_itself(rt: HostRuntime) -> Result<(), Fail> {
+    let cursor = begun_and_taken(rt.alloc())?;
+    let mut copy = cursor.try_clone()?;
+    assert_eq!(rt; goes_on(rt.alloc(), &cursor, &mut copy)?, [true; 3]);
+    Ok(())
+}
+
+/// Takes and reports two partitions of a walk. Whether two are ready at first; `last` is ready once `first` has failed; and
+/// in the end the walk has failed.
+fn walk_partitions(
+    cursor: &mut Cursor,
+    first: &WorkKey,
+    last: &WorkKey,
+    exit: &T256,
+) -> Result<[bool; 3], OutOfMemory> {
+    let two_ready = cursor.ready().len() == 2;
+    take(cursor, first)?;
+    report(cursor, first, WorkOutcome::Failed, exit)?;
+    let last_ready = cursor.is_ready(last);
+    take(cursor, last)?;
+    report(cursor, last, WorkOutcome::Completed, exit)?;
+    Ok([two_ready, last_ready, has_failed(cursor)])
+}
+
+/// The same of the partitions 0 and 2 of the step `p`.
+fn walk_first_and_last(alloc: Global, cursor: &mut Cursor) -> Result<[bool; 3], Fail> {
+    let exit = T256::new(alloc, "not shown")?;
+    let first = partition_of(alloc, "p", 0)?;
+    let last = partition_of(alloc, "p", 2)?;
+    Ok(walk_partitions(cursor, &first, &last, &exit)?)
+}
+
+#[test]
+fn a_step_waits_for_its_partitions_and_is_failed_if_one_is(rt: HostRuntime) -> Result<(), Fail> {
+    let mut cursor = begun_in_partitions(rt.alloc())?;
+    assert_eq!(rt; walk_first_and_last(rt.alloc(), &mut cursor)?, [true; 3]);
+    Ok(())
+}
+
+/// How many partitions the step has that a work key is of, in the job of a catalogue.
+fn partitions_in(catalogue: &Catalogue, key: &WorkKey) -> Result<Option<u32>, Fail> {
+    let job = catalogue.job("j").ok_or("no job")?;
+    Ok(find_partitions(job.elements(), key))
+}
+
+/// How many partitions are found by this partition of the step `p`.
+fn partitions_by(alloc: Global, partition: u32) -> Result<Option<u32>, Fail> {
+    let key = partition_of(alloc, "p", partition)?;
+    let catalogue = read_catalogue(alloc, PARTITIONED)?;
+    partitions_in(&catalogue, &key)
+}
+
+#[test]
+fn partitions_of_a_step_are_found(rt: HostRuntime) -> Result<(), Fail> {
+    assert_eq!(rt; partitions_by(rt.alloc(), 0)?, Some(3));
+    assert_eq!(rt; partitions_by(rt.alloc(), 3)?, None);
+    Ok(())
+}
