@@ -2,7 +2,7 @@
 
     python3 tools/replay_a_log.py [--program PATH]
 
-The worked example of docs/REPLAY.md, over a night of the program script_cases. It says nothing where all is well, and
+The worked example of docs/REPLAY.md, over a night of the program service_cases. It says nothing where all is well, and
 ends with status 1 where a reply differs from the night's:
 
 - `tee` keeps the lines in a file on their way to the program, which ends at half of the night. A new one replays the file
@@ -27,7 +27,7 @@ from pathlib import Path
 
 ROOT = Path(__file__).resolve().parent.parent
 PROGRAM = ROOT / "crates" / "batchctl" / "out" / "batchctl"
-NIGHT = ROOT / "crates" / "script_cases" / "data" / "restart_of_a_night.script"
+NIGHT = ROOT / "crates" / "service_cases" / "data" / "restart_of_a_night.script"
 REPLIES = NIGHT.with_suffix(".replies")
 # Keeps lines on their way to the program; and goes on behind those that a log has, without the replies that were due to them.
 KEEP = 'tee -a "$1" | "$2" script'

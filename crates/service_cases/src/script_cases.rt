@@ -1,0 +1,76 @@
+//! Scripts, each of which is to have the replies of a file. A file whose name ends in `.scripts` holds many scripts, each
+//! parted from the next by an empty line, and their replies are parted so too.
+use crate::comparison::print_comparison;
+use script_engine::{EngineFault, Summary, answer_script};
+use std::rt::Files;
+use std::{fs, io};
+
+/// Names in each line a script, or a file of scripts, and the file of the replies that it wants. The last two lines name the
+/// replies of others, so that a comparison which finds all alike shows.
+const CASES: &str = "cases";
+
+/// Says how a script ended.
+fn print_ending(rt: &impl Print, outcome: &Result<Summary, EngineFault>) -> io::Result<()> {
+    match outcome {
+        Ok(summary) => println!(rt;
+            "{} lines, {} operations, {} refused, {} bad",
+            summary.lines, summary.entries, summary.refusals, summary.bad
+        ),
+        Err(fault) => println!(rt; "{fault}"),
+    }
+}
+
+/// Runs a script, and says how it ended and whether its replies are the wanted ones.
+fn run_case(
+    rt: &(impl Files + Print + AllocGlobal),
+    script: &str,
+    replies: &str,
+) -> io::Result<()> {
+    let lines = fs::read(rt, script)?;
+    let wanted = fs::read(rt, replies)?;
+    let (written, outcome) = answer_script(rt.alloc(), lines.as_slice());
+    print_comparison(rt, (script, replies), written.as_slice(), wanted.as_slice())?;
+    print_ending(rt, &outcome)
+}
+
+/// Runs many scripts, and says how many there are and whether their replies are the wanted ones.
+fn run_cases(
+    rt: &(impl Files + Print + AllocGlobal),
+    scripts: &str,
+    replies: &str,
+) -> io::Result<()> {
+    let lines = fs::read_to_string(rt, scripts)?;
+    let wanted = fs::read(rt, replies)?;
+    let mut written = Vec::new(rt.alloc());
+    let mut count: usize = 0;
+    for script in lines.as_str().split("\n\n") {
+        if count > 0 {
+            written.push(b'\n')?;
+        }
+        let (text, _outcome) = answer_script(rt.alloc(), script.as_bytes());
+        written.extend_from_slice(text.as_slice())?;
+        count = count.saturating_add(1);
+    }
+    print_comparison(
+        rt,
+        (scripts, replies),
+        written.as_slice(),
+        wanted.as_slice(),
+    )?;
+    println!(rt; "{count} scripts")
+}
+
+/// Runs the cases of the list.
+pub(crate) fn run_script_cases(rt: &(impl Files + Print + AllocGlobal)) -> io::Result<()> {
+    let cases = fs::read_to_string(rt, CASES)?;
+    for case in cases.as_str().lines() {
+        if let Some((script, replies)) = case.split_once(' ') {
+            if script.ends_with(".scripts") {
+                run_cases(rt, script, replies)?;
+            } else {
+                run_case(rt, script, replies)?;
+            }
+        }
+    }
+    Ok(())
+}
