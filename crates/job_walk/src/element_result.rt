@@ -1,11 +1,15 @@
-ghost use Rattle.std.specs.Prelude.{◌≡◌, ◌∷◌, [], IfOk, None, MatchOption};
+ghost use Rattle.std.specs.Prelude.{◌≡◌, ◌≤◌, ◌∷◌, [], IfOk, None, MatchOption};
 ghost use Rattle.batch_ids.specs.Statuses.{status_name};
+ghost use Rattle.job_walk.specs.declared.work_key.WorkKey.{WorkKey};
+ghost use Rattle.job_walk.specs.Cursors.{known_keys};
 ghost use Rattle.job_walk.specs.Keys.{key_of};
+ghost use Rattle.job_walk.specs.KeptLists.{key_count};
 ghost use Rattle.job_walk.specs.Walk.{fact_of, runnable_result, ready_result, busy_result};
 
 use crate::facts::{Fact, Known, Value};
 use crate::work_key::{WorkKey, key_of};
 use batch_ids::{BatchStatus, Listed, OutOfMemory, T256, WorkOutcome};
+use jsl_model::ElementIndex;
 use std::alloc::Global;
 
 /// What an element comes to by itself, before its transition elements and its `next` are looked at.
@@ -102,6 +106,28 @@ pub(crate) fn result_by(alloc: Global, id: &T256, fact: &Fact) -> Result<Element
         Fact::Over(outcome, exit) => Ok(ElementResult::Outcome(*outcome, exit.try_clone()?)),
         Fact::Barred => Ok(ElementResult::ListValue(ended_value(alloc, BatchStatus::Failed)?)),
     }
+}
+
+/// What is known of a partition of an element. Where it stands at the place that the index has, this
+/// takes no search.
+#[tactic(auto, using(crate::proofs::KeysOnce::known_there))]
+pub(crate) fn known_fact(
+    index: &ElementIndex,
+    known: &[Known],
+    id: &T256,
+    partition: u32,
+) -> Result<Fact, OutOfMemory>
+    requires each { (one : WorkKey) → key_count one (known_keys known.now) ≤ 1 }
+    ensures { IfOk result (λ fact. fact ≡ fact_of known.now (key_of id.now partition)) }
+{
+    let place = index.key_place_of(id, partition);
+    if place < known.len() {
+        let one = &known[place];
+        if one.key.is_of(id, partition) {
+            return Ok(one.fact.try_clone()?);
+        }
+    }
+    Ok(fact_of(known, id, partition)?)
 }
 
 /// What a decision, or a step that isn't partitioned, comes to by itself.

@@ -1,14 +1,18 @@
 //! What is kept of a job at first.
 ghost use Rattle.std.specs.Prelude.{◌≡◌, ◌++◌, ◌≤◌, ℕ, List, map, IfOk, OnOk};
-ghost use Rattle.job_walk.specs.Walk.{fact_of, flow_result};
-ghost use Rattle.job_walk.specs.KeptLists.{count_of, count_in, kept_of, kept_element, tree_first, value_kept, lists_in};
+ghost use Rattle.job_walk.specs.declared.work_key.WorkKey.{WorkKey};
+ghost use Rattle.job_walk.specs.Cursors.{known_keys};
+ghost use Rattle.job_walk.specs.Keys.{key_of};
+ghost use Rattle.job_walk.specs.Walk.{fact_of, flow_result, runnable_result, step_result};
+ghost use Rattle.job_walk.specs.KeptLists.{count_of, count_in, kept_of, kept_element, tree_first, value_kept, lists_in, key_count};
 
-use crate::element_result::{ElementResult, runnable_result};
+use crate::element_result::{ElementResult, known_fact, result_by};
 use crate::facts::{Known, Value};
 use crate::kept_list::{KeptList, Progress};
-use crate::partitions::step_result;
+use crate::partitions::partitioned_result;
 use crate::progress::{place_in, walk_on};
 use crate::splits::split_result;
+use crate::work_key::key_of;
 use batch_ids::{Listed, OutOfMemory, T256, WorkOutcome};
 use jsl_model::{Body, Element, ElementIndex};
 use std::alloc::Global;
@@ -39,6 +43,7 @@ pub(crate) fn keep_list(
     elements: &[Element],
     from: &T256,
 ) -> Result<(), OutOfMemory>
+    requires each { (one : WorkKey) → key_count one (known_keys known.now) ≤ 1 }
     requires once { (id : List ℕ) → count_of id elements.now ≤ 1 }
     ensures { OnOk result (lists.new.items
         ≡ lists.old.items ++ kept_of (fact_of known.now) elements.now from.now) }
@@ -83,6 +88,7 @@ fn keep_first(
     index: &ElementIndex,
     elements: &[Element],
 ) -> Result<Value, OutOfMemory>
+    requires each { (one : WorkKey) → key_count one (known_keys known.now) ≤ 1 }
     requires once { (id : List ℕ) → count_of id elements.now ≤ 1 }
     ensures value { IfOk result (λ value.
         value ≡ value_kept (tree_first (map (kept_element (fact_of known.now)) elements.now))) }
@@ -109,6 +115,7 @@ fn keep_element(
     index: &ElementIndex,
     element: &Element,
 ) -> Result<ElementResult, OutOfMemory>
+    requires each { (one : WorkKey) → key_count one (known_keys known.now) ≤ 1 }
     requires once { (id : List ℕ) → count_in id element.now ≤ 1 }
     ensures result { IfOk result (λ made.
         made ≡ (kept_element (fact_of known.now) element.now).row.own_result) }
@@ -116,8 +123,8 @@ fn keep_element(
         ++ (kept_element (fact_of known.now) element.now).inside) }
 {
     match &element.body {
-        Body::Step(step) => step_result(alloc, known, &element.id, step.partitions),
-        Body::Decision { .. } => runnable_result(alloc, known, &element.id),
+        Body::Step(step) => step_kept(alloc, index, known, &element.id, step.partitions),
+        Body::Decision { .. } => runnable_kept(alloc, index, known, &element.id),
         Body::Flow(elements) => {
             let value = keep_first(alloc, lists, known, index, elements.as_slice())?;
             Ok(flow_result(value))
@@ -128,6 +135,48 @@ fn keep_element(
                 values.push(keep_first(alloc, lists, known, index, flow.elements.as_slice())?)?;
             }
             split_result(alloc, values.as_slice())
+        }
+    }
+}
+
+/// What a decision, or a step that isn't partitioned, comes to by itself.
+fn runnable_kept(
+    alloc: Global,
+    index: &ElementIndex,
+    known: &[Known],
+    id: &T256,
+) -> Result<ElementResult, OutOfMemory>
+    requires each { (one : WorkKey) → key_count one (known_keys known.now) ≤ 1 }
+    ensures { IfOk result (λ made.
+        made ≡ runnable_result (key_of id.now 0) (fact_of known.now (key_of id.now 0))) }
+{
+    let fact = known_fact(index, known, id, 0)?;
+    Ok(result_by(alloc, id, &fact)?)
+}
+
+/// What a step comes to by itself.
+fn step_kept(
+    alloc: Global,
+    index: &ElementIndex,
+    known: &[Known],
+    id: &T256,
+    partitions: Option<u32>,
+) -> Result<ElementResult, OutOfMemory>
+    requires each { (one : WorkKey) → key_count one (known_keys known.now) ≤ 1 }
+    ensures { IfOk result (λ made. made ≡ step_result (fact_of known.now) id.now partitions) }
+{
+    match partitions {
+        None => runnable_kept(alloc, index, known, id),
+        Some(count) => {
+            let mut facts = Vec::new(alloc);
+            for partition in 0..count {
+                let one = Known {
+                    key: key_of(id, partition)?,
+                    fact: known_fact(index, known, id, partition)?,
+                };
+                facts.push(one)?;
+            }
+            Ok(partitioned_result(alloc, facts.as_slice())?)
         }
     }
 }

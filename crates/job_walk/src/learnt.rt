@@ -8,7 +8,7 @@ ghost use Rattle.job_walk.specs.Keys.{key_of, has_key};
 ghost use Rattle.job_walk.specs.KeptLists.{Keeps, KeepsFirst, KeepsInside, tree_first, lists_in, value_kept, Puts, ChangesList, ComesTo, facts_after, first_shows, result_shows, kept_element, count_of, count_in, key_count};
 ghost use Rattle.job_walk.specs.Walk.{fact_of, runnable_result, step_result};
 
-use crate::element_result::{ElementResult, fact_of, result_by};
+use crate::element_result::{ElementResult, known_fact, result_by};
 use crate::facts::{Fact, Known, Value};
 use crate::keeping::flow_result;
 use crate::kept_list::{KeptList, ListChange};
@@ -30,28 +30,6 @@ fn shows(value: &Value, key: &WorkKey) -> bool
         Value::Done { .. } => false,
         Value::Ended { .. } => false,
     }
-}
-
-/// What is known of a partition of an element. Where it stands at the place that the index has, this
-/// takes no search.
-#[tactic(auto, using(crate::proofs::KeysOnce::known_there))]
-fn known_fact(
-    index: &ElementIndex,
-    known: &[Known],
-    id: &T256,
-    partition: u32,
-) -> Result<Fact, OutOfMemory>
-    requires each { (one : WorkKey) → key_count one (known_keys known.now) ≤ 1 }
-    ensures { IfOk result (λ fact. fact ≡ fact_of known.now (key_of id.now partition)) }
-{
-    let place = index.key_place_of(id, partition);
-    if place < known.len() {
-        let one = &known[place];
-        if one.key.is_of(id, partition) {
-            return Ok(one.fact.try_clone()?);
-        }
-    }
-    Ok(fact_of(known, id, partition)?)
 }
 
 /// What is known of a partition of an element, once this is learnt of a work key.

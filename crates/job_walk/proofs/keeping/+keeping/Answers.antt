@@ -78,7 +78,7 @@ keep_list-returns t c =
 pub keep_list-keep_element-requires : goal.keep_list-keep_element-requires
 keep_list-keep_element-requires t c =
     let less = nodes-at c.args.elements.now c.loop-element.element-index c.element-item.result c.loop-element-test.true c.element-item.is in
-    (omega (arith, less), at-once c.args.elements.now c.loop-element.element-index c.element-item.result c.requires.once c.loop-element-test.true c.element-item.is)
+    (omega (arith, less), (c.requires.each, at-once c.args.elements.now c.loop-element.element-index c.element-item.result c.requires.once c.loop-element-test.true c.element-item.is))
 
 pub keep_element-keep_first-requires : goal.keep_element-keep_first-requires
 keep_element-keep_first-requires t c =
@@ -86,7 +86,7 @@ keep_element-keep_first-requires t c =
     let es = c.as_slice.result.now in
     let is = c.in-Flow.is ∙ ap Flow (sym c.as_slice.ensures) in
     let less = nodes-flow e es es is refl in
-    (omega (arith, less), flow-all e es is c.requires.once)
+    (omega (arith, less), (c.requires.each, flow-all e es is c.requires.once))
 
 pub keep_element-keep_first-requires-in-loop-flow : goal.keep_element-keep_first-requires-in-loop-flow
 keep_element-keep_first-requires-in-loop-flow t c =
@@ -98,4 +98,4 @@ keep_element-keep_first-requires-in-loop-flow t c =
     let these = c.as_slice-in-loop-flow.ensures in
     let is = c.in-Split.is ∙ ap Split (sym c.as_slice-flow-items.ensures) in
     let less = nodes-split e flows flows i f es is refl c.loop-flow-test.true c.flow-item.is these in
-    (omega (arith, less), λ id. split-once e flows id i f es is (c.requires.once id) c.loop-flow-test.true c.flow-item.is these)
+    (omega (arith, less), (c.requires.each, λ id. split-once e flows id i f es is (c.requires.once id) c.loop-flow-test.true c.flow-item.is these))

@@ -1,5 +1,7 @@
 use Rattle.std.proofs.Common.{◌≤◌, sym, subst}
-use Rattle.job_walk.specs.KeptLists.{count_of}
+use Rattle.job_walk.specs.Cursors.{known_keys}
+use Rattle.job_walk.specs.KeptLists.{count_of, key_count}
+use Rattle.job_walk.proofs.KeysOnce.{keys-once}
 use Rattle.job_walk.proofs.Learning.{kept-first}
 use Rattle.job_walk.proofs.Once.{ids-once}
 use Rattle.job_walk.proofs.cursor.Cursor.of_known.Goals as goal
@@ -11,4 +13,7 @@ invariant_of-result c =
 
 pub keep_list-requires : goal.keep_list-requires
 keep_list-requires c =
-    record { once = λ id. subst (λ es. count_of id es ≤ 1) (sym c.elements.ensures.same) (ids-once c.args.job c.elements.ensures.checked id) }
+    record {
+      each = λ one. subst (λ ks. key_count one (known_keys ks) ≤ 1) (sym c.as_slice.ensures.value) (keys-once c.args.job.elements c.args.known.items c.requires.each (ids-once c.args.job c.elements.ensures.checked) one);
+      once = λ id. subst (λ es. count_of id es ≤ 1) (sym c.elements.ensures.same) (ids-once c.args.job c.elements.ensures.checked id);
+    }
