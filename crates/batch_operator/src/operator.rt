@@ -4,7 +4,7 @@ ghost use Rattle.seat_rules.specs.Views.{glanced_at, new_session};
 ghost use Rattle.batch_operator.specs.Calls.{IsAnswered, IsReplied};
 
 use crate::copy_count::CopyCount;
-use crate::states::{counts_of_nothing, repositories_of_nothing};
+use crate::states::{counts_of_nothing, repositories_of_nothing, seated};
 use batch_ids::{ExecutionId, Moment, OutOfMemory, Refusal};
 use jsl_model::Catalogue;
 use op_log::{Answer, Call, Query, Reply, Repository};
@@ -60,14 +60,18 @@ impl<N: Site> Operator<N> {
         let repositories = repositories_of_nothing(alloc, &catalogue, copies)?;
         let counts = counts_of_nothing(alloc, &catalogue, copies)?;
         let mut desk = Desk::new(alloc, seat, catalogue)?;
-        let repositories = Copies::new(alloc, repositories, &mut desk, &table)?;
-        let counts = Copies::new(alloc, counts, &mut desk, &table)?;
-        Ok(Operator {
-            desk: Mutex::new(Kept { desk }),
-            table,
-            repositories,
-            counts,
-        })
+        match seated(alloc, repositories, counts, &mut desk, &table) {
+            Ok(copies) => Ok(Operator {
+                desk: Mutex::new(Kept { desk }),
+                table,
+                repositories: copies.repositories,
+                counts: copies.counts,
+            }),
+            Err(refused) => {
+                drop(desk);
+                Err(refused)
+            }
+        }
     }
 
     /// The table that all its sessions belong to, as `sessions::meet` takes it.

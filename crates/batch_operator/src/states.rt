@@ -6,7 +6,9 @@ use crate::copy_count::CopyCount;
 use batch_ids::OutOfMemory;
 use jsl_model::Catalogue;
 use op_log::Repository;
-use read_copies::StatusCounts;
+use read_copies::{Copies, StatusCounts};
+use seat_rules::{SeatTable, Site};
+use sessions::Desk;
 use std::alloc::Global;
 
 /// So many repositories over the catalogue, each without an operation.
@@ -39,4 +41,33 @@ pub fn counts_of_nothing(
         states.push(StatusCounts::new(alloc, catalogue.try_clone()?)?)?;
     }
     Ok(states)
+}
+
+/// The read copies of an operator: as many of its repository as of its counts.
+#[derive(Drop)]
+pub struct ReadCopies<N: Site> {
+    pub repositories: Copies<Repository<1_000_000>, N>,
+    pub counts: Copies<StatusCounts, N>,
+}
+
+/// Read copies of these states, each with a seat at the desk's table.
+pub fn seated<N: Site>(
+    alloc: Global,
+    repositories: Vec<Repository<1_000_000>>,
+    counts: Vec<StatusCounts>,
+    desk: &mut Desk<N, 1_000_000>,
+    table: &SeatTable,
+) -> Result<ReadCopies<N>, OutOfMemory>
+    requires table { table.now ≡ N.place }
+    requires alone { desk.old.hosted ≡ [] }
+    requires repositories { All (λ s. StandsForLog s N.place.catalogue []) repositories.items }
+    requires counts { All (λ s. StandsForCounts s N.place.catalogue []) counts.items }
+    ensures desk { desk.new ≡ desk.old }
+    ensures repositories { IfOk result (λ seated. seated.repositories ≡ vec_len repositories) }
+    ensures counts { IfOk result (λ seated. seated.counts ≡ vec_len counts) }
+{
+    Ok(ReadCopies {
+        repositories: Copies::new(alloc, repositories, desk, table)?,
+        counts: Copies::new(alloc, counts, desk, table)?,
+    })
 }

@@ -91,7 +91,15 @@ fn run_command<'a>(alloc: Global) -> Result<Command<'a>, AllocError> {
 pub fn arguments<'a>(alloc: Global, words: &'a [&'a str]) -> Result<Arguments, Error>
     ensures only { IfOk result (λ arguments. IsAsked arguments (map (λ word. word.now) words.now)) }
 {
-    let mut command = Command::new(alloc, "batchctl")
+    let mut command = batchctl_command(alloc)?;
+    let read = read_words(&mut command, words);
+    drop(command);
+    read
+}
+
+/// The command of the program.
+fn batchctl_command<'a>(alloc: Global) -> Result<Command<'a>, AllocError> {
+    Command::new(alloc, "batchctl")
         .bin_name("batchctl")?
         .about(ABOUT)
         .version("0.1.0")
@@ -99,7 +107,13 @@ pub fn arguments<'a>(alloc: Global, words: &'a [&'a str]) -> Result<Arguments, E
         .subcommand_required(true)
         .arg_required_else_help(true)
         .subcommand(script_command(alloc))?
-        .subcommand(run_command(alloc)?)?;
+        .subcommand(run_command(alloc)?)
+}
+
+/// What the words ask for by this command.
+fn read_words<'a>(command: &mut Command<'a>, words: &'a [&'a str]) -> Result<Arguments, Error>
+    ensures { IfOk result (λ arguments. IsAsked arguments (map (λ word. word.now) words.now)) }
+{
     let matches = command.try_get_matches_from_mut(words)?;
     match asked(&matches, words) {
         Some(arguments) => Ok(arguments),

@@ -15,20 +15,52 @@ struct Told {
     steps: Listed<StepExecution>,
 }
 
-/// What is to be told of a job execution; none where an answer is of another kind, which it never is.
+/// A job execution; none where the answer is of another kind, which it never is.
+fn execution_of<N: Site, R: Wait>(
+    rt: &R,
+    operator: &Operator<N>,
+    session: &mut Session<N>,
+    x: ExecutionId,
+) -> Result<Option<JobExecution>, Refusal> {
+    match operator.get_job_execution(rt, session, x)? {
+        Answer::JobExecution(execution) => Ok(Some(execution)),
+        other => {
+            drop(other);
+            Ok(None)
+        }
+    }
+}
+
+/// Its step executions; none where the answer is of another kind, which it never is.
+fn steps_of<N: Site, R: Wait>(
+    rt: &R,
+    operator: &Operator<N>,
+    session: &mut Session<N>,
+    x: ExecutionId,
+) -> Result<Option<Listed<StepExecution>>, Refusal> {
+    match operator.get_step_executions(rt, session, x)? {
+        Answer::StepExecutions(steps) => Ok(Some(steps)),
+        other => {
+            drop(other);
+            Ok(None)
+        }
+    }
+}
+
+/// What is to be told of a job execution, if there is something.
 fn look_up<N: Site, R: Wait>(
     rt: &R,
     operator: &Operator<N>,
     session: &mut Session<N>,
     number: u64,
 ) -> Result<Option<Told>, Refusal> {
-    let execution = operator.get_job_execution(rt, session, ExecutionId::new(number))?;
-    let steps = operator.get_step_executions(rt, session, ExecutionId::new(number))?;
-    match (execution, steps) {
-        (Answer::JobExecution(execution), Answer::StepExecutions(steps)) => {
-            Ok(Some(Told { execution, steps }))
-        }
-        _ => Ok(None),
+    let x = ExecutionId::new(number);
+    let Some(steps) = steps_of(rt, operator, session, x)? else {
+        return Ok(None);
+    };
+    match execution_of(rt, operator, session, x)? {
+        Some(execution) => Ok(Some(Told { execution, steps })),
+        None => Ok(None),
     }
 }
 
@@ -43,8 +75,9 @@ pub(crate) fn put_executions<N: Site, R: Wait + AllocGlobal, W: Sink>(
     for place in 0..count {
         match look_up(rt, operator, session, place + 1) {
             Ok(Some(told)) => {
-                let line = execution_text(rt.alloc(), &told.execution, told.steps.as_slice())?;
-                replies.put(&line)?;
+                let line = execution_text(rt.alloc(), &told.execution, told.steps.as_slice());
+                drop(told);
+                replies.put(&line?)?;
             }
             Ok(None) => {}
             Err(refusal) => replies.refuse(refusal)?,

@@ -1,4 +1,5 @@
 // The lines that are written, which wait in a buffer until it is full or the run needs them out.
+use batch_history::Reply;
 use batch_ids::Refusal;
 use script_engine::{EngineFault, OutputBuffer, ReadFault, Sink, reply_text, tell_fault};
 use std::alloc::Global;
@@ -33,13 +34,21 @@ impl<'w, W: Sink> Replies<'w, W> {
         Ok(())
     }
 
-    /// Adds the line of a refusal. Want of memory ends the run in its place.
-    pub(crate) fn refuse(&mut self, refusal: Refusal) -> Result<(), EngineFault> {
-        if matches!(refusal, Refusal::OutOfMemory) {
+    /// Adds the line of a reply. Want of memory ends the run in its place.
+    pub(crate) fn reply(&mut self, reply: &Result<Reply, Refusal>) -> Result<(), EngineFault> {
+        if matches!(reply, Err(Refusal::OutOfMemory)) {
             return Err(EngineFault::OutOfMemory);
         }
-        let line = reply_text(self.alloc, &Err(refusal))?;
+        let line = reply_text(self.alloc, reply)?;
         self.put(&line)
+    }
+
+    /// The same of a refusal.
+    pub(crate) fn refuse(&mut self, refusal: Refusal) -> Result<(), EngineFault> {
+        let refused = Err(refusal);
+        let put = self.reply(&refused);
+        drop(refused);
+        put
     }
 
     /// Adds the line of a catalogue's fault, and answers how the run ends by that.

@@ -61,23 +61,34 @@ fn run_over<
     let jobs = catalogue.try_clone()?;
     let names = jobs.artifacts()?;
     let operator = Operator::<N>::new(alloc, table, seat, catalogue, copies)?;
+    let ran = run_on(rt, workers, lines, replies, &operator, names.as_slice());
+    drop(operator);
+    ran
+}
+
+/// The same on an operator, whose catalogue names these artifacts.
+fn run_on<N: Site + Send + Sync, R: Threads + Wait + AllocGlobal + Sync, S: Source + Drop, W: Sink>(
+    rt: &R,
+    workers: u64,
+    lines: Lines<S>,
+    replies: &mut Replies<'_, W>,
+    operator: &Operator<N>,
+    names: &[&str],
+) -> Result<(), EngineFault>
+    requires some { 1 ≤ workers }
+    requires few { workers ≤ 16 }
+    requires lines { lines.failed ≡ false }
+{
     let mut session = match operator.open_session(rt) {
         Ok(session) => session,
         Err(refusal) => return replies.refuse(refusal),
     };
-    let started = answer_starts(rt, &operator, &mut session, lines, replies)?;
+    let started = answer_starts(rt, operator, &mut session, lines, replies)?;
     replies.flush()?;
-    if let Err(refusal) = pool_with_built_ins(
-        rt,
-        alloc,
-        &operator,
-        names.as_slice(),
-        workers,
-        &Host,
-    ) {
+    if let Err(refusal) = pool_with_built_ins(rt, rt.alloc(), operator, names, workers, &Host) {
         replies.refuse(refusal)?;
     }
-    put_executions(rt, &operator, &mut session, started, replies)
+    put_executions(rt, operator, &mut session, started, replies)
 }
 
 /// Runs what the lines of a reader ask for, and leaves the last replies in their buffer.

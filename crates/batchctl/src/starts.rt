@@ -2,12 +2,10 @@
 ghost use Rattle.std.specs.Prelude.{◌≡◌, false};
 
 use crate::replies::Replies;
-use batch_history::Reply;
 use batch_ids::Refusal;
 use batch_operator::Operator;
 use script_engine::{
     EngineFault, Line, Lines, Sink, Source, StartFault, StartLine, bad_line_text, read_start,
-    reply_text,
 };
 use seat_rules::Site;
 use sessions::Session;
@@ -32,18 +30,7 @@ fn answer_start<N: Site, R: Wait + AllocGlobal, W: Sink>(
 ) -> Result<bool, EngineFault> {
     let alloc = rt.alloc();
     match start_in(alloc, line) {
-        Ok(StartLine { job, parameters }) => {
-            match operator.start(rt, session, job, parameters, 0) {
-                Ok(reply) => {
-                    replies.put(&reply_text(alloc, &Ok(reply))?)?;
-                    Ok(true)
-                }
-                Err(refusal) => {
-                    replies.refuse(refusal)?;
-                    Ok(false)
-                }
-            }
-        }
+        Ok(start) => start_job(rt, operator, session, start, replies),
         Err(StartFault::BadLine) => {
             replies.put(&bad_line_text(alloc)?)?;
             Ok(false)
@@ -54,6 +41,22 @@ fn answer_start<N: Site, R: Wait + AllocGlobal, W: Sink>(
         }
         Err(StartFault::OutOfMemory) => Err(EngineFault::OutOfMemory),
     }
+}
+
+/// Starts a job, and adds the reply. Says whether a job execution was made.
+fn start_job<N: Site, R: Wait, W: Sink>(
+    rt: &R,
+    operator: &Operator<N>,
+    session: &mut Session<N>,
+    start: StartLine,
+    replies: &mut Replies<'_, W>,
+) -> Result<bool, EngineFault> {
+    let reply = operator.start(rt, session, start.job, start.parameters, 0);
+    let is_started = reply.is_ok();
+    let put = replies.reply(&reply);
+    drop(reply);
+    put?;
+    Ok(is_started)
 }
 
 /// Whether a line has no byte.

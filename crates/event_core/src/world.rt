@@ -245,6 +245,19 @@ pub fn run(
     ensures one_history { FollowOneHistory (empty_world catalogue sessions copies) events.now }
 {
     let mut world = World::new(alloc, catalogue, sessions, copies)?;
+    let outcomes = outcomes_of(alloc, &mut world, events);
+    drop(world);
+    outcomes
+}
+
+/// What each of these events is answered, from this world on.
+fn outcomes_of(
+    alloc: Global,
+    world: &mut World,
+    events: &[Event],
+) -> Result<Vec<Outcome>, OutOfMemory>
+    ensures { IfOk result (λ told. told.items ≡ outcomes world.old events.now) }
+{
     let mut told = Vec::new(alloc);
     for event in events {
         told.push(world.step(event)?)?;

@@ -90,7 +90,9 @@ impl<R: Wait, N: Site> Port for SessionPort<'_, R, N> {
         let reply = self
             .operator
             .checkpoint(self.rt, &mut self.session, work, mark, step, at)?;
-        Ok(onward(&reply))
+        let told = onward(&reply);
+        drop(reply);
+        Ok(told)
     }
 
     fn finish(
@@ -101,14 +103,16 @@ impl<R: Wait, N: Site> Port for SessionPort<'_, R, N> {
         step: MetricStep,
         at: Moment,
     ) -> Result<(), Refusal> {
-        let _done = self
+        let done = self
             .operator
             .finish(self.rt, &mut self.session, work, outcome, exit, step, at)?;
+        drop(done);
         Ok(())
     }
 
     fn lose(&mut self, work: WorkId, at: Moment) -> Result<(), Refusal> {
-        let _done = self.operator.lose(self.rt, &mut self.session, work, at)?;
+        let done = self.operator.lose(self.rt, &mut self.session, work, at)?;
+        drop(done);
         Ok(())
     }
 
@@ -118,6 +122,8 @@ impl<R: Wait, N: Site> Port for SessionPort<'_, R, N> {
 
     fn unfinished(&mut self) -> Result<bool, Refusal> {
         let answer = self.operator.status_counts(self.rt, &mut self.session)?;
-        Ok(is_unfinished(&answer))
+        let unfinished = is_unfinished(&answer);
+        drop(answer);
+        Ok(unfinished)
     }
 }

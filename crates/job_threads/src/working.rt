@@ -76,7 +76,9 @@ pub fn worker<P: Port, K: Artifacts, G: Gate>(
         match port.claim(gate.now())? {
             Claimed::Work(item) => {
                 gate.before(number, &item);
-                run_or_lose(alloc, port, kit, gate, &item)?;
+                let ran = run_or_lose(alloc, port, kit, gate, &item);
+                drop(item);
+                ran?;
                 items += 1;
             }
             Claimed::Closed => {}

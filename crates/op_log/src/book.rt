@@ -1,15 +1,19 @@
-ghost use Rattle.std.specs.Prelude.{◌≡◌, ◌≤◌, ◌<◌, ◌-◌, [], length, slice_get, IfOk, OnErr, None, Ok};
+ghost use Rattle.std.specs.Prelude.{◌≡◌, ◌≤◌, ◌<◌, ◌-◌, [], length, slice_get, vec_len, vec_capacity, IfOk, OnOk, OnErr, None, Ok, true, false};
 ghost use Rattle.std.specs.Option.{option_copied};
 ghost use Rattle.batch_history.specs.Answers.{answer};
 ghost use Rattle.batch_history.specs.Due.{IsDue};
-ghost use Rattle.batch_history.specs.Legal.{after_call, IsLegal};
-ghost use Rattle.batch_history.specs.Replies.{reply};
+ghost use Rattle.batch_history.specs.Legal.{after_call, grown, IsLegal};
+ghost use Rattle.batch_history.specs.Replies.{is_nothing, reply};
+ghost use Rattle.batch_history.specs.Rows.{History};
+ghost use Rattle.op_log.specs.Replied.{replied, StandsForSome};
+ghost use Rattle.seq_repository.specs.Kept.{StandsFor};
 
 use batch_ids::{Moment, OutOfMemory, Refusal};
 use jsl_model::Catalogue;
 use seq_repository::{Answer, Call, Entry, Query, Reply, Repository};
 use std::alloc::Global;
 use std::marker::Model;
+use std::mem::replace;
 
 /// A job repository and the log of the operations that it accepted, at most `LIMIT` of them.
 /// Contracts see the history: the catalogue and the log, in the order of acceptance.
@@ -87,22 +91,17 @@ impl<const LIMIT: u64> Book<LIMIT> {
         ensures after { IfOk result (λ reply. self.new ≡ after_call self.old who call at reply) }
         ensures refused { OnErr result (self.new ≡ self.old) }
     {
-        self.log.reserve(1)?;
-        let reply = self.repository.preview(who, &call)?;
-        if reply.is_nothing() {
-            return Ok(reply);
-        }
-        let entry = Entry {
+        let mut entry = Entry {
             who,
             call,
             at,
-            reply: reply.try_clone()?,
+            reply: Reply::Nothing,
         };
-        self.repository.enter(&entry)?;
-        match self.log.push(entry) {
-            Ok(()) => Ok(reply),
-            Err(_) => unreachable!(),
+        let reply = enter_due(&mut self.repository, &mut self.log, &mut entry)?;
+        if !reply.is_nothing() {
+            self.log.push_reserved(entry);
         }
+        Ok(reply)
     }
 
     /// Answers a query about the log so far.
@@ -115,4 +114,34 @@ impl<const LIMIT: u64> Book<LIMIT> {
     {
         self.repository.ask(query)
     }
+}
+
+/// Decides an entry's call, and enters it with its reply where that is accepted and is not Nothing.
+/// There is then room for one entry more in the log, which stays.
+fn enter_due<const LIMIT: u64>(
+    repository: &mut Repository<LIMIT>,
+    log: &mut Vec<Entry>,
+    entry: &mut Entry,
+) -> Result<Reply, Refusal>
+    requires stands { StandsForSome LIMIT repository.old }
+    ensures due { (h : History) → StandsFor repository.old h
+        → IsDue result (reply LIMIT h entry.old.who entry.old.call) }
+    ensures log { log.new.items ≡ log.old.items }
+    ensures room { OnOk result (vec_len log.new < vec_capacity log.new) }
+    ensures replied { IfOk result (λ given. is_nothing given ≡ false
+        → entry.new ≡ replied entry.old given) }
+    ensures entered { IfOk result (λ given. is_nothing given ≡ false → (h : History)
+        → IsLegal LIMIT h → StandsFor repository.old h
+        → StandsFor repository.new (grown h (replied entry.old given))) }
+    ensures nothing { IfOk result (λ given. is_nothing given ≡ true
+        → repository.new ≡ repository.old) }
+    ensures refused { OnErr result (repository.new ≡ repository.old) }
+{
+    log.reserve(1)?;
+    let reply = repository.preview(entry.who, &entry.call)?;
+    if !reply.is_nothing() {
+        drop(replace(&mut entry.reply, reply.try_clone()?));
+        repository.enter(entry)?;
+    }
+    Ok(reply)
 }

@@ -1,15 +1,16 @@
-ghost use Rattle.std.specs.Prelude.{◌≡◌, List, ℕ, Err, IfOk, OnOk};
-ghost use Rattle.batch_ids.specs.Refusals.{is_out_of_memory};
+ghost use Rattle.std.specs.Prelude.{◌≡◌, List, ℕ, Result, Err, IfOk, OnOk};
+ghost use Rattle.batch_history.specs.Due.{IsDue};
 ghost use Rattle.script_lines.specs.Lines.{Shows};
 ghost use Rattle.script_text.specs.declared.command.Command.TheVariants.{Act, Ask};
+ghost use Rattle.script_text.specs.Answers.{answer_text};
 ghost use Rattle.script_text.specs.Replies.{bad_line_text, reply_text};
 ghost use Rattle.script_engine.specs.Script.{line_text, line_after, text_for, history_for};
-ghost use Rattle.script_engine.specs.Summaries.{line_kind, kind_for};
+ghost use Rattle.script_engine.specs.Summaries.{kind_for, kind_of, line_kind};
 ghost use Rattle.script_engine.specs.declared.summary.Kind.TheVariants.{Refused, Bad};
 
 use crate::summary::Kind;
 use batch_ids::{Moment, OutOfMemory, Refusal};
-use op_log::{Book, Call, Query};
+use op_log::{Answer, Book, Call, Query, Reply};
 use script_lines::Line;
 use script_text::{Command, answer_text, bad_line_text, read_command, reply_text};
 use std::alloc::{AllocError, Global};
@@ -84,10 +85,33 @@ fn reply_bad_line(alloc: Global) -> Result<Answered, OutOfMemory>
 fn reply_refusal(alloc: Global, refusal: Refusal) -> Result<Answered, OutOfMemory>
     ensures { IfOk result (λ answered. (answered.text.items ≡ reply_text (Err refusal)) × (answered.kind ≡ Refused)) }
 {
+    let refused = Err(refusal);
+    let answered = reply_line(alloc, &refused);
+    drop(refused);
+    answered
+}
+
+/// The line of a reply.
+fn reply_line(alloc: Global, reply: &Result<Reply, Refusal>) -> Result<Answered, OutOfMemory>
+    ensures known { IfOk result (λ answered. (answered.text.items ≡ reply_text reply.now) × (answered.kind ≡ kind_of reply.now)) }
+    ensures due { (due : Result Reply Refusal) → IsDue reply.now due → OnOk result (reply.now ≡ due) }
+{
     Ok(Answered {
-        text: reply_text(alloc, &Err(refusal))?,
-        kind: Kind::Refused,
+        kind: kind_of(reply)?,
+        text: reply_text(alloc, reply)?,
     })
+}
+
+/// What becomes of a line with this reply, where memory was not refused.
+fn kind_of<R>(reply: &Result<R, Refusal>) -> Result<Kind, OutOfMemory>
+    ensures known { IfOk result (λ kind. kind ≡ kind_of reply.now) }
+    ensures due { (due : Result R Refusal) → IsDue reply.now due → OnOk result (reply.now ≡ due) }
+{
+    match reply {
+        Ok(_) => Ok(Kind::Accepted),
+        Err(Refusal::OutOfMemory) => Err(AllocError),
+        Err(_) => Ok(Kind::Refused),
+    }
 }
 
 /// Answers a call.
@@ -102,18 +126,10 @@ fn act(
     ensures kind { IfOk result (λ answered. answered.kind ≡ kind_for book.old (Act by at call)) }
     ensures after { OnOk result (book.new ≡ history_for book.old (Act by at call)) }
 {
-    match book.act(by, call, at) {
-        Ok(reply) => Ok(Answered {
-            text: reply_text(alloc, &Ok(reply))?,
-            kind: Kind::Accepted,
-        }),
-        Err(refusal) => {
-            if is_out_of_memory(refusal) {
-                return Err(AllocError);
-            }
-            reply_refusal(alloc, refusal)
-        }
-    }
+    let reply = book.act(by, call, at);
+    let answered = reply_line(alloc, &reply);
+    drop(reply);
+    answered
 }
 
 /// Answers a query.
@@ -121,25 +137,19 @@ fn ask(alloc: Global, book: &Book<LIMIT>, query: &Query) -> Result<Answered, Out
     ensures text { IfOk result (λ answered. answered.text.items ≡ text_for book.now (Ask query.now)) }
     ensures kind { IfOk result (λ answered. answered.kind ≡ kind_for book.now (Ask query.now)) }
 {
-    match book.ask(query) {
-        Ok(answer) => Ok(Answered {
-            text: answer_text(alloc, &Ok(answer))?,
-            kind: Kind::Accepted,
-        }),
-        Err(refusal) => {
-            if is_out_of_memory(refusal) {
-                return Err(AllocError);
-            }
-            Ok(Answered {
-                text: answer_text(alloc, &Err(refusal))?,
-                kind: Kind::Refused,
-            })
-        }
-    }
+    let answer = book.ask(query);
+    let answered = answer_line(alloc, &answer);
+    drop(answer);
+    answered
 }
 
-fn is_out_of_memory(refusal: Refusal) -> bool
-    ensures { result ≡ is_out_of_memory refusal }
+/// The line of an answer.
+fn answer_line(alloc: Global, answer: &Result<Answer, Refusal>) -> Result<Answered, OutOfMemory>
+    ensures known { IfOk result (λ answered. (answered.text.items ≡ answer_text answer.now) × (answered.kind ≡ kind_of answer.now)) }
+    ensures due { (due : Result Answer Refusal) → IsDue answer.now due → OnOk result (answer.now ≡ due) }
 {
-    matches!(refusal, Refusal::OutOfMemory)
+    Ok(Answered {
+        kind: kind_of(answer)?,
+        text: answer_text(alloc, answer)?,
+    })
 }

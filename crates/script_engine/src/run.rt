@@ -1,13 +1,28 @@
-ghost use Rattle.std.specs.Prelude.{◌≡◌, []};
+ghost use Rattle.std.specs.Prelude.{◌≡◌, [], IfOk, box_value};
 ghost use Rattle.script_engine.specs.Ran.{Ran, RanSoFar, HoldsReplies, has_writer_failed};
 
 use crate::answer::{LIMIT, answer};
 use crate::catalogue::{catalogue_in, tell_fault};
 use crate::fault::EngineFault;
 use crate::summary::Summary;
+use batch_ids::OutOfMemory;
+use jsl_model::Catalogue;
 use op_log::Book;
 use script_lines::{Counted, InputBuffer, OutputBuffer, Sink, Source};
-use std::alloc::Global;
+use std::alloc::{AllocError, Global};
+
+/// A book with an empty log over this catalogue, on the heap.
+fn boxed_book(alloc: Global, catalogue: Catalogue) -> Result<Box<Book<LIMIT>>, OutOfMemory>
+    ensures { IfOk result (λ book. box_value book ≡ record { catalogue = catalogue; log = [] }) }
+{
+    match Box::new(alloc, Book::new(alloc, catalogue)?) {
+        Ok(book) => Ok(book),
+        Err(refused) => {
+            drop(refused);
+            Err(AllocError)
+        }
+    }
+}
 
 /// Runs a script, and leaves the last replies in the output.
 fn run<R: Source, W: Sink>(
@@ -25,10 +40,11 @@ fn run<R: Source, W: Sink>(
         Ok(catalogue) => catalogue,
         Err(fault) => return Err(tell_fault(alloc, output, writer, fault)),
     };
-    let mut book = Book::<LIMIT>::new(alloc, catalogue)?;
+    let mut boxed = boxed_book(alloc, catalogue)?;
+    let book: &mut Book<LIMIT> = &mut boxed;
     let mut summary = Summary::default();
     while let Some(line) = input.next_line(alloc, reader, output, writer)? {
-        let answered = answer(alloc, &mut book, &line)?;
+        let answered = answer(alloc, book, &line)?;
         output.put(writer, &answered.text)?;
         summary.count(answered.kind);
     }

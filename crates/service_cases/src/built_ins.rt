@@ -70,7 +70,7 @@ fn run_by_two<N: Site + Send + Sync, R: Threads + Wait + AllocGlobal + Sync>(
 ) -> Result<PoolReport> {
     let alloc = rt.alloc();
     let job = T256::new(alloc, "a")?;
-    operator.start(rt, session, job, Parameters::none(), 0)?;
+    drop(operator.start(rt, session, job, Parameters::none(), 0)?);
     Ok(pool_with_built_ins(rt, alloc, operator, names, 2, &Open)?)
 }
 
@@ -91,13 +91,24 @@ fn run_named<N: Site + Send + Sync, R: Threads + Wait + Print + AllocGlobal + Sy
     let jobs = catalogue.try_clone()?;
     let names = jobs.artifacts()?;
     let operator = Operator::<N>::new(rt.alloc(), table, seat, catalogue, copies)?;
+    let ran = run_on(rt, &operator, names.as_slice());
+    drop(operator);
+    ran
+}
+
+/// The same on an operator, whose catalogue names these artifacts.
+fn run_on<N: Site + Send + Sync, R: Threads + Wait + Print + AllocGlobal + Sync>(
+    rt: &R,
+    operator: &Operator<N>,
+    names: &[&str],
+) -> Result<()> {
     let mut session = operator.open_session(rt)?;
-    let report = run_by_two(rt, &operator, &mut session, names.as_slice())?;
+    let report = run_by_two(rt, operator, &mut session, names)?;
     println!(rt;
         "built in: {} work items, {} gave up",
         report.items, report.gave_up
     )?;
-    print_steps(rt, &operator, &mut session)
+    print_steps(rt, operator, &mut session)
 }
 
 /// Two workers run a job of built-in artifacts.

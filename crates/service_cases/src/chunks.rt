@@ -143,7 +143,20 @@ fn print_task(
         },
     )?;
     let mut port = Memory::new(alloc, item_of(alloc, task)?, answers);
-    match run_chunk(alloc, &mut port, faults, &written)? {
+    let printed = print_run(rt, name, &mut port, faults, &written);
+    drop(port);
+    printed
+}
+
+/// Runs what the port hands out, and prints what came of it.
+fn print_run(
+    rt: &(impl Print + AllocGlobal),
+    name: &str,
+    port: &mut Memory,
+    faults: Faults,
+    written: &Arc<Written>,
+) -> Result<()> {
+    match run_chunk(rt.alloc(), port, faults, written)? {
         Ok(report) => println!(rt; "{name}: {} work items", report.items)?,
         Err(refusal) => println!(rt; "{name}: {refusal}, {} losses", port.losses)?,
     }

@@ -29,9 +29,22 @@ fn fill<N: Site, R: Print + AllocGlobal>(
     requires catalogue { catalogue ≡ N.place.catalogue }
 {
     let mut desk = Desk::<N, 2>::new(rt.alloc(), seat, catalogue)?;
-    let one = desk.open(&table)?;
-    let other = desk.open(&table)?;
-    print_answers(rt, &mut desk, one, other, &table)
+    let filled = fill_desk(rt, &mut desk, &table);
+    drop(desk);
+    filled
+}
+
+fn fill_desk<N: Site, R: Print + AllocGlobal>(
+    rt: &R,
+    desk: &mut Desk<N, 2>,
+    table: &SeatTable,
+) -> Result<()>
+    requires table { table.now ≡ N.place }
+    requires alone { desk.old.hosted ≡ [] }
+{
+    let one = desk.open(table)?;
+    let other = desk.open(table)?;
+    print_answers(rt, desk, one, other, table)
 }
 
 fn print_answers<N: Site, R: Print + AllocGlobal>(

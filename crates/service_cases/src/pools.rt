@@ -10,6 +10,7 @@ use jsl_json::read_catalogue;
 use jsl_model::Catalogue;
 use op_log::Answer;
 use seat_rules::{BookSeat, SeatTable, Site};
+use sessions::Session;
 use std::marker::Brand;
 use std::sync::Wait;
 use std::sync::atomic::{AtomicU64, Ordering};
@@ -88,9 +89,31 @@ fn run_by_two<N: Site + Send + Sync, R: Threads + Wait + AllocGlobal + Sync>(
         bail!("one copy is too many");
     };
     let operator = Operator::<N>::new(rt.alloc(), table, seat, catalogue, copies)?;
+    let ran = run_on(rt, gate, &operator);
+    drop(operator);
+    ran
+}
+
+/// The same on an operator.
+fn run_on<N: Site + Send + Sync, R: Threads + Wait + AllocGlobal + Sync>(
+    rt: &R,
+    gate: &Together,
+    operator: &Operator<N>,
+) -> Result<Ran> {
     let mut session = operator.open_session(rt)?;
     let job = T256::new(rt.alloc(), "a")?;
-    operator.start(rt, &mut session, job, Parameters::none(), 0)?;
+    drop(operator.start(rt, &mut session, job, Parameters::none(), 0)?);
+    let report = work_together(rt, gate, operator)?;
+    let completed = completed(rt, operator, &mut session)?;
+    Ok(Ran { report, completed })
+}
+
+/// What a pool of two reports whose kits have the batchlet `ok`.
+fn work_together<N: Site + Send + Sync, R: Threads + Wait + AllocGlobal + Sync>(
+    rt: &R,
+    gate: &Together,
+    operator: &Operator<N>,
+) -> Result<PoolReport> {
     let alloc = rt.alloc();
     let mut one = Kit::new(alloc);
     one.add(alloc, "ok", Box::new(alloc, Quiet { alloc })?)?;
@@ -99,13 +122,21 @@ fn run_by_two<N: Site + Send + Sync, R: Threads + Wait + AllocGlobal + Sync>(
     let mut kits = Vec::new(alloc);
     kits.push(one)?;
     kits.push(other)?;
-    let report = pool(rt, rt.alloc(), &operator, kits, gate)?;
-    match operator.status_counts(rt, &mut session)? {
-        Answer::StatusCounts(counts) => Ok(Ran {
-            report,
-            completed: counts.completed,
-        }),
-        _ => bail!("the counts are of another kind"),
+    Ok(pool(rt, alloc, operator, kits, gate)?)
+}
+
+/// How many job executions are COMPLETED.
+fn completed<N: Site, R: Wait>(
+    rt: &R,
+    operator: &Operator<N>,
+    session: &mut Session<N>,
+) -> Result<u64> {
+    match operator.status_counts(rt, session)? {
+        Answer::StatusCounts(counts) => Ok(counts.completed),
+        other => {
+            drop(other);
+            bail!("the counts are of another kind")
+        }
     }
 }
 

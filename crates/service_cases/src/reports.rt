@@ -5,7 +5,7 @@ use anyhow::{Result, bail};
 use batch_ids::{Parameters, T256};
 use batch_operator::{CopyCount, Operator};
 use built_in_artifacts::{BuiltIn, BuiltInArtifact, pool_with_built_ins};
-use job_threads::{Kit, SessionPort, worker};
+use job_threads::{Kit, SessionPort, WorkerReport, worker};
 use jsl_json::read_catalogue;
 use jsl_model::Catalogue;
 use seat_rules::{BookSeat, SeatTable, Site};
@@ -38,10 +38,21 @@ fn started<N: Site, R: Wait + AllocGlobal>(
         bail!("one copy is too many");
     };
     let operator = Operator::<N>::new(rt.alloc(), table, seat, catalogue, copies)?;
-    let mut session = operator.open_session(rt)?;
+    match start(rt, &operator) {
+        Ok(()) => Ok(operator),
+        Err(error) => {
+            drop(operator);
+            Err(error)
+        }
+    }
+}
+
+/// Starts the job `c`.
+fn start<N: Site, R: Wait + AllocGlobal>(rt: &R, operator: &Operator<N>) -> Result<()> {
     let job = T256::new(rt.alloc(), "c")?;
-    operator.start(rt, &mut session, job, Parameters::none(), 0)?;
-    Ok(operator)
+    let mut session = operator.open_session(rt)?;
+    drop(operator.start(rt, &mut session, job, Parameters::none(), 0)?);
+    Ok(())
 }
 
 /// Runs the chunk by one worker, and says what it reports.
@@ -55,8 +66,23 @@ fn run_by_a_worker<N: Site, R: Wait + Print + AllocGlobal>(
     requires seat { seat ≡ N.place.table }
     requires catalogue { catalogue ≡ N.place.catalogue }
 {
-    let alloc = rt.alloc();
     let operator = started::<N, R>(rt, table, seat, catalogue)?;
+    let ran = work_alone(rt, &operator);
+    drop(operator);
+    let report = ran?;
+    println!(rt;
+        "one worker: {} work items, gave up: {}",
+        report.items, report.gave_up
+    )?;
+    Ok(())
+}
+
+/// What one worker reports that has the built-in artifacts of the chunk.
+fn work_alone<N: Site, R: Wait + AllocGlobal>(
+    rt: &R,
+    operator: &Operator<N>,
+) -> Result<WorkerReport> {
+    let alloc = rt.alloc();
     let mut kit = Kit::new(alloc);
     for name in ["count:5", "odd", "sink"] {
         if let Some(built_in) = BuiltIn::of(alloc, name)? {
@@ -65,13 +91,8 @@ fn run_by_a_worker<N: Site, R: Wait + Print + AllocGlobal>(
         }
     }
     let session = operator.open_session(rt)?;
-    let mut port = SessionPort::new(rt, &operator, session);
-    let report = worker(alloc, &mut port, &mut kit, &Open, 0, 3)?;
-    println!(rt;
-        "one worker: {} work items, gave up: {}",
-        report.items, report.gave_up
-    )?;
-    Ok(())
+    let mut port = SessionPort::new(rt, operator, session);
+    Ok(worker(alloc, &mut port, &mut kit, &Open, 0, 3)?)
 }
 
 /// Runs the chunk by a pool of one worker, and says what it reports.
@@ -87,7 +108,9 @@ fn run_by_a_pool<N: Site + Send + Sync, R: Threads + Wait + Print + AllocGlobal 
 {
     let operator = started::<N, R>(rt, table, seat, catalogue)?;
     let names = ["count:5", "odd", "sink"];
-    let report = pool_with_built_ins(rt, rt.alloc(), &operator, &names, 1, &Open)?;
+    let ran = pool_with_built_ins(rt, rt.alloc(), &operator, &names, 1, &Open);
+    drop(operator);
+    let report = ran?;
     println!(rt;
         "a pool of one: {} work items, {} gave up",
         report.items, report.gave_up

@@ -69,14 +69,18 @@ impl<N: Site> Stage<N> {
         if is_operation(&reply) {
             self.accepted = self.accepted.saturating_add(1);
         }
-        Ok(reply_text(self.alloc, &reply)?)
+        let text = reply_text(self.alloc, &reply);
+        drop(reply);
+        Ok(text?)
     }
 
     fn ask(&mut self, rt: &impl Wait, query: Query) -> Result<Vec<u8>> {
         let session = session_of(&mut self.sessions, self.asker)?;
         let answer = ask_query(rt, &self.operator, session, query);
         self.asker = 1;
-        Ok(answer_text(self.alloc, &answer)?)
+        let text = answer_text(self.alloc, &answer);
+        drop(answer);
+        Ok(text?)
     }
 
     fn follow(&mut self, rt: &impl Wait, directive: Directive) -> Result<Vec<u8>> {
@@ -139,6 +143,12 @@ impl<N: Site> Stage<N> {
 
     /// What the session that made no call is shown, and how many sessions were opened that nobody asked for.
     pub(crate) fn end(mut self, rt: &impl Wait) -> Result<Ending> {
+        let ending = self.ending(rt);
+        drop(self);
+        ending
+    }
+
+    fn ending(&mut self, rt: &impl Wait) -> Result<Ending> {
         let shown = self.operator.operations_at_least(&mut self.watcher);
         let next = self.operator.open_session(rt)?;
         Ok(Ending {

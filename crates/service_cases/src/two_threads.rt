@@ -44,15 +44,25 @@ fn start_by_two<N: Site + Send + Sync, R: Threads + Wait + Print + AllocGlobal +
         bail!("one copy is too many");
     };
     let operator = Operator::<N>::new(rt.alloc(), table, seat, catalogue, copies)?;
+    let started = start_on(rt, &operator);
+    drop(operator);
+    started
+}
+
+/// Two threads start jobs on this operator, and then it is asked by a third session.
+fn start_on<N: Site + Send + Sync, R: Threads + Wait + Print + AllocGlobal + Sync>(
+    rt: &R,
+    operator: &Operator<N>,
+) -> Result<()> {
     let one = operator.open_session(rt)?;
     let other = operator.open_session(rt)?;
-    let (of_one, of_other) = start_together(rt, &operator, one, other);
+    let (of_one, of_other) = start_together(rt, operator, one, other);
     let mut started = of_one?;
     started.extend_from_slice(of_other?.as_slice())?;
     started.sort()?;
     print_started(rt, started.as_slice())?;
     let mut third = operator.open_session(rt)?;
-    print_third(rt, &operator, &mut third)
+    print_third(rt, operator, &mut third)
 }
 
 /// Starts job executions by two threads, and gives the numbers of each.

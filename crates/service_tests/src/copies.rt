@@ -57,15 +57,18 @@ fn copied(alloc: Global) -> Result<Catalogue, Fail> {
 
 // How many of the calls are entered by a log over this catalogue that has room for three.
 fn entries_of(alloc: Global, catalogue: Catalogue) -> Result<usize, Fail> {
+    let calls = calls(alloc)?;
     let mut book = Book::<3>::new(alloc, catalogue)?;
-    enter(&mut book, calls(alloc)?);
-    Ok(book.len())
+    enter(&mut book, calls);
+    let len = book.len();
+    drop(book);
+    Ok(len)
 }
 
 // Makes calls on a log.
 fn enter(book: &mut Book<3>, calls: Vec<Call>) {
     for call in calls {
-        let _reply = book.act(1, call, 0);
+        drop(book.act(1, call, 0));
     }
 }
 
