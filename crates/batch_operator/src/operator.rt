@@ -13,7 +13,7 @@ use seat_rules::{BookSeat, SeatTable, Site};
 use sessions::{Desk, Session};
 use std::alloc::Global;
 use std::sync::{Mutex, Wait};
-use stop_signals::{look, raise};
+use stop_signals::{look, stop};
 
 /// What the lock keeps: a desk that hosts no read copy.
 #[derive(Drop)]
@@ -139,16 +139,7 @@ impl<N: Site> Operator<N> {
         ensures { IsReplied N.place.catalogue session.old session.new (Call.Stop execution) at result }
     {
         let mut kept = self.desk.lock(rt);
-        match kept
-            .desk
-            .act(session, Call::Stop { execution }, at, &self.table)
-        {
-            Ok(reply) => {
-                raise(&mut kept.desk, execution, &self.table);
-                Ok(reply)
-            }
-            Err(refusal) => Err(refusal),
-        }
+        stop(&mut kept.desk, session, execution, at, &self.table)
     }
 
     pub(crate) fn ask(

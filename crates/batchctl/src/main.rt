@@ -1,16 +1,7 @@
 //! `batchctl`: drives a job repository from the command line.
 #![tactic(auto)]
 
-mod arguments;
-mod command_line;
-mod executions;
-mod help;
-mod program;
-mod replies;
-mod run;
-mod starts;
-
-use program::{program, refuse_words};
+use batch_commands::{program, refuse_words};
 use std::io::{Input, Write};
 use std::process::ExitCode;
 use std::rt::Env;
@@ -47,6 +38,3 @@ fn main(rt: HostRuntime) -> ExitCode {
         Err(error) => ExitCode::from(refuse_words(&error, &mut faults)),
     }
 }
-
-#[cfg(test)]
-mod tests;

@@ -3,12 +3,8 @@
 
 mod built_in;
 mod built_in_artifact;
-#[cfg(test)]
-mod item_tests;
 mod number;
 mod pooling;
-#[cfg(test)]
-mod tests;
 
 pub use built_in::BuiltIn;
 pub use built_in_artifact::BuiltInArtifact;

@@ -1,6 +1,6 @@
 -- What is kept of one element more, and of a whole list.
-use Rattle.std.proofs.Common.{◌≡◌, ℕ, ◌+◌, ◌-◌, ◌<◌, ◌≤◌, List, [], ◌∷◌, ◌++◌, length, map, take, get_or, set, refl, sym, ◌∙◌, ap, arith, length-append, Result, Ok, Err, OnOk}
-use Rattle.std.proofs.lemmas.List.{take_more, take_all, append_assoc, map-append, length-map, set_past}
+use Rattle.std.proofs.Common.{◌≡◌, ℕ, ◌+◌, ◌-◌, ◌<◌, List, [], ◌∷◌, ◌++◌, length, map, take, get_or, set, refl, sym, ◌∙◌, ap, arith, length-append, Result, Ok, Err, OnOk}
+use Rattle.std.proofs.lemmas.List.{take_more, append_assoc, map-append, length-map}
 use Rattle.jsl_model.specs.Trees.{joined}
 use Rattle.jsl_model.specs.declared.element.Element.{Element, fold_out-Element}
 use Rattle.jsl_model.specs.declared.element.SplitFlow.{SplitFlow, out-SplitFlow, fold_out-SplitFlow}
@@ -12,7 +12,7 @@ use Rattle.job_walk.specs.declared.element_result.ElementResult.{ElementResult}
 use Rattle.job_walk.specs.declared.kept_list.KeptList.{KeptList}
 use Rattle.job_walk.specs.declared.kept_list.Progress.{Progress}
 use Rattle.job_walk.specs.declared.work_key.WorkKey.{WorkKey}
-use Rattle.job_walk.specs.Walk.{WalkedElement, split_result, element_result}
+use Rattle.job_walk.specs.Walk.{split_result, element_result}
 use Rattle.job_walk.specs.KeptLists.{KeptElement, KeptBody, KeptTree, rows_in, rows_by, insides, starts_from, progress, head_of, tree_first, kept_of, value_kept, lists_in, body_kept, element_kept, flow_kept, kept_element, kept_body, kept_flow}
 use Rattle.job_walk.proofs.Reporting.{states, owns_in, rows-self}
 
@@ -57,14 +57,12 @@ starts-more g es i e now more start lt is so_far adds same =
     adds ∙ (ap (λ r. r ++ start ∷ []) so_far ∙ (ap (λ m. starts_from 0 (map g (take i es)) ++ m ∷ []) (same ∙ sym z)
     ∙ (sym (starts-last 0 (map g (take i es)) (g e)) ∙ ap (starts_from 0) (sym (one-more g es i e lt is)))))
 
--- how many lists were added behind the place of the list itself
-pub added-count : (first now inner : List KeptList) (h : KeptList) → now ≡ (first ++ h ∷ []) ++ inner → length now - length first - 1 ≡ length inner
-added-count first now inner h is =
-    let a : length now ≡ length ((first ++ h ∷ []) ++ inner) = ap length is in
-    let b = length-append (first ++ h ∷ []) inner in
-    let c = length-append first (h ∷ []) in
-    let d : length (h ∷ []) ≡ 1 = omega arith in
-    omega (arith, a, b, c, d)
+-- how many lists were added
+pub added-count : (first now inner : List KeptList) → now ≡ first ++ inner → length now - length first ≡ length inner
+added-count first now inner is =
+    let a : length now ≡ length (first ++ inner) = ap length is in
+    let b = length-append first inner in
+    omega (arith, a, b)
 
 set-middle : (xs : List KeptList) (y v : KeptList) (zs : List KeptList) → set ((xs ++ y ∷ []) ++ zs) (length xs) v ≡ xs ++ v ∷ zs
 set-middle [] y v zs = refl
@@ -103,24 +101,21 @@ abbrev kept_by : Progress → List ElementResult → List ℕ → ℕ → KeptLi
 kept_by s o t n = record { progress = s; results = o; starts = t; size = n }
 
 -- a whole list
-pub list-kept : (facts : WorkKey → Fact) (es : List Element) (from : List ℕ) (i : ℕ) (first now : List KeptList) (h : KeptList) (base len : ℕ) (s : Progress) (owns owns2 : List ElementResult) (starts : List ℕ) (none : ElementResult)
-    → length es ≤ i → base ≡ length first → len ≡ length now
-    → now ≡ (first ++ h ∷ []) ++ joined (map (λ e. (kept_element facts e).inside) (take i es))
-    → owns ≡ map (λ e. (kept_element facts e).row.own_result) (take i es) → starts ≡ starts_from 0 (map (λ e. (kept_element facts e).inside) (take i es))
-    → owns2 ≡ owns → s ≡ progress (length es) (rows_by es (set owns2 (length es) none)) from
+pub list-kept : (facts : WorkKey → Fact) (es : List Element) (from : List ℕ) (first now : List KeptList) (h : KeptList) (base len : ℕ) (s : Progress) (owns owns2 : List ElementResult) (starts : List ℕ)
+    → base ≡ length first → len ≡ length now
+    → now ≡ (first ++ h ∷ []) ++ joined (map (λ e. (kept_element facts e).inside) es)
+    → owns ≡ map (λ e. (kept_element facts e).row.own_result) es → starts ≡ starts_from 0 (map (λ e. (kept_element facts e).inside) es)
+    → owns2 ≡ owns → s ≡ progress (length es) (rows_by es owns2) from
     → set now base (kept_by s owns starts (len - base)) ≡ first ++ kept_of facts es from
-list-kept facts es from i first now h base len s owns owns2 starts none all at count lists o t shared w =
-    let whole : take i es ≡ es = take_all i es all in
-    let inner : joined (map (λ e. (kept_element facts e).inside) (take i es)) ≡ joined (insides (states facts es)) = ap (λ x. joined (map (λ e. (kept_element facts e).inside) x)) whole ∙ ap joined (insides-by facts es) in
+list-kept facts es from first now h base len s owns owns2 starts at count lists o t shared w =
+    let inner : joined (map (λ e. (kept_element facts e).inside) es) ≡ joined (insides (states facts es)) = ap joined (insides-by facts es) in
     let now2 : now ≡ (first ++ h ∷ []) ++ joined (insides (states facts es)) = lists ∙ ap (λ r. (first ++ h ∷ []) ++ r) inner in
-    let o2 : owns ≡ owns_in (states facts es) = o ∙ (ap (map (λ e. (kept_element facts e).row.own_result)) whole ∙ owns-by facts es) in
-    let t2 : starts ≡ starts_from 0 (insides (states facts es)) = t ∙ (ap (λ x. starts_from 0 (map (λ e. (kept_element facts e).inside) x)) whole ∙ ap (starts_from 0) (insides-by facts es)) in
+    let o2 : owns ≡ owns_in (states facts es) = o ∙ owns-by facts es in
+    let t2 : starts ≡ starts_from 0 (insides (states facts es)) = t ∙ ap (starts_from 0) (insides-by facts es) in
     let n : length (rows_in (states facts es)) ≡ length es = length-map (states facts es) (λ (x : KeptElement). x.row) ∙ length-map es (kept_element facts) in
-    let m : length owns ≡ length es = ap length o2 ∙ (length-map (rows_in (states facts es)) (λ (r : WalkedElement). r.own_result) ∙ n) in
-    let same : set owns (length es) none ≡ owns = set_past owns (length es) none (omega (arith, m)) in
-    let rows : rows_by es (set owns (length es) none) ≡ rows_in (states facts es) = ap (rows_by es) (same ∙ o2) ∙ sym (rows-self facts es) in
+    let rows : rows_by es owns2 ≡ rows_in (states facts es) = ap (rows_by es) (shared ∙ o2) ∙ sym (rows-self facts es) in
     let s2 : s ≡ progress (length (rows_in (states facts es))) (rows_in (states facts es)) from =
-    w ∙ (ap (λ r. progress (length es) r from) (ap (λ x. rows_by es (set x (length es) none)) shared ∙ rows) ∙ ap (λ k. progress k (rows_in (states facts es)) from) (sym n)) in
+    w ∙ (ap (λ r. progress (length es) r from) rows ∙ ap (λ k. progress k (rows_in (states facts es)) from) (sym n)) in
     let a : length now ≡ length ((first ++ h ∷ []) ++ joined (insides (states facts es))) = ap length now2 in
     let b = length-append (first ++ h ∷ []) (joined (insides (states facts es))) in
     let c = length-append first (h ∷ []) in

@@ -6,28 +6,22 @@ use Rattle.job_walk.specs.declared.kept_list.KeptList.{KeptList}
 use Rattle.job_walk.specs.declared.kept_list.ListChange.{ListChange}
 use Rattle.job_walk.specs.KeptLists.{put_in, put_at, put_all, Puts, starts_from}
 
-pub put-set : (lists : List KeptList) (n : ℕ) (change : ListChange) (d : KeptList) → n < length lists → put_at n change lists ≡ set lists n (put_in change (get_or lists n d))
-put-set [] n change d lt = absurd (omega (arith, lt))
-put-set (x ∷ lists) zero change d lt = refl
-put-set (x ∷ lists) (suc n) change d lt = ap (λ r. x ∷ r) (put-set lists n change d (omega (arith, lt)))
+-- where its list is there
+pub put_here : (lists : List KeptList) (n : ℕ) (change : ListChange) (d : KeptList) → n < length lists → put_at n change lists ≡ set lists n (put_in change (get_or lists n d))
+put_here [] n change d lt = absurd (omega (arith, lt))
+put_here (x ∷ lists) zero change d lt = refl
+put_here (x ∷ lists) (suc n) change d lt = ap (λ r. x ∷ r) (put_here lists n change d (omega (arith, lt)))
 
-put-past : (lists : List KeptList) (n : ℕ) (change : ListChange) → length lists ≤ n → put_at n change lists ≡ lists
-put-past [] n change le = refl
-put-past (x ∷ lists) zero change le = absurd (omega (arith, le))
-put-past (x ∷ lists) (suc n) change le = ap (λ r. x ∷ r) (put-past lists n change (omega (arith, le)))
+-- where it is not
+pub put_past : (lists : List KeptList) (n : ℕ) (change : ListChange) → length lists ≤ n → put_at n change lists ≡ lists
+put_past [] n change le = refl
+put_past (x ∷ lists) zero change le = absurd (omega (arith, le))
+put_past (x ∷ lists) (suc n) change le = ap (λ r. x ∷ r) (put_past lists n change (omega (arith, le)))
 
-put-last : (changes : List ListChange) (change : ListChange) (lists : List KeptList) → put_all (changes ++ change ∷ []) lists ≡ put_all changes (put_at change.list change lists)
-put-last [] change lists = refl
-put-last (l ∷ changes) change lists = ap (put_at l.list l) (put-last changes change lists)
-
--- the last change, put where it belongs
-pub put_here : (changes : List ListChange) (change : ListChange) (lists : List KeptList) (d : KeptList) → change.list < length lists
-    → put_all (changes ++ change ∷ []) lists ≡ put_all changes (set lists change.list (put_in change (get_or lists change.list d)))
-put_here changes change lists d lt = put-last changes change lists ∙ ap (put_all changes) (put-set lists change.list change d lt)
-
--- a change of a list that is not there
-pub put_past : (changes : List ListChange) (change : ListChange) (lists : List KeptList) → length lists ≤ change.list → put_all (changes ++ change ∷ []) lists ≡ put_all changes lists
-put_past changes change lists le = put-last changes change lists ∙ ap (put_all changes) (put-past lists change.list change le)
+-- the last of several
+pub put_last : (changes : List ListChange) (change : ListChange) (lists : List KeptList) → put_all (changes ++ change ∷ []) lists ≡ put_all changes (put_at change.list change lists)
+put_last [] change lists = refl
+put_last (l ∷ changes) change lists = ap (put_at l.list l) (put_last changes change lists)
 
 -- ---- THE LAW OF A WAY UP: the changes inside an element, and then its list's own
 
@@ -52,7 +46,7 @@ puts-list others inner change base head pre old new post named puts before after
     let a = length-append before (put_in change head ∷ pre) in
     let b : length (put_in change head ∷ pre) ≡ length pre + 1 = omega arith in
     let far : length (before ++ (put_in change head ∷ pre)) ≡ (base + 1) + length pre = omega (arith, here, a, b) in
-    put-last inner change (whole ++ after)
+    put_last inner change (whole ++ after)
     ∙ (ap (put_all inner)
     (ap (λ n. put_at n change (whole ++ after)) at
     ∙ (ap (put_at (length before) change) (append_assoc before (head ∷ (pre ++ (old ++ post))) after)

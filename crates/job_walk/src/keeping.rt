@@ -1,10 +1,12 @@
 //! What is kept of a job at first.
-ghost use Rattle.std.specs.Prelude.{◌≡◌, ◌++◌, ◌≤◌, ℕ, List, map, IfOk, OnOk};
+ghost use Rattle.std.specs.Prelude.{◌≡◌, ◌++◌, ◌≤◌, ℕ, List, [], length, map, IfOk, OnOk};
+ghost use Rattle.jsl_model.specs.Trees.{joined};
+ghost use Rattle.jsl_model.specs.declared.element.Element.{Element};
 ghost use Rattle.job_walk.specs.declared.work_key.WorkKey.{WorkKey};
 ghost use Rattle.job_walk.specs.Cursors.{known_keys};
 ghost use Rattle.job_walk.specs.Keys.{key_of};
 ghost use Rattle.job_walk.specs.Walk.{fact_of, flow_result, runnable_result, step_result};
-ghost use Rattle.job_walk.specs.KeptLists.{count_of, count_in, kept_of, kept_element, tree_first, value_kept, lists_in, key_count};
+ghost use Rattle.job_walk.specs.KeptLists.{count_of, count_in, kept_of, kept_element, tree_first, value_kept, lists_in, key_count, starts_from, progress, rows_by};
 
 use crate::element_result::{ElementResult, known_fact, result_by};
 use crate::facts::{Known, Value};
@@ -16,6 +18,7 @@ use crate::work_key::key_of;
 use batch_ids::{Listed, OutOfMemory, T256, WorkOutcome};
 use jsl_model::{Body, Element, ElementIndex};
 use std::alloc::Global;
+use std::mem::replace;
 
 /// What stands in the place of what is kept of a list, until that is known.
 fn nothing_kept(alloc: Global) -> KeptList {
@@ -31,6 +34,61 @@ fn nothing_kept(alloc: Global) -> KeptList {
         starts: Listed::new(alloc),
         size: 0,
     }
+}
+
+/// Adds what is kept of the lists inside the elements of a list; what each element comes to by
+/// itself, and how many of the added lists stand before those inside it.
+#[cycle(keeping)]
+fn keep_each(
+    alloc: Global,
+    lists: &mut Vec<KeptList>,
+    known: &[Known],
+    index: &ElementIndex,
+    elements: &[Element],
+    results: &mut Listed<ElementResult>,
+    starts: &mut Listed<usize>,
+) -> Result<(), OutOfMemory>
+    requires each { (one : WorkKey) → key_count one (known_keys known.now) ≤ 1 }
+    requires once { (id : List ℕ) → count_of id elements.now ≤ 1 }
+    requires results { results.old ≡ [] }
+    requires starts { starts.old ≡ [] }
+    ensures lists { OnOk result (lists.new.items ≡ lists.old.items ++ joined
+        (map (λ (e : Element). (kept_element (fact_of known.now) e).inside) elements.now)) }
+    ensures results { OnOk result (results.new
+        ≡ map (λ (e : Element). (kept_element (fact_of known.now) e).row.own_result) elements.now) }
+    ensures starts { OnOk result (starts.new ≡ starts_from 0
+        (map (λ (e : Element). (kept_element (fact_of known.now) e).inside) elements.now)) }
+{
+    let base = lists.len();
+    for element in elements {
+        starts.push(lists.len() - base)?;
+        let result = keep_element(alloc, lists, known, index, element)?;
+        results.push(result)?;
+    }
+    Ok(())
+}
+
+/// How far the walk comes over a list of which nothing has changed.
+fn walk_all(
+    alloc: Global,
+    index: &ElementIndex,
+    elements: &[Element],
+    results: &[ElementResult],
+    from: &T256,
+) -> Result<Progress, OutOfMemory>
+    requires once { (id : List ℕ) → count_of id elements.now ≤ 1 }
+    requires same { length results.now ≡ length elements.now }
+    ensures { IfOk result (λ come. come
+        ≡ progress (length elements.now) (rows_by elements.now results.now) from.now) }
+{
+    let none = ElementResult::Outcome(WorkOutcome::Completed, T256::empty());
+    let place = place_in(index, elements, from);
+    let many = elements.len();
+    let come = walk_on(
+        alloc, index, elements, results, many, &none, from, place, many,
+    );
+    drop(none);
+    come
 }
 
 /// Adds what is kept of a list, and of those inside it.
@@ -52,30 +110,24 @@ pub(crate) fn keep_list(
     lists.push(nothing_kept(alloc))?;
     let mut results = Listed::new(alloc);
     let mut starts = Listed::new(alloc);
-    for element in elements {
-        starts.push(lists.len() - base - 1)?;
-        let result = keep_element(alloc, lists, known, index, element)?;
-        results.push(result)?;
-    }
-    let none = ElementResult::Outcome(WorkOutcome::Completed, T256::empty());
-    let progress = walk_on(
+    keep_each(
         alloc,
+        lists,
+        known,
         index,
         elements,
-        results.as_slice(),
-        elements.len(),
-        &none,
-        from,
-        place_in(index, elements, from),
-        elements.len(),
+        &mut results,
+        &mut starts,
     )?;
+    let progress = walk_all(alloc, index, elements, results.as_slice(), from)?;
     let size = lists.len() - base;
-    lists[base] = KeptList {
+    let kept = KeptList {
         progress,
         results,
         starts,
         size,
     };
+    drop(replace(&mut lists[base], kept));
     Ok(())
 }
 

@@ -1,6 +1,6 @@
 //! What a walk changes when it learns something: the lists on the way from the element to the job's
 //! list, and no other.
-ghost use Rattle.std.specs.Prelude.{◌≡◌, ◌+◌, ◌<◌, ◌≤◌, ◌^◌, true, false, ℕ, List, length, map, drop, slice_index_or, IfOk, OnOk};
+ghost use Rattle.std.specs.Prelude.{◌≡◌, ◌+◌, ◌++◌, ◌∷◌, [], ◌<◌, ◌≤◌, ◌^◌, true, false, ℕ, List, length, map, drop, slice_index_or, IfOk, OnOk};
 ghost use Rattle.job_walk.specs.declared.kept_list.KeptList.{KeptList};
 ghost use Rattle.job_walk.specs.declared.work_key.WorkKey.{WorkKey};
 ghost use Rattle.job_walk.specs.Cursors.{known_keys, put_fact, is_shown};
@@ -118,6 +118,20 @@ fn size_of(lists: &[KeptList]) -> usize
     lists[0].size
 }
 
+/// Adds a change of a list; what the list comes to by it.
+fn add_change(
+    alloc: Global,
+    changes: &mut Vec<ListChange>,
+    change: ListChange,
+) -> Result<Value, OutOfMemory>
+    ensures value { IfOk result (λ value. value ≡ change.progress.value) }
+    ensures changes { OnOk result (changes.new.items ≡ changes.old.items ++ change ∷ []) }
+{
+    let place = changes.len();
+    changes.push(change)?;
+    changes[place].progress.value.try_clone(alloc)
+}
+
 /// What changes of a list and of those inside it, once this is learnt of a work key that it shows,
 /// and what the list comes to then. `lists` begins with what is kept of them, and the first of these
 /// has the number `base`.
@@ -161,7 +175,7 @@ pub(crate) fn list_changes(
         key,
         fact,
     )?;
-    let progress = walk_on(
+    let come = walk_on(
         alloc,
         index,
         elements,
@@ -171,15 +185,22 @@ pub(crate) fn list_changes(
         &element.id,
         Some(place),
         kept.progress.left,
-    )?;
-    let value = progress.value.try_clone(alloc)?;
-    changes.push(ListChange {
-        list: base,
-        progress,
-        place,
-        result,
-    })?;
-    Ok(value)
+    );
+    match come {
+        Ok(progress) => {
+            let change = ListChange {
+                list: base,
+                progress,
+                place,
+                result,
+            };
+            Ok(add_change(alloc, changes, change)?)
+        }
+        Err(error) => {
+            drop(result);
+            Err(error)
+        }
+    }
 }
 
 /// What an element comes to by itself, once this is learnt of a work key that it shows, with what

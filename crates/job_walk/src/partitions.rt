@@ -1,11 +1,11 @@
 //! What a step comes to by itself, of what is known of its partitions.
-ghost use Rattle.std.specs.Prelude.{◌≡◌, IfOk, map};
+ghost use Rattle.std.specs.Prelude.{◌≡◌, ◌++◌, IfOk, OnOk, map};
 ghost use Rattle.job_walk.specs.Keys.{key_of, numbers_to};
 ghost use Rattle.job_walk.specs.Walk.{fact_of, known_of, is_left, is_busy, is_barred, is_failed, is_stopped, has_fact, keys_with, strongest_outcome, partitioned_result, step_result};
 
 use crate::element_result::{ElementResult, ended_value, fact_of, runnable_result};
 use crate::facts::{Fact, Known, Value};
-use crate::work_key::key_of;
+use crate::work_key::{WorkKey, key_of};
 use batch_ids::{BatchStatus, Listed, OutOfMemory, T256, WorkOutcome};
 use std::alloc::Global;
 
@@ -71,13 +71,15 @@ fn known_partitions(
     Ok(partitions)
 }
 
-/// The partitions that may be run, and those that are being run.
-fn open_value(alloc: Global, partitions: &[Known]) -> Result<Value, OutOfMemory>
-    ensures { IfOk result (λ value. value
-        ≡ Value.Open (keys_with is_left partitions.now) (keys_with is_busy partitions.now)) }
+/// Adds the partitions that may be run, and those that are being run.
+fn add_open(
+    ready: &mut Listed<WorkKey>,
+    busy: &mut Listed<WorkKey>,
+    partitions: &[Known],
+) -> Result<(), OutOfMemory>
+    ensures ready { OnOk result (ready.new ≡ ready.old ++ keys_with is_left partitions.now) }
+    ensures busy { OnOk result (busy.new ≡ busy.old ++ keys_with is_busy partitions.now) }
 {
-    let mut ready = Listed::new(alloc);
-    let mut busy = Listed::new(alloc);
     for one in partitions {
         match &one.fact {
             Fact::Nothing => ready.push(one.key.try_clone()?)?,
@@ -87,6 +89,17 @@ fn open_value(alloc: Global, partitions: &[Known]) -> Result<Value, OutOfMemory>
             Fact::Over(_, _) => {}
         }
     }
+    Ok(())
+}
+
+/// The partitions that may be run, and those that are being run.
+fn open_value(alloc: Global, partitions: &[Known]) -> Result<Value, OutOfMemory>
+    ensures { IfOk result (λ value. value
+        ≡ Value.Open (keys_with is_left partitions.now) (keys_with is_busy partitions.now)) }
+{
+    let mut ready = Listed::new(alloc);
+    let mut busy = Listed::new(alloc);
+    add_open(&mut ready, &mut busy, partitions)?;
     Ok(Value::Open { ready, busy })
 }
 

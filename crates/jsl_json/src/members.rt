@@ -62,8 +62,8 @@ pub fn own_of(alloc: Global, value: &Value) -> Result<ElementMembers<'_>, Member
     ensures inside { IfOk result (λ own. IsInside (kind_in own.kind) (view value.now)) }
     ensures wrong { result ≡ Err MemberFault.Wrong → own_of (view value.now) ≡ None }
 {
-    let kind = element_kind(alloc, value)?;
     let id = text_of(alloc, value, "id")?;
+    let kind = element_kind(alloc, value)?;
     Ok(ElementMembers { id, kind })
 }
 
@@ -74,7 +74,7 @@ fn element_kind(alloc: Global, value: &Value) -> Result<ElementKind<'_>, MemberF
     ensures wrong { result ≡ Err MemberFault.Wrong → element_kind (view value.now) ≡ None }
 {
     if is_text(value, "kind", "step") {
-        Ok(ElementKind::Step(step_of(alloc, value)?))
+        step_of(alloc, value)
     } else if is_text(value, "kind", "flow") {
         flow_of(alloc, value)
     } else if is_text(value, "kind", "split") {
@@ -87,9 +87,9 @@ fn element_kind(alloc: Global, value: &Value) -> Result<ElementKind<'_>, MemberF
 }
 
 #[tactic(auto, unfolding(crate::specs::Members::step_of_data))]
-fn step_of(alloc: Global, value: &Value) -> Result<StepParts, MemberFault>
-    ensures read { IfOk result (λ parts. step_of_data (view value.now)
-        ≡ Some (kind_in (ElementKind.Step parts))) }
+fn step_of(alloc: Global, value: &Value) -> Result<ElementKind<'_>, MemberFault>
+    ensures read { IfOk result (λ kind. step_of_data (view value.now) ≡ Some (kind_in kind)) }
+    ensures inside { IfOk result (λ kind. IsInside (kind_in kind) (view value.now)) }
     ensures wrong { result ≡ Err MemberFault.Wrong → step_of_data (view value.now) ≡ None }
 {
     if !has_only(
@@ -108,22 +108,22 @@ fn step_of(alloc: Global, value: &Value) -> Result<StepParts, MemberFault>
     ) {
         return Err(MemberFault::Wrong);
     }
-    let next = optional_text_of(alloc, value, "next")?;
-    let transitions = transitions_at(alloc, value)?;
     let start_limit = count_or(value, "start-limit", 0).ok_or(MemberFault::Wrong)?;
     let allow_start_if_complete = truth_or(value, "allow-start-if-complete", false).ok_or(
         MemberFault::Wrong,
     )?;
     let partitions = partitions_at(value).ok_or(MemberFault::Wrong)?;
+    let next = optional_text_of(alloc, value, "next")?;
+    let transitions = transitions_at(alloc, value)?;
     let task = task_at(alloc, value)?;
-    Ok(StepParts {
+    Ok(ElementKind::Step(StepParts {
         next,
         transitions,
         start_limit,
         allow_start_if_complete,
         partitions,
         task,
-    })
+    }))
 }
 
 #[tactic(auto, unfolding(crate::specs::Members::flow_of_data))]
@@ -135,9 +135,9 @@ fn flow_of(alloc: Global, value: &Value) -> Result<ElementKind<'_>, MemberFault>
     if !has_only(value, &["kind", "id", "next", "elements", "transitions"]) {
         return Err(MemberFault::Wrong);
     }
+    let elements = list_at(value, "elements").ok_or(MemberFault::Wrong)?;
     let next = optional_text_of(alloc, value, "next")?;
     let transitions = transitions_at(alloc, value)?;
-    let elements = list_at(value, "elements").ok_or(MemberFault::Wrong)?;
     Ok(ElementKind::Flow {
         next,
         transitions,
@@ -168,8 +168,8 @@ fn decision_of(alloc: Global, value: &Value) -> Result<ElementKind<'_>, MemberFa
     if !has_only(value, &["kind", "id", "ref", "transitions"]) {
         return Err(MemberFault::Wrong);
     }
-    let transitions = transitions_at(alloc, value)?;
     let artifact = text_of(alloc, value, "ref")?;
+    let transitions = transitions_at(alloc, value)?;
     Ok(ElementKind::Decision {
         transitions,
         artifact,

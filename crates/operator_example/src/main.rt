@@ -6,7 +6,7 @@
 ghost use Rattle.std.specs.Prelude.{◌≡◌};
 
 use anyhow::{Result, bail};
-use batch_ids::{ExecutionId, MetricStep, Parameters, Refusal, T256, WorkOutcome};
+use batch_ids::{ExecutionId, MetricStep, Parameters, Refusal, T256, WorkId, WorkOutcome};
 use batch_operator::{CopyCount, Operator};
 use jsl_json::read_catalogue;
 use jsl_model::Catalogue;
@@ -27,55 +27,68 @@ const STARTS: u64 = 20;
 /// How often work is claimed, or the repository looked at.
 const TURNS: u64 = 100;
 
-/// The session of a thread that has ended, or what its last call was refused for.
-type Ended<N> = Result<Session<N>, Refusal>;
+/// How many operations the session of a thread had accepted, or what its last call was refused for.
+type Ended = Result<u64, Refusal>;
 
 /// Starts job executions.
 fn start_jobs<N: Site>(
     rt: &(impl Wait + AllocGlobal),
     operator: &Operator<N>,
     mut session: Session<N>,
-) -> Ended<N> {
+) -> Ended {
     for turn in 0..STARTS {
         let job = T256::new(rt.alloc(), "report")?;
         let parameters = Parameters::none();
-        operator.start(rt, &mut session, job, parameters, turn)?;
+        drop(operator.start(rt, &mut session, job, parameters, turn)?);
     }
-    Ok(session)
+    Ok(session.accepted())
 }
 
 /// Claims work and finishes it.
-fn work<N: Site>(rt: &impl Wait, operator: &Operator<N>, mut session: Session<N>) -> Ended<N> {
+fn work<N: Site>(rt: &impl Wait, operator: &Operator<N>, mut session: Session<N>) -> Ended {
     for turn in 0..TURNS {
-        if let Reply::Work(item) = operator.claim(rt, &mut session, turn)? {
+        if let Some(work) = claim(rt, operator, &mut session, turn)? {
             let (outcome, step) = (WorkOutcome::Completed, MetricStep::zero());
-            operator.finish(rt, &mut session, item.work, outcome, None, step, turn)?;
+            drop(operator.finish(rt, &mut session, work, outcome, None, step, turn)?);
         }
     }
-    Ok(session)
+    Ok(session.accepted())
+}
+
+/// The work item that a session has claimed, unless there is no work.
+fn claim<N: Site>(
+    rt: &impl Wait,
+    operator: &Operator<N>,
+    session: &mut Session<N>,
+    turn: u64,
+) -> Result<Option<WorkId>, Refusal> {
+    match operator.claim(rt, session, turn)? {
+        Reply::Work(item) => Ok(Some(item.work)),
+        _ => Ok(None),
+    }
 }
 
 /// Brings the read copy to the history, looks on, and asks the first job execution to stop, unless it is finished by then.
-fn look_on<N: Site>(rt: &impl Wait, operator: &Operator<N>, mut session: Session<N>) -> Ended<N> {
+fn look_on<N: Site>(rt: &impl Wait, operator: &Operator<N>, mut session: Session<N>) -> Ended {
     let first = ExecutionId::new(1);
     for turn in 0..TURNS {
         if operator.copies() > 0 {
             operator.publish(rt, 0)?;
         }
-        let _counts = operator.status_counts(rt, &mut session)?;
+        drop(operator.status_counts(rt, &mut session)?);
         let _operations = operator.operations_at_least(&mut session);
         if !operator.stop_seen(&mut session, first) {
-            let _reply = operator.stop(rt, &mut session, first, turn);
+            drop(operator.stop(rt, &mut session, first, turn));
         }
     }
-    Ok(session)
+    Ok(session.accepted())
 }
 
 fn two_start<N: Site + Send + Sync, R: Threads + Wait + AllocGlobal + Sync>(
     rt: &R,
     operator: &Operator<N>,
     sessions: (Session<N>, Session<N>),
-) -> (Ended<N>, Ended<N>) {
+) -> (Ended, Ended) {
     let (one, other) = sessions;
     thread::join(
         rt,
@@ -88,7 +101,7 @@ fn one_works<N: Site + Send + Sync, R: Threads + Wait + Sync>(
     rt: &R,
     operator: &Operator<N>,
     sessions: (Session<N>, Session<N>),
-) -> (Ended<N>, Ended<N>) {
+) -> (Ended, Ended) {
     let (one, other) = sessions;
     thread::join(
         rt,
@@ -111,12 +124,12 @@ fn run_threads<N: Site + Send + Sync, R: Threads + Wait + AllocGlobal + Sync>(
     );
     let mut accepted: u64 = 0;
     for ended in [starters.0, starters.1, others.0, others.1] {
-        accepted = accepted.saturating_add(ended?.accepted());
+        accepted = accepted.saturating_add(ended?);
     }
     Ok(accepted)
 }
 
-/// Says what a session that is opened behind the threads sees.
+/// Makes the operator, and lends it to all that use it.
 fn run<N: Site + Send + Sync, R: Threads + Wait + Print + AllocGlobal + Sync>(
     rt: &R,
     table: SeatTable,
@@ -131,7 +144,17 @@ fn run<N: Site + Send + Sync, R: Threads + Wait + Print + AllocGlobal + Sync>(
         bail!("one copy is too many");
     };
     let operator = Operator::<N>::new(rt.alloc(), table, seat, catalogue, copies)?;
-    let accepted = run_threads(rt, &operator)?;
+    let shown = show(rt, &operator);
+    drop(operator);
+    shown
+}
+
+/// Runs the threads, and says what a session that is opened behind them sees.
+fn show<N: Site + Send + Sync, R: Threads + Wait + Print + AllocGlobal + Sync>(
+    rt: &R,
+    operator: &Operator<N>,
+) -> Result<()> {
+    let accepted = run_threads(rt, operator)?;
     let mut session = operator.open_session(rt)?;
     let shown = operator.operations_at_least(&mut session);
     println!(rt;
@@ -139,15 +162,22 @@ fn run<N: Site + Send + Sync, R: Threads + Wait + Print + AllocGlobal + Sync>(
         session.number(),
         shown == accepted
     )?;
-    let job = T256::new(rt.alloc(), "report")?;
-    if let Answer::JobInstanceCount(count) = operator.get_job_instance_count(
-        rt,
-        &mut session,
-        job,
-    )? {
-        println!(rt; "{count} job instances")?;
-    }
+    let count = job_instances(rt, operator, &mut session)?;
+    println!(rt; "{count} job instances")?;
     Ok(())
+}
+
+/// How many job instances the job has.
+fn job_instances<N: Site>(
+    rt: &(impl Wait + AllocGlobal),
+    operator: &Operator<N>,
+    session: &mut Session<N>,
+) -> Result<u64> {
+    let job = T256::new(rt.alloc(), "report")?;
+    match operator.get_job_instance_count(rt, session, job)? {
+        Answer::JobInstanceCount(count) => Ok(count),
+        _ => bail!("the number of job instances is of another kind"),
+    }
 }
 
 /// Makes the table, and names it.

@@ -379,14 +379,21 @@ impl Records {
         ensures unchanged { OnErr result (self.new ≡ self.old) }
     {
         let has_no_work = self.has_no_work(first.execution);
-        self.instances.reserve(1)?;
-        self.executions.reserve(1)?;
-        index_instance(
+        match index_instance(
+            &mut self.instances,
+            &mut self.executions,
             &mut self.instances_by_name,
             &mut self.executions_by_instance,
             &instance,
             &first,
-        )?;
+        ) {
+            Ok(()) => (),
+            Err(refused) => {
+                drop(first);
+                drop(instance);
+                return Err(refused);
+            }
+        }
         self.works_by_step.keep_if(has_no_work);
         self.counts.add(first.status());
         add_running(&mut self.running_by_name, &first);
@@ -406,11 +413,31 @@ impl Records {
             record self.old { executions = self.old.executions ++ row ∷ [] }) }
         ensures unchanged { OnErr result (self.new ≡ self.old) }
     {
+        match self.index_steps(row.instance) {
+            Ok(()) => self.put_execution(row),
+            Err(refused) => {
+                drop(row);
+                Err(refused)
+            }
+        }
+    }
+
+    /// The same of a job instance whose steps are looked up already.
+    fn put_execution(&mut self, row: ExecutionRow) -> Result<(), OutOfMemory>
+        requires { AreBelow row.execution (execution_numbers self.old.executions) }
+        ensures added { OnOk result (self.new ≡
+            record self.old { executions = self.old.executions ++ row ∷ [] }) }
+        ensures unchanged { OnErr result (self.new ≡ self.old) }
+    {
         let has_no_work = self.has_no_work(row.execution);
-        self.index_steps(row.instance)?;
-        self.executions.reserve(1)?;
-        self.executions_by_instance
-            .push(row.instance.value(), row.execution.value())?;
+        let by_instance = &mut self.executions_by_instance;
+        match index_execution(&mut self.executions, by_instance, &row) {
+            Ok(()) => (),
+            Err(refused) => {
+                drop(row);
+                return Err(refused);
+            }
+        }
         self.works_by_step.keep_if(has_no_work);
         self.counts.add(row.status());
         add_running(&mut self.running_by_name, &row);
@@ -429,14 +456,20 @@ impl Records {
             record self.old { works = self.old.works ++ row ∷ [] }) }
         ensures unchanged { OnErr result (self.new ≡ self.old) }
     {
-        self.works.reserve(1)?;
         let owner = owner_of(self.executions.as_slice(), row.execution);
-        index_work(
+        match index_work(
+            &mut self.works,
             &mut self.works_by_step,
             &mut self.works_by_execution,
             owner,
             &row,
-        )?;
+        ) {
+            Ok(()) => (),
+            Err(refused) => {
+                drop(row);
+                return Err(refused);
+            }
+        }
         put_last(&mut self.works, row);
         Ok(())
     }
@@ -458,7 +491,7 @@ impl Records {
         self.counts.remove(was);
         self.counts.add(row.status());
         change_running(&mut self.running_by_name, was.is_unfinished(), &row);
-        self.executions[place] = row;
+        replace_row(&mut self.executions, place, row);
     }
 
     /// Changes the row of a work item, which keeps what its claim gave it. It takes no memory.
@@ -473,7 +506,7 @@ impl Records {
         let Some(place) = work_place(self.works.as_slice(), w) else {
             unreachable!();
         };
-        self.works[place] = row;
+        replace_row(&mut self.works, place, row);
     }
 
     /// The numbers of the unfinished job executions of a job, rising. It costs time as there are of
@@ -590,15 +623,46 @@ fn put_last<T>(rows: &mut Vec<T>, row: T)
     }
 }
 
-/// Puts a job instance into the index by its name, and its first job execution into that by the job
-/// instance.
+/// Puts a row where another one stands, which goes.
+fn replace_row<T: Drop>(rows: &mut Vec<T>, place: usize, row: T)
+    requires { place < length rows.old.items }
+    ensures { rows.new.items ≡ slice_set rows.old.items place row }
+{
+    rows[place] = row;
+}
+
+/// Makes room for a job execution, and puts it into the index by the job instance.
+fn index_execution(
+    executions: &mut Vec<ExecutionRow>,
+    by_instance: &mut NumberLists,
+    row: &ExecutionRow,
+) -> Result<(), OutOfMemory>
+    ensures rows { executions.new.items ≡ executions.old.items }
+    ensures room { OnOk result (vec_len executions.new < vec_capacity executions.new) }
+    ensures owned { OnOk result ((q : ℕ) → numbers_under by_instance.new q
+        ≡ (if row.now.instance == q then numbers_under by_instance.old q ++ row.now.execution ∷ [] else numbers_under by_instance.old q)) }
+    ensures unowned { OnErr result ((q : ℕ)
+        → numbers_under by_instance.new q ≡ numbers_under by_instance.old q) }
+{
+    executions.reserve(1)?;
+    by_instance.push(row.instance.value(), row.execution.value())
+}
+
+/// Makes room for a job instance and its first job execution, and puts the one into the index by its
+/// name, the other into that by the job instance.
 fn index_instance(
+    instances: &mut Vec<JobInstance>,
+    executions: &mut Vec<ExecutionRow>,
     by_name: &mut NameLists,
     by_instance: &mut NumberLists,
     instance: &JobInstance,
     first: &ExecutionRow,
 ) -> Result<(), OutOfMemory>
     requires { AreBelow instance.now.instance (numbers_named by_name.old instance.now.job) }
+    ensures instances { instances.new.items ≡ instances.old.items }
+    ensures executions { executions.new.items ≡ executions.old.items }
+    ensures instance_room { OnOk result (vec_len instances.new < vec_capacity instances.new) }
+    ensures execution_room { OnOk result (vec_len executions.new < vec_capacity executions.new) }
     ensures named { OnOk result ((q : List ℕ) → numbers_named by_name.new q
         ≡ (if bytes_eq instance.now.job q then numbers_named by_name.old q ++ instance.now.instance ∷ [] else numbers_named by_name.old q)) }
     ensures owned { OnOk result ((q : ℕ) → numbers_under by_instance.new q
@@ -608,6 +672,8 @@ fn index_instance(
     ensures unowned { OnErr result ((q : ℕ)
         → numbers_under by_instance.new q ≡ numbers_under by_instance.old q) }
 {
+    instances.reserve(1)?;
+    executions.reserve(1)?;
     let name = instance.job.as_str();
     by_name.push(name, instance.instance.value())?;
     match by_instance.push(first.instance.value(), first.execution.value()) {
@@ -639,9 +705,10 @@ fn owner_of(executions: &[ExecutionRow], x: ExecutionId) -> Option<InstanceId>
     Some(row.instance)
 }
 
-/// Puts a work item into the index by the step of its job instance, if that is given, and into that by
-/// its job execution.
+/// Makes room for a work item, and puts it into the index by the step of its job instance, if that is
+/// given, and into that by its job execution.
 fn index_work(
+    works: &mut Vec<WorkRow>,
     by_step: &mut StepLists,
     by_execution: &mut NumberLists,
     owner: Option<InstanceId>,
@@ -649,6 +716,8 @@ fn index_work(
 ) -> Result<(), OutOfMemory>
     requires { IfSome owner (λ i. has_steps by_step.old i ≡ true
         → AreBelow row.now.work (numbers_of_step by_step.old i row.now.element)) }
+    ensures rows { works.new.items ≡ works.old.items }
+    ensures room { OnOk result (vec_len works.new < vec_capacity works.new) }
     ensures has { (i : ℕ) → has_steps by_step.new i ≡ has_steps by_step.old i }
     ensures stepped { OnOk result ((i : ℕ) (q : List ℕ) → has_steps by_step.old i ≡ true
         → numbers_of_step by_step.new i q
@@ -660,6 +729,7 @@ fn index_work(
     ensures unowned { OnErr result ((q : ℕ)
         → numbers_under by_execution.new q ≡ numbers_under by_execution.old q) }
 {
+    works.reserve(1)?;
     match owner {
         Some(owner) => index_step(by_step, by_execution, owner.value(), row),
         None => by_execution.push(row.execution.value(), row.work.value()),

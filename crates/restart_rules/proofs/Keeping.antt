@@ -1,9 +1,7 @@
 -- The partitions of a step, one after another, and the job executions with work of it.
-use Rattle.std.proofs.Common.{◌≡◌, ℕ, suc, ◌+◌, ◌-◌, ◌==◌, ◌<◌, ◌||◌, not, Bool, true, false, cond, List, [], ◌∷◌, ◌++◌, map, filter, length, take, drop, get_or, refl, sym, ◌∙◌, ap, arith, Option, None, Some, Bor}
-use Rattle.std.specs.List.{last_or, list_all, range_with_len, slice_get}
-use Rattle.std.specs.Option.{option_copied}
+use Rattle.std.proofs.Common.{◌≡◌, ℕ, suc, ◌+◌, ◌-◌, ◌==◌, ◌<◌, ◌||◌, not, Bool, true, false, cond, List, [], ◌∷◌, ◌++◌, map, filter, length, take, drop, get_or, sym, ◌∙◌, ap, arith}
+use Rattle.std.specs.List.{list_all, range_with_len}
 use Rattle.std.proofs.lemmas.List.{append_assoc, take_more, drop_more, map-append, reverse-append}
-use Rattle.batch_history.specs.Restarts.{newest_work}
 use Rattle.batch_history.specs.declared.rows.WorkRow.{WorkRow}
 use Rattle.batch_history.specs.Partitions.{completes_in, done_among, each_once, executions_with, is_done_after, is_kept_after}
 

@@ -5,6 +5,7 @@ ghost use Rattle.std.specs.List.{filter_map, flat_map};
 ghost use Rattle.std.specs.Option.{option_copied, option_map};
 ghost use Rattle.batch_history.specs.Restarts.{carried_step, exit_carried, exit_if_done, exit_of_newest, first_plan, is_barred, kept_partitions, plan_by, starts_of, works_of_step};
 ghost use Rattle.job_walk.specs.Cursors.{begins_in};
+ghost use Rattle.job_walk.specs.Keys.{key_of};
 ghost use Rattle.jsl_model.specs.Jobs.{JobTree};
 ghost use Rattle.batch_history.specs.Partitions.{partitions_kept};
 ghost use Rattle.records.specs.Left.{works_of_instance};
@@ -33,12 +34,19 @@ pub fn first_plan(alloc: Global, job: &Job) -> Result<Plan, OutOfMemory>
     let Some(first) = job.elements().first() else {
         unreachable!();
     };
-    Ok(Plan {
-        from: first.id.try_clone()?,
+    Ok(plan_from(alloc, first.id.try_clone()?))
+}
+
+/// The plan that begins at this element, with nothing carried, kept or barred.
+fn plan_from(alloc: Global, from: T256) -> Plan
+    ensures { result ≡ record { from = from; carried = []; kept = []; barred = [] } }
+{
+    Plan {
+        from,
         carried: Listed::new(alloc),
         kept: Listed::new(alloc),
         barred: Listed::new(alloc),
-    })
+    }
 }
 
 /// The work items of a job instance, which are looked up by their step.
@@ -164,89 +172,176 @@ fn kept_of_step(earlier: &Earlier<'_>, one: &StepOf<'_>) -> Result<Vec<u32>, Out
     }
 }
 
-/// Adds the partitions of a step that are kept.
-fn add_kept(
-    kept: &mut Vec<WorkKey>,
-    earlier: &Earlier<'_>,
-    one: &StepOf<'_>,
-) -> Result<(), OutOfMemory>
-    requires { AreLookedUp earlier.now }
-    ensures { OnOk result (kept.new.items ≡ kept.old.items
-        ++ kept_partitions (earlier_works earlier.now) (job_step one.now)) }
+/// Adds these partitions of a step.
+fn add_keys(kept: &mut Listed<WorkKey>, id: &T256, numbers: &[u32]) -> Result<(), OutOfMemory>
+    ensures { OnOk result (kept.new ≡ kept.old ++ map (key_of id.now) numbers.now) }
 {
-    let numbers = kept_of_step(earlier, one)?;
-    for partition in numbers.as_slice() {
+    for partition in numbers {
         kept.push(WorkKey {
-            element: one.id.try_clone()?,
+            element: id.try_clone()?,
             partition: *partition,
         })?;
     }
     Ok(())
 }
 
-fn carried_steps(
+/// Adds the partitions of a step that are kept.
+fn add_kept(
+    kept: &mut Listed<WorkKey>,
+    earlier: &Earlier<'_>,
+    one: &StepOf<'_>,
+) -> Result<(), OutOfMemory>
+    requires { AreLookedUp earlier.now }
+    ensures { OnOk result (kept.new ≡ kept.old
+        ++ kept_partitions (earlier_works earlier.now) (job_step one.now)) }
+{
+    let numbers = kept_of_step(earlier, one)?;
+    add_keys(kept, one.id, numbers.as_slice())
+}
+
+/// Adds the steps that are carried.
+fn add_carried_steps(
+    carried: &mut Listed<(T256, T256)>,
     earlier: &Earlier<'_>,
     steps: &[StepOf<'_>],
-) -> Result<Listed<(T256, T256)>, OutOfMemory>
+) -> Result<(), OutOfMemory>
     requires { AreLookedUp earlier.now }
-    ensures { IfOk result (λ carried. carried
-        ≡ filter_map (carried_step (earlier_works earlier.now)) (map job_step steps.now)) }
+    ensures { OnOk result (carried.new ≡ carried.old
+        ++ filter_map (carried_step (earlier_works earlier.now)) (map job_step steps.now)) }
 {
-    let mut carried = Vec::new(earlier.alloc);
     for one in steps {
         if let Some(step) = carried_step(earlier, one)? {
             carried.push(step)?;
         }
     }
-    Ok(Listed::from_vec(carried))
+    Ok(())
 }
 
-fn kept_partitions(
+/// Adds the partitions that are kept.
+fn add_kept_partitions(
+    kept: &mut Listed<WorkKey>,
     earlier: &Earlier<'_>,
     steps: &[StepOf<'_>],
-) -> Result<Listed<WorkKey>, OutOfMemory>
+) -> Result<(), OutOfMemory>
     requires { AreLookedUp earlier.now }
-    ensures { IfOk result (λ kept. kept
-        ≡ flat_map (kept_partitions (earlier_works earlier.now)) (map job_step steps.now)) }
+    ensures { OnOk result (kept.new ≡ kept.old
+        ++ flat_map (kept_partitions (earlier_works earlier.now)) (map job_step steps.now)) }
 {
-    let mut kept = Vec::new(earlier.alloc);
     for one in steps {
-        add_kept(&mut kept, earlier, one)?;
+        add_kept(kept, earlier, one)?;
     }
-    Ok(Listed::from_vec(kept))
+    Ok(())
 }
 
-fn barred_steps(earlier: &Earlier<'_>, steps: &[StepOf<'_>]) -> Result<Listed<T256>, OutOfMemory>
+/// Adds the steps that are barred.
+fn add_barred_steps(
+    barred: &mut Listed<T256>,
+    earlier: &Earlier<'_>,
+    steps: &[StepOf<'_>],
+) -> Result<(), OutOfMemory>
     requires { AreLookedUp earlier.now }
-    ensures { IfOk result (λ barred. barred ≡ map (λ s. s.id)
+    ensures { OnOk result (barred.new ≡ barred.old ++ map (λ s. s.id)
         (filter (is_barred (earlier_works earlier.now)) (map job_step steps.now))) }
 {
-    let mut barred = Vec::new(earlier.alloc);
     for one in steps {
         if is_barred(earlier, one)? {
             barred.push(one.id.try_clone()?)?;
         }
     }
-    Ok(Listed::from_vec(barred))
+    Ok(())
+}
+
+/// Adds to a plan what it takes over of these steps.
+fn take_over_steps(
+    plan: &mut Plan,
+    earlier: &Earlier<'_>,
+    steps: &[StepOf<'_>],
+) -> Result<(), OutOfMemory>
+    requires { AreLookedUp earlier.now }
+    ensures { OnOk result (plan.new ≡ record {
+      from = plan.old.from;
+      carried = plan.old.carried
+          ++ filter_map (carried_step (earlier_works earlier.now)) (map job_step steps.now);
+      kept = plan.old.kept
+          ++ flat_map (kept_partitions (earlier_works earlier.now)) (map job_step steps.now);
+      barred = plan.old.barred ++ map (λ s. s.id)
+          (filter (is_barred (earlier_works earlier.now)) (map job_step steps.now));
+    }) }
+{
+    add_carried_steps(&mut plan.carried, earlier, steps)?;
+    add_kept_partitions(&mut plan.kept, earlier, steps)?;
+    add_barred_steps(&mut plan.barred, earlier, steps)
+}
+
+/// Adds to a plan what it takes over of these elements, by the work items of the earlier job
+/// executions of its job instance.
+fn take_over(
+    plan: &mut Plan,
+    earlier: &Earlier<'_>,
+    elements: &[Element],
+) -> Result<(), OutOfMemory>
+    requires looked_up { AreLookedUp earlier.now }
+    requires begins { plan.old
+        ≡ record { from = plan.old.from; carried = []; kept = []; barred = [] } }
+    ensures { (job : JobTree) → job.elements ≡ elements.now → OnOk result (plan.new
+        ≡ plan_by plan.old.from (earlier_works earlier.now) (Some job)) }
+{
+    let steps = steps_in(earlier.alloc, elements)?;
+    take_over_steps(plan, earlier, steps.as_slice())
+}
+
+/// The same where the work items are not looked up by their step yet.
+fn take_over_unsorted(
+    plan: &mut Plan,
+    alloc: Global,
+    records: &Records,
+    instance: InstanceId,
+    elements: &[Element],
+) -> Result<(), OutOfMemory>
+    requires { plan.old ≡ record { from = plan.old.from; carried = []; kept = []; barred = [] } }
+    ensures { (job : JobTree) → job.elements ≡ elements.now → OnOk result (plan.new
+        ≡ plan_by plan.old.from
+        (works_of_instance instance records.now.executions records.now.works) (Some job)) }
+{
+    let steps = records.steps_made(alloc, instance)?;
+    let earlier = Earlier {
+        alloc,
+        records,
+        instance,
+        steps: &steps,
+    };
+    take_over(plan, &earlier, elements)
+}
+
+/// The same by the rows of the job instance.
+fn take_over_by_rows(
+    plan: &mut Plan,
+    alloc: Global,
+    records: &Records,
+    instance: InstanceId,
+    elements: &[Element],
+) -> Result<(), OutOfMemory>
+    requires { plan.old ≡ record { from = plan.old.from; carried = []; kept = []; barred = [] } }
+    ensures { (job : JobTree) → job.elements ≡ elements.now → OnOk result (plan.new
+        ≡ plan_by plan.old.from
+        (works_of_instance instance records.now.executions records.now.works) (Some job)) }
+{
+    match records.steps_of(instance) {
+        None => take_over_unsorted(plan, alloc, records, instance, elements),
+        Some(steps) => {
+            let earlier = Earlier {
+                alloc,
+                records,
+                instance,
+                steps,
+            };
+            take_over(plan, &earlier, elements)
+        }
+    }
 }
 
 /// The plan of a job execution that begins at this element, of a job with these elements, by the
 /// work items of the earlier job executions of its job instance.
-fn plan_by(earlier: &Earlier<'_>, from: T256, elements: &[Element]) -> Result<Plan, OutOfMemory>
-    requires { AreLookedUp earlier.now }
-    ensures { (job : JobTree) → job.elements ≡ elements.now → IfOk result (λ plan. plan
-        ≡ plan_by from (earlier_works earlier.now) (Some job)) }
-{
-    let steps = steps_in(earlier.alloc, elements)?;
-    Ok(Plan {
-        from,
-        carried: carried_steps(earlier, steps.as_slice())?,
-        kept: kept_partitions(earlier, steps.as_slice())?,
-        barred: barred_steps(earlier, steps.as_slice())?,
-    })
-}
-
-/// The same by the rows of the job instance.
 pub(crate) fn plan_after(
     alloc: Global,
     records: &Records,
@@ -258,21 +353,12 @@ pub(crate) fn plan_after(
         ≡ plan_by from (works_of_instance instance records.now.executions records.now.works)
         (Some job)) }
 {
-    if let Some(steps) = records.steps_of(instance) {
-        let earlier = Earlier {
-            alloc,
-            records,
-            instance,
-            steps,
-        };
-        return plan_by(&earlier, from, elements);
+    let mut plan = plan_from(alloc, from);
+    match take_over_by_rows(&mut plan, alloc, records, instance, elements) {
+        Ok(()) => Ok(plan),
+        Err(refused) => {
+            drop(plan);
+            Err(refused)
+        }
     }
-    let made = records.steps_made(alloc, instance)?;
-    let earlier = Earlier {
-        alloc,
-        records,
-        instance,
-        steps: &made,
-    };
-    plan_by(&earlier, from, elements)
 }

@@ -6,7 +6,7 @@ ghost use Rattle.batch_history.specs.declared.rows.LastNumbers.{LastNumbers as L
 ghost use Rattle.batch_history.specs.Due.{IsDue};
 ghost use Rattle.batch_history.specs.Replies.{is_execution, is_later_than, is_restartable, refusal_by_status, restart_plan, restart_refusal};
 ghost use Rattle.batch_history.specs.Restarts.{restart_point};
-ghost use Rattle.batch_history.specs.Walks.{job_named};
+ghost use Rattle.batch_history.specs.Walks.{job_named, walk_value};
 ghost use Rattle.restart_rules.specs.Placed.{begins_in_job, is_placed, IsPlaced};
 ghost use Rattle.restart_rules.specs.Restarting.{plan_due, rows_over};
 
@@ -46,21 +46,35 @@ fn refusal_by_status(restartable: bool, status: BatchStatus) -> Option<Refusal>
 }
 
 /// The element at which a restart begins.
-fn restart_point(taken_up: bool, value: Value, from: &T256) -> Result<T256, OutOfMemory>
-    ensures { IfOk result (λ point. point ≡ restart_point taken_up value from.now) }
+fn restart_point<'a>(taken_up: bool, value: &'a Value, from: &'a T256) -> &'a T256
+    ensures { result.now ≡ restart_point taken_up value.now from.now }
 {
     match value {
         Value::Ended { point, .. } => match point {
-            Some(point) => if taken_up {
-                Ok(point)
-            } else {
-                from.try_clone()
-            },
-            None => from.try_clone(),
+            Some(point) => if taken_up { point } else { from },
+            None => from,
         },
-        Value::Open { .. } => from.try_clone(),
-        Value::Done { .. } => from.try_clone(),
+        Value::Open { .. } => from,
+        Value::Done { .. } => from,
     }
+}
+
+/// The element at which the restart of a job execution begins.
+fn point_of_restart(
+    alloc: Global,
+    records: &Records,
+    catalogue: &Catalogue,
+    row: &ExecutionRow,
+) -> Result<T256, OutOfMemory>
+    requires { is_placed catalogue.now row.now ≡ true }
+    ensures { IfOk result (λ point. point ≡ restart_point (is_some row.now.start)
+        (walk_value catalogue.now records.now.works row.now.execution row.now.job row.now.plan)
+        row.now.plan.from) }
+{
+    let value = walk_value(alloc, catalogue, records, row)?;
+    let point = restart_point(row.start.is_some(), &value, &row.plan.get().from).try_clone();
+    drop(value);
+    point
 }
 
 /// The plan of the restart of a job execution: where it begins, and what it takes over from all job
@@ -82,8 +96,7 @@ pub fn restart_plan(
         begins_in_job plan (job_named catalogue.now row.now.job) ≡ true) }
 {
     let job = job_of(catalogue, row);
-    let value = walk_value(alloc, catalogue, records, row)?;
-    let from = restart_point(row.start.is_some(), value, &row.plan.get().from)?;
+    let from = point_of_restart(alloc, records, catalogue, row)?;
     plan_after(alloc, records, row.instance, from, job.elements())
 }
 

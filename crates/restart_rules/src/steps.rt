@@ -1,10 +1,11 @@
 //! The steps of a job, at any depth.
 ghost use Rattle.std.specs.Prelude.{◌≡◌, ◌++◌, map, IfOk, OnOk};
-ghost use Rattle.batch_history.specs.JobSteps.{all_steps, steps_of_element};
+ghost use Rattle.batch_history.specs.JobSteps.{all_steps, steps_of_element, steps_of_flow};
+ghost use Rattle.jsl_model.specs.Trees.{joined};
 ghost use Rattle.restart_rules.specs.Restarting.{job_step};
 
 use batch_ids::{OutOfMemory, T256};
-use jsl_model::{Body, Element, Step};
+use jsl_model::{Body, Element, SplitFlow, Step};
 use std::alloc::Global;
 
 /// A step with its id.
@@ -30,13 +31,20 @@ fn add_inside<'a>(steps: &mut Vec<StepOf<'a>>, element: &'a Element) -> Result<(
         }
         Body::Decision { .. } => Ok(()),
         Body::Flow(elements) => add_all(steps, elements.as_slice()),
-        Body::Split(flows) => {
-            for flow in flows.as_slice() {
-                add_all(steps, flow.elements.as_slice())?;
-            }
-            Ok(())
-        }
+        Body::Split(flows) => add_flows(steps, flows.as_slice()),
     }
+}
+
+/// Adds the steps of the flows of a split.
+#[cycle(gathering)]
+fn add_flows<'a>(steps: &mut Vec<StepOf<'a>>, flows: &'a [SplitFlow]) -> Result<(), OutOfMemory>
+    ensures { OnOk result (map job_step steps.new.items
+        ≡ map job_step steps.old.items ++ joined (map steps_of_flow flows.now)) }
+{
+    for flow in flows {
+        add_all(steps, flow.elements.as_slice())?;
+    }
+    Ok(())
 }
 
 /// Adds the steps of a list.

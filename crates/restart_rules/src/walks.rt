@@ -1,5 +1,5 @@
 //! The walks of job executions, by their plans and by what their work items tell.
-ghost use Rattle.std.specs.Prelude.{◌≡◌, List, true, Some, IfOk};
+ghost use Rattle.std.specs.Prelude.{◌≡◌, ◌++◌, List, true, Some, IfOk, OnOk};
 ghost use Rattle.batch_history.proofs.Knowing.{known_elements};
 ghost use Rattle.batch_history.specs.Walks.{fact_of_state, job_named, walk_value};
 ghost use Rattle.batch_history.specs.Works.{work_key};
@@ -38,23 +38,49 @@ fn work_key(row: &WorkRow) -> Result<WorkKey, OutOfMemory>
     })
 }
 
+/// What a work item tells of its work key.
+fn known_by(row: &WorkRow) -> Result<Known, OutOfMemory>
+    ensures { IfOk result (λ known. known
+        ≡ record { key = work_key row.now; fact = fact_of_state row.now.state }) }
+{
+    let key = work_key(row)?;
+    match state_fact(&row.state) {
+        Ok(fact) => Ok(Known { key, fact }),
+        Err(refused) => {
+            drop(key);
+            Err(refused)
+        }
+    }
+}
+
+/// Adds what the work items of a job execution tell of its work keys.
+#[tactic(auto, using(crate::proofs::Reading::known_read))]
+fn add_known(known: &mut Vec<Known>, records: &Records, x: ExecutionId) -> Result<(), OutOfMemory>
+    ensures { OnOk result (known.new.items
+        ≡ known.old.items ++ known_elements x records.now.works) }
+{
+    for row in records.works_of(x) {
+        known.push(known_by(row)?)?;
+    }
+    Ok(())
+}
+
 /// What the work items of a job execution tell of its work keys.
 ///
 /// # Errors
 ///
 /// `OutOfMemory` where memory is refused.
-#[tactic(auto, using(crate::proofs::Reading::known_read))]
 pub fn known_of(alloc: Global, records: &Records, x: ExecutionId) -> Result<Vec<Known>, OutOfMemory>
     ensures { IfOk result (λ known. known.items ≡ known_elements x records.now.works) }
 {
     let mut known = Vec::new(alloc);
-    for row in records.works_of(x) {
-        known.push(Known {
-            key: work_key(row)?,
-            fact: state_fact(&row.state)?,
-        })?;
+    match add_known(&mut known, records, x) {
+        Ok(()) => Ok(known),
+        Err(refused) => {
+            drop(known);
+            Err(refused)
+        }
     }
-    Ok(known)
 }
 
 /// The job of a job execution, in whose own list its walk begins.

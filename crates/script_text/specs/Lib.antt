@@ -11,3 +11,4 @@ pub mod Answers
 pub mod Faults
 pub mod Starts
 pub mod Runs
+pub mod Shown

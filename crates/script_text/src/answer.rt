@@ -2,10 +2,8 @@ ghost use Rattle.std.specs.Prelude.{◌≡◌, IfOk};
 ghost use Rattle.serde_json.specs.View.{view};
 ghost use Rattle.script_text.specs.Answers.{answer_data, answer_text};
 
-use crate::lists::{executions_value, instances_value, names_value, numbers_value, steps_value};
-use crate::parameters::parameters_value;
-use crate::records::{execution_value, instance_value, status_counts_value};
-use crate::written::{line_of, one, refused};
+use crate::objects::{one, one_written, refused};
+use crate::written::{Written, line_of};
 use batch_history::Answer;
 use batch_ids::{OutOfMemory, Refusal};
 use serde_json::Value;
@@ -45,34 +43,16 @@ fn answer_value(alloc: Global, answer: &Result<Answer, Refusal>) -> Result<Value
     ensures { IfOk result (λ value. view value ≡ answer_data answer.now) }
 {
     match answer {
-        Ok(Answer::JobNames(names)) => { one(alloc, "names", names_value(alloc, names)?) }
+        Ok(Answer::JobNames(names)) => one_written(alloc, "names", names),
         Ok(Answer::JobInstanceCount(count)) => one(alloc, "count", Value::from(*count)),
-        Ok(Answer::JobInstances(instances)) => {
-            one(alloc, "instances", instances_value(alloc, instances)?)
-        }
-        Ok(Answer::RunningExecutions(executions)) => {
-            one(alloc, "running", numbers_value(alloc, executions)?)
-        }
-        Ok(Answer::Parameters(parameters)) => {
-            one(alloc, "parameters", parameters_value(alloc, parameters)?)
-        }
-        Ok(Answer::JobInstance(instance)) => instance_value(alloc, instance),
-        Ok(Answer::JobExecutions(executions)) => {
-            one(
-                alloc,
-                "job_executions",
-                executions_value(alloc, executions)?,
-            )
-        }
-        Ok(Answer::JobExecution(execution)) => {
-            one(alloc, "job_execution", execution_value(alloc, execution)?)
-        }
-        Ok(Answer::StepExecutions(steps)) => {
-            one(alloc, "step_executions", steps_value(alloc, steps)?)
-        }
-        Ok(Answer::StatusCounts(counts)) => {
-            one(alloc, "counts", status_counts_value(alloc, counts)?)
-        }
+        Ok(Answer::JobInstances(instances)) => one_written(alloc, "instances", instances),
+        Ok(Answer::RunningExecutions(executions)) => one_written(alloc, "running", executions),
+        Ok(Answer::Parameters(parameters)) => one_written(alloc, "parameters", parameters),
+        Ok(Answer::JobInstance(instance)) => instance.written(alloc),
+        Ok(Answer::JobExecutions(executions)) => one_written(alloc, "job_executions", executions),
+        Ok(Answer::JobExecution(execution)) => one_written(alloc, "job_execution", execution),
+        Ok(Answer::StepExecutions(steps)) => one_written(alloc, "step_executions", steps),
+        Ok(Answer::StatusCounts(counts)) => one_written(alloc, "counts", counts),
         Err(refusal) => refused(alloc, refusal.name()),
     }
 }

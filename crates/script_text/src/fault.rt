@@ -3,10 +3,11 @@ ghost use Rattle.serde_json.specs.View.{view};
 ghost use Rattle.jsl_json.specs.Catalogues.{is_out_of_memory};
 ghost use Rattle.script_text.specs.Faults.{fault_data, fault_text};
 
-use crate::written::{count_or_null, line_of};
+use crate::objects::{Shown, count_or_null, object_value};
+use crate::written::line_of;
 use batch_ids::OutOfMemory;
 use jsl_json::ReadFault;
-use serde_json::{Value, json};
+use serde_json::Value;
 use std::alloc::Global;
 
 /// The line of a fault that is not `OutOfMemory`, with its line feed: `{"fault":NAME}` for a line
@@ -31,14 +32,20 @@ fn fault_value(alloc: Global, fault: &ReadFault) -> Result<Value, OutOfMemory>
 {
     let name = fault.name();
     match fault {
-        ReadFault::NotJson => json!(in alloc; {"fault": name}),
-        ReadFault::NotACatalogue => json!(in alloc; {"fault": name}),
-        ReadFault::BadElement { job, element } => json!(in alloc; {
-            "element": count_or_null(*element),
-            "fault": name,
-            "job": *job
-        }),
-        ReadFault::InJob { job, .. } => json!(in alloc; {"fault": name, "job": *job}),
+        ReadFault::NotJson => object_value(alloc, &[("fault", Shown::Text(name))]),
+        ReadFault::NotACatalogue => object_value(alloc, &[("fault", Shown::Text(name))]),
+        ReadFault::BadElement { job, element } => object_value(
+            alloc,
+            &[
+                ("element", count_or_null(*element)),
+                ("fault", Shown::Text(name)),
+                ("job", Shown::Count(*job)),
+            ],
+        ),
+        ReadFault::InJob { job, .. } => object_value(
+            alloc,
+            &[("fault", Shown::Text(name)), ("job", Shown::Count(*job))],
+        ),
         ReadFault::OutOfMemory => unreachable!(),
     }
 }

@@ -8,6 +8,7 @@ ghost use Rattle.batch_ids.specs.Parameters.{pairs_of};
 ghost use Rattle.script_text.specs.Parameters.{parameters_at, parameters_within, parameters_data, has_texts, text_pairs};
 ghost use Rattle.script_text.specs.RawCommands.{pairs_in};
 
+use crate::written::Written;
 use batch_ids::{OutOfMemory, Parameters, Refusal};
 use json_members::optional_object;
 use serde_json::{Map, Value, put};
@@ -81,8 +82,16 @@ fn text_pairs(
     Ok(pairs)
 }
 
+impl Written for Parameters {
+    ghost shown = { parameters_data };
+
+    fn written(&self, alloc: Global) -> Result<Value, OutOfMemory> {
+        parameters_value(alloc, self)
+    }
+}
+
 /// Parameters as they are written: an object of texts, by rising keys.
-pub fn parameters_value(alloc: Global, parameters: &Parameters) -> Result<Value, OutOfMemory>
+fn parameters_value(alloc: Global, parameters: &Parameters) -> Result<Value, OutOfMemory>
     ensures { IfOk result (λ value. view value ≡ parameters_data parameters.now) }
 {
     let mut members = Map::new(alloc);

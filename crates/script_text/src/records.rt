@@ -1,74 +1,86 @@
 // The records that answers show.
-ghost use Rattle.std.specs.Prelude.{◌≡◌, IfOk};
-ghost use Rattle.serde_json.specs.View.{view};
 ghost use Rattle.script_text.specs.Written.{counts_data};
 ghost use Rattle.script_text.specs.Answers.{instance_data, execution_data, step_data, status_counts};
 
-use crate::metrics::metrics_value;
-use crate::written::{count_or_null, counts_value, text_or_null};
+use crate::objects::{Shown, count_or_null, object_value, text_or_null};
+use crate::written::{Written, counts_value};
 use batch_history::{CountsByStatus, JobExecution, JobInstance, StepExecution};
 use batch_ids::{BatchStatus, OutOfMemory};
-use serde_json::{Value, json};
+use serde_json::Value;
 use std::alloc::Global;
 
 /// A job instance.
-pub fn instance_value(alloc: Global, instance: &JobInstance) -> Result<Value, OutOfMemory>
-    ensures { IfOk result (λ value. view value ≡ instance_data instance.now) }
-{
-    json!(in alloc; {
-        "instance": instance.instance.value(),
-        "job": instance.job.as_str()
-    })
+impl Written for JobInstance {
+    ghost shown = { instance_data };
+
+    fn written(&self, alloc: Global) -> Result<Value, OutOfMemory> {
+        object_value(
+            alloc,
+            &[
+                ("instance", Shown::Count(self.instance.value())),
+                ("job", Shown::Text(self.job.as_str())),
+            ],
+        )
+    }
 }
 
 /// The record of a job execution.
-pub fn execution_value(alloc: Global, execution: &JobExecution) -> Result<Value, OutOfMemory>
-    ensures { IfOk result (λ value. view value ≡ execution_data execution.now) }
-{
-    let exit = text_or_null(alloc, &execution.exit)?;
-    json!(in alloc; {
-        "create": execution.create,
-        "end": count_or_null(execution.end),
-        "execution": execution.execution.value(),
-        "exit": exit,
-        "instance": execution.instance.value(),
-        "job": execution.job.as_str(),
-        "start": count_or_null(execution.start),
-        "status": execution.status.name(),
-        "updated": execution.updated
-    })
+impl Written for JobExecution {
+    ghost shown = { execution_data };
+
+    fn written(&self, alloc: Global) -> Result<Value, OutOfMemory> {
+        object_value(
+            alloc,
+            &[
+                ("create", Shown::Count(self.create)),
+                ("end", count_or_null(self.end)),
+                ("execution", Shown::Count(self.execution.value())),
+                ("exit", text_or_null(&self.exit)),
+                ("instance", Shown::Count(self.instance.value())),
+                ("job", Shown::Text(self.job.as_str())),
+                ("start", count_or_null(self.start)),
+                ("status", Shown::Text(self.status.name())),
+                ("updated", Shown::Count(self.updated)),
+            ],
+        )
+    }
 }
 
 /// The record of a step execution.
-pub fn step_value(alloc: Global, step: &StepExecution) -> Result<Value, OutOfMemory>
-    ensures { IfOk result (λ value. view value ≡ step_data step.now) }
-{
-    let exit = text_or_null(alloc, &step.exit)?;
-    let metrics = metrics_value(alloc, &step.metrics)?;
-    json!(in alloc; {
-        "end": count_or_null(step.end),
-        "execution": step.execution.value(),
-        "exit": exit,
-        "metrics": metrics,
-        "start": step.start,
-        "status": step.status.name(),
-        "step": step.step.as_str(),
-        "work": step.work.value()
-    })
+impl Written for StepExecution {
+    ghost shown = { step_data };
+
+    fn written(&self, alloc: Global) -> Result<Value, OutOfMemory> {
+        object_value(
+            alloc,
+            &[
+                ("end", count_or_null(self.end)),
+                ("execution", Shown::Count(self.execution.value())),
+                ("exit", text_or_null(&self.exit)),
+                ("metrics", Shown::Metrics(&self.metrics)),
+                ("start", Shown::Count(self.start)),
+                ("status", Shown::Text(self.status.name())),
+                ("step", Shown::Text(self.step.as_str())),
+                ("work", Shown::Count(self.work.value())),
+            ],
+        )
+    }
 }
 
 /// How many job executions have each batch status.
-pub fn status_counts_value(alloc: Global, counts: &CountsByStatus) -> Result<Value, OutOfMemory>
-    ensures { IfOk result (λ value. view value ≡ counts_data (status_counts counts.now)) }
-{
-    let named = [
-        (BatchStatus::Starting.name(), counts.starting),
-        (BatchStatus::Started.name(), counts.started),
-        (BatchStatus::Stopping.name(), counts.stopping),
-        (BatchStatus::Stopped.name(), counts.stopped),
-        (BatchStatus::Failed.name(), counts.failed),
-        (BatchStatus::Completed.name(), counts.completed),
-        (BatchStatus::Abandoned.name(), counts.abandoned),
-    ];
-    counts_value(alloc, &named)
+impl Written for CountsByStatus {
+    ghost shown = { λ counts. counts_data (status_counts counts) };
+
+    fn written(&self, alloc: Global) -> Result<Value, OutOfMemory> {
+        let named = [
+            (BatchStatus::Starting.name(), self.starting),
+            (BatchStatus::Started.name(), self.started),
+            (BatchStatus::Stopping.name(), self.stopping),
+            (BatchStatus::Stopped.name(), self.stopped),
+            (BatchStatus::Failed.name(), self.failed),
+            (BatchStatus::Completed.name(), self.completed),
+            (BatchStatus::Abandoned.name(), self.abandoned),
+        ];
+        counts_value(alloc, &named)
+    }
 }

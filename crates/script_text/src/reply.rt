@@ -1,12 +1,12 @@
 ghost use Rattle.std.specs.Prelude.{◌≡◌, IfOk};
-ghost use Rattle.serde_json.specs.View.{view};
-ghost use Rattle.script_text.specs.Replies.{item_data, single_members, task_members, with_partition, reply_data, reply_text, bad_line_text};
-ghost use Rattle.serde_json.specs.Data.{Members, object};
+ghost use Rattle.serde_json.specs.View.{view, members_view};
+ghost use Rattle.script_text.specs.Replies.{item_data, single_members, task_members, reply_data, reply_text, bad_line_text};
 
-use crate::written::{line_of, one, refused, text_or_null};
+use crate::objects::{Shown, members_of, object_with, one, one_written, refused, text_or_null};
+use crate::written::{Written, line_of};
 use batch_history::{Reply, WorkItem, WorkTask};
 use batch_ids::{OutOfMemory, Refusal, T256, Text};
-use serde_json::{Value, json, put};
+use serde_json::{Map, Value};
 use std::alloc::Global;
 
 /// The line that replies to a call, with its line feed: compact JSON, the members of each object in
@@ -45,85 +45,78 @@ fn reply_value(alloc: Global, reply: &Result<Reply, Refusal>) -> Result<Value, O
     ensures { IfOk result (λ value. view value ≡ reply_data reply.now) }
 {
     match reply {
-        Ok(Reply::Execution(execution)) => json!(in alloc; {"execution": execution.value()}),
-        Ok(Reply::Work(item)) => one(alloc, "work", item_value(alloc, item)?),
-        Ok(Reply::Closed(execution)) => json!(in alloc; {"closed": execution.value()}),
-        Ok(Reply::Nothing) => json!(in alloc; {"nothing": true}),
-        Ok(Reply::Done) => json!(in alloc; {"done": true}),
-        Ok(Reply::Go) => json!(in alloc; {"go": true}),
-        Ok(Reply::StopAsked) => json!(in alloc; {"stop": true}),
+        Ok(Reply::Execution(execution)) => {
+            one(alloc, "execution", Value::from(execution.value()))
+        }
+        Ok(Reply::Work(item)) => one_written(alloc, "work", item),
+        Ok(Reply::Closed(execution)) => one(alloc, "closed", Value::from(execution.value())),
+        Ok(Reply::Nothing) => one(alloc, "nothing", Value::Bool(true)),
+        Ok(Reply::Done) => one(alloc, "done", Value::Bool(true)),
+        Ok(Reply::Go) => one(alloc, "go", Value::Bool(true)),
+        Ok(Reply::StopAsked) => one(alloc, "stop", Value::Bool(true)),
         Err(refusal) => refused(alloc, refusal.name()),
     }
 }
 
-fn item_value(alloc: Global, item: &WorkItem) -> Result<Value, OutOfMemory>
-    ensures { IfOk result (λ value. view value ≡ item_data item.now) }
-{
-    let value = task_value(alloc, item)?;
-    with_partition(alloc, value, item.partition)
-}
+impl Written for WorkItem {
+    ghost shown = { item_data };
 
-/// The object with the partition of a work item, where it names one.
-fn with_partition(alloc: Global, value: Value, partition: Option<u32>) -> Result<Value, OutOfMemory>
-    ensures { (members : Members) → view value ≡ object members
-        → IfOk result (λ made. view made ≡ object (with_partition partition members)) }
-{
-    match partition {
-        None => Ok(value),
-        Some(partition) => match value {
-            Value::Object(mut members) => {
-                put(&mut members, alloc, "partition", Value::from(partition))?;
-                Ok(Value::Object(members))
-            }
-            other => Ok(other),
-        },
+    fn written(&self, alloc: Global) -> Result<Value, OutOfMemory> {
+        let members = task_members(alloc, self)?;
+        match self.partition {
+            None => Ok(Value::Object(members)),
+            Some(partition) => object_with(alloc, members, "partition", Value::from(partition)),
+        }
     }
 }
 
-fn task_value(alloc: Global, item: &WorkItem) -> Result<Value, OutOfMemory>
-    ensures { IfOk result (λ value. view value ≡ object (task_members item.now.task item.now)) }
+/// The members of a work item but its partition.
+fn task_members(alloc: Global, item: &WorkItem) -> Result<Map<String, Value>, OutOfMemory>
+    ensures { IfOk result (λ made. members_view made.entries ≡ task_members item.now.task item.now) }
 {
     match &item.task {
-        WorkTask::Batchlet { artifact } => single_value(alloc, "batchlet", artifact, item),
-        WorkTask::Decision { artifact } => single_value(alloc, "decision", artifact, item),
+        WorkTask::Batchlet { artifact } => single_members(alloc, "batchlet", artifact, item),
+        WorkTask::Decision { artifact } => single_members(alloc, "decision", artifact, item),
         WorkTask::Chunk {
             reader,
             processor,
             writer,
             item_count,
             checkpoint,
-        } => {
-            let checkpoint = text_or_null(alloc, checkpoint)?;
-            let processor = text_or_null(alloc, processor)?;
-            json!(in alloc; {
-                "checkpoint": checkpoint,
-                "element": item.element.as_str(),
-                "execution": item.execution.value(),
-                "item-count": *item_count,
-                "kind": "chunk",
-                "processor": processor,
-                "reader": reader.as_str(),
-                "work": item.work.value(),
-                "writer": writer.as_str()
-            })
-        }
+        } => members_of(
+            alloc,
+            &[
+                ("checkpoint", text_or_null(checkpoint)),
+                ("element", Shown::Text(item.element.as_str())),
+                ("execution", Shown::Count(item.execution.value())),
+                ("item-count", Shown::Count(u64::from(*item_count))),
+                ("kind", Shown::Text("chunk")),
+                ("processor", text_or_null(processor)),
+                ("reader", Shown::Text(reader.as_str())),
+                ("work", Shown::Count(item.work.value())),
+                ("writer", Shown::Text(writer.as_str())),
+            ],
+        ),
     }
 }
 
-fn single_value(
+fn single_members<'a>(
     alloc: Global,
-    kind: &str,
-    artifact: &T256,
-    item: &WorkItem,
-) -> Result<Value, OutOfMemory>
-    ensures { IfOk result (λ value. view value
-        ≡ object (single_members kind.now artifact.now item.now)) }
+    kind: &'a str,
+    artifact: &'a T256,
+    item: &'a WorkItem,
+) -> Result<Map<String, Value>, OutOfMemory>
+    ensures { IfOk result (λ made. members_view made.entries
+        ≡ single_members kind.now artifact.now item.now) }
 {
-    json!(in alloc; {
-        "element": item.element.as_str(),
-        "execution": item.execution.value(),
-        "kind": kind,
-        "ref": artifact.as_str(),
-        "work": item.work.value()
-    })
+    members_of(
+        alloc,
+        &[
+            ("element", Shown::Text(item.element.as_str())),
+            ("execution", Shown::Count(item.execution.value())),
+            ("kind", Shown::Text(kind)),
+            ("ref", Shown::Text(artifact.as_str())),
+            ("work", Shown::Count(item.work.value())),
+        ],
+    )
 }

@@ -3,13 +3,13 @@ ghost use Rattle.std.specs.Prelude.{◌≡◌, map, IfOk};
 ghost use Rattle.serde_json.specs.Data.{array, no_members};
 ghost use Rattle.serde_json.specs.View.{view, members_view};
 ghost use Rattle.script_text.specs.Written.{with_members};
-ghost use Rattle.script_text.specs.Runs.{run_step_data, step_by_id, values_of, execution_data, execution_text};
+ghost use Rattle.script_text.specs.Runs.{run_step_data, run_steps_data, step_by_id, values_of, execution_data, execution_text};
 
-use crate::metrics::metrics_value;
-use crate::written::{line_of, text_or_null};
+use crate::objects::{Shown, members_of, object_value, object_with, text_or_null};
+use crate::written::line_of;
 use batch_history::{JobExecution, StepExecution};
 use batch_ids::OutOfMemory;
-use serde_json::{Map, Value, json, put};
+use serde_json::{Map, Value, put};
 use std::alloc::Global;
 
 /// The line in which a run tells of a job execution, with its line feed: compact JSON with the members
@@ -39,14 +39,23 @@ fn execution_value(
 ) -> Result<Value, OutOfMemory>
     ensures { IfOk result (λ value. view value ≡ execution_data execution.now steps.now) }
 {
-    let exit = text_or_null(alloc, &execution.exit)?;
-    let steps = values_of(alloc, steps_by_id(alloc, steps)?)?;
-    json!(in alloc; {
-        "execution": execution.execution.value(),
-        "exit": exit,
-        "status": execution.status.name(),
-        "steps": steps
-    })
+    let members = members_of(
+        alloc,
+        &[
+            ("execution", Shown::Count(execution.execution.value())),
+            ("exit", text_or_null(&execution.exit)),
+            ("status", Shown::Text(execution.status.name())),
+        ],
+    )?;
+    object_with(alloc, members, "steps", steps_value(alloc, steps)?)
+}
+
+/// The step executions, by the ids of their steps.
+fn steps_value(alloc: Global, steps: &[StepExecution]) -> Result<Value, OutOfMemory>
+    ensures { IfOk result (λ value. view value ≡ run_steps_data steps.now) }
+{
+    let by_id = steps_by_id(alloc, steps)?;
+    values_of(alloc, by_id)
 }
 
 /// The step executions by the ids of their steps.
@@ -79,12 +88,13 @@ fn values_of(alloc: Global, members: Map<String, Value>) -> Result<Value, OutOfM
 fn step_value(alloc: Global, step: &StepExecution) -> Result<Value, OutOfMemory>
     ensures { IfOk result (λ value. view value ≡ run_step_data step.now) }
 {
-    let exit = text_or_null(alloc, &step.exit)?;
-    let metrics = metrics_value(alloc, &step.metrics)?;
-    json!(in alloc; {
-        "exit": exit,
-        "metrics": metrics,
-        "status": step.status.name(),
-        "step": step.step.as_str()
-    })
+    object_value(
+        alloc,
+        &[
+            ("exit", text_or_null(&step.exit)),
+            ("metrics", Shown::Metrics(&step.metrics)),
+            ("status", Shown::Text(step.status.name())),
+            ("step", Shown::Text(step.step.as_str())),
+        ],
+    )
 }

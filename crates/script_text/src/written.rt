@@ -1,11 +1,56 @@
 ghost use Rattle.std.specs.Prelude.{◌≡◌, false, map, IfOk};
+ghost use Rattle.serde_json.specs.Data.{Data, string};
 ghost use Rattle.serde_json.specs.View.{view};
 ghost use Rattle.serde_json.specs.Written.{has_float};
-ghost use Rattle.script_text.specs.Written.{line_of, one, text_or_null, count_or_null, counts_data, refused};
+ghost use Rattle.script_text.specs.Written.{line_of, count, list_of, counts_data};
 
-use batch_ids::{OutOfMemory, Text};
-use serde_json::{Map, Value, json, put};
+use batch_ids::{ExecutionId, Listed, OutOfMemory, T256};
+use serde_json::{Map, Value, put};
 use std::alloc::Global;
+
+/// What is written as a value.
+pub trait Written {
+    // the value as it is written
+    ghost shown: { Self → Data };
+
+    /// The value as it is written.
+    fn written(&self, alloc: Global) -> Result<Value, OutOfMemory>
+        ensures { IfOk result (λ value. view value ≡ shown self.now) };
+}
+
+impl Written for T256 {
+    ghost shown = { string };
+
+    fn written(&self, alloc: Global) -> Result<Value, OutOfMemory> {
+        Value::try_from_str(alloc, self.as_str())
+    }
+}
+
+impl Written for ExecutionId {
+    ghost shown = { count };
+
+    fn written(&self, _alloc: Global) -> Result<Value, OutOfMemory> {
+        Ok(Value::from(self.value()))
+    }
+}
+
+impl<T: Written> Written for Listed<T> {
+    ghost shown = { λ items. list_of (map T.shown items) };
+
+    fn written(&self, alloc: Global) -> Result<Value, OutOfMemory> {
+        list_value(alloc, self)
+    }
+}
+
+fn list_value<T: Written>(alloc: Global, items: &Listed<T>) -> Result<Value, OutOfMemory>
+    ensures { IfOk result (λ value. view value ≡ list_of (map T.shown items.now)) }
+{
+    let mut values = Vec::new(alloc);
+    for item in items.as_slice() {
+        values.push(item.written(alloc)?)?;
+    }
+    Ok(Value::Array(values))
+}
 
 /// The line of a value, with its line feed.
 #[tactic(auto, unfolding(crate::specs::Written::line_of))]
@@ -16,43 +61,6 @@ pub fn line_of(alloc: Global, value: &Value) -> Result<Vec<u8>, OutOfMemory>
     let mut text = value.to_vec(alloc)?;
     text.push(b'\n')?;
     Ok(text)
-}
-
-/// An object of one member.
-pub fn one(alloc: Global, name: &str, value: Value) -> Result<Value, OutOfMemory>
-    ensures { IfOk result (λ made. view made ≡ one name.now (view value)) }
-{
-    json!(in alloc; {name: value})
-}
-
-/// A text that may be none, which is null.
-pub fn text_or_null<const MAX: usize>(
-    alloc: Global,
-    text: &Option<Text<MAX>>,
-) -> Result<Value, OutOfMemory>
-    ensures { IfOk result (λ value. view value ≡ text_or_null text.now) }
-{
-    match text {
-        None => Ok(Value::Null),
-        Some(text) => Value::try_from_str(alloc, text.as_str()),
-    }
-}
-
-/// A moment that may be none, which is null.
-pub fn count_or_null(count: Option<u64>) -> Value
-    ensures { view result ≡ count_or_null count }
-{
-    match count {
-        None => Value::Null,
-        Some(count) => Value::from(count),
-    }
-}
-
-/// A refusal by its name.
-pub fn refused(alloc: Global, name: &str) -> Result<Value, OutOfMemory>
-    ensures { IfOk result (λ value. view value ≡ refused name.now) }
-{
-    json!(in alloc; {"refused": name})
 }
 
 /// An object of counts by their names; a count of 0 is left out.

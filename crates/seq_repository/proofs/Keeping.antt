@@ -6,7 +6,7 @@ use Rattle.std.specs.Option.{option_map}
 use Rattle.std.specs.Ordering.{nat_cmp, is_eq}
 use Rattle.job_walk.specs.Cursors.{CursorState}
 use Rattle.batch_history.proofs.WorkLists.{AllApart}
-use Rattle.batch_history.specs.Works.{work_key}
+use Rattle.batch_history.specs.Works.{is_work, work_key}
 use Rattle.seq_repository.specs.Following.{AreFollowed, IsKeptOf, Walks}
 use Rattle.seq_repository.proofs.Followed.{apart_filtered, apart_put, followed_pushed, followed_put, followed_some, followed_without}
 use Rattle.batch_ids.specs.Metrics.{added, zero_metrics}
@@ -22,7 +22,10 @@ use Rattle.records.specs.Maps.{Maps, AreBelow, AreRising, MayReplaceExecution, e
 use Rattle.records.specs.Without.{without_instance}
 use Rattle.restart_rules.specs.Placed.{is_placed}
 use Rattle.seq_repository.specs.Agendas.{agenda_of, is_ready_row, without_number}
-use Rattle.seq_repository.specs.Changes.{put_row}
+use Rattle.seq_repository.specs.Changes.{put_row, row_after}
+use Rattle.seq_repository.specs.Reports.{IsReport, works_with}
+use Rattle.seq_repository.specs.declared.after.After.{After}
+use Rattle.seq_repository.specs.declared.rows.Change.TheVariants.{Report}
 use Rattle.seq_repository.specs.Kept.{Kept, IsKept, IsSound}
 use Rattle.seq_repository.specs.Metered.{IsStep}
 use Rattle.seq_repository.proofs.Agendas.{KeepsOthers, agenda_changed, agenda_pushed, agenda_without, others_apart, others_beside, others_same}
@@ -103,7 +106,7 @@ kept_work limit old done walks left kept m1 m2 x f new ready cursor work k room 
     (subst (λ works. ready ≡ is_ready_row kept.catalogue works new) same is_ready) puts
     (subst AllApart same apart) (subst (λ works. Walks kept.catalogue works (find (is_execution x) kept.records.executions) cursor) same walked) stays
 
-pub kept_report : (limit : ℕ) (old done : List ℕ) (walks left : ℕ → Option CursorState) (kept : Kept) (m1 m2 m3 : Maps) (p : WorkRow → Bool) (x : ℕ) (f : ExecutionRow → ExecutionRow) (row work : WorkRow) (new : Option ExecutionRow) (ready : Bool) (cursor : Option CursorState) (step : MetricStep)
+kept-report : (limit : ℕ) (old done : List ℕ) (walks left : ℕ → Option CursorState) (kept : Kept) (m1 m2 m3 : Maps) (p : WorkRow → Bool) (x : ℕ) (f : ExecutionRow → ExecutionRow) (row work : WorkRow) (new : Option ExecutionRow) (ready : Bool) (cursor : Option CursorState) (step : MetricStep)
     → IsKept limit old walks kept → kept.count < limit → IfSome new (λ row. MayReplaceExecution kept.records.executions x row)
     → new ≡ option_map f (find (is_execution x) kept.records.executions) → ready ≡ is_ready_row kept.catalogue (change_first p (λ gone. work) kept.records.works) new
     → find p kept.records.works ≡ Some row → row.execution ≡ x → work.execution ≡ row.execution → work_key work ≡ work_key row
@@ -112,7 +115,7 @@ pub kept_report : (limit : ℕ) (old done : List ℕ) (walks left : ℕ → Opti
     → m3 ≡ record m2 { executions = put_row x new m2.executions } → Puts ready x old done
     → Walks kept.catalogue (change_first p (λ gone. work) kept.records.works) (find (is_execution x) kept.records.executions) cursor → KeepsWalk x new cursor walks left
     → IsKept limit done left (record kept { count = kept.count + 1; records = m3 })
-kept_report limit old done walks left kept m1 m2 m3 p x f row work new ready cursor step k room own made is_ready found of stays key same sum small e1 e2 e3 puts walked keeps =
+kept-report limit old done walks left kept m1 m2 m3 p x f row work new ready cursor step k room own made is_ready found of stays key same sum small e1 e2 e3 puts walked keeps =
     let whole = maps-changed kept.records m1 m2 m3 m1.checkpoints (change_first p (λ gone. work)) (put_row x new) e1 e2 e3 in
     let works : change_first p (λ gone. work) kept.records.works ≡ m3.works = ap (λ (maps : Maps). maps.works) (sym whole) in
     kept-put limit old done walks left kept (record kept { count = kept.count + 1; records = m3 }) x f new ready cursor k
@@ -121,6 +124,15 @@ kept_report limit old done walks left kept m1 m2 m3 p x f row work new ready cur
     (subst (λ l. ready ≡ is_ready_row kept.catalogue l new) works is_ready) puts
     (subst AllApart works (apart_put p kept.records.works row work found stays key k.apart))
     (subst (λ l. Walks kept.catalogue l (find (is_execution x) kept.records.executions) cursor) works walked) keeps
+
+pub kept_reported : (limit : ℕ) (old done : List ℕ) (walks left : ℕ → Option CursorState) (kept : Kept) (m1 m2 m3 : Maps) (w at : ℕ) (work : WorkRow) (after : After) (cursor : Option CursorState)
+    → IsKept limit old walks kept → kept.count < limit → IsReport kept w at work after cursor
+    → m1 ≡ record kept.records { checkpoints = m1.checkpoints } → m2 ≡ record m1 { works = works_with w work m1.works }
+    → m3 ≡ record m2 { executions = put_row work.execution after.row m2.executions } → Puts after.ready work.execution old done → KeepsWalk work.execution after.row cursor walks left
+    → IsKept limit done left (record kept { count = kept.count + 1; records = m3 })
+kept_reported limit old done walks left kept m1 m2 m3 w at work after cursor k room r e1 e2 e3 puts keeps =
+    kept-report limit old done walks left kept m1 m2 m3 (is_work w) work.execution (row_after Report kept.catalogue (works_with w work kept.records.works) at) r.row work after.row after.ready cursor r.step
+    k room r.own r.new r.ready r.found (sym r.execution) r.execution r.key r.number r.counts r.small e1 e2 e3 puts r.walks keeps
 
 -- the rows and the agenda after a job execution is made
 kept-pushed : (limit : ℕ) (old put : List ℕ) (walks : ℕ → Option CursorState) (kept after : Kept) (row : ExecutionRow) → IsKept limit old walks kept → IsSound limit after → after.catalogue ≡ kept.catalogue

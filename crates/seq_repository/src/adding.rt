@@ -2,12 +2,13 @@
 ghost use Rattle.std.specs.Prelude.{◌≡◌, ◌++◌, ◌∷◌, [], Some, OnOk, OnErr, if◌then◌else◌};
 ghost use Rattle.std.specs.BTreeSet.{insert_key};
 ghost use Rattle.std.specs.Ordering.{nat_cmp};
+ghost use Rattle.batch_history.specs.Works.{busy_work};
 ghost use Rattle.records.specs.Maps.{AreBelow, instance_numbers, execution_numbers, work_numbers};
 ghost use Rattle.seq_repository.specs.Changes.{place_at, SetsMark};
 
-use crate::agenda;
-use batch_history::{ExecutionRow, JobInstance, WorkRow};
-use batch_ids::{ExecutionId, OutOfMemory, Text};
+use crate::{agenda, rows};
+use batch_history::{ExecutionRow, JobInstance, WorkItem};
+use batch_ids::{ExecutionId, Moment, OutOfMemory, Text};
 use job_walk::WorkKey;
 use records::Records;
 use std::collections::BTreeSet;
@@ -67,25 +68,40 @@ pub(crate) fn add_execution(
     }
 }
 
-/// Adds a work item of a job execution, which stays on the agenda if there is more to do for it.
+fn put_work(records: &mut Records, who: u64, at: Moment, item: &WorkItem) -> Result<(), OutOfMemory>
+    requires { AreBelow item.now.work (work_numbers records.old.works) }
+    ensures added { OnOk result (records.new ≡ record records.old {
+      works = records.old.works ++ busy_work who at item.now ∷ [];
+    }) }
+    ensures unchanged { OnErr result (records.new ≡ records.old) }
+{
+    let work = rows::new_work(who, at, item)?;
+    records.add_work(work)
+}
+
+/// Adds a work item of a job execution that is handed out, which stays on the agenda if there is more
+/// to do for it.
 pub(crate) fn add_work(
     agenda: &mut BTreeSet<u64>,
     records: &mut Records,
-    x: ExecutionId,
     ready: bool,
-    work: WorkRow,
+    who: u64,
+    at: Moment,
+    item: &WorkItem,
 ) -> Result<(), OutOfMemory>
-    requires { AreBelow work.work (work_numbers records.old.works) }
+    requires { AreBelow item.now.work (work_numbers records.old.works) }
     ensures added { OnOk result (records.new ≡ record records.old {
-      works = records.old.works ++ work ∷ [];
+      works = records.old.works ++ busy_work who at item.now ∷ [];
     }) }
     ensures agenda { OnOk result (agenda.new.keys
-        ≡ (if ready then insert_key nat_cmp agenda.old.keys x else agenda.old.keys)) }
+        ≡ (if ready then insert_key nat_cmp agenda.old.keys item.now.execution
+        else agenda.old.keys)) }
     ensures unchanged { OnErr result (records.new ≡ records.old) }
     ensures no_agenda { OnErr result (agenda.new.keys ≡ agenda.old.keys) }
 {
+    let x = item.execution;
     let new = agenda::put(agenda, x, ready)?;
-    match records.add_work(work) {
+    match put_work(records, who, at, item) {
         Ok(()) => Ok(()),
         Err(error) => {
             agenda::remove_if(agenda, x, new);
@@ -98,15 +114,18 @@ fn set_mark(
     records: &mut Records,
     row: &Option<ExecutionRow>,
     step: WorkKey,
-    mark: Text<65536>,
+    mark: &Text<65536>,
 ) -> Result<(), OutOfMemory>
-    ensures rows { OnOk result (SetsMark (place_at row.now step) (Some mark)
+    ensures rows { OnOk result (SetsMark (place_at row.now step) (Some mark.now)
         records.old records.new) }
     ensures unchanged { OnErr result (records.new ≡ records.old) }
 {
     match row {
         None => Ok(()),
-        Some(row) => records.set_checkpoint(row.instance, step, Some(mark)),
+        Some(row) => {
+            let mark = mark.try_clone()?;
+            records.set_checkpoint(row.instance, step, Some(mark))
+        }
     }
 }
 
@@ -119,9 +138,9 @@ pub(crate) fn put_mark(
     ready: bool,
     row: &Option<ExecutionRow>,
     step: WorkKey,
-    mark: Text<65536>,
+    mark: &Text<65536>,
 ) -> Result<(), OutOfMemory>
-    ensures rows { OnOk result (SetsMark (place_at row.now step) (Some mark)
+    ensures rows { OnOk result (SetsMark (place_at row.now step) (Some mark.now)
         records.old records.new) }
     ensures agenda { OnOk result (agenda.new.keys
         ≡ (if ready then insert_key nat_cmp agenda.old.keys x else agenda.old.keys)) }

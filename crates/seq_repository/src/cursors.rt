@@ -9,7 +9,9 @@ ghost use Rattle.batch_history.proofs.WorkLists.{AllApart};
 ghost use Rattle.batch_history.specs.Lists.{change_first};
 ghost use Rattle.batch_history.specs.Replies.{is_execution};
 ghost use Rattle.batch_history.specs.Works.{is_work, busy_work};
+ghost use Rattle.batch_history.specs.declared.rows.ExecutionRow.{ExecutionRow};
 ghost use Rattle.batch_history.specs.declared.rows.WorkRow.{WorkRow as Work};
+ghost use Rattle.jsl_model.specs.Jobs.{JobTree};
 ghost use Rattle.restart_rules.specs.Placed.{is_placed, IsPlaced};
 ghost use Rattle.seq_repository.specs.Following.{Follows, IsFirst, IsFollowed, IsKeptOf, Walks};
 
@@ -107,10 +109,59 @@ pub(crate) fn claimed(
         None => Ok(None),
         Some(row) => {
             let mut cursor = current_of(kept, alloc, catalogue, records, row)?;
-            cursor.take(&key)?;
-            Ok(Some(cursor))
+            match cursor.take(&key) {
+                Ok(()) => Ok(Some(cursor)),
+                Err(error) => {
+                    drop(cursor);
+                    Err(error)
+                }
+            }
         }
     }
+}
+
+/// Tells a walk that was kept that a work item is over, where it shows it as being run, and whether it
+/// does.
+fn tell_end(
+    cursor: &mut Cursor,
+    work: &WorkRow,
+    outcome: WorkOutcome,
+    exit: &T256,
+) -> Result<bool, OutOfMemory>
+    ensures { (catalogue : List JobTree) (works : List Work) (row : ExecutionRow) (w : ℕ)
+        → Follows catalogue works row cursor.old → AllApart works
+        → find (is_work w) works ≡ Some work.now → work.now.execution ≡ row.execution
+        → (step : Counts) (at number : ℕ) → IfOk result (λ told. told ≡ true
+        → Follows catalogue
+        (change_first (is_work w) (over_as outcome exit.now step at number) works) row cursor.new) }
+{
+    let key = work.key()?;
+    if cursor.is_busy(&key) {
+        cursor.report(&key, outcome, exit)?;
+        return Ok(true);
+    }
+    Ok(false)
+}
+
+/// The walk of a job execution once a work item of it is over, made anew.
+fn remade(
+    alloc: Global,
+    catalogue: &Catalogue,
+    records: &Records,
+    row: &ExecutionRow,
+    w: WorkId,
+    outcome: WorkOutcome,
+    exit: &T256,
+) -> Result<Cursor, OutOfMemory>
+    requires placed { is_placed catalogue.now row.now ≡ true }
+    requires there { IfSome (find (is_work w) records.now.works)
+        (λ work. work.execution ≡ row.now.execution) }
+    ensures { (step : Counts) (at number : ℕ) → IfOk result (λ cursor. Follows catalogue.now
+        (change_first (is_work w) (over_as outcome exit.now step at number) records.now.works)
+        row.now cursor) }
+{
+    let known = search::known_once_finished(alloc, records, row.execution, w, outcome, exit)?;
+    resumed(alloc, catalogue, known.as_slice(), row)
 }
 
 /// The walk of a job execution once a work item of it is over. One that was kept goes on where it
@@ -135,15 +186,20 @@ fn finished_of(
         (change_first (is_work w) (over_as outcome exit.now step at number) records.now.works)
         row.now cursor) }
 {
-    if let Some(mut cursor) = kept {
-        let key = work.key()?;
-        if cursor.is_busy(&key) {
-            cursor.report(&key, outcome, exit)?;
-            return Ok(cursor);
+    let Some(mut cursor) = kept else {
+        return remade(alloc, catalogue, records, row, w, outcome, exit);
+    };
+    match tell_end(&mut cursor, work, outcome, exit) {
+        Ok(true) => Ok(cursor),
+        Ok(false) => {
+            drop(cursor);
+            remade(alloc, catalogue, records, row, w, outcome, exit)
+        }
+        Err(error) => {
+            drop(cursor);
+            Err(error)
         }
     }
-    let known = search::known_once_finished(alloc, records, row.execution, w, outcome, exit)?;
-    resumed(alloc, catalogue, known.as_slice(), row)
 }
 
 /// The walk of the job execution of a work item, if it is there, once the work item is over.

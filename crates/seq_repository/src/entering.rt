@@ -1,4 +1,4 @@
-ghost use Rattle.std.specs.Prelude.{◌≡◌, ◌<◌, ◌+◌, [], true, false, find, is_some, IfOk, IfSome, OnOk, OnErr, List, Ok, if◌then◌else◌};
+ghost use Rattle.std.specs.Prelude.{ℕ, ◌≡◌, ◌<◌, ◌+◌, [], ◌∷◌, ◌++◌, true, false, find, Option, is_some, IfOk, IfSome, OnOk, OnErr, List, Ok, if◌then◌else◌};
 ghost use Rattle.std.specs.List.{list_any};
 ghost use Rattle.std.specs.Option.{option_map};
 ghost use Rattle.batch_history.specs.declared.rows.WorkRow.{WorkRow as Work};
@@ -6,7 +6,10 @@ ghost use Rattle.batch_history.specs.Due.{IsDue};
 ghost use Rattle.batch_history.specs.Lists.{change_first};
 ghost use Rattle.batch_history.specs.Replies.{is_execution, is_running_in, reply_by, is_nothing};
 ghost use Rattle.batch_history.specs.Walks.{job_named};
-ghost use Rattle.batch_history.specs.Works.{is_work};
+ghost use Rattle.batch_ids.specs.declared.metric_step.MetricStep.{MetricStep as Counts};
+ghost use Rattle.batch_history.proofs.Folds.{over, over_as, reported};
+ghost use Rattle.batch_history.specs.Works.{busy_work, exit_or_name, is_work};
+ghost use Rattle.seq_repository.specs.Reports.{IsReport};
 ghost use Rattle.batch_history.proofs.Steps.{rows_after};
 ghost use Rattle.seq_repository.specs.Kept.{rows_in};
 ghost use Rattle.records.specs.Maps.{MayReplaceExecution, is_instance, is_over};
@@ -15,13 +18,14 @@ ghost use Rattle.seq_repository.specs.Following.{IsFollowed, Walks};
 ghost use Rattle.jsl_model.specs.Jobs.{JobTree as Tree};
 ghost use Rattle.seq_repository.specs.Changes.{put_row, place_at, row_after, LeavesMark};
 
+use crate::after::{After, after_report};
 use crate::repository::Repository;
 use crate::rows::Change;
 use crate::{adding, agenda, cursors, rows, status};
-use batch_history::{Call, ExecutionRow, JobInstance, Reply, WorkItem};
+use batch_history::{Call, ExecutionRow, JobInstance, Reply, WorkItem, WorkRow};
 use batch_ids::{
-    ExecutionId, InstanceId, MetricStep, Moment, OutOfMemory, Parameters, Refusal, Shared, T256,
-    Text, WorkId, WorkOutcome,
+    ExecutionId, InstanceId, MetricStep, Moment, OutOfMemory, Parameters, Refusal, T256, Text,
+    WorkId, WorkOutcome,
 };
 use job_walk::{Cursor, WorkKey};
 use records::Records;
@@ -58,7 +62,7 @@ fn drop_mark(records: &mut Records, outcome: WorkOutcome, row: &Option<Execution
 
 /// The row of a job execution after an operation on it, if it is there, by its walk then, and whether
 /// there is something to do for it.
-fn execution_after(
+pub(crate) fn execution_after(
     alloc: Global,
     records: &Records,
     x: ExecutionId,
@@ -120,18 +124,13 @@ impl<const LIMIT: u64> Repository<LIMIT> {
         let Some(tree) = self.catalogue.job(job.as_str()) else {
             unreachable!();
         };
-        let plan = first_plan(self.alloc, tree)?;
-        let shared = Shared::new(self.alloc, plan)?;
-        let first = job.try_clone()?;
-        let second = job.try_clone()?;
-        let parameters = parameters.try_clone()?;
         let instance = InstanceId::new(self.last.instance + 1);
         let x = self.last.execution + 1;
-        let row = rows::new_execution(x, instance, at, second, parameters, shared);
-        let made = JobInstance {
-            instance,
-            job: first,
-        };
+        let job = job.try_clone()?;
+        let made = JobInstance { instance, job };
+        let plan = first_plan(self.alloc, tree)?;
+        let job = &made.job;
+        let row = rows::new_execution(self.alloc, x, instance, at, job, parameters, plan)?;
         adding::add_instance(&mut self.agenda, &mut self.records, made, row)?;
         self.last.instance += 1;
         self.last.execution += 1;
@@ -159,12 +158,10 @@ impl<const LIMIT: u64> Repository<LIMIT> {
             unreachable!();
         };
         let plan = restart_plan(self.alloc, &self.records, &self.catalogue, earlier)?;
-        let shared = Shared::new(self.alloc, plan)?;
         let instance = earlier.instance;
-        let job = earlier.job.try_clone()?;
-        let parameters = parameters.try_clone()?;
         let x = self.last.execution + 1;
-        let row = rows::new_execution(x, instance, at, job, parameters, shared);
+        let job = &earlier.job;
+        let row = rows::new_execution(self.alloc, x, instance, at, job, parameters, plan)?;
         adding::add_execution(&mut self.agenda, &mut self.records, row)?;
         self.last.execution += 1;
         self.count += 1;
@@ -210,11 +207,38 @@ impl<const LIMIT: u64> Repository<LIMIT> {
         }) }
         ensures unchanged { OnErr result (self.new ≡ self.old) }
     {
-        let cursor = cursors::current(kept, self.alloc, &self.catalogue, &self.records, x)?;
-        let (row, ready) = execution_after(self.alloc, &self.records, x, change, &cursor, at)?;
-        agenda::put(&mut self.agenda, x, ready)?;
+        let mut cursor = cursors::current(kept, self.alloc, &self.catalogue, &self.records, x)?;
+        let result = self.change_by(&mut cursor, x, change, at);
+        drop(cursor);
+        result
+    }
+
+    /// The same with its walk, if it is there.
+    fn change_by(
+        &mut self,
+        cursor: &mut Option<Cursor>,
+        x: ExecutionId,
+        change: Change,
+        at: Moment,
+    ) -> Result<(), OutOfMemory>
+        requires room { self.old.count < LIMIT }
+        requires walks { Walks self.old.catalogue self.old.records.works
+            (find (is_execution x) self.old.records.executions) cursor.old }
+        ensures rows { OnOk result (rows_in self.new ≡ record (rows_in self.old) {
+          count = self.old.count + 1;
+          executions = change_first (is_execution x)
+              (row_after change self.old.catalogue self.old.records.works at)
+              self.old.records.executions;
+        }) }
+        ensures unchanged { OnErr result (self.new ≡ self.old) }
+    {
+        let (row, ready) = execution_after(self.alloc, &self.records, x, change, cursor, at)?;
+        if let Err(error) = agenda::put(&mut self.agenda, x, ready) {
+            drop(row);
+            return Err(error);
+        }
         agenda::remove_if(&mut self.agenda, x, !ready);
-        cursors::keep(&mut self.cursors, x, &row, cursor);
+        cursors::keep(&mut self.cursors, x, &row, cursor.take());
         put_row(&mut self.records, x, row);
         self.count += 1;
         Ok(())
@@ -256,14 +280,43 @@ impl<const LIMIT: u64> Repository<LIMIT> {
         }) }
         ensures unchanged { OnErr result (self.new ≡ self.old) }
     {
+        let mut cursor = cursors::claimed(kept, self.alloc, &self.catalogue, &self.records, item)?;
+        let result = self.work_by(&mut cursor, who, at, item);
+        drop(cursor);
+        result
+    }
+
+    /// The same with its walk once the work item is handed out, if it is there.
+    fn work_by(
+        &mut self,
+        cursor: &mut Option<Cursor>,
+        who: u64,
+        at: Moment,
+        item: &WorkItem,
+    ) -> Result<(), OutOfMemory>
+        requires room { self.old.count < LIMIT }
+        requires due { reply_by LIMIT (rows_in self.old) who Call.Claim ≡ Ok (Reply.Work item.now) }
+        requires walks { Walks self.old.catalogue
+            (self.old.records.works ++ busy_work who at item.now ∷ [])
+            (find (is_execution item.now.execution) self.old.records.executions) cursor.old }
+        ensures rows { OnOk result (rows_in self.new ≡ rows_after (rows_in self.old) record {
+          who = who;
+          call = Call.Claim;
+          at = at;
+          reply = Reply.Work item.now;
+        }) }
+        ensures unchanged { OnErr result (self.new ≡ self.old) }
+    {
         let x = item.execution;
-        let cursor = cursors::claimed(kept, self.alloc, &self.catalogue, &self.records, item)?;
         let change = Change::Claim;
-        let (row, ready) = execution_after(self.alloc, &self.records, x, change, &cursor, at)?;
-        let work = rows::new_work(who, at, item)?;
-        adding::add_work(&mut self.agenda, &mut self.records, x, ready, work)?;
+        let (row, ready) = execution_after(self.alloc, &self.records, x, change, cursor, at)?;
+        let added = adding::add_work(&mut self.agenda, &mut self.records, ready, who, at, item);
+        if let Err(error) = added {
+            drop(row);
+            return Err(error);
+        }
         agenda::remove_if(&mut self.agenda, x, !ready);
-        cursors::keep(&mut self.cursors, x, &row, cursor);
+        cursors::keep(&mut self.cursors, x, &row, cursor.take());
         self.last.work += 1;
         put_row(&mut self.records, x, row);
         self.count += 1;
@@ -321,24 +374,87 @@ impl<const LIMIT: u64> Repository<LIMIT> {
             unreachable!();
         };
         let x = work.execution;
-        let key = work.key()?;
-        let mark = mark.try_clone()?;
-        let work = rows::report_counts(*step, work)?;
-        let cursor = cursors::current(kept, self.alloc, &self.catalogue, &self.records, x)?;
-        let change = Change::Report;
-        let (row, ready) = execution_after(self.alloc, &self.records, x, change, &cursor, at)?;
-        adding::put_mark(
+        let mut cursor = cursors::current(kept, self.alloc, &self.catalogue, &self.records, x)?;
+        let result = self.checkpoint_by(&mut cursor, at, w, mark, step);
+        drop(cursor);
+        result
+    }
+
+    /// The same with its walk, if it is there.
+    fn checkpoint_by(
+        &mut self,
+        cursor: &mut Option<Cursor>,
+        at: Moment,
+        w: WorkId,
+        mark: &Text<65536>,
+        step: &MetricStep,
+    ) -> Result<(), OutOfMemory>
+        requires room { self.old.count < LIMIT }
+        requires held { is_some (find (is_work w) self.old.records.works) ≡ true }
+        requires walks { IfSome (find (is_work w) self.old.records.works) (λ row.
+            Walks self.old.catalogue self.old.records.works
+            (find (is_execution row.execution) self.old.records.executions) cursor.old) }
+        ensures rows { OnOk result (rows_in self.new ≡ rows_after (rows_in self.old) record {
+          who = 0;
+          call = Call.Checkpoint w mark.now step.now;
+          at = at;
+          reply = Reply.Done;
+        }) }
+        ensures unchanged { OnErr result (self.new ≡ self.old) }
+    {
+        let Some(work) = self.records.work(w) else {
+            unreachable!();
+        };
+        let counted = rows::report_counts(*step, work)?;
+        match after_report(self.alloc, &self.records, &counted, cursor, at) {
+            Ok(after) => self.put_checkpoint(w, mark, counted, after, cursor),
+            Err(error) => {
+                drop(counted);
+                Err(error)
+            }
+        }
+    }
+
+    /// Puts what a checkpoint of a work item makes of it and of its job execution.
+    fn put_checkpoint(
+        &mut self,
+        w: WorkId,
+        mark: &Text<65536>,
+        counted: WorkRow,
+        after: After,
+        cursor: &mut Option<Cursor>,
+    ) -> Result<(), OutOfMemory>
+        requires room { self.old.count < LIMIT }
+        requires report { (at : ℕ) × IsReport self.old w at counted after cursor.old }
+        ensures rows { (at : ℕ) (step : Counts) → IsReport self.old w at counted after cursor.old
+            → IfSome (find (is_work w) self.old.records.works) (λ row. counted ≡ reported step row)
+            → OnOk result (rows_in self.new ≡ rows_after (rows_in self.old) record {
+              who = 0;
+              call = Call.Checkpoint w mark.now step;
+              at = at;
+              reply = Reply.Done;
+            }) }
+        ensures unchanged { OnErr result (self.new ≡ self.old) }
+    {
+        let x = counted.execution;
+        let After { step, row, ready } = after;
+        let put = adding::put_mark(
             &mut self.agenda,
             &mut self.records,
             x,
             ready,
             &row,
-            key,
+            step,
             mark,
-        )?;
+        );
+        if let Err(error) = put {
+            drop(counted);
+            drop(row);
+            return Err(error);
+        }
         agenda::remove_if(&mut self.agenda, x, !ready);
-        cursors::keep(&mut self.cursors, x, &row, cursor);
-        self.records.change_work(w, work);
+        cursors::keep(&mut self.cursors, x, &row, cursor.take());
+        self.records.change_work(w, counted);
         put_row(&mut self.records, x, row);
         self.count += 1;
         Ok(())
@@ -368,18 +484,20 @@ impl<const LIMIT: u64> Repository<LIMIT> {
             unreachable!();
         };
         let x = work.execution;
+        let exit = status::exit_or_name(self.alloc, outcome, exit)?;
         let kept = self.take_cursor(x);
         self.finish_with(kept, at, w, outcome, exit, step)
     }
 
-    /// The same with the walk that was kept of its job execution, if one was.
+    /// The same with the walk that was kept of its job execution, if one was, and the exit status that
+    /// the work item shows then.
     fn finish_with(
         &mut self,
         kept: Option<Cursor>,
         at: Moment,
         w: WorkId,
         outcome: WorkOutcome,
-        exit: &Option<T256>,
+        exit: T256,
         step: &MetricStep,
     ) -> Result<(), OutOfMemory>
         requires room { self.old.count < LIMIT }
@@ -389,21 +507,19 @@ impl<const LIMIT: u64> Repository<LIMIT> {
         requires kept { IfSome (find (is_work w) self.old.records.works) (λ row. IfSome kept
             (IsFollowed self.old.catalogue self.old.records.works self.old.records.executions
             row.execution)) }
-        ensures rows { OnOk result (rows_in self.new ≡ rows_after (rows_in self.old) record {
-          who = 0;
-          call = Call.Finish w outcome exit.now step.now;
-          at = at;
-          reply = Reply.Done;
-        }) }
+        ensures rows { (given : Option (List ℕ)) → exit ≡ exit_or_name outcome given
+            → OnOk result (rows_in self.new ≡ rows_after (rows_in self.old) record {
+              who = 0;
+              call = Call.Finish w outcome given step.now;
+              at = at;
+              reply = Reply.Done;
+            }) }
         ensures unchanged { OnErr result (self.new ≡ self.old) }
     {
         let Some(work) = self.records.work(w) else {
             unreachable!();
         };
-        let x = work.execution;
-        let key = work.key()?;
-        let exit = status::exit_or_name(self.alloc, outcome, exit)?;
-        let cursor = cursors::finished(
+        let mut cursor = cursors::finished(
             kept,
             self.alloc,
             &self.catalogue,
@@ -413,14 +529,85 @@ impl<const LIMIT: u64> Repository<LIMIT> {
             outcome,
             &exit,
         )?;
-        let change = Change::Report;
-        let (row, ready) = execution_after(self.alloc, &self.records, x, change, &cursor, at)?;
-        let work = rows::end_work(outcome, exit, *step, at, self.count + 1, work)?;
-        agenda::put(&mut self.agenda, x, ready)?;
+        let result = self.finish_by(&mut cursor, at, w, outcome, exit, step);
+        drop(cursor);
+        result
+    }
+
+    /// The same with its walk once the work item is over, if it is there.
+    fn finish_by(
+        &mut self,
+        cursor: &mut Option<Cursor>,
+        at: Moment,
+        w: WorkId,
+        outcome: WorkOutcome,
+        exit: T256,
+        step: &MetricStep,
+    ) -> Result<(), OutOfMemory>
+        requires room { self.old.count < LIMIT }
+        requires held { is_some (find (is_work w) self.old.records.works) ≡ true }
+        requires busy { IfSome (find (is_work w) self.old.records.works)
+            (λ row. is_over row.state ≡ false) }
+        requires walks { IfSome (find (is_work w) self.old.records.works) (λ row.
+            (counts : Counts) (end number : ℕ) → Walks self.old.catalogue (change_first (is_work w)
+            (over_as outcome exit counts end number) self.old.records.works)
+            (find (is_execution row.execution) self.old.records.executions) cursor.old) }
+        ensures rows { (given : Option (List ℕ)) → exit ≡ exit_or_name outcome given
+            → OnOk result (rows_in self.new ≡ rows_after (rows_in self.old) record {
+              who = 0;
+              call = Call.Finish w outcome given step.now;
+              at = at;
+              reply = Reply.Done;
+            }) }
+        ensures unchanged { OnErr result (self.new ≡ self.old) }
+    {
+        let Some(work) = self.records.work(w) else {
+            unreachable!();
+        };
+        let ended = rows::end_work(outcome, exit, *step, at, self.count + 1, work)?;
+        match after_report(self.alloc, &self.records, &ended, cursor, at) {
+            Ok(after) => self.put_end(w, outcome, ended, after, cursor),
+            Err(error) => {
+                drop(ended);
+                Err(error)
+            }
+        }
+    }
+
+    /// Puts what the end of a work item makes of it and of its job execution.
+    fn put_end(
+        &mut self,
+        w: WorkId,
+        outcome: WorkOutcome,
+        ended: WorkRow,
+        after: After,
+        cursor: &mut Option<Cursor>,
+    ) -> Result<(), OutOfMemory>
+        requires room { self.old.count < LIMIT }
+        requires report { (at : ℕ) × IsReport self.old w at ended after cursor.old }
+        ensures rows { (at : ℕ) (given : Option (List ℕ)) (step : Counts)
+            → IsReport self.old w at ended after cursor.old
+            → IfSome (find (is_work w) self.old.records.works)
+            (λ row. ended ≡ over outcome given step at (self.old.count + 1) row)
+            → OnOk result (rows_in self.new ≡ rows_after (rows_in self.old) record {
+              who = 0;
+              call = Call.Finish w outcome given step;
+              at = at;
+              reply = Reply.Done;
+            }) }
+        ensures unchanged { OnErr result (self.new ≡ self.old) }
+    {
+        let x = ended.execution;
+        let After { step, row, ready } = after;
+        if let Err(error) = agenda::put(&mut self.agenda, x, ready) {
+            drop(ended);
+            drop(row);
+            return Err(error);
+        }
         agenda::remove_if(&mut self.agenda, x, !ready);
-        cursors::keep(&mut self.cursors, x, &row, cursor);
-        drop_mark(&mut self.records, outcome, &row, key);
-        self.records.change_work(w, work);
+        cursors::keep(&mut self.cursors, x, &row, cursor.take());
+        drop_mark(&mut self.records, outcome, &row, step);
+        self.records.change_work(w, ended);
         put_row(&mut self.records, x, row);
         self.count += 1;
         Ok(())
@@ -547,7 +734,12 @@ impl<const LIMIT: u64> Repository<LIMIT> {
         if reply.is_nothing() {
             return Ok(reply);
         }
-        self.enter_call(who, call, at, &reply)?;
-        Ok(reply)
+        match self.enter_call(who, call, at, &reply) {
+            Ok(()) => Ok(reply),
+            Err(error) => {
+                drop(reply);
+                Err(error.into())
+            }
+        }
     }
 }

@@ -3,6 +3,7 @@
 #![tactic(auto)]
 
 mod adding;
+mod after;
 mod agenda;
 mod answers;
 mod cursors;

@@ -30,7 +30,7 @@ pub(crate) enum Change {
 }
 
 /// The row of a job execution that is made now.
-pub(crate) fn new_execution(
+fn row_of(
     x: u64,
     instance: InstanceId,
     at: Moment,
@@ -55,6 +55,24 @@ pub(crate) fn new_execution(
         exit: None,
         updated: at,
     }
+}
+
+/// The same with a copy of its job's name and of its parameters.
+pub(crate) fn new_execution(
+    alloc: Global,
+    x: u64,
+    instance: InstanceId,
+    at: Moment,
+    job: &T256,
+    parameters: &Parameters,
+    plan: Plan,
+) -> Result<ExecutionRow, OutOfMemory>
+    ensures { IfOk result (λ row. row ≡ fresh_row x instance at job.now parameters.now plan) }
+{
+    let plan = Shared::new(alloc, plan)?;
+    let job = job.try_clone()?;
+    let parameters = parameters.try_clone()?;
+    Ok(row_of(x, instance, at, job, parameters, plan))
 }
 
 /// The row with this start, these marks and this value of its walk.

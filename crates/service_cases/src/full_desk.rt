@@ -84,10 +84,13 @@ fn start<N: Site>(
         return "no memory";
     };
     let parameters = Parameters::none();
-    match desk.act(session, Call::Start { job, parameters }, 0, table) {
+    let reply = desk.act(session, Call::Start { job, parameters }, 0, table);
+    let said = match &reply {
         Ok(_) => "accepted",
         Err(refusal) => refusal.name(),
-    }
+    };
+    drop(reply);
+    said
 }
 
 /// How many job instances the job has.
@@ -103,8 +106,13 @@ fn count<N: Site>(
     let Ok(job) = T256::new(alloc, "a") else {
         return 0;
     };
-    match desk.ask(session, &Query::JobInstanceCount { job }, table) {
-        Ok(Answer::JobInstanceCount(count)) => count,
+    let query = Query::JobInstanceCount { job };
+    let answer = desk.ask(session, &query, table);
+    drop(query);
+    let count = match &answer {
+        Ok(Answer::JobInstanceCount(count)) => *count,
         _ => 0,
-    }
+    };
+    drop(answer);
+    count
 }

@@ -37,20 +37,35 @@ fn run_case<R: Files + Print + Wait + AllocGlobal>(
     let lines = read_text(rt, scripts)?;
     let wanted = read_file(rt, replies)?;
     let mut written = Vec::new(rt.alloc());
-    let mut sum = Ending::default();
-    for script in lines.as_str().split("\n\n") {
-        if sum.scripts > 0 {
-            written.push(b'\n')?;
-        }
-        let ending = run_script(rt, script, &mut written)?;
-        sum = sum.with(ending);
-    }
+    let sum = run_scripts(rt, lines.as_str(), &mut written)?;
     print_comparison(
         rt,
         (scripts, replies),
         written.as_slice(),
         wanted.as_slice(),
     )?;
+    print_ending(rt, sum)
+}
+
+/// Runs scripts with an empty line between two of them, and writes their replies so.
+fn run_scripts<R: Wait + AllocGlobal>(
+    rt: &R,
+    scripts: &str,
+    written: &mut Vec<u8>,
+) -> Result<Ending> {
+    let mut sum = Ending::default();
+    for script in scripts.split("\n\n") {
+        if sum.scripts > 0 {
+            written.push(b'\n')?;
+        }
+        let ending = run_script(rt, script, written)?;
+        sum = sum.with(ending);
+    }
+    Ok(sum)
+}
+
+/// Says how scripts ended.
+fn print_ending(rt: &impl Print, sum: Ending) -> Result<()> {
     println!(rt;
         "scripts {}, operations accepted {} and shown {}, hidden sessions {}",
         sum.scripts, sum.accepted, sum.shown, sum.hidden

@@ -69,8 +69,32 @@ fn run_lines<N: Site, R: Wait + AllocGlobal>(
         bail!("one copy is too many");
     };
     let operator = Operator::<N>::new(rt.alloc(), table, seat, catalogue, copies)?;
+    let ending = run_on(rt, &operator, lines, written);
+    drop(operator);
+    ending
+}
+
+/// The same on an operator, of which no session is open.
+fn run_on<N: Site, R: Wait + AllocGlobal>(
+    rt: &R,
+    operator: &Operator<N>,
+    lines: &[u8],
+    written: &mut Vec<u8>,
+) -> Result<Ending> {
     let count = sessions_in(rt.alloc(), lines)?;
     let mut stage = Stage::open(rt, rt.alloc(), operator, count)?;
+    let ending = answer_lines(rt, &mut stage, lines, written);
+    drop(stage);
+    ending
+}
+
+/// Adds the replies to these lines.
+fn answer_lines<N: Site>(
+    rt: &impl Wait,
+    stage: &mut Stage<'_, N>,
+    lines: &[u8],
+    written: &mut Vec<u8>,
+) -> Result<Ending> {
     for line in lines.split(|byte| *byte == b'\n') {
         if !line.is_empty() {
             let reply = stage.answer(rt, line)?;

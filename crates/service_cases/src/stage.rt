@@ -13,9 +13,9 @@ use std::sync::Wait;
 
 /// An operator with its sessions, numbered from 1, and one more that makes no call.
 #[derive(Drop)]
-pub(crate) struct Stage<N: Site> {
+pub(crate) struct Stage<'a, N: Site> {
     alloc: Global,
-    operator: Operator<N>,
+    operator: &'a Operator<N>,
     sessions: Vec<Session<N>>,
     watcher: Session<N>,
     /// Which session asks the next query.
@@ -26,14 +26,14 @@ pub(crate) struct Stage<N: Site> {
     next: u64,
 }
 
-impl<N: Site> Stage<N> {
+impl<'a, N: Site> Stage<'a, N> {
     /// Opens so many sessions, and the one that makes no call.
     pub(crate) fn open(
         rt: &impl Wait,
         alloc: Global,
-        operator: Operator<N>,
+        operator: &'a Operator<N>,
         count: u64,
-    ) -> Result<Stage<N>> {
+    ) -> Result<Stage<'a, N>> {
         let mut sessions = Vec::new(alloc);
         for _ in 0..count {
             sessions.push(operator.open_session(rt)?)?;
@@ -65,7 +65,7 @@ impl<N: Site> Stage<N> {
 
     fn act(&mut self, rt: &impl Wait, by: u64, call: Call, at: Moment) -> Result<Vec<u8>> {
         let session = session_of(&mut self.sessions, by)?;
-        let reply = make_call(rt, &self.operator, session, call, at);
+        let reply = make_call(rt, self.operator, session, call, at);
         if is_operation(&reply) {
             self.accepted = self.accepted.saturating_add(1);
         }
@@ -76,7 +76,7 @@ impl<N: Site> Stage<N> {
 
     fn ask(&mut self, rt: &impl Wait, query: Query) -> Result<Vec<u8>> {
         let session = session_of(&mut self.sessions, self.asker)?;
-        let answer = ask_query(rt, &self.operator, session, query);
+        let answer = ask_query(rt, self.operator, session, query);
         self.asker = 1;
         let text = answer_text(self.alloc, &answer);
         drop(answer);
@@ -88,33 +88,39 @@ impl<N: Site> Stage<N> {
         let text = match directive {
             Directive::Meet { one, other } => {
                 self.meet(one, other)?;
-                format!(in alloc; "{{\"met\":true}}\n")?
+                format!(in alloc; "{{\"met\":true}}\n")
             }
             Directive::StopSeen { by, execution } => {
                 let session = session_of(&mut self.sessions, by)?;
                 let seen = self.operator.stop_seen(session, execution);
-                format!(in alloc; "{{\"stop_seen\":{seen}}}\n")?
+                format!(in alloc; "{{\"stop_seen\":{seen}}}\n")
             }
             Directive::OperationsAtLeast { by } => {
                 let session = session_of(&mut self.sessions, by)?;
                 let count = self.operator.operations_at_least(session);
-                format!(in alloc; "{{\"operations_at_least\":{count}}}\n")?
+                format!(in alloc; "{{\"operations_at_least\":{count}}}\n")
             }
             Directive::Open => {
-                let session = self.operator.open_session(rt)?;
-                self.next = self.next.saturating_add(1);
-                format!(in alloc; "{{\"session\":{}}}\n", session.number())?
+                let number = self.open_next(rt)?;
+                format!(in alloc; "{{\"session\":{number}}}\n")
             }
             Directive::AskBy { by } => {
                 self.asker = by;
-                format!(in alloc; "{{\"asks\":{by}}}\n")?
+                format!(in alloc; "{{\"asks\":{by}}}\n")
             }
             Directive::Publish { copy } => {
                 self.publish(rt, copy)?;
-                format!(in alloc; "{{\"published\":true}}\n")?
+                format!(in alloc; "{{\"published\":true}}\n")
             }
         };
-        Ok(text.into_bytes())
+        Ok(text?.into_bytes())
+    }
+
+    /// Opens one more session, and gives its number.
+    fn open_next(&mut self, rt: &impl Wait) -> Result<u64> {
+        let session = self.operator.open_session(rt)?;
+        self.next = self.next.saturating_add(1);
+        Ok(session.number())
     }
 
     fn publish(&self, rt: &impl Wait, copy: u64) -> Result<()> {
@@ -142,13 +148,7 @@ impl<N: Site> Stage<N> {
     }
 
     /// What the session that made no call is shown, and how many sessions were opened that nobody asked for.
-    pub(crate) fn end(mut self, rt: &impl Wait) -> Result<Ending> {
-        let ending = self.ending(rt);
-        drop(self);
-        ending
-    }
-
-    fn ending(&mut self, rt: &impl Wait) -> Result<Ending> {
+    pub(crate) fn end(&mut self, rt: &impl Wait) -> Result<Ending> {
         let shown = self.operator.operations_at_least(&mut self.watcher);
         let next = self.operator.open_session(rt)?;
         Ok(Ending {

@@ -2,7 +2,7 @@ ghost use Rattle.std.specs.Prelude.{◌≡◌};
 
 use crate::asking::ask_query;
 use anyhow::{Result, bail};
-use batch_ids::{Parameters, Refusal, T256};
+use batch_ids::{ExecutionId, Parameters, Refusal, T256};
 use batch_operator::{CopyCount, Operator};
 use jsl_json::read_catalogue;
 use jsl_model::Catalogue;
@@ -87,19 +87,25 @@ fn start_many<N: Site>(
 ) -> Result<Vec<u64>, Refusal> {
     let mut started = Vec::new(rt.alloc());
     for at in 0..STARTS {
-        let job = T256::new(rt.alloc(), "a")?;
-        let parameters = Parameters::none();
-        if let Reply::Execution(execution) = operator.start(
-            rt,
-            &mut session,
-            job,
-            parameters,
-            at,
-        )? {
+        if let Some(execution) = start_one(rt, operator, &mut session, at)? {
             started.push(execution.value())?;
         }
     }
     Ok(started)
+}
+
+/// The job execution that a session starts.
+fn start_one<N: Site>(
+    rt: &(impl Wait + AllocGlobal),
+    operator: &Operator<N>,
+    session: &mut Session<N>,
+    at: u64,
+) -> Result<Option<ExecutionId>, Refusal> {
+    let job = T256::new(rt.alloc(), "a")?;
+    match operator.start(rt, session, job, Parameters::none(), at)? {
+        Reply::Execution(execution) => Ok(Some(execution)),
+        _ => Ok(None),
+    }
 }
 
 /// Says how many numbers there are, and whether they are those from 1 on, each once.

@@ -1,12 +1,16 @@
 //! Tests that no script in a file can be. Of what lies below the repository: identifiers, jobs, graphs, members of JSON
 //! objects, transition elements and walks. Of the service: copies, a full log, lines at their bound, scripts that are cut
-//! off, readers and writers that fail, and a list of events.
+//! off, readers and writers that fail, a list of events, built-in artifacts, and the words of a command line.
 #![tactic(auto)]
 
 #[cfg(test)]
 mod books;
 #[cfg(test)]
 mod bounds;
+#[cfg(test)]
+mod built_ins;
+#[cfg(test)]
+mod command_lines;
 #[cfg(test)]
 mod copies;
 #[cfg(test)]
@@ -23,5 +27,7 @@ mod patterns;
 mod target_graphs;
 #[cfg(test)]
 mod walks;
+#[cfg(test)]
+mod work_items;
 #[cfg(test)]
 mod worlds;

@@ -2,12 +2,52 @@
 //! anybody.
 #![tactic(auto)]
 
-ghost use Rattle.std.specs.Prelude.{◌≡◌, ◌≤◌, ◌∷◌, ◌++◌, IsTrue, length};
-ghost use Rattle.seat_rules.specs.Views.{HasStop};
+ghost use Rattle.std.specs.Prelude.{◌≡◌, ◌≤◌, [], ◌∷◌, ◌++◌, IsTrue, length};
+ghost use mathlib.Core.List.{IsPrefix};
+ghost use Rattle.batch_history.specs.Due.{IsDue};
+ghost use Rattle.batch_history.specs.Legal.{entries_by};
+ghost use Rattle.batch_history.specs.Replies.{reply};
+ghost use Rattle.batch_history.specs.Rows.{history};
+ghost use Rattle.seat_rules.specs.Places.{IsLegalLog};
+ghost use Rattle.seat_rules.specs.Views.{Each, HasStop};
+ghost use Rattle.sessions.specs.Answered.{entered, moved_on};
 
-use batch_ids::ExecutionId;
+use batch_ids::{ExecutionId, Moment, Refusal};
+use op_log::{Call, Reply};
 use seat_rules::{SeatTable, Site};
 use sessions::{Desk, Session};
+
+/// Answers a stop of a session at this moment, as `Desk::act` does, and tells all sessions of it
+/// where it is accepted: not before it stands in the log (Jakarta Batch 2.1, "JobOperator", stop).
+///
+/// # Errors
+///
+/// The first refusal of the stop that stands, `RepositoryFull` after them where the log has `LIMIT`
+/// entries, or `OutOfMemory` in place of any answer. A refused stop enters nothing and tells nobody.
+pub fn stop<N: Site, const LIMIT: u64>(
+    desk: &mut Desk<N, LIMIT>,
+    session: &mut Session<N>,
+    execution: ExecutionId,
+    at: Moment,
+    table: &SeatTable,
+) -> Result<Reply, Refusal>
+    requires table { table.now ≡ N.place }
+    requires alone { desk.old.hosted ≡ [] }
+    ensures reply { IsDue result (reply LIMIT (history N.place.catalogue desk.old.log) session.old.number (Call.Stop execution)) }
+    ensures log { desk.new.log ≡ entered desk.old.log session.old.number (Call.Stop execution) at result }
+    ensures session { session.new ≡ moved_on session.old desk.new.log
+        (entered session.old.mine session.old.number (Call.Stop execution) at result) }
+    ensures grows { IsPrefix session.old.seen desk.old.log }
+    ensures own { entries_by session.new.number session.new.seen ≡ session.new.mine }
+    ensures legal { IsLegalLog N.place.catalogue desk.new.log }
+    ensures least { session.old.least ≤ length desk.old.log }
+    ensures stops { Each (HasStop session.new.seen session.old.least) session.old.stops }
+    ensures last { (desk.new.last ≡ desk.old.last) × (desk.new.hosted ≡ []) }
+{
+    let reply = desk.act(session, Call::Stop { execution }, at, table)?;
+    raise(desk, execution, table);
+    Ok(reply)
+}
 
 /// Tells all sessions that a job execution was asked to stop. An accepted stop of it has to stand in
 /// the log. 64 words serve all job executions, so that a later stop may cover this one. It takes no

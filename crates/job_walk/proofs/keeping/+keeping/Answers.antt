@@ -1,4 +1,4 @@
-use Rattle.std.proofs.Common.{◌≡◌, ◌++◌, List, [], ◌∷◌, ◌-◌, length, map, take, rules, sym, ◌∙◌, ap, arith, subst, refl, IfOk}
+use Rattle.std.proofs.Common.{◌≡◌, ◌++◌, List, [], ◌∷◌, ◌-◌, length, map, set, take, rules, sym, ◌∙◌, ap, arith, subst, refl, IfOk}
 use Rattle.std.proofs.lemmas.List.{take_all}
 use Rattle.jsl_model.specs.Trees.{joined}
 use Rattle.jsl_model.specs.declared.element.Element.{Element}
@@ -46,37 +46,36 @@ keep_element-returns-after-loop-flow-clause-lists t c =
     on-ok c.split_result.result _ (c.loop-flow.invariant.1
     ∙ ap (λ (x : List KeptList). c.args.lists.now.items ++ x) (ap (λ (fs : List SplitFlow). joined (map (λ (f : SplitFlow). lists_in (kept_flow facts f)) fs)) all ∙ sym split.1))
 
-pub keep_list-loop-element-preserved : goal.keep_list-loop-element-preserved
-keep_list-loop-element-preserved t c =
+pub keep_each-loop-element-preserved : goal.keep_each-loop-element-preserved
+keep_each-loop-element-preserved t c =
     let facts = fact_of c.args.known.now in
     let e : Element = c.element-item.result in
     let es = c.args.elements.now in
     let i = c.loop-element.element-index in (
-      lists-more (λ (x : Element). (kept_element facts x).inside) es i e c.push.new.self.items c.loop-element.lists.items c.keep_element.new.lists.items (omega arith) c.element-item.is c.loop-element.invariant.0 c.in_ok-result.ensures.lists,
-      values-more (λ (x : Element). (kept_element facts x).row.own_result) es i e c.loop-element.results c.push-in-loop-element-2.new.self c.in_ok-result.result (omega arith) c.element-item.is c.loop-element.invariant.1 c.in_ok-push-3.ensures.ok c.in_ok-result.ensures.result,
-      starts-more (λ (x : Element). (kept_element facts x).inside) es i e c.loop-element.starts c.push-in-loop-element.new.self (c.len.result - c.len-base.result - 1) (omega arith) c.element-item.is c.loop-element.invariant.2 c.in_ok-push-2.ensures.ok
+      lists-more (λ (x : Element). (kept_element facts x).inside) es i e c.args.lists.now.items c.loop-element.lists.items c.keep_element.new.lists.items (omega arith) c.element-item.is c.loop-element.invariant.0 c.in_ok-result.ensures.lists,
+      values-more (λ (x : Element). (kept_element facts x).row.own_result) es i e c.loop-element.results c.push-in-loop-element.new.self c.in_ok-result.result (omega arith) c.element-item.is c.loop-element.invariant.1 c.in_ok-push-2.ensures.ok c.in_ok-result.ensures.result,
+      starts-more (λ (x : Element). (kept_element facts x).inside) es i e c.loop-element.starts c.push.new.self (c.len.result - c.len-base.result) (omega arith) c.element-item.is c.loop-element.invariant.2 c.in_ok-push.ensures.ok
           (let now : c.len.result ≡ length c.loop-element.lists.items = search rules in
           let base : c.len-base.result ≡ length c.args.lists.now.items = search rules in
-          let pushed : c.push.new.self.items ≡ c.args.lists.now.items ++ c.nothing_kept.result ∷ [] = search rules in
-          let count = added-count c.args.lists.now.items c.loop-element.lists.items _ c.nothing_kept.result (c.loop-element.invariant.0 ∙ ap (λ (x : List KeptList). x ++ joined (map (λ (y : Element). (kept_element facts y).inside) (take i es))) pushed) in
+          let count = added-count c.args.lists.now.items c.loop-element.lists.items _ c.loop-element.invariant.0 in
           omega (arith, now, base, count)),
     )
 
 pub keep_list-returns : goal.keep_list-returns
 keep_list-returns t c =
     let facts = fact_of c.args.known.now in
-    let now : c.len-2.result ≡ length c.loop-element.lists.items = search rules in
+    let now : c.len.result ≡ length c.keep_each.new.lists.items = search rules in
     let base : c.len-base.result ≡ length c.args.lists.now.items = search rules in
     let pushed : c.push.new.self.items ≡ c.args.lists.now.items ++ c.nothing_kept.result ∷ [] = search rules in
-    list-kept facts c.args.elements.now c.args.from.now c.loop-element.element-index c.args.lists.now.items c.loop-element.lists.items c.nothing_kept.result c.len-base.result c.len-2.result c.in_ok-progress.progress c.loop-element.results c.as_slice.result.now c.loop-element.starts _
-    c.loop-element-test.false base now
-    (c.loop-element.invariant.0 ∙ ap (λ (x : List KeptList). x ++ joined (map (λ (y : Element). (kept_element facts y).inside) (take c.loop-element.element-index c.args.elements.now))) pushed)
-    c.loop-element.invariant.1 c.loop-element.invariant.2 c.as_slice.ensures c.in_ok-progress.ensures
+    ap (set c.keep_each.new.lists.items c.len-base.result) c.replace.ensures.after ∙ list-kept facts c.args.elements.now c.args.from.now c.args.lists.now.items c.keep_each.new.lists.items c.nothing_kept.result c.len-base.result c.len.result c.in_ok-progress.progress c.keep_each.new.results c.as_slice.result.now c.keep_each.new.starts
+    base now
+    (c.in_ok-keep_each.ensures.lists ∙ ap (λ (x : List KeptList). x ++ joined (map (λ (y : Element). (kept_element facts y).inside) c.args.elements.now)) pushed)
+    c.in_ok-keep_each.ensures.results c.in_ok-keep_each.ensures.starts c.as_slice.ensures c.in_ok-progress.ensures
 
 -- ---- What lies inside
 
-pub keep_list-keep_element-requires : goal.keep_list-keep_element-requires
-keep_list-keep_element-requires t c =
+pub keep_each-keep_element-requires : goal.keep_each-keep_element-requires
+keep_each-keep_element-requires t c =
     let less = nodes-at c.args.elements.now c.loop-element.element-index c.element-item.result c.loop-element-test.true c.element-item.is in
     (omega (arith, less), (c.requires.each, at-once c.args.elements.now c.loop-element.element-index c.element-item.result c.requires.once c.loop-element-test.true c.element-item.is))
 

@@ -1,8 +1,9 @@
-use Rattle.std.proofs.Common.{◌≡◌, ◌+◌, ◌++◌, length, get_or, drop, refl, sym, ◌∙◌, ap, arith}
+use Rattle.std.proofs.Common.{◌≡◌, ◌+◌, ◌++◌, length, get_or, set, drop, refl, sym, ◌∙◌, ap, subst, arith, Result, Ok, IfOk}
 use Rattle.jsl_model.specs.declared.element.SplitFlow.{out-SplitFlow}
 use Rattle.jsl_model.specs.declared.element.Body.TheVariants.{Flow, Split}
 use Rattle.job_walk.specs.declared.kept_list.KeptList.{KeptList}
-use Rattle.job_walk.specs.KeptLists.{facts_after, rows_in, lists_in, tree_first, KeepsFirst}
+use Rattle.job_walk.specs.declared.kept_list.Progress.{Progress}
+use Rattle.job_walk.specs.KeptLists.{progress, rows_by, facts_after, rows_in, lists_in, tree_first, KeepsFirst}
 use Rattle.job_walk.specs.Walk.{fact_of, first_id, flow_result}
 use Rattle.job_walk.proofs.Descent.{at-nowhere, way, entered, became, learnt-apart, drop-length, first-hides, first-shown, at-first}
 use Rattle.job_walk.proofs.Flows.{either, first-kept, first-some, flow-kept, flow-shows, flow-all, kept-flow, first-value, first-puts, same-value, same-puts, flow-puts, split-inside, split-size, split-elsewhere, split-once, split-more, split-start, split-value, split-comes, split-puts}
@@ -10,6 +11,9 @@ use Rattle.job_walk.proofs.Places.{at-once}
 use Rattle.job_walk.proofs.Reporting.{states}
 use Rattle.job_walk.proofs.Sizes.{nodes-at, nodes-flow, nodes-split}
 use Rattle.job_walk.proofs.learnt.+learning.Goals as goal
+
+come-ok : {E : Type 0} (result : Result Progress E) (come same : Progress) → result ≡ Ok come → IfOk result (λ made. made ≡ same) → come ≡ same
+come-ok {E = E} result come same is ok = subst (λ (r : Result Progress E). IfOk r (λ made. made ≡ same)) is ok
 
 -- ---- A list
 
@@ -64,32 +68,34 @@ list_changes-element_changes-requires t c =
     let less = nodes-at c.args.elements.now k c.index-elements-place.result w.within c.index-elements-place.is in
     (omega (arith, less), ((x.inside.0, here ∙ x.inside.1), (x.shown, (c.requires.known, (c.requires.each, (at-once c.args.elements.now k c.index-elements-place.result c.requires.once w.within c.index-elements-place.is, omega (arith, same, n, l, fits)))))))
 
-pub list_changes-walk_on-requires-clause-place : goal.list_changes-walk_on-requires-clause-place
-list_changes-walk_on-requires-clause-place t c =
+pub list_changes-walk_on-come-requires-clause-place : goal.list_changes-walk_on-come-requires-clause-place
+list_changes-walk_on-come-requires-clause-place t c =
     let x = entered (fact_of c.args.known.now) c.args.elements.now c.args.lists.now c.args.key.now c.index-lists-0.result c.in-Some.place c.index-elements-place.result c.requires.kept c.requires.shown (c.requires.once c.args.key.now.element) c.index-lists-0.is c.in-Some.is c.index-elements-place.is in
     x.place
 
-pub list_changes-returns-clause-value : goal.list_changes-returns-clause-value
-list_changes-returns-clause-value t c from rest is =
+pub list_changes-returns-in_ok-add_change-in-Ok-clause-value : goal.list_changes-returns-in_ok-add_change-in-Ok-clause-value
+list_changes-returns-in_ok-add_change-in-Ok-clause-value t c from rest is =
     let k = c.in-Some.place in
     let kept = c.index-lists-0.result in
     let same : get_or c.as_slice.result.now k 0 ≡ get_or kept.starts k 0 = ap (λ xs. get_or xs k 0) c.as_slice.ensures in
     (became c.args.key.now (fact_of c.args.known.now) (facts_after c.args.known.now c.args.key.now c.args.fact.now) (learnt-apart c.args.known.now c.args.key.now c.args.fact.now)
     c.args.elements.now c.args.lists.now kept k c.index-elements-place.result c.requires.shown (c.requires.once c.args.key.now.element) c.index-lists-0.is c.in-Some.is c.index-elements-place.is
-    c.as_slice-2.result.now c.as_slice-2.ensures c.in_ok-result.result c.in_ok-result.ensures.comes c.in_ok-progress.progress c.in_ok-progress.ensures
-    c.args.changes.now.items c.element_changes.new.changes.items c.push.new.self.items c.args.base (get_or c.as_slice.result.now k 0) same c.in_ok-result.ensures.changes
-    c.in_ok-push.ensures.items c.in_ok-value.value c.in_ok-value.ensures from rest is).0
+    c.as_slice-2.result.now c.as_slice-2.ensures c.in_ok-result.result c.in_ok-result.ensures.comes c.in-Ok.progress
+    (come-ok c.walk_on-come.result c.in-Ok.progress (progress kept.progress.left (rows_by c.args.elements.now (set c.as_slice-2.result.now k c.in_ok-result.result)) c.index-elements-place.result.id) c.in-Ok.is c.walk_on-come.ensures)
+    c.args.changes.now.items c.element_changes.new.changes.items c.add_change.new.changes.items c.args.base (get_or c.as_slice.result.now k 0) same c.in_ok-result.ensures.changes
+    c.in_ok-add_change-in-Ok.ensures.changes c.in_ok-add_change-in-Ok.field-0 c.in_ok-add_change-in-Ok.ensures.value from rest is).0
 
-pub list_changes-returns-clause-changes : goal.list_changes-returns-clause-changes
-list_changes-returns-clause-changes t c from rest is =
+pub list_changes-returns-in_ok-add_change-in-Ok-clause-changes : goal.list_changes-returns-in_ok-add_change-in-Ok-clause-changes
+list_changes-returns-in_ok-add_change-in-Ok-clause-changes t c from rest is =
     let k = c.in-Some.place in
     let kept = c.index-lists-0.result in
     let same : get_or c.as_slice.result.now k 0 ≡ get_or kept.starts k 0 = ap (λ xs. get_or xs k 0) c.as_slice.ensures in
     (became c.args.key.now (fact_of c.args.known.now) (facts_after c.args.known.now c.args.key.now c.args.fact.now) (learnt-apart c.args.known.now c.args.key.now c.args.fact.now)
     c.args.elements.now c.args.lists.now kept k c.index-elements-place.result c.requires.shown (c.requires.once c.args.key.now.element) c.index-lists-0.is c.in-Some.is c.index-elements-place.is
-    c.as_slice-2.result.now c.as_slice-2.ensures c.in_ok-result.result c.in_ok-result.ensures.comes c.in_ok-progress.progress c.in_ok-progress.ensures
-    c.args.changes.now.items c.element_changes.new.changes.items c.push.new.self.items c.args.base (get_or c.as_slice.result.now k 0) same c.in_ok-result.ensures.changes
-    c.in_ok-push.ensures.items c.in_ok-value.value c.in_ok-value.ensures from rest is).1
+    c.as_slice-2.result.now c.as_slice-2.ensures c.in_ok-result.result c.in_ok-result.ensures.comes c.in-Ok.progress
+    (come-ok c.walk_on-come.result c.in-Ok.progress (progress kept.progress.left (rows_by c.args.elements.now (set c.as_slice-2.result.now k c.in_ok-result.result)) c.index-elements-place.result.id) c.in-Ok.is c.walk_on-come.ensures)
+    c.args.changes.now.items c.element_changes.new.changes.items c.add_change.new.changes.items c.args.base (get_or c.as_slice.result.now k 0) same c.in_ok-result.ensures.changes
+    c.in_ok-add_change-in-Ok.ensures.changes c.in_ok-add_change-in-Ok.field-0 c.in_ok-add_change-in-Ok.ensures.value from rest is).1
 
 -- ---- A list from its first element
 

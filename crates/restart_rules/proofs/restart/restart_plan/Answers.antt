@@ -1,9 +1,8 @@
-use Rattle.std.proofs.Common.{◌≡◌, ℕ, Some, is_some, List, refl, sym, ◌∙◌, ap}
+use Rattle.std.proofs.Common.{◌≡◌, ℕ, Some, is_some, List, refl, sym}
 use Rattle.jsl_model.specs.Jobs.{JobTree}
-use Rattle.job_walk.specs.declared.plan.Plan.{Plan}
 use Rattle.batch_history.specs.Replies.{restart_plan, walk_in_rows}
 use Rattle.batch_history.specs.Restarts.{plan_by, restart_point}
-use Rattle.batch_history.specs.Walks.{facts_by_work, job_named}
+use Rattle.batch_history.specs.Walks.{facts_by_work, job_named, walk_value}
 use Rattle.batch_history.specs.declared.rows.WorkRow.{WorkRow}
 use Rattle.records.specs.Left.{works_of_instance}
 use Rattle.restart_rules.specs.Placed.{begins_in_job}
@@ -21,9 +20,7 @@ returns-clause-plan c count last =
     (restart_point (is_some c.args.row.now.start) (walk_in_rows (rows_over c.args.catalogue.now count last c.args.records.now) c.args.row.now) c.args.row.now.plan.from)
     earlier (works_of_instance c.args.row.now.instance c.args.records.now.executions c.args.records.now.works)
     c.job_of-job.ensures.named
-    ((c.in_ok-from.ensures ∙ ap (λ (plan : Plan). restart_point c.is_some.result c.in_ok-value.value plan.from) c.get.ensures)
-    ∙ (ap (λ b. restart_point b c.in_ok-value.value c.args.row.now.plan.from) c.is_some.ensures
-    ∙ ap (λ v. restart_point (is_some c.args.row.now.start) v c.args.row.now.plan.from) c.in_ok-value.ensures))
+    c.in_ok-from.ensures
     refl)
 
 pub returns-clause-begins : goal.returns-clause-begins
@@ -34,6 +31,6 @@ returns-clause-begins c =
     (λ plan. begins_in_job plan (job_named c.args.catalogue.now c.args.row.now.job) ≡ Rattle.std.proofs.Common.true)
     (c.plan_after.ensures job (sym c.elements.ensures.same))
     (λ plan made. begins_after job c.elements.ensures.checked c.args.row.now.plan (job_named c.args.catalogue.now c.args.row.now.job)
-    (facts_by_work c.args.row.now.execution c.args.records.now.works) c.is_some.result c.in_ok-value.value c.in_ok-from.from earlier plan
-    c.job_of-job.ensures.named c.requires c.in_ok-value.ensures
-    (c.in_ok-from.ensures ∙ ap (λ (plan : Plan). restart_point c.is_some.result c.in_ok-value.value plan.from) c.get.ensures) made)
+    (facts_by_work c.args.row.now.execution c.args.records.now.works) (is_some c.args.row.now.start)
+    (walk_value c.args.catalogue.now c.args.records.now.works c.args.row.now.execution c.args.row.now.job c.args.row.now.plan)
+    c.in_ok-from.from earlier plan c.job_of-job.ensures.named c.requires refl c.in_ok-from.ensures made)

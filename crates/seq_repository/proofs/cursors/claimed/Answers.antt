@@ -10,7 +10,7 @@ take-requires c =
           (sym c.in-Some.ensures.found) c.requires.first c.in_ok-key.ensures c.in_ok-cursor-in-Some.ensures;
     }
 
-pub returns-in_ok-take-in-Some : goal.returns-in_ok-take-in-Some
-returns-in_ok-take-in-Some c = λ who at.
+pub returns-in-Ok : goal.returns-in-Ok
+returns-in-Ok c = λ who at.
     claimed_walks c.args.catalogue.now c.args.records.now.works c.args.records.now.executions c.in-Some.row.now c.in_ok-cursor-in-Some.cursor c.take.new.self c.args.item.now c.in_ok-key.key who at
-    (sym c.in-Some.ensures.found) c.requires.first c.in_ok-key.ensures c.in_ok-cursor-in-Some.ensures c.in_ok-take-in-Some.ensures.taken
+    (sym c.in-Some.ensures.found) c.requires.first c.in_ok-key.ensures c.in_ok-cursor-in-Some.ensures c.in-Ok.ensures.taken

@@ -25,16 +25,16 @@ pub invariant_of-self-2 : goal.invariant_of-self-2
 invariant_of-self-2 c =
     let first_below = subst (λ (m : Maps). AreBelow c.args.first.execution (execution_numbers m.executions)) (sym c.self.view_is) c.requires.first in
     let below = subst (λ (m : Maps). AreBelow c.args.instance.instance (instance_numbers m.instances)) (sym c.self.view_is) c.requires.instance in
-    let first_added = c.put_last.ensures ∙ ap (λ (l : List ExecutionRow). l ++ c.args.first ∷ []) c.reserve-2.ensures.items in
-    let added = c.put_last-2.ensures ∙ ap (λ (l : List JobInstance). l ++ c.args.instance ∷ []) c.reserve.ensures.items in
-    let more = execution_added _ _ _ _ _ c.args.first c.self.invariant.0 first_below c.in_ok-index_instance.ensures.owned in (
+    let first_added = c.put_last.ensures ∙ ap (λ (l : List ExecutionRow). l ++ c.args.first ∷ []) c.index_instance.ensures.executions in
+    let added = c.put_last-2.ensures ∙ ap (λ (l : List JobInstance). l ++ c.args.instance ∷ []) c.index_instance.ensures.instances in
+    let more = execution_added _ _ _ _ _ c.args.first c.self.invariant.0 first_below c.in-Ok.ensures.owned in (
       subst (λ (l : List JobInstance).
           AreIndexed record { instances = l; executions = c.put_last.new.rows.items; works = c.self.inside.works.items; checkpoints = c.self.inside.checkpoints }
           (numbers_named c.index_instance.new.by_name) (numbers_under c.index_instance.new.by_instance) (numbers_under c.self.inside.works_by_execution)) (sym added)
           (subst (λ (l : List ExecutionRow).
           AreIndexed record { instances = c.self.inside.instances.items ++ c.args.instance ∷ []; executions = l; works = c.self.inside.works.items; checkpoints = c.self.inside.checkpoints }
           (numbers_named c.index_instance.new.by_name) (numbers_under c.index_instance.new.by_instance) (numbers_under c.self.inside.works_by_execution)) (sym first_added)
-          (instance_added _ _ _ _ _ c.args.instance more below c.in_ok-index_instance.ensures.named)),
+          (instance_added _ _ _ _ _ c.args.instance more below c.in-Ok.ensures.named)),
       subst (λ (l : List ExecutionRow). AreStepped record { instances = c.put_last-2.new.rows.items; executions = l; works = c.self.inside.works.items; checkpoints = c.self.inside.checkpoints } (numbers_of_step c.keep_if.new.self) (has_steps c.keep_if.new.self)) (sym first_added)
           (stepped.execution_added record { instances = c.put_last-2.new.rows.items; executions = c.self.inside.executions.items; works = c.self.inside.works.items; checkpoints = c.self.inside.checkpoints } (numbers_of_step c.self.inside.works_by_step) _ (has_steps c.self.inside.works_by_step) _ c.has_no_work-has_no_work.result c.args.first c.self.invariant.1
           (λ none. subst (λ (m : Maps). works_of c.args.first.execution m.works ≡ []) (sym c.self.view_is) (c.has_no_work-has_no_work.ensures none)) c.keep_if.ensures.has c.keep_if.ensures.left),

@@ -58,8 +58,9 @@ invariant_of-self c =
     let there : Some c.in-Some.place ≡ position (is_execution c.args.x) rows =
     sym c.in-Some.is ∙ (c.execution_place.ensures.first rising ∙ ap (position (is_execution c.args.x)) c.as_slice.ensures.value) in
     let may = subst (λ (m : Maps). MayReplaceExecution m.executions c.args.x c.args.row) (sym c.self.view_is) c.requires in
-    let placed = execution_changed rows c.args.x c.in-Some.place c.args.row there in
-    let rises = subst (λ (l : List ExecutionRow). AreRising (execution_numbers l)) placed
+    let changed = execution_changed rows c.args.x c.in-Some.place c.args.row there in
+    let placed = c.replace_row.ensures ∙ changed in
+    let rises = subst (λ (l : List ExecutionRow). AreRising (execution_numbers l)) changed
     (execution_kept rows c.args.x c.in-Some.place c.args.row c.self.invariant.0.keyed.executions there may) in
     let old : ExecutionRow = c.index.result.now in
     let within : c.in-Some.place < length rows = (position-Some (is_execution c.args.x) rows c.in-Some.place old (sym there)).0 in
@@ -89,5 +90,5 @@ returns c =
     let rising = subst (λ (l : List ExecutionRow). AreRising (execution_numbers l)) (sym c.as_slice.ensures.value) c.self.invariant.0.keyed.executions in
     let there : Some c.in-Some.place ≡ position (is_execution c.args.x) rows =
     sym c.in-Some.is ∙ (c.execution_place.ensures.first rising ∙ ap (position (is_execution c.args.x)) c.as_slice.ensures.value) in
-    ap (λ (l : List ExecutionRow). record { instances = c.self.inside.instances.items; executions = l; works = c.self.inside.works.items; checkpoints = c.self.inside.checkpoints }) (execution_changed rows c.args.x c.in-Some.place c.args.row there)
+    ap (λ (l : List ExecutionRow). record { instances = c.self.inside.instances.items; executions = l; works = c.self.inside.works.items; checkpoints = c.self.inside.checkpoints }) (c.replace_row.ensures ∙ execution_changed rows c.args.x c.in-Some.place c.args.row there)
     ∙ ap (λ (m : Maps). record m { executions = change_first (is_execution c.args.x) (λ old. c.args.row) m.executions }) c.self.view_is

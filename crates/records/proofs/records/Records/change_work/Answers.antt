@@ -25,8 +25,9 @@ invariant_of-self c =
     let there : Some c.in-Some.place ≡ position (is_work c.args.w) rows =
     sym c.in-Some.is ∙ (c.work_place.ensures.first rising ∙ ap (position (is_work c.args.w)) c.as_slice.ensures.value) in
     let may = subst (λ (m : Maps). MayReplaceWork m.works c.args.w c.args.row) (sym c.self.view_is) c.requires in
-    let placed = work_changed rows c.args.w c.in-Some.place c.args.row there in
-    let rises = subst (λ (l : List WorkRow). AreRising (work_numbers l)) placed
+    let changed = work_changed rows c.args.w c.in-Some.place c.args.row there in
+    let placed = c.replace_row.ensures ∙ changed in
+    let rises = subst (λ (l : List WorkRow). AreRising (work_numbers l)) changed
     (work_kept rows c.args.w c.in-Some.place c.args.row c.self.invariant.0.keyed.works there may) in (
       subst (λ (l : List WorkRow).
           AreIndexed record { instances = c.self.inside.instances.items; executions = c.self.inside.executions.items; works = l; checkpoints = c.self.inside.checkpoints }
@@ -44,5 +45,5 @@ returns c =
     let rising = subst (λ (l : List WorkRow). AreRising (work_numbers l)) (sym c.as_slice.ensures.value) c.self.invariant.0.keyed.works in
     let there : Some c.in-Some.place ≡ position (is_work c.args.w) rows =
     sym c.in-Some.is ∙ (c.work_place.ensures.first rising ∙ ap (position (is_work c.args.w)) c.as_slice.ensures.value) in
-    ap (λ (l : List WorkRow). record { instances = c.self.inside.instances.items; executions = c.self.inside.executions.items; works = l; checkpoints = c.self.inside.checkpoints }) (work_changed rows c.args.w c.in-Some.place c.args.row there)
+    ap (λ (l : List WorkRow). record { instances = c.self.inside.instances.items; executions = c.self.inside.executions.items; works = l; checkpoints = c.self.inside.checkpoints }) (c.replace_row.ensures ∙ work_changed rows c.args.w c.in-Some.place c.args.row there)
     ∙ ap (λ (m : Maps). record m { works = change_first (is_work c.args.w) (λ old. c.args.row) m.works }) c.self.view_is

@@ -1,12 +1,9 @@
-use Rattle.std.proofs.Common.{◌≡◌, ℕ, ◌+◌, true, List, sym, ◌∙◌, ap, arith}
+use Rattle.std.proofs.Common.{◌≡◌, ◌+◌, true, sym, ◌∙◌, ap, arith}
 use Rattle.std.specs.BTreeMap.{get}
 use Rattle.std.specs.Ordering.{nat_cmp}
-use Rattle.batch_ids.specs.Parameters.{Pair}
 use Rattle.batch_history.proofs.Steps.{fresh_row}
 use Rattle.batch_history.specs.Replies.{is_execution, row_status}
-use Rattle.batch_history.specs.Walks.{job_named}
-use Rattle.job_walk.specs.declared.plan.Plan.{Plan}
-use Rattle.restart_rules.specs.Placed.{begins_in_job, is_placed}
+use Rattle.restart_rules.specs.Placed.{is_placed}
 use Rattle.seq_repository.proofs.Placing.{placed_found}
 use Rattle.batch_history.specs.declared.rows.ExecutionRow.{ExecutionRow}
 use Rattle.batch_history.specs.declared.rows.LastNumbers.{LastNumbers}
@@ -19,12 +16,9 @@ use Rattle.seq_repository.proofs.repository.Repository.enter_restart.Goals as go
 pub invariant_of-self-2 : goal.invariant_of-self-2
 invariant_of-self-2 g c =
     let kept : Kept = record { catalogue = c.self.inside.catalogue; count = c.self.inside.count; last = c.self.inside.last; records = c.self.inside.records } in
-    let row : ExecutionRow = c.new_execution-row.result in
-    let placed : is_placed kept.catalogue row ≡ true =
-    ap (λ (r : ExecutionRow). is_placed kept.catalogue r) c.new_execution-row.ensures
-    ∙ (ap (λ job. begins_in_job c.in_ok-shared.shared (job_named kept.catalogue job)) c.in_ok-job.ensures
-    ∙ (ap (λ (plan : Plan). begins_in_job plan (job_named kept.catalogue c.in-Some.earlier.now.job)) c.in_ok-shared.ensures ∙ c.in_ok-plan.ensures.begins)) in
-    kept_restart g.row.LIMIT c.self.inside.agenda.keys c.add_execution.new.agenda.keys (get nat_cmp c.self.inside.cursors) kept c.add_execution.new.records row c.self.invariant (ap (λ (r : ExecutionRow). r.execution) c.new_execution-row.ensures) (ap row_status c.new_execution-row.ensures) (omega (arith, c.requires.room, ap (λ (r : Kept). r.count) c.self.view_is)) placed c.in_ok-add_execution.ensures.added c.in_ok-add_execution.ensures.agenda
+    let row : ExecutionRow = c.in_ok-row.row in
+    let placed : is_placed kept.catalogue row ≡ true = ap (λ (r : ExecutionRow). is_placed kept.catalogue r) c.in_ok-row.ensures ∙ c.in_ok-plan.ensures.begins in
+    kept_restart g.row.LIMIT c.self.inside.agenda.keys c.add_execution.new.agenda.keys (get nat_cmp c.self.inside.cursors) kept c.add_execution.new.records row c.self.invariant (ap (λ (r : ExecutionRow). r.execution) c.in_ok-row.ensures) (ap row_status c.in_ok-row.ensures) (omega (arith, c.requires.room, ap (λ (r : Kept). r.count) c.self.view_is)) placed c.in_ok-add_execution.ensures.added c.in_ok-add_execution.ensures.agenda
 
 pub restart_plan-requires : goal.restart_plan-requires
 restart_plan-requires g c =
@@ -34,11 +28,8 @@ pub returns-clause-rows : goal.returns-clause-rows
 returns-clause-rows g c =
     let last : LastNumbers = c.self.inside.last in
     let earlier : ExecutionRow = c.in-Some.earlier.now in
-    let row : List ℕ → List Pair → Plan → ExecutionRow = λ job parameters plan. fresh_row (last.execution + 1) earlier.instance c.args.at job parameters plan in
     rw (← c.self.view_is)
     (restart-entered c.self.inside.catalogue c.self.inside.count last c.self.inside.records c.add_execution.new.records 0 c.args.at c.args.y c.args.parameters.now Done
-    earlier c.new_execution-row.result (sym c.in-Some.ensures.found)
-    (c.new_execution-row.ensures ∙ (ap (λ job. row job c.in_ok-parameters.parameters c.in_ok-shared.shared) c.in_ok-job.ensures
-    ∙ (ap (λ p. row earlier.job p c.in_ok-shared.shared) c.in_ok-parameters.ensures.same
-    ∙ ap (row earlier.job c.args.parameters.now) (c.in_ok-shared.ensures ∙ c.in_ok-plan.ensures.plan c.self.inside.count last))))
+    earlier c.in_ok-row.row (sym c.in-Some.ensures.found)
+    (c.in_ok-row.ensures ∙ ap (fresh_row (last.execution + 1) earlier.instance c.args.at earlier.job c.args.parameters.now) (c.in_ok-plan.ensures.plan c.self.inside.count last))
     c.in_ok-add_execution.ensures.added)

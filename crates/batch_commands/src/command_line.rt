@@ -1,0 +1,125 @@
+ghost use Rattle.std.specs.Prelude.{◌≡◌, ◌≤◌, ◌↔◌, ◌∷◌, List, ℕ, [], IsTrue, IfOk, IfSome, codes, map};
+ghost use Rattle.batch_commands.specs.Asked.{IsAsked};
+
+use crate::asked::Arguments;
+use crate::help::{ABOUT, RUN_ABOUT, RUN_HELP, SCRIPT_ABOUT, SCRIPT_HELP, WORKERS_HELP};
+use clap::builder::ValueParser;
+use clap::error::ErrorKind;
+use clap::{Arg, ArgMatches, Command, Error};
+use std::alloc::{AllocError, Global};
+
+/// How many workers a run has at most.
+const MOST_WORKERS: u64 = 16;
+
+fn is_script(words: &[&str]) -> bool
+    ensures { IsTrue result ↔ (map (λ word. word.now) words.now ≡ codes "script" ∷ []) }
+{
+    match words {
+        [word] => *word == "script",
+        _ => false,
+    }
+}
+
+/// Whether the first word is `run`.
+fn begins_run(words: &[&str]) -> bool
+    ensures { IsTrue result → (rest : List (List ℕ)) × (map (λ word. word.now) words.now ≡ codes "run" ∷ rest) }
+{
+    match words {
+        [word, ..] => *word == "run",
+        _ => false,
+    }
+}
+
+/// The number of workers of a run, if it is 1 to 16.
+fn workers_of(matches: &ArgMatches<'_>) -> Option<u64>
+    ensures { IfSome result (λ workers. (1 ≤ workers) × (workers ≤ 16)) }
+{
+    let workers = matches
+        .subcommand_matches("run")?
+        .get_one::<u64>("workers")?;
+    if workers >= 1 && workers <= MOST_WORKERS {
+        Some(workers)
+    } else {
+        None
+    }
+}
+
+/// What words ask for that `clap` has accepted.
+fn asked(matches: &ArgMatches<'_>, words: &[&str]) -> Option<Arguments>
+    ensures { IfSome result (λ arguments. IsAsked arguments (map (λ word. word.now) words.now)) }
+{
+    if is_script(words) {
+        return Some(Arguments::Script);
+    }
+    if begins_run(words) {
+        let workers = workers_of(matches)?;
+        return Some(Arguments::Run { workers });
+    }
+    None
+}
+
+/// The command `script`.
+fn script_command<'a>(alloc: Global) -> Command<'a> {
+    Command::new(alloc, "script")
+        .about(SCRIPT_ABOUT)
+        .after_help(SCRIPT_HELP)
+}
+
+/// The command `run`.
+fn run_command<'a>(alloc: Global) -> Result<Command<'a>, AllocError> {
+    let workers = Arg::new(alloc, "workers")
+        .long("workers")
+        .value_name("N")
+        .help(WORKERS_HELP)
+        .value_parser(ValueParser::unsigned(1, MOST_WORKERS))
+        .default_value("2");
+    Command::new(alloc, "run")
+        .about(RUN_ABOUT)
+        .after_help(RUN_HELP)
+        .arg(workers)
+}
+
+/// Reads the words that follow the program's name.
+///
+/// They are accepted only where they are the one word `script`, or `run` with 1 to 16 workers: by
+/// `--workers N`, else 2.
+///
+/// # Errors
+///
+/// `clap`'s, where they are other words, also for a request for help or for the version; and where
+/// memory is refused.
+pub fn arguments<'a>(alloc: Global, words: &'a [&'a str]) -> Result<Arguments, Error>
+    ensures only { IfOk result (λ arguments. IsAsked arguments (map (λ word. word.now) words.now)) }
+{
+    let mut command = batchctl_command(alloc)?;
+    let read = read_words(&mut command, words);
+    drop(command);
+    read
+}
+
+/// The command of the program.
+fn batchctl_command<'a>(alloc: Global) -> Result<Command<'a>, AllocError> {
+    Command::new(alloc, "batchctl")
+        .bin_name("batchctl")?
+        .about(ABOUT)
+        .version("0.1.0")
+        .no_binary_name(true)
+        .subcommand_required(true)
+        .arg_required_else_help(true)
+        .subcommand(script_command(alloc))?
+        .subcommand(run_command(alloc)?)
+}
+
+/// What the words ask for by this command.
+fn read_words<'a>(command: &mut Command<'a>, words: &'a [&'a str]) -> Result<Arguments, Error>
+    ensures { IfOk result (λ arguments. IsAsked arguments (map (λ word. word.now) words.now)) }
+{
+    let matches = command.try_get_matches_from_mut(words)?;
+    match asked(&matches, words) {
+        Some(arguments) => Ok(arguments),
+        None => Err(command.error(
+            ErrorKind::InvalidSubcommand,
+            "`script`, or `run` with 1 to 16 workers, is expected",
+        )?),
+    }
+}

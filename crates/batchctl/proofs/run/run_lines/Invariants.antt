@@ -1,4 +1,0 @@
-use Rattle.batchctl.proofs.run.run_lines.Given as goal
-
-abbrev pub ghosts-run_over : goal.ghosts-run_over
-ghosts-run_over g a = record { place = a.table }

@@ -1,0 +1,7 @@
+use Rattle.std.proofs.Common.{◌≡◌, ◌++◌, map, drop}
+use Rattle.job_walk.specs.Keys.{key_of}
+use Rattle.restart_rules.proofs.plan.add_keys.Given as goal
+
+abbrev pub invariant-loop-partition : goal.invariant-loop-partition
+invariant-loop-partition l =
+    l.kept ++ map (key_of l.id) (drop l.partition-index l.numbers) ≡ l.fn.kept ++ map (key_of l.id) l.numbers

@@ -1,7 +1,0 @@
-use Rattle.std.proofs.Common.{◌≡◌, map, take}
-use Rattle.serde_json.specs.View.{view}
-use Rattle.serde_json.specs.Data.{string}
-use Rattle.script_text.proofs.lists.names_value.Given as goal
-
-abbrev pub invariant-loop-name : goal.invariant-loop-name
-invariant-loop-name l = map view l.values.items ≡ map string (take l.name-index l.name-items)

@@ -1,7 +1,0 @@
-use Rattle.std.proofs.Common.{◌≡◌, map, take}
-use Rattle.serde_json.specs.View.{view}
-use Rattle.script_text.specs.Written.{count}
-use Rattle.script_text.proofs.lists.numbers_value.Given as goal
-
-abbrev pub invariant-loop-execution : goal.invariant-loop-execution
-invariant-loop-execution l = map view l.values.items ≡ map count (take l.execution-index l.execution-items)

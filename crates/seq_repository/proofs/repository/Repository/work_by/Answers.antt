@@ -1,0 +1,50 @@
+use Rattle.std.proofs.Common.{◌≡◌, ℕ, Ok, ◌∙◌, ◌++◌, ◌∷◌, [], Option, List, not, refl, sym, ap, find, subst, arith}
+use Rattle.std.specs.BTreeMap.{get}
+use Rattle.std.specs.Ordering.{nat_cmp}
+use Rattle.batch_history.specs.Replies.{has_something, is_execution, reply_by}
+use Rattle.job_walk.specs.Cursors.{CursorState}
+use Rattle.seq_repository.specs.Kept.{Kept, rows_in}
+use Rattle.batch_history.specs.Works.{busy_work}
+use Rattle.batch_history.specs.declared.rows.WorkRow.{WorkRow}
+use Rattle.seq_repository.specs.declared.rows.Change.TheVariants.{Claim as TakeUp}
+use Rattle.seq_repository.specs.Changes.{row_after}
+use Rattle.seq_repository.proofs.Entries.{work-entered}
+use Rattle.seq_repository.proofs.Keeping.{KeepsWalk, kept_work}
+use Rattle.batch_history.specs.declared.call.Call.TheVariants.{Claim}
+use Rattle.batch_history.specs.declared.call.Reply.TheVariants.{Work}
+use Rattle.seq_repository.proofs.Followed.{apart_claimed}
+use Rattle.seq_repository.proofs.Replying.{claimed_next}
+use Rattle.seq_repository.specs.Following.{Walks}
+use Rattle.seq_repository.proofs.repository.Repository.work_by.Goals as goal
+
+pub returns-clause-rows : goal.returns-clause-rows
+returns-clause-rows g c =
+    let walks = subst (λ (k : Kept). Walks k.catalogue (k.records.works ++ busy_work c.args.who c.args.at c.args.item.now ∷ []) (find (is_execution c.args.item.now.execution) k.records.executions) c.args.cursor.now) (sym c.self.view_is) c.requires.walks in
+    let handed : WorkRow = busy_work c.args.who c.args.at c.args.item.now in
+    rw (← c.self.view_is)
+    (work-entered c.self.inside.catalogue c.self.inside.count c.self.inside.last c.self.inside.records _ c.put_row.new.records c.args.who c.args.at c.args.item.now handed c.in_ok-row.row
+    refl
+    (c.in_ok-row.ensures.row c.self.inside.catalogue (c.self.inside.records.works ++ handed ∷ []) walks)
+    c.in_default.ensures.added c.put_row.ensures)
+
+pub invariant_of-self-2 : goal.invariant_of-self-2
+invariant_of-self-2 g c =
+    let kept : Kept = record { catalogue = c.self.inside.catalogue; count = c.self.inside.count; last = c.self.inside.last; records = c.self.inside.records } in
+    let x : ℕ = c.args.item.now.execution in
+    let before : List WorkRow = c.self.inside.records.works in
+    let handed : WorkRow = busy_work c.args.who c.args.at c.args.item.now in
+    let works : List WorkRow = before ++ handed ∷ [] in
+    let catalogue = c.self.inside.catalogue in
+    let due : reply_by g.row.LIMIT (rows_in kept) c.args.who Claim ≡ Ok (Work c.args.item.now) = ap (λ (r : Kept). reply_by g.row.LIMIT (rows_in r) c.args.who Claim) c.self.view_is ∙ c.requires.due in
+    let walks = subst (λ (k : Kept). Walks k.catalogue (k.records.works ++ busy_work c.args.who c.args.at c.args.item.now ∷ []) (find (is_execution c.args.item.now.execution) k.records.executions) c.args.cursor.now) (sym c.self.view_is) c.requires.walks in
+    kept_work g.row.LIMIT c.self.inside.agenda.keys c.remove_if.new.agenda.keys (get nat_cmp c.self.inside.cursors) (get nat_cmp c.keep.new.cursors) kept _ c.put_row.new.records x (row_after TakeUp catalogue works c.args.at) c.in_ok-row.row c.in_ok-row.ready c.args.cursor.now handed
+    c.self.invariant (omega (arith, c.requires.room, ap (λ (r : Kept). r.count) c.self.view_is))
+    c.in_ok-row.ensures.own
+    (c.in_ok-row.ensures.row catalogue works walks)
+    (c.in_ok-row.ensures.ready catalogue works walks)
+    (claimed_next g.row.LIMIT (rows_in kept) (find (has_something (rows_in kept)) kept.records.executions) c.args.item.now due)
+    refl refl c.in_default.ensures.added c.put_row.ensures
+    record { goes = not c.in_ok-row.ready; put = c.add_work-added.new.agenda.keys; is_goes = refl; is_put = c.in_default.ensures.agenda; is_done = c.remove_if.ensures }
+    (apart_claimed g.row.LIMIT (rows_in kept) c.args.who c.args.at c.args.item.now due c.self.invariant.apart)
+    walks
+    (subst (λ (o : Option CursorState). KeepsWalk x c.in_ok-row.row o (get nat_cmp c.self.inside.cursors) (get nat_cmp c.keep.new.cursors)) c.take.ensures.value record { others = c.keep.ensures.others; own = c.keep.ensures.own })

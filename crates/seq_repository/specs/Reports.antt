@@ -1,0 +1,40 @@
+-- What a report of a work item makes of it and of its job execution.
+use Rattle.std.specs.Prelude.{ℕ, ◌≡◌, Option, Some, IfSome, List, find}
+use Rattle.std.specs.Option.{option_map}
+use Rattle.batch_ids.specs.Metrics.{added}
+use Rattle.batch_ids.specs.declared.metric_step.MetricStep.{MetricStep}
+use Rattle.batch_history.specs.Lists.{change_first}
+use Rattle.batch_history.specs.Replies.{is_execution}
+use Rattle.batch_history.specs.Works.{is_work, work_key}
+use Rattle.batch_history.specs.declared.rows.WorkRow.{WorkRow}
+use Rattle.job_walk.specs.Cursors.{CursorState}
+use Rattle.records.specs.Maps.{MayReplaceExecution, MayReplaceWork}
+use Rattle.seq_repository.specs.Agendas.{is_ready_row}
+use Rattle.seq_repository.specs.Changes.{row_after}
+use Rattle.seq_repository.specs.Following.{Walks}
+use Rattle.seq_repository.specs.Kept.{Kept}
+use Rattle.seq_repository.specs.Metered.{IsStep}
+use Rattle.seq_repository.specs.declared.after.After.{After}
+use Rattle.seq_repository.specs.declared.rows.Change.TheVariants.{Report}
+
+-- the work items with this one in the place of work item w
+abbrev pub works_with : ℕ → WorkRow → List WorkRow → List WorkRow
+works_with w work works = change_first (is_work w) (λ old. work) works
+
+-- a report puts this row in the place of that of work item w, and makes this of its job execution, whose walk then is in
+-- this cursor
+pub record IsReport (kept : Kept) (w at : ℕ) (work : WorkRow) (after : After) (cursor : Option CursorState) : Type 0 where
+  pub row : WorkRow
+  pub found : find (is_work w) kept.records.works ≡ Some row
+  pub may : MayReplaceWork kept.records.works w work
+  pub execution : work.execution ≡ row.execution
+  pub key : work_key work ≡ work_key row
+  pub number : work.work ≡ row.work
+  pub step : MetricStep
+  pub counts : work.metrics ≡ added row.metrics step
+  pub small : IsStep step
+  pub place : after.step ≡ work_key row
+  pub own : IfSome after.row (λ new. MayReplaceExecution kept.records.executions work.execution new)
+  pub new : after.row ≡ option_map (row_after Report kept.catalogue (works_with w work kept.records.works) at) (find (is_execution work.execution) kept.records.executions)
+  pub ready : after.ready ≡ is_ready_row kept.catalogue (works_with w work kept.records.works) after.row
+  pub walks : Walks kept.catalogue (works_with w work kept.records.works) (find (is_execution work.execution) kept.records.executions) cursor

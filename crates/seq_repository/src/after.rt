@@ -1,0 +1,55 @@
+//! What a report of a work item makes of its job execution.
+ghost use Rattle.std.specs.Prelude.{◌≡◌, List, find, IfOk, IfSome};
+ghost use Rattle.std.specs.Option.{option_map};
+ghost use Rattle.batch_history.specs.Replies.{is_execution};
+ghost use Rattle.batch_history.specs.Works.{work_key};
+ghost use Rattle.batch_history.specs.declared.rows.WorkRow.{WorkRow as Work};
+ghost use Rattle.jsl_model.specs.Jobs.{JobTree as Tree};
+ghost use Rattle.records.specs.Maps.{MayReplaceExecution};
+ghost use Rattle.seq_repository.specs.Agendas.{is_ready_row};
+ghost use Rattle.seq_repository.specs.Changes.{row_after};
+ghost use Rattle.seq_repository.specs.Following.{Walks};
+ghost use Rattle.seq_repository.specs.declared.rows.Change.TheVariants.{Report};
+
+use crate::entering::execution_after;
+use crate::rows::Change;
+use batch_history::{ExecutionRow, WorkRow};
+use batch_ids::{Moment, OutOfMemory};
+use job_walk::{Cursor, WorkKey};
+use records::Records;
+use std::alloc::Global;
+
+/// What a report of a work item makes of the row of its job execution, if that is there.
+pub(crate) struct After {
+    /// The work item's place in the job.
+    pub(crate) step: WorkKey,
+    /// The row of the job execution.
+    pub(crate) row: Option<ExecutionRow>,
+    /// Whether there is something to do for it.
+    pub(crate) ready: bool,
+}
+
+/// What a report makes of the job execution of this work item, by its walk then.
+pub(crate) fn after_report(
+    alloc: Global,
+    records: &Records,
+    work: &WorkRow,
+    cursor: &Option<Cursor>,
+    at: Moment,
+) -> Result<After, OutOfMemory>
+    ensures step { IfOk result (λ after. after.step ≡ work_key work.now) }
+    ensures row { (catalogue : List Tree) (works : List Work)
+        → Walks catalogue works (find (is_execution work.now.execution) records.now.executions) cursor.now
+        → IfOk result (λ after. after.row ≡ option_map (row_after Report catalogue works at)
+        (find (is_execution work.now.execution) records.now.executions)) }
+    ensures own { IfOk result (λ after. IfSome after.row
+        (λ row. MayReplaceExecution records.now.executions work.now.execution row)) }
+    ensures ready { (catalogue : List Tree) (works : List Work)
+        → Walks catalogue works (find (is_execution work.now.execution) records.now.executions) cursor.now
+        → IfOk result (λ after. after.ready ≡ is_ready_row catalogue works after.row) }
+{
+    let step = work.key()?;
+    let x = work.execution;
+    let (row, ready) = execution_after(alloc, records, x, Change::Report, cursor, at)?;
+    Ok(After { step, row, ready })
+}

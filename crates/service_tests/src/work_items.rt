@@ -1,0 +1,182 @@
+// Work items that run with built-in artifacts, over a port in memory.
+use batch_history::{WorkItem, WorkTask};
+use batch_ids::{ExecutionId, MetricStep, Moment, Refusal, T256, Text, WorkId, WorkOutcome};
+use built_in_artifacts::{BuiltIn, BuiltInArtifact};
+use job_threads::{Claimed, Kit, Onward, Port, Report, run_item};
+use std::alloc::Global;
+use std::test::Fail;
+
+/// Keeps the reports, and has no work.
+#[derive(Drop)]
+struct Memory {
+    reports: Vec<Report>,
+}
+
+impl Port for Memory {
+    ghost use Rattle.std.specs.Prelude.{[]};
+
+    ghost reports = { λ p. p.reports.items };
+
+    ghost stops = { λ _. [] };
+
+    fn claim(&mut self, _at: Moment) -> Result<Claimed, Refusal> {
+        Ok(Claimed::Nothing)
+    }
+
+    fn checkpoint(
+        &mut self,
+        work: WorkId,
+        mark: Text<65536>,
+        step: MetricStep,
+        at: Moment,
+    ) -> Result<Onward, Refusal> {
+        let reply = Onward::Go;
+        self.reports.push(Report::Checkpoint {
+            work,
+            mark,
+            step,
+            at,
+            reply,
+        })?;
+        Ok(reply)
+    }
+
+    fn finish(
+        &mut self,
+        work: WorkId,
+        outcome: WorkOutcome,
+        exit: Option<T256>,
+        step: MetricStep,
+        at: Moment,
+    ) -> Result<(), Refusal> {
+        self.reports.push(Report::Finish {
+            work,
+            outcome,
+            exit,
+            step,
+            at,
+        })?;
+        Ok(())
+    }
+
+    fn lose(&mut self, _work: WorkId, _at: Moment) -> Result<(), Refusal> {
+        Ok(())
+    }
+
+    fn stop_seen(&mut self, _execution: ExecutionId) -> bool {
+        false
+    }
+
+    fn unfinished(&mut self) -> Result<bool, Refusal> {
+        Ok(false)
+    }
+}
+
+/// What was reported of a work item, a word for each report.
+fn told(alloc: Global, reports: &[Report]) -> Result<String, Fail> {
+    let mut told = String::new(alloc);
+    for report in reports {
+        told = match report {
+            Report::Checkpoint { mark, step, .. } => format!(in alloc;
+                "{told}{}:{}-{}={} ",
+                mark.as_str(),
+                step.read_count,
+                step.filter_count,
+                step.write_count
+            )?,
+            Report::Finish {
+                outcome,
+                exit,
+                step,
+                ..
+            } => {
+                let exit = match exit {
+                    None => "-",
+                    Some(exit) => exit.as_str(),
+                };
+                format!(in alloc; "{told}{outcome} {exit} {}", step.rollback_count)?
+            }
+        };
+    }
+    Ok(told)
+}
+
+/// What is reported of a task that runs with these artifacts.
+fn run(alloc: Global, names: &[&str], task: WorkTask) -> Result<String, Fail> {
+    let mut kit = Kit::new(alloc);
+    for name in names {
+        let built_in = BuiltIn::of(alloc, name)?.unwrap_or(BuiltIn::Fail);
+        let artifact = Box::new(alloc, BuiltInArtifact::new(alloc, built_in))?;
+        kit.add(alloc, name, artifact)?;
+    }
+    let item = WorkItem {
+        work: WorkId::new(1),
+        execution: ExecutionId::new(1),
+        element: T256::new(alloc, "s")?,
+        partition: None,
+        task,
+    };
+    let mut port = Memory {
+        reports: Vec::new(alloc),
+    };
+    let _outcome = run_item(alloc, &mut port, &mut kit, &item, 0)?;
+    told(alloc, port.reports.as_slice())
+}
+
+fn chunk(alloc: Global, reader: &str, processor: &str, writer: &str) -> Result<WorkTask, Fail> {
+    Ok(WorkTask::Chunk {
+        reader: T256::new(alloc, reader)?,
+        processor: Some(T256::new(alloc, processor)?),
+        writer: T256::new(alloc, writer)?,
+        item_count: 2,
+        checkpoint: None,
+    })
+}
+
+#[test]
+fn batchlets_and_decisions(rt: HostRuntime) -> Result<(), Fail> {
+    let alloc = rt.alloc();
+    for (name, wanted) in [
+        ("ok", "COMPLETED - 0"),
+        ("exit:T", "COMPLETED T 0"),
+        ("fail", "FAILED - 0"),
+        ("odd", "FAILED - 0"),
+        ("other", "FAILED - 0"),
+    ] {
+        let artifact = T256::new(alloc, name)?;
+        let batchlet = run(alloc, &[name], WorkTask::Batchlet { artifact })?;
+        assert_eq!(rt; batchlet.as_str(), wanted, "{name}");
+        let artifact = T256::new(alloc, name)?;
+        let decision = run(alloc, &[name], WorkTask::Decision { artifact })?;
+        assert_eq!(rt; decision.as_str(), wanted, "{name}");
+    }
+    Ok(())
+}
+
+#[test]
+fn chunks(rt: HostRuntime) -> Result<(), Fail> {
+    let alloc = rt.alloc();
+    for (reader, processor, writer, wanted) in [
+        (
+            "count:5",
+            "odd",
+            "sink",
+            "2:2-1=1 4:2-1=1 5:1-0=1 COMPLETED - 0",
+        ),
+        ("count:4", "odd", "sink", "2:2-1=1 4:2-1=1 COMPLETED - 0"),
+        ("count:0", "ok", "sink", "COMPLETED - 0"),
+        ("count:5", "ok", "sink", "FAILED - 1"),
+        ("count:5", "odd", "count:5", "FAILED - 1"),
+        ("count:5", "odd", "fail", "FAILED - 0"),
+        ("sink", "odd", "sink", "FAILED - 1"),
+        ("odd", "odd", "sink", "FAILED - 0"),
+        ("other", "odd", "sink", "FAILED - 0"),
+        ("count:5", "other", "sink", "FAILED - 1"),
+        ("count:0", "other", "sink", "COMPLETED - 0"),
+    ] {
+        let task = chunk(alloc, reader, processor, writer)?;
+        let told = run(alloc, &[reader, processor, writer], task)?;
+        assert_eq!(rt; told.as_str(), wanted, "{reader} {processor} {writer}");
+    }
+    Ok(())
+}
