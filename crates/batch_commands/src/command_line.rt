@@ -1,4 +1,4 @@
-ghost use Rattle.std.specs.Prelude.{◌≡◌, ◌≤◌, ◌↔◌, ◌∷◌, List, ℕ, [], IsTrue, IfOk, IfSome, codes, map};
+ghost use Rattle.std.specs.Prelude.{◌≡◌, ◌≤◌, ◌↔◌, ◌∷◌, List, ℕ, [], IsTrue, IfOk, IfSome, IsErr, codes, map};
 ghost use Rattle.batch_commands.specs.Asked.{IsAsked};
 
 use crate::asked::Arguments;
@@ -65,18 +65,22 @@ fn script_command<'a>(alloc: Global) -> Command<'a> {
         .after_help(SCRIPT_HELP)
 }
 
-/// The command `run`.
-fn run_command<'a>(alloc: Global) -> Result<Command<'a>, AllocError> {
-    let workers = Arg::new(alloc, "workers")
+/// The argument `--workers` of the command `run`.
+fn workers_argument<'a>(alloc: Global) -> Arg<'a> {
+    Arg::new(alloc, "workers")
         .long("workers")
         .value_name("N")
         .help(WORKERS_HELP)
         .value_parser(ValueParser::unsigned(1, MOST_WORKERS))
-        .default_value("2");
+        .default_value("2")
+}
+
+/// The command `run`.
+fn run_command<'a>(alloc: Global) -> Result<Command<'a>, AllocError> {
     Command::new(alloc, "run")
         .about(RUN_ABOUT)
         .after_help(RUN_HELP)
-        .arg(workers)
+        .arg(workers_argument(alloc))
 }
 
 /// Reads the words that follow the program's name.
@@ -97,17 +101,39 @@ pub fn arguments<'a>(alloc: Global, words: &'a [&'a str]) -> Result<Arguments, E
     read
 }
 
+/// The program's name, which its help has before each command.
+fn named_command<'a>(alloc: Global) -> Result<Command<'a>, AllocError> {
+    Command::new(alloc, "batchctl").bin_name("batchctl")
+}
+
+/// The command of the program without its subcommands.
+fn bare_command<'a>(alloc: Global) -> Result<Command<'a>, AllocError> {
+    let named = named_command(alloc)?;
+    Ok(
+        named
+            .about(ABOUT)
+            .version("0.1.0")
+            .no_binary_name(true)
+            .subcommand_required(true)
+            .arg_required_else_help(true),
+    )
+}
+
+/// The same with `script`.
+fn command_of_scripts<'a>(alloc: Global) -> Result<Command<'a>, AllocError> {
+    bare_command(alloc)?.subcommand(script_command(alloc))
+}
+
 /// The command of the program.
 fn batchctl_command<'a>(alloc: Global) -> Result<Command<'a>, AllocError> {
-    Command::new(alloc, "batchctl")
-        .bin_name("batchctl")?
-        .about(ABOUT)
-        .version("0.1.0")
-        .no_binary_name(true)
-        .subcommand_required(true)
-        .arg_required_else_help(true)
-        .subcommand(script_command(alloc))?
-        .subcommand(run_command(alloc)?)
+    let command = command_of_scripts(alloc)?;
+    match run_command(alloc) {
+        Ok(run) => command.subcommand(run),
+        Err(error) => {
+            drop(command);
+            Err(error)
+        }
+    }
 }
 
 /// What the words ask for by this command.
@@ -115,11 +141,20 @@ fn read_words<'a>(command: &mut Command<'a>, words: &'a [&'a str]) -> Result<Arg
     ensures { IfOk result (λ arguments. IsAsked arguments (map (λ word. word.now) words.now)) }
 {
     let matches = command.try_get_matches_from_mut(words)?;
-    match asked(&matches, words) {
+    let asked = asked(&matches, words);
+    drop(matches);
+    match asked {
         Some(arguments) => Ok(arguments),
-        None => Err(command.error(
-            ErrorKind::InvalidSubcommand,
-            "`script`, or `run` with 1 to 16 workers, is expected",
-        )?),
+        None => refuse_others(command),
     }
+}
+
+/// Refuses words that ask for nothing, though the command accepts them.
+fn refuse_others(command: &mut Command<'_>) -> Result<Arguments, Error>
+    ensures { IsErr result }
+{
+    Err(command.error(
+        ErrorKind::InvalidSubcommand,
+        "`script`, or `run` with 1 to 16 workers, is expected",
+    )?)
 }

@@ -1,66 +1,66 @@
 // What is told of the job executions of a run.
 use crate::replies::Replies;
-use batch_history::{Answer, JobExecution, StepExecution};
-use batch_ids::{ExecutionId, Listed, Refusal};
+use batch_history::Answer;
+use batch_ids::ExecutionId;
 use batch_operator::Operator;
 use script_engine::{EngineFault, Sink, execution_text};
 use seat_rules::Site;
 use sessions::Session;
+use std::alloc::Global;
 use std::sync::Wait;
 
-/// A job execution with its step executions.
-#[derive(Drop)]
-struct Told {
-    execution: JobExecution,
-    steps: Listed<StepExecution>,
-}
-
-/// A job execution; none where the answer is of another kind, which it never is.
-fn execution_of<N: Site, R: Wait>(
-    rt: &R,
-    operator: &Operator<N>,
-    session: &mut Session<N>,
-    x: ExecutionId,
-) -> Result<Option<JobExecution>, Refusal> {
-    match operator.get_job_execution(rt, session, x)? {
-        Answer::JobExecution(execution) => Ok(Some(execution)),
-        other => {
-            drop(other);
-            Ok(None)
-        }
-    }
-}
-
-/// Its step executions; none where the answer is of another kind, which it never is.
-fn steps_of<N: Site, R: Wait>(
-    rt: &R,
-    operator: &Operator<N>,
-    session: &mut Session<N>,
-    x: ExecutionId,
-) -> Result<Option<Listed<StepExecution>>, Refusal> {
-    match operator.get_step_executions(rt, session, x)? {
-        Answer::StepExecutions(steps) => Ok(Some(steps)),
-        other => {
-            drop(other);
-            Ok(None)
-        }
-    }
-}
-
-/// What is to be told of a job execution, if there is something.
-fn look_up<N: Site, R: Wait>(
-    rt: &R,
-    operator: &Operator<N>,
-    session: &mut Session<N>,
-    number: u64,
-) -> Result<Option<Told>, Refusal> {
-    let x = ExecutionId::new(number);
-    let Some(steps) = steps_of(rt, operator, session, x)? else {
-        return Ok(None);
+/// Adds the line of a job execution and its step executions. Nothing where an answer is of another
+/// kind, which it never is.
+fn put_line<W: Sink>(
+    alloc: Global,
+    execution: &Answer,
+    steps: &Answer,
+    replies: &mut Replies<'_, W>,
+) -> Result<(), EngineFault> {
+    let Answer::JobExecution(execution) = execution else {
+        return Ok(());
     };
-    match execution_of(rt, operator, session, x)? {
-        Some(execution) => Ok(Some(Told { execution, steps })),
-        None => Ok(None),
+    let Answer::StepExecutions(steps) = steps else {
+        return Ok(());
+    };
+    let line = execution_text(alloc, execution, steps.as_slice())?;
+    replies.put(&line)
+}
+
+/// Adds the line of a job execution, whose step executions these are.
+fn put_with_steps<N: Site, R: Wait + AllocGlobal, W: Sink>(
+    rt: &R,
+    operator: &Operator<N>,
+    session: &mut Session<N>,
+    x: ExecutionId,
+    steps: &Answer,
+    replies: &mut Replies<'_, W>,
+) -> Result<(), EngineFault> {
+    match operator.get_job_execution(rt, session, x) {
+        Ok(execution) => {
+            let put = put_line(rt.alloc(), &execution, steps, replies);
+            drop(execution);
+            put
+        }
+        Err(refusal) => replies.refuse(refusal),
+    }
+}
+
+/// Adds the line of a job execution.
+fn put_execution<N: Site, R: Wait + AllocGlobal, W: Sink>(
+    rt: &R,
+    operator: &Operator<N>,
+    session: &mut Session<N>,
+    x: ExecutionId,
+    replies: &mut Replies<'_, W>,
+) -> Result<(), EngineFault> {
+    match operator.get_step_executions(rt, session, x) {
+        Ok(steps) => {
+            let put = put_with_steps(rt, operator, session, x, &steps, replies);
+            drop(steps);
+            put
+        }
+        Err(refusal) => replies.refuse(refusal),
     }
 }
 
@@ -73,15 +73,7 @@ pub(crate) fn put_executions<N: Site, R: Wait + AllocGlobal, W: Sink>(
     replies: &mut Replies<'_, W>,
 ) -> Result<(), EngineFault> {
     for place in 0..count {
-        match look_up(rt, operator, session, place + 1) {
-            Ok(Some(told)) => {
-                let line = execution_text(rt.alloc(), &told.execution, told.steps.as_slice());
-                drop(told);
-                replies.put(&line?)?;
-            }
-            Ok(None) => {}
-            Err(refusal) => replies.refuse(refusal)?,
-        }
+        put_execution(rt, operator, session, ExecutionId::new(place + 1), replies)?;
     }
     Ok(())
 }

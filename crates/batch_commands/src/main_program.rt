@@ -6,6 +6,7 @@ ghost use Rattle.batch_commands.specs.Statuses.{exit_status};
 use crate::asked::Arguments;
 use crate::command_line::arguments;
 use crate::run::run_jobs;
+use clap::error::Error;
 use script_engine::{Counted, EngineFault, run_script};
 use std::io;
 use std::io::{ErrorKind, Read, Write};
@@ -89,6 +90,21 @@ fn run<R: Threads + Wait + AllocGlobal + Sync, D: Read + Drop, W: Write + Drop>(
     }
 }
 
+/// Tells why the words were refused, or the text that they asked for, and gives the exit status.
+fn tell_words<W: Write, F: Write>(error: &Error, writer: &mut W, faults: &mut F) -> u8 {
+    if error.use_stderr() {
+        let _ = write!(faults, "{error}");
+        return REFUSED;
+    }
+    match write!(writer, "{error}") {
+        Ok(()) => DONE,
+        Err(_) => {
+            tell(faults, "batchctl: write fault");
+            DEVICE_FAILED
+        }
+    }
+}
+
 /// Runs the program on the words that follow its name, and gives the exit status: 0 done (also a
 /// request for help, its text on `writer`), 2 the command line was refused, 3 the catalogue was
 /// refused (its fault line on `writer`), 4 a read or a write failed, 5 out of memory. What goes to
@@ -103,17 +119,9 @@ pub fn program<R: Threads + Wait + AllocGlobal + Sync, D: Read + Drop, W: Write 
     match arguments(rt.alloc(), words) {
         Ok(arguments) => end(run(rt, arguments, reader, writer), faults),
         Err(error) => {
-            if error.use_stderr() {
-                let _ = write!(faults, "{error}");
-                return REFUSED;
-            }
-            match write!(writer, "{error}") {
-                Ok(()) => DONE,
-                Err(_) => {
-                    tell(faults, "batchctl: write fault");
-                    DEVICE_FAILED
-                }
-            }
+            let status = tell_words(&error, &mut writer, faults);
+            drop(error);
+            status
         }
     }
 }

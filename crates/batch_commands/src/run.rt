@@ -12,6 +12,7 @@ use job_threads::Gate;
 use jsl_model::Catalogue;
 use script_engine::{EngineFault, Lines, Sink, Source, catalogue_in};
 use seat_rules::{BookSeat, SeatTable, Site};
+use sessions::Session;
 use std::marker::Brand;
 use std::sync::Wait;
 use std::thread;
@@ -32,7 +33,8 @@ impl Gate for Host {
     }
 }
 
-/// Starts the jobs that the lines name, runs them by a pool, and tells of each job execution.
+/// Starts the jobs that the lines name, runs them by a pool, and tells of each job execution. The
+/// catalogue names these artifacts.
 fn run_over<
     N: Site + Send + Sync,
     R: Threads + Wait + AllocGlobal + Sync,
@@ -41,58 +43,142 @@ fn run_over<
 >(
     rt: &R,
     workers: u64,
-    lines: Lines<S>,
+    lines: &mut Lines<S>,
     replies: &mut Replies<'_, W>,
+    names: &[&str],
     table: SeatTable,
     seat: BookSeat,
     catalogue: Catalogue,
 ) -> Result<(), EngineFault>
     requires some { 1 ≤ workers }
     requires few { workers ≤ 16 }
-    requires lines { lines.failed ≡ false }
+    requires lines { lines.old.failed ≡ false }
     requires table { table ≡ N.place }
     requires seat { seat ≡ N.place.table }
     requires catalogue { catalogue ≡ N.place.catalogue }
 {
-    let alloc = rt.alloc();
     let Some(copies) = CopyCount::new(1) else {
         unreachable!();
     };
-    let jobs = catalogue.try_clone()?;
-    let names = jobs.artifacts()?;
-    let operator = Operator::<N>::new(alloc, table, seat, catalogue, copies)?;
-    let ran = run_on(rt, workers, lines, replies, &operator, names.as_slice());
+    let operator = Operator::<N>::new(rt.alloc(), table, seat, catalogue, copies)?;
+    let ran = run_on(rt, workers, lines, replies, &operator, names);
     drop(operator);
     ran
 }
 
-/// The same on an operator, whose catalogue names these artifacts.
+/// The same on an operator.
 fn run_on<N: Site + Send + Sync, R: Threads + Wait + AllocGlobal + Sync, S: Source + Drop, W: Sink>(
     rt: &R,
     workers: u64,
-    lines: Lines<S>,
+    lines: &mut Lines<S>,
     replies: &mut Replies<'_, W>,
     operator: &Operator<N>,
     names: &[&str],
 ) -> Result<(), EngineFault>
     requires some { 1 ≤ workers }
     requires few { workers ≤ 16 }
-    requires lines { lines.failed ≡ false }
+    requires lines { lines.old.failed ≡ false }
 {
-    let mut session = match operator.open_session(rt) {
-        Ok(session) => session,
-        Err(refusal) => return replies.refuse(refusal),
-    };
-    let started = answer_starts(rt, operator, &mut session, lines, replies)?;
+    match operator.open_session(rt) {
+        Ok(session) => {
+            let mut session = session;
+            let ran = run_in(rt, workers, lines, replies, operator, &mut session, names);
+            drop(session);
+            ran
+        }
+        Err(refusal) => replies.refuse(refusal),
+    }
+}
+
+/// The same in a session.
+fn run_in<N: Site + Send + Sync, R: Threads + Wait + AllocGlobal + Sync, S: Source + Drop, W: Sink>(
+    rt: &R,
+    workers: u64,
+    lines: &mut Lines<S>,
+    replies: &mut Replies<'_, W>,
+    operator: &Operator<N>,
+    session: &mut Session<N>,
+    names: &[&str],
+) -> Result<(), EngineFault>
+    requires some { 1 ≤ workers }
+    requires few { workers ≤ 16 }
+    requires lines { lines.old.failed ≡ false }
+{
+    let started = answer_starts(rt, operator, session, lines, replies)?;
     replies.flush()?;
     if let Err(refusal) = pool_with_built_ins(rt, rt.alloc(), operator, names, workers, &Host) {
         replies.refuse(refusal)?;
     }
-    put_executions(rt, operator, &mut session, started, replies)
+    put_executions(rt, operator, session, started, replies)
 }
 
-/// Runs what the lines of a reader ask for, and leaves the last replies in their buffer.
+/// Runs the jobs of a catalogue, with the names of its artifacts.
+fn run_catalogue<R: Threads + Wait + AllocGlobal + Sync, S: Source + Drop, W: Sink>(
+    rt: &R,
+    workers: u64,
+    lines: &mut Lines<S>,
+    replies: &mut Replies<'_, W>,
+    names: &[&str],
+    catalogue: Catalogue,
+) -> Result<(), EngineFault>
+    requires some { 1 ≤ workers }
+    requires few { workers ≤ 16 }
+    requires lines { lines.old.failed ≡ false }
+{
+    let (table, seat) = SeatTable::new(rt.alloc(), &catalogue)?;
+    run_over::<Brand, R, S, W>(rt, workers, lines, replies, names, table, seat, catalogue)
+}
+
+/// Runs the jobs of a catalogue.
+fn run_jobs_of<R: Threads + Wait + AllocGlobal + Sync, S: Source + Drop, W: Sink>(
+    rt: &R,
+    workers: u64,
+    lines: &mut Lines<S>,
+    replies: &mut Replies<'_, W>,
+    catalogue: &Catalogue,
+) -> Result<(), EngineFault>
+    requires some { 1 ≤ workers }
+    requires few { workers ≤ 16 }
+    requires lines { lines.old.failed ≡ false }
+{
+    let names = catalogue.artifacts()?;
+    run_catalogue(
+        rt,
+        workers,
+        lines,
+        replies,
+        names.as_slice(),
+        catalogue.try_clone()?,
+    )
+}
+
+/// Runs what the lines ask for, the first of which is the catalogue. The last replies stay in their
+/// buffer.
 fn run_lines<R: Threads + Wait + AllocGlobal + Sync, S: Source + Drop, W: Sink>(
+    rt: &R,
+    workers: u64,
+    lines: &mut Lines<S>,
+    replies: &mut Replies<'_, W>,
+) -> Result<(), EngineFault>
+    requires some { 1 ≤ workers }
+    requires few { workers ≤ 16 }
+    requires lines { lines.old.failed ≡ false }
+{
+    let first = lines.next_line()?;
+    let read = catalogue_in(rt.alloc(), &first);
+    drop(first);
+    match read {
+        Ok(catalogue) => {
+            let ran = run_jobs_of(rt, workers, lines, replies, &catalogue);
+            drop(catalogue);
+            ran
+        }
+        Err(fault) => Err(replies.refuse_catalogue(fault)),
+    }
+}
+
+/// Runs what the lines of a reader ask for.
+fn run_source<R: Threads + Wait + AllocGlobal + Sync, S: Source + Drop, W: Sink>(
     rt: &R,
     workers: u64,
     source: S,
@@ -101,15 +187,27 @@ fn run_lines<R: Threads + Wait + AllocGlobal + Sync, S: Source + Drop, W: Sink>(
     requires some { 1 ≤ workers }
     requires few { workers ≤ 16 }
 {
-    let alloc = rt.alloc();
-    let mut lines = Lines::new(alloc, source)?;
-    let first = lines.next_line()?;
-    let catalogue = match catalogue_in(alloc, &first) {
-        Ok(catalogue) => catalogue,
-        Err(fault) => return Err(replies.refuse_catalogue(fault)),
-    };
-    let (table, seat) = SeatTable::new(alloc, &catalogue)?;
-    run_over::<Brand, R, S, W>(rt, workers, lines, replies, table, seat, catalogue)
+    let mut lines = Lines::new(rt.alloc(), source)?;
+    let ran = run_lines(rt, workers, &mut lines, replies);
+    drop(lines);
+    ran
+}
+
+/// The same, with the last replies written, where the writer has not failed.
+fn run_to_end<R: Threads + Wait + AllocGlobal + Sync, S: Source + Drop, W: Sink>(
+    rt: &R,
+    workers: u64,
+    source: S,
+    replies: &mut Replies<'_, W>,
+) -> Result<(), EngineFault>
+    requires some { 1 ≤ workers }
+    requires few { workers ≤ 16 }
+{
+    let outcome = run_source(rt, workers, source, replies);
+    if !matches!(outcome, Err(EngineFault::Write)) {
+        replies.flush()?;
+    }
+    outcome
 }
 
 /// Runs a catalogue's jobs by 1 to 16 workers with built-in artifacts.
@@ -136,9 +234,7 @@ pub fn run_jobs<R: Threads + Wait + AllocGlobal + Sync, S: Source + Drop, W: Sin
     requires few { workers ≤ 16 }
 {
     let mut replies = Replies::new(rt.alloc(), writer)?;
-    let outcome = run_lines(rt, workers, source, &mut replies);
-    if !matches!(outcome, Err(EngineFault::Write)) {
-        replies.flush()?;
-    }
+    let outcome = run_to_end(rt, workers, source, &mut replies);
+    drop(replies);
     outcome
 }

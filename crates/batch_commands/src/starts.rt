@@ -20,26 +20,37 @@ fn start_in(alloc: Global, line: &Line) -> Result<StartLine, StartFault> {
     }
 }
 
-/// Starts the job that a line names, and adds the reply. Says whether a job execution was made.
-fn answer_start<N: Site, R: Wait + AllocGlobal, W: Sink>(
+/// Adds the reply to a line that is no start line. Want of memory ends the run in its place.
+fn refuse_line<W: Sink>(
+    alloc: Global,
+    fault: StartFault,
+    replies: &mut Replies<'_, W>,
+) -> Result<(), EngineFault> {
+    match fault {
+        StartFault::BadLine => replies.put(&bad_line_text(alloc)?),
+        StartFault::TextTooLong => replies.refuse(Refusal::TextTooLong),
+        StartFault::OutOfMemory => Err(EngineFault::OutOfMemory),
+    }
+}
+
+/// Starts the job that a line names, and adds the reply. Says whether a job execution was made. An
+/// empty line is passed over.
+fn answer_line<N: Site, R: Wait + AllocGlobal, W: Sink>(
     rt: &R,
     operator: &Operator<N>,
     session: &mut Session<N>,
     line: &Line,
     replies: &mut Replies<'_, W>,
 ) -> Result<bool, EngineFault> {
-    let alloc = rt.alloc();
-    match start_in(alloc, line) {
+    if is_empty(line) {
+        return Ok(false);
+    }
+    match start_in(rt.alloc(), line) {
         Ok(start) => start_job(rt, operator, session, start, replies),
-        Err(StartFault::BadLine) => {
-            replies.put(&bad_line_text(alloc)?)?;
+        Err(fault) => {
+            refuse_line(rt.alloc(), fault, replies)?;
             Ok(false)
         }
-        Err(StartFault::TextTooLong) => {
-            replies.refuse(Refusal::TextTooLong)?;
-            Ok(false)
-        }
-        Err(StartFault::OutOfMemory) => Err(EngineFault::OutOfMemory),
     }
 }
 
@@ -72,15 +83,16 @@ pub(crate) fn answer_starts<N: Site, R: Wait + AllocGlobal, S: Source + Drop, W:
     rt: &R,
     operator: &Operator<N>,
     session: &mut Session<N>,
-    lines: Lines<S>,
+    lines: &mut Lines<S>,
     replies: &mut Replies<'_, W>,
 ) -> Result<u64, EngineFault>
-    requires { lines.failed ≡ false }
+    requires { lines.old.failed ≡ false }
 {
-    let mut lines = lines;
     let mut started: u64 = 0;
     while let Some(line) = lines.next_line()? {
-        if !is_empty(&line) && answer_start(rt, operator, session, &line, replies)? {
+        let answered = answer_line(rt, operator, session, &line, replies);
+        drop(line);
+        if answered? {
             started = started.saturating_add(1);
         }
     }

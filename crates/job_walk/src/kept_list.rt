@@ -1,4 +1,6 @@
 //! What a cursor keeps of each list of its job, and what changes of it.
+ghost use Rattle.std.specs.Prelude.{◌≡◌};
+
 use crate::element_result::ElementResult;
 use crate::facts::Value;
 use batch_ids::Listed;
@@ -38,4 +40,28 @@ pub(crate) struct ListChange {
     pub place: usize,
     /// What this element comes to by itself.
     pub result: ElementResult,
+}
+
+impl ListChange {
+    /// What changes of a list with this number.
+    pub(crate) fn new(
+        list: usize,
+        place: usize,
+        own: ElementResult,
+        progress: Progress,
+    ) -> ListChange
+        ensures { result ≡ record {
+          list = list;
+          progress = progress;
+          place = place;
+          result = own;
+        } }
+    {
+        ListChange {
+            list,
+            progress,
+            place,
+            result: own,
+        }
+    }
 }

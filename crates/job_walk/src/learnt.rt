@@ -188,12 +188,7 @@ pub(crate) fn list_changes(
     );
     match come {
         Ok(progress) => {
-            let change = ListChange {
-                list: base,
-                progress,
-                place,
-                result,
-            };
+            let change = ListChange::new(base, place, result, progress);
             Ok(add_change(alloc, changes, change)?)
         }
         Err(error) => {

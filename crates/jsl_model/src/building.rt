@@ -180,7 +180,6 @@ fn transitions_in(parts: &BodyParts) -> &[TransitionParts]
 }
 
 #[cycle(building)]
-#[tactic(auto, using(crate::proofs::Layers::element_given, crate::proofs::Layers::element_long_of))]
 fn build_element(alloc: Global, parts: &ElementParts) -> Result<Element, JobFault>
     ensures same { IfOk result (λ built. built ≡ element_of parts.now) }
     ensures short { OnOk result (element_has_long (element_of parts.now) ≡ false) }
@@ -201,7 +200,6 @@ fn build_element(alloc: Global, parts: &ElementParts) -> Result<Element, JobFaul
 }
 
 #[cycle(building)]
-#[tactic(auto, using(crate::proofs::Layers::step_given, crate::proofs::Layers::flow_given, crate::proofs::Layers::split_given, crate::proofs::Layers::decision_given, crate::proofs::Layers::step_long, crate::proofs::Layers::flow_body_long, crate::proofs::Layers::split_long, crate::proofs::Layers::decision_long))]
 fn build_body(alloc: Global, parts: &BodyParts) -> Result<Body, JobFault>
     ensures same { IfOk result (λ built. built ≡ (content_of parts.now).body) }
     ensures short { OnOk result (body_has_long (content_of parts.now).body ≡ false) }
@@ -241,7 +239,6 @@ pub fn build_elements(alloc: Global, parts: &[ElementParts]) -> Result<Listed<El
 }
 
 #[cycle(building)]
-#[tactic(auto, using(crate::proofs::Layers::flow_long_of))]
 fn build_flow(alloc: Global, parts: &SplitFlowParts) -> Result<SplitFlow, JobFault>
     ensures same { IfOk result (λ built. built ≡ flow_of parts.now) }
     ensures short { OnOk result (flow_has_long (flow_of parts.now) ≡ false) }

@@ -4,7 +4,6 @@ ghost use Rattle.jsl_model.specs.Trees.{greatest, depth, depth_of_body, depth_of
 use crate::element::{Body, Element, SplitFlow};
 
 #[cycle(depth)]
-#[tactic(auto, using(crate::proofs::Levels::greatest_more, crate::proofs::Levels::element_levels, crate::proofs::Levels::flow_levels))]
 fn is_body_deeper(body: &Body, most: usize) -> bool
     ensures { result ≡ nat_lt most (depth_of_body body.now) }
 {
@@ -19,7 +18,6 @@ fn is_body_deeper(body: &Body, most: usize) -> bool
 /// Whether an element stands deeper than so many levels, those of this list being at 1. It looks no
 /// deeper than that.
 #[cycle(depth)]
-#[tactic(auto, using(crate::proofs::Levels::greatest_more, crate::proofs::Levels::element_levels, crate::proofs::Levels::flow_levels))]
 pub fn is_deeper(elements: &[Element], most: usize) -> bool
     ensures { result ≡ nat_lt most (depth elements.now) }
 {
@@ -32,7 +30,6 @@ pub fn is_deeper(elements: &[Element], most: usize) -> bool
 }
 
 #[cycle(depth)]
-#[tactic(auto, using(crate::proofs::Levels::greatest_more, crate::proofs::Levels::element_levels, crate::proofs::Levels::flow_levels))]
 fn are_flows_deeper(flows: &[SplitFlow], most: usize) -> bool
     ensures { result ≡ nat_lt most (greatest (map depth_of_flow flows.now)) }
 {

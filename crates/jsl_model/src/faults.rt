@@ -1,8 +1,9 @@
-ghost use Rattle.std.specs.Prelude.{◌≡◌, ◌||◌, Bool, All, None, length, map, nat_lt, IfOk};
-ghost use Rattle.jsl_model.specs.Faults.{tree_fault, restarts, are_many_partitions, has_many_partitions};
+ghost use Rattle.std.specs.Prelude.{◌≡◌, ◌||◌, Bool, All, None, Some, length, map, nat_lt, IfOk, if◌then◌else◌};
+ghost use Rattle.jsl_model.specs.declared.job.JobFault.TheVariants.{NoSuchTarget, Loop};
+ghost use Rattle.jsl_model.specs.Faults.{tree_fault, node_ids, restarts, are_many_partitions, has_many_partitions};
 ghost use Rattle.jsl_model.specs.Nodes.{node};
-ghost use Rattle.jsl_model.specs.Names.{are_among};
-ghost use Rattle.jsl_model.specs.Targets.{outline, ids, lists_of, HasRanks};
+ghost use Rattle.jsl_model.specs.Names.{are_among, has_twice};
+ghost use Rattle.jsl_model.specs.Targets.{outline, ids, lists_of, lacks_some_target, has_some_loop, HasRanks};
 
 use crate::depth::is_deeper;
 use crate::element::{Body, Element};
@@ -45,16 +46,11 @@ pub fn fault_in(
     if are_too_many(nodes.as_slice()) {
         return Ok(Some(JobFault::TooMany));
     }
-    let ids = ids_of(alloc, nodes.as_slice())?;
-    if has_twice(alloc, ids.as_slice())? {
+    if have_one_id_twice(alloc, nodes.as_slice())? {
         return Ok(Some(JobFault::DuplicateId));
     }
-    let lists = lists_in(alloc, elements)?;
-    if lacks_some_target(alloc, lists.as_slice())? {
-        return Ok(Some(JobFault::NoSuchTarget));
-    }
-    if has_some_loop(alloc, lists.as_slice())? {
-        return Ok(Some(JobFault::Loop));
+    if let Some(fault) = fault_of_targets(alloc, elements)? {
+        return Ok(Some(fault));
     }
     if !are_restarts_own(alloc, nodes.as_slice(), elements)? {
         return Ok(Some(JobFault::RestartNotJobLevel));
@@ -93,6 +89,31 @@ fn have_many_partitions(nodes: &[Node<'_>]) -> bool
         }
     }
     false
+}
+
+/// Whether two of these have one id.
+fn have_one_id_twice(alloc: Global, nodes: &[Node<'_>]) -> Result<bool, OutOfMemory>
+    ensures { IfOk result (λ twice. twice ≡ has_twice (node_ids (map node nodes.now))) }
+{
+    let ids = ids_of(alloc, nodes)?;
+    has_twice(alloc, ids.as_slice())
+}
+
+/// The first fault in where `next` and `to` lead, in the lists at all depths.
+fn fault_of_targets(alloc: Global, elements: &[Element]) -> Result<Option<JobFault>, OutOfMemory>
+    ensures ranked { IfOk result (λ found. found ≡ None → All HasRanks (lists_of elements.now)) }
+    ensures first { IfOk result (λ found. found
+        ≡ (if lacks_some_target elements.now then Some NoSuchTarget
+        else (if has_some_loop elements.now then Some Loop else None))) }
+{
+    let lists = lists_in(alloc, elements)?;
+    if lacks_some_target(alloc, lists.as_slice())? {
+        return Ok(Some(JobFault::NoSuchTarget));
+    }
+    if has_some_loop(alloc, lists.as_slice())? {
+        return Ok(Some(JobFault::Loop));
+    }
+    Ok(None)
 }
 
 /// Whether each restart begins at one of these elements.

@@ -159,6 +159,18 @@ impl Job {
         ensures fault { IfErr result (λ fault. is_out_of_memory fault ≡ false
             → job_fault (tree_of parts) ≡ Some fault) }
     {
+        let checked = Job::of_parts(alloc, &parts);
+        drop(parts);
+        checked
+    }
+
+    /// As `check`, which drops the parts.
+    fn of_parts(alloc: Global, parts: &JobParts) -> Result<Job, JobFault>
+        ensures same { IfOk result (λ job. job ≡ tree_of parts.now) }
+        ensures faultless { OnOk result (job_fault (tree_of parts.now) ≡ None) }
+        ensures fault { IfErr result (λ fault. is_out_of_memory fault ≡ false
+            → job_fault (tree_of parts.now) ≡ Some fault) }
+    {
         let id = build_text(alloc, parts.id.as_str())?;
         let elements = build_elements(alloc, parts.elements.as_slice())?;
         match fault_in(alloc, &id, elements.as_slice())? {

@@ -48,11 +48,20 @@ fn lacks_target(alloc: Global, elements: &[Element]) -> Result<bool, OutOfMemory
     ensures { IfOk result (λ lacks. lacks ≡ lacks_target (outline elements.now)) }
 {
     let ids = own_ids(alloc, elements)?;
+    let targets = targets_of(alloc, elements)?;
+    Ok(!are_among(alloc, &targets, &ids)?)
+}
+
+// The ids that the elements of a list name.
+fn targets_of(alloc: Global, elements: &[Element]) -> Result<Vec<&str>, OutOfMemory>
+    ensures { IfOk result (λ found. map (λ name. name.now) found.items
+        ≡ targets_in (outline elements.now)) }
+{
     let mut targets = Vec::new(alloc);
     for element in elements {
         add_targets(&mut targets, element)?;
     }
-    Ok(!are_among(alloc, &targets, &ids)?)
+    Ok(targets)
 }
 
 fn has_loop(alloc: Global, elements: &[Element]) -> Result<bool, OutOfMemory>

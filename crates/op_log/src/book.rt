@@ -6,7 +6,7 @@ ghost use Rattle.batch_history.specs.Legal.{after_call, grown, IsLegal};
 ghost use Rattle.batch_history.specs.Replies.{is_nothing, reply};
 ghost use Rattle.batch_history.specs.Rows.{History};
 ghost use Rattle.op_log.specs.Replied.{replied, StandsForSome};
-ghost use Rattle.seq_repository.specs.Kept.{StandsFor};
+ghost use Rattle.seq_repository.specs.Kept.{IsNext, StandsFor};
 
 use batch_ids::{Moment, OutOfMemory, Refusal};
 use jsl_model::Catalogue;
@@ -97,11 +97,20 @@ impl<const LIMIT: u64> Book<LIMIT> {
             at,
             reply: Reply::Nothing,
         };
-        let reply = enter_due(&mut self.repository, &mut self.log, &mut entry)?;
-        if !reply.is_nothing() {
-            self.log.push_reserved(entry);
+        match enter_due(&mut self.repository, &mut self.log, &mut entry) {
+            Ok(reply) => {
+                if reply.is_nothing() {
+                    drop(entry);
+                } else {
+                    self.log.push_reserved(entry);
+                }
+                Ok(reply)
+            }
+            Err(refusal) => {
+                drop(entry);
+                Err(refusal)
+            }
         }
-        Ok(reply)
     }
 
     /// Answers a query about the log so far.
@@ -137,11 +146,51 @@ fn enter_due<const LIMIT: u64>(
         → repository.new ≡ repository.old) }
     ensures refused { OnErr result (repository.new ≡ repository.old) }
 {
-    log.reserve(1)?;
-    let reply = repository.preview(entry.who, &entry.call)?;
-    if !reply.is_nothing() {
-        drop(replace(&mut entry.reply, reply.try_clone()?));
-        repository.enter(entry)?;
+    let reply = due_with_room(repository, log, entry)?;
+    match enter_accepted(repository, entry, &reply) {
+        Ok(()) => Ok(reply),
+        Err(refused) => {
+            drop(reply);
+            Err(refused.into())
+        }
     }
-    Ok(reply)
+}
+
+/// What an entry's call is due. There is then room for one entry more in the log, which stays.
+fn due_with_room<const LIMIT: u64>(
+    repository: &Repository<LIMIT>,
+    log: &mut Vec<Entry>,
+    entry: &Entry,
+) -> Result<Reply, Refusal>
+    ensures due { (h : History) → StandsFor repository.now h
+        → IsDue result (reply LIMIT h entry.now.who entry.now.call) }
+    ensures log { log.new.items ≡ log.old.items }
+    ensures room { OnOk result (vec_len log.new < vec_capacity log.new) }
+{
+    log.reserve(1)?;
+    repository.preview(entry.who, &entry.call)
+}
+
+/// Enters an entry with the reply that its call is due, unless that is Nothing.
+fn enter_accepted<const LIMIT: u64>(
+    repository: &mut Repository<LIMIT>,
+    entry: &mut Entry,
+    reply: &Reply,
+) -> Result<(), OutOfMemory>
+    requires next { is_nothing reply.now ≡ false
+        → IsNext LIMIT repository.old (replied entry.old reply.now) }
+    ensures replied { OnOk result (is_nothing reply.now ≡ false
+        → entry.new ≡ replied entry.old reply.now) }
+    ensures entered { OnOk result (is_nothing reply.now ≡ false → (h : History)
+        → IsLegal LIMIT h → StandsFor repository.old h
+        → StandsFor repository.new (grown h (replied entry.old reply.now))) }
+    ensures nothing { OnOk result (is_nothing reply.now ≡ true
+        → repository.new ≡ repository.old) }
+    ensures refused { OnErr result (repository.new ≡ repository.old) }
+{
+    if reply.is_nothing() {
+        return Ok(());
+    }
+    drop(replace(&mut entry.reply, reply.try_clone()?));
+    repository.enter(entry)
 }

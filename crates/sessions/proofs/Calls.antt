@@ -1,11 +1,13 @@
 -- What an accepted operation leaves of a book, of its seat and of the session that made it.
-use Rattle.std.proofs.Common.{◌≡◌, ℕ, ◌+◌, Bool, false, if◌then◌else◌, List, [], ◌∷◌, ◌++◌, map, length, refl, sym, ◌∙◌, ap, subst, arith, length-append}
+use Rattle.std.proofs.Common.{◌≡◌, ℕ, ◌+◌, Bool, false, if◌then◌else◌, Result, Ok, List, [], ◌∷◌, ◌++◌, map, length, refl, sym, ◌∙◌, ap, subst, arith, length-append}
+use Rattle.std.specs.Prelude.{IfOk}
 use Rattle.batch_history.specs.Legal.{after_call, grown}
 use Rattle.batch_history.specs.Replies.{is_nothing}
 use Rattle.batch_history.specs.Rows.{History}
 use Rattle.batch_history.specs.declared.call.Call.{Call}
 use Rattle.batch_history.specs.declared.call.Entry.{Entry}
 use Rattle.batch_history.specs.declared.call.Reply.{Reply}
+use Rattle.batch_ids.specs.declared.refusal.Refusal.{Refusal}
 use Rattle.jsl_model.specs.Jobs.{JobTree}
 use Rattle.seat_rules.specs.Places.{IsLegalLog, Known, known}
 use Rattle.seat_rules.specs.Views.{informed, with_entry}
@@ -14,9 +16,11 @@ use Rattle.sessions.specs.Answered.{operation}
 use Rattle.sessions.specs.Sessions.{IsSession, one_of}
 
 -- the book has one operation more
-pub book_after : (h new : History) (who : ℕ) (call : Call) (at : ℕ) (r : Reply) → new ≡ after_call h who call at r → is_nothing r ≡ false
-    → new ≡ grown h (operation who call at r)
-book_after h new who call at r is n = is ∙ ap (λ (b : Bool). if b then h else grown h (operation who call at r)) n
+pub book_after : (h new : History) (who : ℕ) (call : Call) (at : ℕ) (result : Result Reply Refusal) (r : Reply) → IfOk result (λ given. new ≡ after_call h who call at given)
+    → result ≡ Ok r → is_nothing r ≡ false → new ≡ grown h (operation who call at r)
+book_after h new who call at result r after is n =
+    subst (λ (x : Result Reply Refusal). IfOk x (λ given. new ≡ after_call h who call at given)) is after
+    ∙ ap (λ (b : Bool). if b then h else grown h (operation who call at r)) n
 
 -- the log that the seat knew grows by it
 pub log_after : (h new : History) (seat host : Known) (sessions : List SessionView) (last : ℕ) (e : Entry) → new ≡ grown h e

@@ -140,27 +140,26 @@ impl<N: Site, const LIMIT: u64> Desk<N, LIMIT> {
         ensures last { (self.new.last ≡ self.old.last) × (self.new.hosted ≡ []) }
     {
         self.seat.host(&mut session.seat, table);
-        match self.book.act(session.number, call, at) {
+        let result = self.book.act(session.number, call, at);
+        let front = length_of(&self.book);
+        match &result {
             Ok(reply) => {
-                let front = length_of(&self.book);
                 if reply.is_nothing() {
                     self.seat.part(&mut session.seat, table);
                     session.front = front;
-                    Ok(reply)
                 } else {
                     append_last(&mut self.seat, &self.book, table);
                     self.seat.part(&mut session.seat, table);
                     session.accepted += 1;
                     session.front = front;
-                    Ok(reply)
                 }
             }
-            Err(refusal) => {
+            Err(_) => {
                 self.seat.part(&mut session.seat, table);
-                session.front = length_of(&self.book);
-                Err(refusal)
+                session.front = front;
             }
         }
+        result
     }
 
     /// Answers a query of a session, as one thread's book does at the end of the log. The session then

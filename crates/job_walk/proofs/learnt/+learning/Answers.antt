@@ -1,7 +1,8 @@
-use Rattle.std.proofs.Common.{◌≡◌, ◌+◌, ◌++◌, length, get_or, set, drop, refl, sym, ◌∙◌, ap, subst, arith, Result, Ok, IfOk}
+use Rattle.std.proofs.Common.{◌≡◌, ◌+◌, ◌++◌, ◌∷◌, [], length, get_or, set, drop, refl, sym, ◌∙◌, ap, subst, arith, Result, Ok, IfOk}
 use Rattle.jsl_model.specs.declared.element.SplitFlow.{out-SplitFlow}
 use Rattle.jsl_model.specs.declared.element.Body.TheVariants.{Flow, Split}
 use Rattle.job_walk.specs.declared.kept_list.KeptList.{KeptList}
+use Rattle.job_walk.specs.declared.kept_list.ListChange.{ListChange}
 use Rattle.job_walk.specs.declared.kept_list.Progress.{Progress}
 use Rattle.job_walk.specs.KeptLists.{progress, rows_by, facts_after, rows_in, lists_in, tree_first, KeepsFirst}
 use Rattle.job_walk.specs.Walk.{fact_of, first_id, flow_result}
@@ -83,7 +84,8 @@ list_changes-returns-in_ok-add_change-in-Ok-clause-value t c from rest is =
     c.as_slice-2.result.now c.as_slice-2.ensures c.in_ok-result.result c.in_ok-result.ensures.comes c.in-Ok.progress
     (come-ok c.walk_on-come.result c.in-Ok.progress (progress kept.progress.left (rows_by c.args.elements.now (set c.as_slice-2.result.now k c.in_ok-result.result)) c.index-elements-place.result.id) c.in-Ok.is c.walk_on-come.ensures)
     c.args.changes.now.items c.element_changes.new.changes.items c.add_change.new.changes.items c.args.base (get_or c.as_slice.result.now k 0) same c.in_ok-result.ensures.changes
-    c.in_ok-add_change-in-Ok.ensures.changes c.in_ok-add_change-in-Ok.field-0 c.in_ok-add_change-in-Ok.ensures.value from rest is).0
+    (c.in_ok-add_change-in-Ok.ensures.changes ∙ ap (λ (x : ListChange). c.element_changes.new.changes.items ++ x ∷ []) c.new-change.ensures)
+    c.in_ok-add_change-in-Ok.field-0 (c.in_ok-add_change-in-Ok.ensures.value ∙ ap (λ (x : ListChange). x.progress.value) c.new-change.ensures) from rest is).0
 
 pub list_changes-returns-in_ok-add_change-in-Ok-clause-changes : goal.list_changes-returns-in_ok-add_change-in-Ok-clause-changes
 list_changes-returns-in_ok-add_change-in-Ok-clause-changes t c from rest is =
@@ -95,7 +97,8 @@ list_changes-returns-in_ok-add_change-in-Ok-clause-changes t c from rest is =
     c.as_slice-2.result.now c.as_slice-2.ensures c.in_ok-result.result c.in_ok-result.ensures.comes c.in-Ok.progress
     (come-ok c.walk_on-come.result c.in-Ok.progress (progress kept.progress.left (rows_by c.args.elements.now (set c.as_slice-2.result.now k c.in_ok-result.result)) c.index-elements-place.result.id) c.in-Ok.is c.walk_on-come.ensures)
     c.args.changes.now.items c.element_changes.new.changes.items c.add_change.new.changes.items c.args.base (get_or c.as_slice.result.now k 0) same c.in_ok-result.ensures.changes
-    c.in_ok-add_change-in-Ok.ensures.changes c.in_ok-add_change-in-Ok.field-0 c.in_ok-add_change-in-Ok.ensures.value from rest is).1
+    (c.in_ok-add_change-in-Ok.ensures.changes ∙ ap (λ (x : ListChange). c.element_changes.new.changes.items ++ x ∷ []) c.new-change.ensures)
+    c.in_ok-add_change-in-Ok.field-0 (c.in_ok-add_change-in-Ok.ensures.value ∙ ap (λ (x : ListChange). x.progress.value) c.new-change.ensures) from rest is).1
 
 -- ---- A list from its first element
 
