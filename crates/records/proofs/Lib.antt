@@ -11,3 +11,4 @@ pub mod Stepped
 pub mod Tallies
 pub mod Unfinished
 pub mod Slices
+pub mod Slots

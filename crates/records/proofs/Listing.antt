@@ -1,5 +1,5 @@
 -- Checkpoints that stand in a list for each job instance, as one list.
-use Rattle.std.proofs.Common.{◌≡◌, ◌≢◌, ℕ, ◌<◌, ◌==◌, ◌&&◌, Bool, true, false, not, cond, Option, None, Some, length, List, [], ◌∷◌, ◌++◌, find, filter, refl, sym, ◌∙◌, ap, subst, arith}
+use Rattle.std.proofs.Common.{◌≡◌, ◌≢◌, ℕ, ◌==◌, ◌&&◌, Bool, true, false, not, cond, Option, None, Some, length, List, [], ◌∷◌, ◌++◌, find, filter, refl, sym, ◌∙◌, ap, subst, arith}
 use Rattle.std.specs.List.{AllByRecursion}
 use Rattle.std.specs.List.Sorted.{IsStrictlySortedBy}
 use Rattle.std.specs.Map.{keys_of, lookup, set_value, remove_entry}
@@ -17,7 +17,7 @@ use Rattle.batch_history.specs.Checkpoints.{InstanceStep, is_same_step}
 use Rattle.job_walk.specs.Keys.{is_same_key}
 use Rattle.records.specs.Listed.{AreOf, AreOwn, AreListed, rows_listed}
 use Rattle.records.specs.Maps.{step_of, is_place, mark_at, AreApart}
-use Rattle.records.specs.Placed.{is_elsewhere, marked, with_mark, without_mark, SetsMark}
+use Rattle.records.specs.Placed.{marked, with_mark, without_mark, SetsMark}
 use Rattle.records.specs.Without.{checkpoints_there}
 use Rattle.records.proofs.Marks.{mark_with, mark_without}
 

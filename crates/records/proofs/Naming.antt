@@ -1,9 +1,7 @@
 -- The names of job instances, each once: those of the job instances that are the first of their job.
-use Rattle.std.proofs.Common.{◌≡◌, ℕ, zero, suc, ◌<◌, ◌≤◌, ◌||◌, Bool, true, false, not, cond, Option, None, Some, IfSome, List, [], ◌∷◌, ◌++◌, length, filter, take, drop, position, get_or, slice_get, bytes_eq, refl, subst, sym, ◌∙◌, ap, arith}
-use Rattle.std.proofs.lemmas.Bool.{eqb-true, eq-eqb, ne_eqb}
-use Rattle.std.proofs.lemmas.List.{append_assoc, append-nil, take-append-drop}
-use Rattle.std.proofs.lemmas.List.Elements.{filter-append}
-use Rattle.std.proofs.lemmas.List.Quantifiers.{position-Some}
+use Rattle.std.proofs.Common.{◌≡◌, ℕ, ◌<◌, ◌≤◌, ◌||◌, Bool, true, false, not, cond, Option, None, Some, IfSome, List, [], ◌∷◌, ◌++◌, length, filter, slice_get, bytes_eq, refl, subst, sym, ◌∙◌, ap, arith}
+use Rattle.std.proofs.lemmas.Bool.{eq-eqb, ne_eqb}
+use Rattle.std.proofs.lemmas.List.{append_assoc}
 use Rattle.std.proofs.lemmas.Slice.Eq.{bytes_eq-Decides}
 use Rattle.jsl_model.proofs.Among.{bytes_eq-sym, unheld-seen, unheld-new}
 use Rattle.jsl_model.specs.Names.{distinct, unheld, is_among}
@@ -11,7 +9,7 @@ use Rattle.batch_history.specs.Answers.{instances_of_job}
 use Rattle.batch_history.specs.Lists.{is_at}
 use Rattle.batch_history.specs.declared.rows.JobInstance.{JobInstance}
 use Rattle.records.specs.Left.{job_names, is_first_of_job}
-use Rattle.records.specs.Maps.{is_instance, instance_numbers, AreAbove, AreRising}
+use Rattle.records.specs.Maps.{instance_numbers, AreAbove, AreRising}
 
 -- the number of the first job instance of a job
 abbrev first_number : List ℕ → List JobInstance → Option ℕ
@@ -84,39 +82,10 @@ not-at : (x bound : ℕ) (first : Option ℕ) → IfSome first (λ n. n ≤ boun
 not-at x bound None le lt = refl
 not-at x bound (Some n) le lt = ne_eqb n x (λ e. omega (arith, le, lt, e))
 
-no-first : (all : List JobInstance) (bound : ℕ) → ((q : List ℕ) → IfSome (first_number q all) (λ n. n ≤ bound))
-    → (rows : List JobInstance) → AreAbove bound (instance_numbers rows) → filter (is_first_of_job all) rows ≡ []
-no-first all bound each [] h = refl
-no-first all bound each (row ∷ rest) h =
-    ap (λ (b : Bool). cond b (row ∷ filter (is_first_of_job all) rest) (filter (is_first_of_job all) rest)) (not-at row.instance bound (first_number row.job all) (each row.job) h.0)
-    ∙ no-first all bound each rest h.1
-
-above-behind : (rows : List JobInstance) (k : ℕ) (d : JobInstance) → k < length rows → AreRising (instance_numbers rows)
-    → AreAbove (get_or rows k d).instance (instance_numbers (drop (suc k) rows))
-above-behind [] k d lt up = absurd (omega (arith, lt))
-above-behind (row ∷ rest) zero d lt up = up.0
-above-behind (row ∷ rest) (suc k) d lt up = above-behind rest k d (omega (arith, lt)) up.1
-
--- the rows up to that of a number, where no first one of a job is above it
-pub firsts_up_to : (rows : List JobInstance) (bound k end : ℕ) → AreRising (instance_numbers rows) → ((q : List ℕ) → IfSome (first_number q rows) (λ n. n ≤ bound))
-    → Some k ≡ position (is_instance bound) rows → end ≡ suc k → filter (is_first_of_job rows) (take end rows) ≡ filter (is_first_of_job rows) rows
-firsts_up_to rows bound k end up each is next =
-    elim rows as (λ l. l ≡ rows → filter (is_first_of_job rows) (take end rows) ≡ filter (is_first_of_job rows) rows) [
-      | [] ↦ λ same. (let none : Some k ≡ None = is ∙ ap (position (is_instance bound)) (sym same) in cc)
-      | d ∷ more ↦ λ same.
-          let at = position-Some (is_instance bound) rows k d (sym is) in
-          let here : (get_or rows k d).instance ≡ bound = eqb-true (get_or rows k d).instance bound at.1 in
-          let behind : AreAbove bound (instance_numbers (drop end rows)) =
-          subst (λ (n : ℕ). AreAbove bound (instance_numbers (drop n rows))) (sym next)
-          (subst (λ (n : ℕ). AreAbove n (instance_numbers (drop (suc k) rows))) here (above-behind rows k d at.0 up)) in
-          let none : filter (is_first_of_job rows) (drop end rows) ≡ [] = no-first rows bound each (drop end rows) behind in
-          let parts : filter (is_first_of_job rows) (take end rows ++ drop end rows) ≡ filter (is_first_of_job rows) (take end rows) ++ filter (is_first_of_job rows) (drop end rows) =
-          filter-append (is_first_of_job rows) (take end rows) (drop end rows) in
-          let whole : take end rows ++ drop end rows ≡ rows = take-append-drop end rows in
-          sym (append-nil (filter (is_first_of_job rows) (take end rows)))
-          ∙ (ap (λ (l : List JobInstance). filter (is_first_of_job rows) (take end rows) ++ l) (sym none)
-          ∙ (sym parts ∙ ap (filter (is_first_of_job rows)) whole))
-    ] refl
+-- none above a number is the first of its job, where no first one is above it
+pub none_first : (rows : List JobInstance) (bound : ℕ) → ((q : List ℕ) → IfSome (first_number q rows) (λ n. n ≤ bound)) → (row : JobInstance) → bound < row.instance
+    → is_first_of_job rows row ≡ false
+none_first rows bound each row lt = not-at row.instance bound (first_number row.job rows) (each row.job) lt
 
 -- there are no more job instances of a job than job instances
 pub instances_few : (name : List ℕ) (rows : List JobInstance) → length (instances_of_job name rows) ≤ length rows

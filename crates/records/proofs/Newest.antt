@@ -1,5 +1,5 @@
 -- The last of rising numbers is above each of the others.
-use Rattle.std.proofs.Common.{◌≡◌, ℕ, suc, ◌==◌, ◌<◌, ◌-◌, ◌||◌, Bool, true, false, cond, nat_lt, Option, None, Some, List, [], ◌∷◌, map, filter, slice_get, length, refl, sym, ◌∙◌, ap, subst, arith}
+use Rattle.std.proofs.Common.{◌≡◌, ℕ, suc, ◌==◌, ◌<◌, ◌-◌, ◌||◌, Bool, true, false, cond, nat_lt, Option, None, Some, List, [], ◌∷◌, filter, slice_get, length, refl, sym, ◌∙◌, ap, subst, arith}
 use Rattle.std.specs.List.{last_or, list_any}
 use Rattle.std.proofs.lemmas.Bool.{ltb-true, lt-ltb}
 use Rattle.std.proofs.Math.Bool.{or-false}

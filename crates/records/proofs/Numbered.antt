@@ -1,5 +1,5 @@
 -- Rows that stand by rising number: where the row of a number stands.
-use Rattle.std.proofs.Common.{◌≡◌, ◌≢◌, ℕ, zero, suc, ◌+◌, ◌==◌, ◌<◌, ◌≤◌, Bool, true, false, cond, nat_lt, ltb, inl, inr, Option, None, Some, Result, Ok, Err, IfSome, is_some, option_copied, Bor, List, [], ◌∷◌, ◌++◌, length, map, find, filter, position, set, get_or, slice_get, subst, refl, sym, ◌∙◌, ap, arith}
+use Rattle.std.proofs.Common.{◌≡◌, ◌≢◌, ℕ, zero, suc, ◌+◌, ◌==◌, ◌<◌, ◌≤◌, Bool, true, false, cond, nat_lt, ltb, inl, inr, Option, None, Some, Result, Ok, Err, IfSome, is_some, option_copied, Bor, List, [], ◌∷◌, ◌++◌, length, map, find, filter, position, set, get_or, slice_get, unwrap_or, subst, refl, sym, ◌∙◌, ap, arith}
 use Rattle.std.specs.List.{position_or_len}
 use Rattle.std.specs.List.Sorted.{IsSearchInRange, IsBinarySearchResult, IsNonDecreasingBy}
 use Rattle.std.specs.Ordering.{nat_cmp, ordering_index}
@@ -18,7 +18,7 @@ use Rattle.batch_history.specs.declared.rows.JobInstance.{JobInstance}
 use Rattle.batch_history.specs.declared.rows.ExecutionRow.{ExecutionRow}
 use Rattle.batch_history.specs.declared.rows.WorkRow.{WorkRow}
 use Rattle.batch_history.proofs.Finding.{found-passes}
-use Rattle.records.specs.Maps.{is_instance, instance_numbers, execution_numbers, work_numbers, AreAbove, AreBelow, AreRising, MayReplaceExecution, MayReplaceWork}
+use Rattle.records.specs.Maps.{instance_numbers, execution_numbers, work_numbers, AreAbove, AreBelow, AreRising, MayReplaceExecution, MayReplaceWork}
 
 module _ {R : Type 0} (num : R → ℕ) where
   -- the numbers of these rows
@@ -57,7 +57,7 @@ module _ {R : Type 0} (num : R → ℕ) where
       ap (λ (b : Bool). cond b (Some (position_or_len p rows)) None) (le-ltb (position_or_len p rows) (length rows) (omega (arith, is)))
 
   -- what a binary search by the numbers answers
-  searched : (rows : List R) (x : ℕ) (r : Result ℕ ℕ) → AreRising (numbers rows) → IsSearchInRange r (length rows)
+  pub searched : (rows : List R) (x : ℕ) (r : Result ℕ ℕ) → AreRising (numbers rows) → IsSearchInRange r (length rows)
       → IsBinarySearchResult (λ row. nat_cmp (num row) x) rows r → result_ok r ≡ position (is_numbered x) rows
   searched [] x (Ok k) h within is = absurd (omega (arith, within))
   searched (row ∷ rest) x (Ok k) h within is =
@@ -96,7 +96,7 @@ module _ {R : Type 0} (num : R → ℕ) where
         | false ↦ λ e. cc
       ]) is
 
-  found : (p : R → Bool) (rows : List R) (k : ℕ) → position p rows ≡ Some k → slice_get rows k ≡ find p rows
+  pub found : (p : R → Bool) (rows : List R) (k : ℕ) → position p rows ≡ Some k → slice_get rows k ≡ find p rows
   found p rows k is = ap (slice_get rows) (sym (place-is p rows k is)) ∙ sym (find_at p rows)
 
   beyond : (rows : List R) (k : ℕ) → length rows ≤ k → slice_get rows k ≡ None
@@ -105,7 +105,7 @@ module _ {R : Type 0} (num : R → ℕ) where
   beyond (row ∷ rest) (suc k) le = beyond rest k (omega (arith, le))
 
   -- what a slice has at a place
-  copied : (rows : List R) (k : ℕ) (r : Option (Bor R)) → is_some r ≡ ltb k (length rows) → IfSome r (λ x. x.now ≡ get_or rows k x.now) → option_copied r ≡ slice_get rows k
+  pub copied : (rows : List R) (k : ℕ) (r : Option (Bor R)) → is_some r ≡ ltb k (length rows) → IfSome r (λ x. x.now ≡ get_or rows k x.now) → option_copied r ≡ slice_get rows k
   copied rows k None is of = sym (beyond rows k (ltb-false k (length rows) (sym is)))
   copied rows k (Some x) is of = sym (slice_get_read rows (length rows) k x.now refl (ltb-true k (length rows) (sym is)) of)
 
@@ -116,7 +116,7 @@ module _ {R : Type 0} (num : R → ℕ) where
         | inr over ↦ find_at p rows ∙ beyond rows (position_or_len p rows) over
       ])
 
-  changed : (p : R → Bool) (rows : List R) (k : ℕ) (new : R) → position p rows ≡ Some k → set rows k new ≡ change_first p (λ old. new) rows
+  pub changed : (p : R → Bool) (rows : List R) (k : ℕ) (new : R) → position p rows ≡ Some k → set rows k new ≡ change_first p (λ old. new) rows
   changed p rows k new is =
       let at = position-Some p rows k new is in
       change-at p rows k new new at.0 at.1 at.2
@@ -132,6 +132,18 @@ module _ {R : Type 0} (num : R → ℕ) where
   kept rows x k new is same h =
       let at = position-Some (is_numbered x) rows k new is in
       subst AreRising (sym (numbers-set rows k new new at.0 (same ∙ sym (eqb-true (num (get_or rows k new)) x at.1)))) h
+
+  -- a row in place of that of its number
+  numbers-kept : (p : R → Bool) (new : R) (rows : List R) (before : R) → find p rows ≡ Some before → num new ≡ num before → numbers (change_first p (λ old. new) rows) ≡ numbers rows
+  numbers-kept p new [] before is same = refl
+  numbers-kept p new (row ∷ rest) before is same =
+      (elim (p row) as (λ b. cond b (Some row) (find p rest) ≡ Some before → numbers (cond b (new ∷ rest) (row ∷ change_first p (λ old. new) rest)) ≡ numbers (row ∷ rest)) [
+        | true ↦ λ here. (
+            let one : row ≡ before = ap (λ (r : Option R). unwrap_or r row) here in
+            ap (λ (n : ℕ). n ∷ numbers rest) (same ∙ ap num (sym one))
+            )
+        | false ↦ λ there. ap (λ (ns : List ℕ). num row ∷ ns) (numbers-kept p new rest before there same)
+      ]) is
 
   above-pushed : (rows : List R) (n : ℕ) (new : R) → AreAbove n (numbers rows) → n < num new → AreAbove n (numbers (rows ++ new ∷ []))
   above-pushed [] n new h lt = (lt, tt)
@@ -180,71 +192,23 @@ module _ {R : Type 0} (num : R → ℕ) where
         | false ↦ (h.0, below_changed p f rest bound same h.1)
       ]
 
--- The row of each kind
-
-pub instance_searched : (rows : List JobInstance) (i : ℕ) (r : Result ℕ ℕ) → AreRising (instance_numbers rows) → IsSearchInRange r (length rows)
-    → IsBinarySearchResult (λ (row : JobInstance). nat_cmp row.instance i) rows r → result_ok r ≡ position (is_instance i) rows
-instance_searched rows i r h within is = searched (λ (row : JobInstance). row.instance) rows i r h within is
-
-pub execution_searched : (rows : List ExecutionRow) (x : ℕ) (r : Result ℕ ℕ) → AreRising (execution_numbers rows) → IsSearchInRange r (length rows)
-    → IsBinarySearchResult (λ (row : ExecutionRow). nat_cmp row.execution x) rows r → result_ok r ≡ position (is_execution x) rows
-execution_searched rows x r h within is = searched (λ (row : ExecutionRow). row.execution) rows x r h within is
-
-pub work_searched : (rows : List WorkRow) (w : ℕ) (r : Result ℕ ℕ) → AreRising (work_numbers rows) → IsSearchInRange r (length rows)
-    → IsBinarySearchResult (λ (row : WorkRow). nat_cmp row.work w) rows r → result_ok r ≡ position (is_work w) rows
-work_searched rows w r h within is = searched (λ (row : WorkRow). row.work) rows w r h within is
-
-pub instance_found : (rows : List JobInstance) (i k : ℕ) (r : Option (Bor JobInstance)) → is_some r ≡ ltb k (length rows) → IfSome r (λ x. x.now ≡ get_or rows k x.now)
-    → Some k ≡ position (is_instance i) rows → option_copied r ≡ find (is_instance i) rows
-instance_found rows i k r is of at =
-    copied (λ (row : JobInstance). row.instance) rows k r is of ∙ found (λ (row : JobInstance). row.instance) (is_instance i) rows k (sym at)
-
-pub instance_absent : (rows : List JobInstance) (i : ℕ) → None ≡ position (is_instance i) rows → None ≡ find (is_instance i) rows
-instance_absent rows i is = sym (absent (λ (row : JobInstance). row.instance) (is_instance i) rows (sym is))
-
-pub execution_found : (rows : List ExecutionRow) (x k : ℕ) (r : Option (Bor ExecutionRow)) → is_some r ≡ ltb k (length rows) → IfSome r (λ x. x.now ≡ get_or rows k x.now)
-    → Some k ≡ position (is_execution x) rows → option_copied r ≡ find (is_execution x) rows
-execution_found rows x k r is of at =
-    copied (λ (row : ExecutionRow). row.execution) rows k r is of ∙ found (λ (row : ExecutionRow). row.execution) (is_execution x) rows k (sym at)
-
-pub execution_absent : (rows : List ExecutionRow) (x : ℕ) → None ≡ position (is_execution x) rows → None ≡ find (is_execution x) rows
-execution_absent rows x is = sym (absent (λ (row : ExecutionRow). row.execution) (is_execution x) rows (sym is))
-
-pub work_found : (rows : List WorkRow) (w k : ℕ) (r : Option (Bor WorkRow)) → is_some r ≡ ltb k (length rows) → IfSome r (λ x. x.now ≡ get_or rows k x.now)
-    → Some k ≡ position (is_work w) rows → option_copied r ≡ find (is_work w) rows
-work_found rows w k r is of at =
-    copied (λ (row : WorkRow). row.work) rows k r is of ∙ found (λ (row : WorkRow). row.work) (is_work w) rows k (sym at)
-
-pub work_absent : (rows : List WorkRow) (w : ℕ) → None ≡ position (is_work w) rows → None ≡ find (is_work w) rows
-work_absent rows w is = sym (absent (λ (row : WorkRow). row.work) (is_work w) rows (sym is))
-
 -- A changed row
 
-pub execution_changed : (rows : List ExecutionRow) (x k : ℕ) (new : ExecutionRow) → Some k ≡ position (is_execution x) rows
-    → set rows k new ≡ change_first (is_execution x) (λ old. new) rows
-execution_changed rows x k new is = changed (λ (row : ExecutionRow). row.execution) (is_execution x) rows k new (sym is)
+pub execution_kept : (rows : List ExecutionRow) (x : ℕ) (new : ExecutionRow) → AreRising (execution_numbers rows) → MayReplaceExecution rows x new
+    → AreRising (execution_numbers (change_first (is_execution x) (λ old. new) rows))
+execution_kept rows x new h m =
+    subst AreRising (sym (numbers-kept (λ (row : ExecutionRow). row.execution) (is_execution x) new rows m.0 m.1 m.2.execution)) h
 
-pub execution_kept : (rows : List ExecutionRow) (x k : ℕ) (new : ExecutionRow) → AreRising (execution_numbers rows) → Some k ≡ position (is_execution x) rows
-    → MayReplaceExecution rows x new → AreRising (execution_numbers (set rows k new))
-execution_kept rows x k new h is m =
-    kept (λ (row : ExecutionRow). row.execution) rows x k new (sym is)
-    (m.2.execution ∙ eqb-true m.0.execution x (found-passes (is_execution x) rows m.0 m.1)) h
+pub execution_is : (rows : List ExecutionRow) (x : ℕ) (new : ExecutionRow) → MayReplaceExecution rows x new → new.execution ≡ x
+execution_is rows x new m = m.2.execution ∙ eqb-true m.0.execution x (found-passes (is_execution x) rows m.0 m.1)
 
--- a row that may be replaced is there
-pub execution_there : (rows : List ExecutionRow) (x : ℕ) (new : ExecutionRow) → None ≡ position (is_execution x) rows → MayReplaceExecution rows x new → ⊥
-execution_there rows x new is m = let none : None ≡ find (is_execution x) rows = execution_absent rows x is in cc
+pub work_kept : (rows : List WorkRow) (w : ℕ) (new : WorkRow) → AreRising (work_numbers rows) → MayReplaceWork rows w new
+    → AreRising (work_numbers (change_first (is_work w) (λ old. new) rows))
+work_kept rows w new h m =
+    subst AreRising (sym (numbers-kept (λ (row : WorkRow). row.work) (is_work w) new rows m.0 m.1 m.2.work)) h
 
-pub work_changed : (rows : List WorkRow) (w k : ℕ) (new : WorkRow) → Some k ≡ position (is_work w) rows → set rows k new ≡ change_first (is_work w) (λ old. new) rows
-work_changed rows w k new is = changed (λ (row : WorkRow). row.work) (is_work w) rows k new (sym is)
-
-pub work_kept : (rows : List WorkRow) (w k : ℕ) (new : WorkRow) → AreRising (work_numbers rows) → Some k ≡ position (is_work w) rows
-    → MayReplaceWork rows w new → AreRising (work_numbers (set rows k new))
-work_kept rows w k new h is m =
-    kept (λ (row : WorkRow). row.work) rows w k new (sym is)
-    (m.2.work ∙ eqb-true m.0.work w (found-passes (is_work w) rows m.0 m.1)) h
-
-pub work_there : (rows : List WorkRow) (w : ℕ) (new : WorkRow) → None ≡ position (is_work w) rows → MayReplaceWork rows w new → ⊥
-work_there rows w new is m = let none : None ≡ find (is_work w) rows = work_absent rows w is in cc
+pub work_is : (rows : List WorkRow) (w : ℕ) (new : WorkRow) → MayReplaceWork rows w new → new.work ≡ w
+work_is rows w new m = m.2.work ∙ eqb-true m.0.work w (found-passes (is_work w) rows m.0 m.1)
 
 -- An added row
 

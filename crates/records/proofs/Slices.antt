@@ -1,11 +1,11 @@
 -- A slice of the numbers under a name, with the rows that they are of.
-use Rattle.std.proofs.Common.{◌≡◌, ℕ, zero, suc, ◌==◌, Option, Some, bytes_eq, List, [], ◌∷◌, length, take, drop, map, find, refl, sym, ◌∙◌, ap, subst}
+use Rattle.std.proofs.Common.{◌≡◌, ℕ, zero, suc, Option, Some, bytes_eq, List, [], ◌∷◌, length, take, drop, map, find, refl, ◌∙◌, ap}
 use Rattle.std.specs.List.{filter_map}
 use Rattle.batch_history.specs.Answers.{instances_of_job}
 use Rattle.batch_history.specs.declared.rows.JobInstance.{JobInstance}
 use Rattle.records.specs.Indexes.{AreIndexed}
 use Rattle.records.specs.Left.{instances_numbered}
-use Rattle.records.specs.Maps.{Maps, is_instance, instance_numbers}
+use Rattle.records.specs.Maps.{Maps, is_instance}
 use Rattle.records.proofs.Stepped.{found_each}
 
 module _ {R : Type 0} (num : R → ℕ) (h : ℕ → Option R) where

@@ -1,7 +1,7 @@
 -- The index of the work items of each step of each job instance, through each change of the rows.
-use Rattle.std.proofs.Common.{◌≡◌, ℕ, ◌==◌, ◌&&◌, ◌||◌, Bool, true, false, not, cond, find, Option, None, Some, bytes_eq, List, [], ◌∷◌, ◌++◌, map, filter, unwrap_or, IfSome, Bor, slice_get, length, ◌-◌, suc, refl, sym, ◌∙◌, ap, subst, arith}
+use Rattle.std.proofs.Common.{◌≡◌, ℕ, ◌==◌, ◌&&◌, ◌||◌, Bool, true, false, not, cond, find, Option, None, Some, bytes_eq, List, [], ◌∷◌, ◌++◌, map, filter, unwrap_or, IfSome, slice_get, length, ◌-◌, suc, refl, sym, ◌∙◌, ap, subst, arith}
 use Rattle.std.specs.List.{last_or}
-use Rattle.std.specs.Option.{option_copied, option_map}
+use Rattle.std.specs.Option.{option_map}
 use Rattle.std.proofs.lemmas.Bool.{and_parts, eqb-true, eq-eqb, ne_eqb}
 use Rattle.batch_history.specs.Lists.{change_first, is_at}
 use Rattle.batch_history.specs.Replies.{is_execution}

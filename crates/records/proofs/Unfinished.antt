@@ -1,18 +1,18 @@
 -- The unfinished job executions of each job, where job executions are added, changed or gone.
-use Rattle.std.proofs.Common.{◌≡◌, ℕ, ◌==◌, ◌&&◌, ◌||◌, Bool, true, false, not, cond, Option, None, Some, bytes_eq, List, [], ◌∷◌, ◌++◌, find, filter, map, refl, sym, ◌∙◌, ap}
+use Rattle.std.proofs.Common.{◌≡◌, ℕ, ◌==◌, ◌&&◌, ◌||◌, Bool, true, false, not, cond, Option, None, Some, bytes_eq, List, [], ◌∷◌, ◌++◌, find, filter, map, length, refl, sym, ◌∙◌, ap, arith}
 use mathlib.Core.Bool.{beq}
 use Rattle.std.specs.List.{list_any}
-use Rattle.std.proofs.lemmas.Bool.{eqb-true}
+use Rattle.std.proofs.lemmas.Bool.{eqb-true, ne_eqb}
 use Rattle.batch_ids.specs.Statuses.{is_unfinished}
 use Rattle.batch_history.proofs.Finding.{found-passes}
-use Rattle.batch_history.specs.Answers.{is_running_of, running_executions}
+use Rattle.batch_history.specs.Answers.{is_running_of}
 use Rattle.batch_history.specs.Lists.{change_first}
-use Rattle.batch_history.specs.Replies.{is_execution, row_status}
+use Rattle.batch_history.specs.Replies.{is_execution, is_running_in, row_status}
 use Rattle.batch_history.specs.Rows.{executions_there}
 use Rattle.batch_history.specs.declared.rows.ExecutionRow.{ExecutionRow}
 use Rattle.records.specs.Belonging.{executions_of}
-use Rattle.records.specs.Indexes.{AreRunning, numbers_named, without_number}
-use Rattle.records.specs.declared.name_lists.NameLists.{NameLists}
+use Rattle.records.specs.Indexes.{AreRunning, numbers_named, numbers_under, unfinished_executions, without_number}
+use Rattle.records.specs.declared.running.RunningLists.{RunningLists}
 use Rattle.records.proofs.Lists.{row_added}
 
 -- the number of a job execution
@@ -45,30 +45,42 @@ both-true false = refl
 
 -- A job execution more
 
-abbrev more : (List ℕ → List ℕ) → ExecutionRow → List ℕ → List ℕ
-more names row q = cond (bytes_eq row.job q) (names q ++ row.execution ∷ []) (names q)
+-- the unfinished ones that pass a test
+abbrev open_by : (ExecutionRow → Bool) → List ExecutionRow → List ℕ
+open_by test rows = map number (filter (λ row. test row && is_open row) rows)
 
-looked-up : (row : ExecutionRow) (rows : List ExecutionRow) (q : List ℕ) → is_open row ≡ true
-    → running_executions q (rows ++ row ∷ []) ≡ more (λ q. running_executions q rows) row q
-looked-up row rows q live =
-    row_added number (is_running_of q) row rows
-    ∙ ap (λ b. cond b (running_executions q rows ++ row.execution ∷ []) (running_executions q rows)) (ap (λ b. bytes_eq row.job q && b) live ∙ both-true (bytes_eq row.job q))
+looked-up : (test : ExecutionRow → Bool) (row : ExecutionRow) (rows : List ExecutionRow) → is_open row ≡ true
+    → open_by test (rows ++ row ∷ []) ≡ cond (test row) (open_by test rows ++ row.execution ∷ []) (open_by test rows)
+looked-up test row rows live =
+    row_added number (λ one. test one && is_open one) row rows
+    ∙ ap (λ b. cond b (open_by test rows ++ row.execution ∷ []) (open_by test rows)) (ap (λ b. test row && b) live ∙ both-true (test row))
 
-passed-over : (row : ExecutionRow) (rows : List ExecutionRow) (q : List ℕ) → is_open row ≡ false → running_executions q (rows ++ row ∷ []) ≡ running_executions q rows
-passed-over row rows q over =
-    row_added number (is_running_of q) row rows
-    ∙ ap (λ b. cond b (running_executions q rows ++ row.execution ∷ []) (running_executions q rows)) (ap (λ b. bytes_eq row.job q && b) over ∙ both-false (bytes_eq row.job q))
+passed-over : (test : ExecutionRow → Bool) (row : ExecutionRow) (rows : List ExecutionRow) → is_open row ≡ false → open_by test (rows ++ row ∷ []) ≡ open_by test rows
+passed-over test row rows over =
+    row_added number (λ one. test one && is_open one) row rows
+    ∙ ap (λ b. cond b (open_by test rows ++ row.execution ∷ []) (open_by test rows)) (ap (λ b. test row && b) over ∙ both-false (test row))
 
-pub running_added : (names after : NameLists) (row : ExecutionRow) (rows : List ExecutionRow) → is_unfinished (row_status row) ≡ true → AreRunning (Some names) rows
-    → ((q : List ℕ) → numbers_named after q ≡ cond (bytes_eq row.job q) (numbers_named names q ++ row.execution ∷ []) (numbers_named names q))
+-- those of a job, and those of a job instance
+abbrev of_job : List ℕ → ExecutionRow → Bool
+of_job q row = bytes_eq row.job q
+
+abbrev of_instance : ℕ → ExecutionRow → Bool
+of_instance i row = row.instance == i
+
+pub running_added : (lists after : RunningLists) (row : ExecutionRow) (rows : List ExecutionRow) → is_unfinished (row_status row) ≡ true → AreRunning (Some lists) rows
+    → ((q : List ℕ) → numbers_named after.by_name q ≡ cond (bytes_eq row.job q) (numbers_named lists.by_name q ++ row.execution ∷ []) (numbers_named lists.by_name q))
+    → ((i : ℕ) → numbers_under after.by_instance i ≡ cond (row.instance == i) (numbers_under lists.by_instance i ++ row.execution ∷ []) (numbers_under lists.by_instance i))
     → AreRunning (Some after) (rows ++ row ∷ [])
-running_added names after row rows live known adds q =
-    adds q ∙ (ap (λ ns. cond (bytes_eq row.job q) (ns ++ row.execution ∷ []) ns) (known q) ∙ sym (looked-up row rows q live))
+running_added lists after row rows live known named owned = (
+  λ q. named q ∙ (ap (λ ns. cond (bytes_eq row.job q) (ns ++ row.execution ∷ []) ns) (known.0 q) ∙ sym (looked-up (of_job q) row rows live)),
+  λ i. owned i ∙ (ap (λ ns. cond (row.instance == i) (ns ++ row.execution ∷ []) ns) (known.1 i) ∙ sym (looked-up (of_instance i) row rows live)),
+)
 
-pub finished_added : (running : Option NameLists) (row : ExecutionRow) (rows : List ExecutionRow) → is_unfinished (row_status row) ≡ false → AreRunning running rows
+pub finished_added : (running : Option RunningLists) (row : ExecutionRow) (rows : List ExecutionRow) → is_unfinished (row_status row) ≡ false → AreRunning running rows
     → AreRunning running (rows ++ row ∷ [])
 finished_added None row rows over known = tt
-finished_added (Some names) row rows over known = λ q. known q ∙ sym (passed-over row rows q over)
+finished_added (Some lists) row rows over known =
+    (λ q. known.0 q ∙ sym (passed-over (of_job q) row rows over), λ i. known.1 i ∙ sym (passed-over (of_instance i) row rows over))
 
 -- A job execution that changes
 
@@ -120,60 +132,91 @@ left p x old new (row ∷ rest) found was now =
     ]) refl found
 
 -- it is as unfinished as it was
-pub running_kept : (running : Option NameLists) (x : ℕ) (old new : ExecutionRow) (rows : List ExecutionRow) → find (is_execution x) rows ≡ Some old → old.job ≡ new.job
-    → new.execution ≡ old.execution → is_unfinished (row_status new) ≡ is_unfinished (row_status old) → AreRunning running rows
+pub running_kept : (running : Option RunningLists) (x : ℕ) (old new : ExecutionRow) (rows : List ExecutionRow) → find (is_execution x) rows ≡ Some old → old.job ≡ new.job
+    → old.instance ≡ new.instance → new.execution ≡ old.execution → is_unfinished (row_status new) ≡ is_unfinished (row_status old) → AreRunning running rows
     → AreRunning running (change_first (is_execution x) (λ gone. new) rows)
-running_kept None x old new rows found job one same known = tt
-running_kept (Some names) x old new rows found job one same known =
-    λ q. known q
-    ∙ sym (kept (is_running_of q) x old new rows found (ap (λ b. bytes_eq new.job q && b) same ∙ ap (λ n. bytes_eq n q && is_open old) (sym job)) one)
+running_kept None x old new rows found job instance one same known = tt
+running_kept (Some lists) x old new rows found job instance one same known = (
+  λ q. known.0 q
+      ∙ sym (kept (is_running_of q) x old new rows found (ap (λ b. bytes_eq new.job q && b) same ∙ ap (λ n. bytes_eq n q && is_open old) (sym job)) one),
+  λ i. known.1 i
+      ∙ sym (kept (is_running_in i) x old new rows found (ap (λ b. new.instance == i && b) same ∙ ap (λ n. n == i && is_open old) (sym instance)) one),
+)
+
+-- those that pass a test without one that was unfinished and is finished
+less-one : (test : ExecutionRow → Bool) (x : ℕ) (old new : ExecutionRow) (rows : List ExecutionRow) → find (is_execution x) rows ≡ Some old → test old ≡ test new
+    → new.execution ≡ old.execution → is_open old ≡ true → is_open new ≡ false
+    → cond (test new) (without_number x (open_by test rows)) (open_by test rows) ≡ open_by test (change_first (is_execution x) (λ gone. new) rows)
+less-one test x old new rows found same one was now =
+    (elim (test new) as (λ b. test new ≡ b → cond b (without_number x (open_by test rows)) (open_by test rows) ≡ open_by test (change_first (is_execution x) (λ gone. new) rows)) [
+      | true ↦ λ here.
+          let before : (test old && is_open old) ≡ true = ap (λ b. b && is_open old) (same ∙ here) ∙ was in
+          let after : (test new && is_open new) ≡ false = ap (λ b. b && is_open new) here ∙ now in
+          sym (left (λ row. test row && is_open row) x old new rows found before after)
+      | false ↦ λ off.
+          let before : (test old && is_open old) ≡ false = ap (λ b. b && is_open old) (same ∙ off) in
+          let after : (test new && is_open new) ≡ false = ap (λ b. b && is_open new) off in
+          sym (kept (λ row. test row && is_open row) x old new rows found (after ∙ sym before) one)
+    ]) refl
 
 -- it was unfinished and is finished
-pub running_left : (names after : NameLists) (x : ℕ) (old new : ExecutionRow) (rows : List ExecutionRow) → find (is_execution x) rows ≡ Some old → old.job ≡ new.job
-    → new.execution ≡ old.execution → is_unfinished (row_status old) ≡ true → is_unfinished (row_status new) ≡ false → AreRunning (Some names) rows
-    → ((q : List ℕ) → numbers_named after q ≡ cond (bytes_eq new.job q) (without_number x (numbers_named names q)) (numbers_named names q))
+pub running_left : (lists after : RunningLists) (x : ℕ) (old new : ExecutionRow) (rows : List ExecutionRow) → find (is_execution x) rows ≡ Some old → old.job ≡ new.job
+    → old.instance ≡ new.instance → new.execution ≡ old.execution → is_unfinished (row_status old) ≡ true → is_unfinished (row_status new) ≡ false
+    → AreRunning (Some lists) rows
+    → ((q : List ℕ) → numbers_named after.by_name q ≡ cond (bytes_eq new.job q) (without_number x (numbers_named lists.by_name q)) (numbers_named lists.by_name q))
+    → ((i : ℕ) → numbers_under after.by_instance i ≡ cond (new.instance == i) (without_number x (numbers_under lists.by_instance i)) (numbers_under lists.by_instance i))
     → AreRunning (Some after) (change_first (is_execution x) (λ gone. new) rows)
-running_left names after x old new rows found job one was now known less q =
-    less q
-    ∙ (ap (λ ns. cond (bytes_eq new.job q) (without_number x ns) ns) (known q)
-    ∙ (elim (bytes_eq new.job q) as (λ b. bytes_eq new.job q ≡ b → cond b (without_number x (running_executions q rows)) (running_executions q rows)
-    ≡ running_executions q (change_first (is_execution x) (λ gone. new) rows)) [
-      | true ↦ λ here.
-          let before : is_running_of q old ≡ true = ap (λ n. bytes_eq n q && is_open old) job ∙ (ap (λ b. b && is_open old) here ∙ was) in
-          let after : is_running_of q new ≡ false = ap (λ b. b && is_open new) here ∙ now in
-          sym (left (is_running_of q) x old new rows found before after)
-      | false ↦ λ off.
-          let before : is_running_of q old ≡ false = ap (λ n. bytes_eq n q && is_open old) job ∙ ap (λ b. b && is_open old) off in
-          let after : is_running_of q new ≡ false = ap (λ b. b && is_open new) off in
-          sym (kept (is_running_of q) x old new rows found (after ∙ sym before) one)
-    ]) refl)
+running_left lists after x old new rows found job instance one was now known named owned = (
+  λ q. named q ∙ (ap (λ ns. cond (bytes_eq new.job q) (without_number x ns) ns) (known.0 q) ∙ less-one (of_job q) x old new rows found (ap (λ n. bytes_eq n q) job) one was now),
+  λ i. owned i ∙ (ap (λ ns. cond (new.instance == i) (without_number x ns) ns) (known.1 i) ∙ less-one (of_instance i) x old new rows found (ap (λ n. n == i) instance) one was now),
+)
 
 -- Job executions that are gone
 
-none-of : (i : ℕ) (q : List ℕ) (rows : List ExecutionRow) → list_any is_open (executions_of i rows) ≡ false
-    → running_executions q (executions_there (λ j. j == i) rows) ≡ running_executions q rows
-none-of i q [] none = refl
-none-of i q (row ∷ rest) none =
-    let p : ExecutionRow → Bool = is_running_of q in
+none-of : (i : ℕ) (test : ExecutionRow → Bool) (rows : List ExecutionRow) → list_any (is_running_in i) rows ≡ false
+    → open_by test (executions_there (λ j. j == i) rows) ≡ open_by test rows
+none-of i test [] none = refl
+none-of i test (row ∷ rest) none =
+    let p : ExecutionRow → Bool = λ one. test one && is_open one in
     let there : List ExecutionRow = executions_there (λ j. j == i) rest in
-    (elim (row.instance == i) as (λ b. list_any is_open (cond b (row ∷ executions_of i rest) (executions_of i rest)) ≡ false
+    (elim (row.instance == i) as (λ b. ((b && is_open row) || list_any (is_running_in i) rest) ≡ false
     → map number (filter p (cond (not b) (row ∷ there) there)) ≡ map number (filter p (row ∷ rest))) [
       | true ↦ λ n.
-          (elim (is_open row) as (λ b. is_open row ≡ b → (b || list_any is_open (executions_of i rest)) ≡ false → map number (filter p there) ≡ map number (filter p (row ∷ rest))) [
+          (elim (is_open row) as (λ b. is_open row ≡ b → (b || list_any (is_running_in i) rest) ≡ false → map number (filter p there) ≡ map number (filter p (row ∷ rest))) [
             | true ↦ λ live m. cc
             | false ↦ λ over m.
-                none-of i q rest m
-                ∙ sym (ap (λ b. map number (cond b (row ∷ filter p rest) (filter p rest))) (ap (λ b. bytes_eq row.job q && b) over ∙ both-false (bytes_eq row.job q)))
+                none-of i test rest m
+                ∙ sym (ap (λ b. map number (cond b (row ∷ filter p rest) (filter p rest))) (ap (λ b. test row && b) over ∙ both-false (test row)))
           ]) refl n
       | false ↦ λ n.
-          let later : map number (filter p there) ≡ map number (filter p rest) = none-of i q rest n in
+          let later : map number (filter p there) ≡ map number (filter p rest) = none-of i test rest n in
           elim (p row) as (λ b. map number (cond b (row ∷ filter p there) (filter p there)) ≡ map number (cond b (row ∷ filter p rest) (filter p rest))) [
             | true ↦ ap (λ ns. row.execution ∷ ns) later
             | false ↦ later
           ]
     ]) none
 
-pub running_there : (running : Option NameLists) (i : ℕ) (rows : List ExecutionRow) → list_any (λ row. is_unfinished (row_status row)) (executions_of i rows) ≡ false
+pub running_there : (running : Option RunningLists) (i : ℕ) (rows : List ExecutionRow) → list_any (is_running_in i) rows ≡ false
     → AreRunning running rows → AreRunning running (executions_there (λ j. j == i) rows)
 running_there None i rows none known = tt
-running_there (Some names) i rows none known = λ q. known q ∙ sym (none-of i q rows none)
+running_there (Some lists) i rows none known =
+    (λ q. known.0 q ∙ sym (none-of i (of_job q) rows none), λ j. known.1 j ∙ sym (none-of i (of_instance j) rows none))
+
+-- Whether a job instance has one
+
+pub some_open : (i : ℕ) (rows : List ExecutionRow) → not (length (unfinished_executions i rows) == 0) ≡ list_any (is_running_in i) rows
+some_open i [] = refl
+some_open i (row ∷ rest) =
+    let rests : List ℕ = unfinished_executions i rest in
+    elim (is_running_in i row) as (λ b. not (length (map number (cond b (row ∷ filter (is_running_in i) rest) (filter (is_running_in i) rest))) == 0) ≡ (b || list_any (is_running_in i) rest)) [
+      | true ↦ ap not (ne_eqb (length (row.execution ∷ rests)) 0 (λ e. omega (arith, e)))
+      | false ↦ some_open i rest
+    ]
+
+pub open_among_own : (i : ℕ) (rows : List ExecutionRow) → list_any is_open (executions_of i rows) ≡ list_any (is_running_in i) rows
+open_among_own i [] = refl
+open_among_own i (row ∷ rest) =
+    elim (row.instance == i) as (λ b. list_any is_open (cond b (row ∷ executions_of i rest) (executions_of i rest)) ≡ ((b && is_open row) || list_any (is_running_in i) rest)) [
+      | true ↦ ap (λ b. is_open row || b) (open_among_own i rest)
+      | false ↦ open_among_own i rest
+    ]

@@ -1,11 +1,13 @@
 -- Indexes: the numbers of rows under that of what they belong to.
-use Rattle.std.specs.Prelude.{◌≡◌, ℕ, ◌==◌, Bool, true, Option, None, Some, is_some, List, [], ◌∷◌, nat_eq, unwrap_or, if◌then◌else◌}
+use Rattle.std.specs.Prelude.{◌≡◌, ℕ, ◌==◌, Bool, true, Option, None, Some, is_some, List, [], ◌∷◌, nat_eq, filter, unwrap_or, if◌then◌else◌}
 use Rattle.indexmap.specs.IndexMap.{get, get_by_text}
 use Rattle.batch_history.specs.Answers.{instances_of_job, running_executions}
 use Rattle.records.specs.declared.name_lists.NameLists.{NameLists}
+use Rattle.batch_history.specs.Replies.{is_running_in}
 use Rattle.batch_history.specs.Restarts.{works_of_step}
 use Rattle.batch_history.specs.declared.rows.ExecutionRow.{ExecutionRow}
 use Rattle.records.specs.declared.number_lists.NumberLists.{NumberLists}
+use Rattle.records.specs.declared.running.RunningLists.{RunningLists}
 use Rattle.records.specs.declared.step_lists.StepLists.{StepLists}
 use Rattle.records.specs.Maps.{Maps, instance_numbers, execution_numbers, work_numbers, AreKeyed}
 use Rattle.records.specs.Belonging.{executions_of, works_of, works_of_instance}
@@ -52,7 +54,13 @@ AreStepsOf i maps names = (q : List ℕ) → names q ≡ work_numbers (works_of_
 abbrev pub AreStepped : Maps → (ℕ → List ℕ → List ℕ) → (ℕ → Bool) → Type 0
 AreStepped maps steps has = (i : ℕ) → has i ≡ true → AreStepsOf i maps (steps i)
 
--- the numbers of the unfinished job executions of each job, if these are looked up
-abbrev pub AreRunning : Option NameLists → List ExecutionRow → Type 0
+-- the numbers of the unfinished job executions of a job instance
+abbrev pub unfinished_executions : ℕ → List ExecutionRow → List ℕ
+unfinished_executions i executions = execution_numbers (filter (is_running_in i) executions)
+
+-- the numbers of the unfinished job executions of each job and of each job instance, if these are looked up
+abbrev pub AreRunning : Option RunningLists → List ExecutionRow → Type 0
 AreRunning None executions = Unit {0}
-AreRunning (Some names) executions = (q : List ℕ) → numbers_named names q ≡ running_executions q executions
+AreRunning (Some lists) executions =
+    ((q : List ℕ) → numbers_named lists.by_name q ≡ running_executions q executions)
+    × ((i : ℕ) → numbers_under lists.by_instance i ≡ unfinished_executions i executions)

@@ -9,6 +9,7 @@ use Rattle.batch_history.specs.Replies.{is_execution}
 use Rattle.batch_history.specs.Works.{is_work}
 use Rattle.records.specs.Maps.{is_instance, instance_numbers}
 pub use Rattle.records.specs.Belonging.{executions_of, works_of, is_work_of_instance, works_of_instance}
+use Rattle.records.specs.Slots.{rows_left}
 use Rattle.records.specs.declared.readers.Names.{Names}
 use Rattle.records.specs.declared.readers.InstancesOf.{InstancesOf}
 use Rattle.records.specs.declared.readers.ExecutionsOf.{ExecutionsOf}
@@ -23,7 +24,7 @@ abbrev pub is_first_of_job : List JobInstance → JobInstance → Bool
 is_first_of_job rows row = is_at row.instance (slice_get (instance_numbers (instances_of_job row.job rows)) 0)
 
 abbrev pub names_left : Names → List (List ℕ)
-names_left names = job_names (filter (is_first_of_job names.records.now.instances) names.rows.now)
+names_left names = job_names (filter (is_first_of_job names.records.now.instances) (rows_left names.rows))
 
 -- the rows of these job instances that are there
 abbrev pub instances_numbered : List ℕ → List JobInstance → List JobInstance

@@ -4,4 +4,5 @@ pub mod Left
 pub mod Listed
 pub mod Maps
 pub mod Placed
+pub mod Slots
 pub mod Without

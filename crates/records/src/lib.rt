@@ -4,9 +4,9 @@
 mod checkpoint_lists;
 mod name_lists;
 mod number_lists;
-mod places;
 mod readers;
 mod records;
+mod row_list;
 mod running;
 mod step_lists;
 

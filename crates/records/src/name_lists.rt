@@ -95,7 +95,7 @@ impl NameLists {
 }
 
 /// Removes the first number that is this one.
-fn remove_number(numbers: &mut Listed<u64>, number: u64)
+pub(crate) fn remove_number(numbers: &mut Listed<u64>, number: u64)
     ensures { numbers.new ≡ without_number number numbers.old }
 {
     if let Some(place) = place_of(numbers.as_slice(), number) {

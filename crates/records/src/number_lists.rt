@@ -1,8 +1,9 @@
 ghost use Rattle.std.specs.List.{flat_map, list_any};
 ghost use Rattle.std.specs.Prelude.{◌≡◌, ℕ, ◌==◌, ◌++◌, ◌∷◌, [], true, IfOk, OnOk, OnErr, if◌then◌else◌};
-ghost use Rattle.records.specs.Indexes.{numbers_under};
+ghost use Rattle.records.specs.Indexes.{numbers_under, without_number};
 ghost use Rattle.records.specs.Maps.{AreRising};
 
+use crate::name_lists::remove_number;
 use batch_ids::{Listed, OutOfMemory};
 use indexmap::IndexMap;
 use std::alloc::Global;
@@ -51,6 +52,26 @@ impl NumberLists {
         first.push(number)?;
         self.lists.insert(key, first)?;
         Ok(())
+    }
+
+    /// Removes a number from those under this one. It takes no memory.
+    pub(crate) fn leave_out(&mut self, key: u64, number: u64)
+        ensures { (q : ℕ) → numbers_under self.new q
+            ≡ (if key == q then without_number number (numbers_under self.old q) else numbers_under self.old q) }
+    {
+        self.leave_in_list(key, number);
+        if self.under(key).is_empty() {
+            self.remove(key);
+        }
+    }
+
+    fn leave_in_list(&mut self, key: u64, number: u64)
+        ensures { (q : ℕ) → numbers_under self.new q
+            ≡ (if key == q then without_number number (numbers_under self.old q) else numbers_under self.old q) }
+    {
+        if let Some(known) = self.lists.get_mut(&key) {
+            remove_number(known, number);
+        }
     }
 
     /// Removes what is under a number. It takes no memory.

@@ -1,7 +1,9 @@
 ghost use Rattle.std.specs.Prelude.{◌≡◌, filter};
+ghost use Rattle.records.specs.Slots.{rows_left};
 ghost use Rattle.records.specs.Left.{job_names, is_first_of_job, names_left, instances_numbered, instances_left, executions_numbered, executions_left, works_numbered, works_left};
 
 use crate::Records;
+use crate::row_list::RowsLeft;
 use batch_history::{ExecutionRow, JobInstance, WorkRow};
 use batch_ids::{ExecutionId, InstanceId, T256, WorkId};
 
@@ -10,13 +12,13 @@ use batch_ids::{ExecutionId, InstanceId, T256, WorkId};
 #[derive(Debug, Drop)]
 pub struct Names<'r> {
     records: &'r Records,
-    rows: &'r [JobInstance],
+    rows: RowsLeft<'r, JobInstance>,
 }
 
 impl<'r> Names<'r> {
-    pub(crate) fn new(records: &'r Records, rows: &'r [JobInstance]) -> Names<'r>
+    pub(crate) fn new(records: &'r Records, rows: RowsLeft<'r, JobInstance>) -> Names<'r>
         ensures { names_left result
-            ≡ job_names (filter (is_first_of_job records.now.instances) rows.now) }
+            ≡ job_names (filter (is_first_of_job records.now.instances) (rows_left rows.entry)) }
     {
         Names { records, rows }
     }
@@ -33,8 +35,7 @@ impl<'r> Iterator for Names<'r> {
     ghost remaining = { item_count names_left };
 
     fn next(&mut self) -> Option<&'r T256> {
-        while let Some((first, others)) = self.rows.split_first() {
-            self.rows = others;
+        while let Some(first) = self.rows.next() {
             if self.records.is_first_of_job(first) {
                 return Some(&first.job);
             }

@@ -1,10 +1,10 @@
 ghost use Rattle.std.specs.List.{list_any};
-ghost use Rattle.std.specs.Prelude.{nat_lt, drop, take, filter, false, ◌&&◌, bytes_eq, if◌then◌else◌, vec_len, vec_capacity, ◌≡◌, ◌==◌, ◌+◌, ◌-◌, ◌^◌, ◌<◌, ◌≤◌, ◌++◌, ◌∷◌, [], ℕ, List, None, true, length, find, slice_set, is_some, option_copied, IsOk, IfOk, map, IfSome, IfNone, OnOk, OnErr};
+ghost use Rattle.std.specs.Prelude.{nat_lt, drop, take, filter, false, not, ◌&&◌, bytes_eq, if◌then◌else◌, vec_len, vec_capacity, ◌≡◌, ◌==◌, ◌+◌, ◌-◌, ◌^◌, ◌<◌, ◌≤◌, ◌++◌, ◌∷◌, [], ℕ, List, None, true, length, find, slice_set, is_some, option_copied, IsOk, IfOk, map, IfSome, IfNone, OnOk, OnErr};
 ghost use Rattle.jsl_model.specs.Names.{distinct};
 ghost use Rattle.batch_history.specs.Answers.{counts_of, instances_of_job, running_executions};
 ghost use Rattle.batch_ids.specs.Statuses.{is_unfinished};
 ghost use Rattle.batch_history.specs.Lists.{change_first};
-ghost use Rattle.batch_history.specs.Replies.{is_execution, row_status};
+ghost use Rattle.batch_history.specs.Replies.{is_execution, is_running_in, row_status};
 ghost use Rattle.batch_history.specs.Works.{is_work};
 ghost use Rattle.batch_history.specs.Lists.{is_at};
 ghost use Rattle.batch_history.specs.Replies.{instance_in};
@@ -12,20 +12,18 @@ ghost use Rattle.batch_history.specs.Restarts.{newest_work, works_of_step};
 ghost use Rattle.records.specs.Indexes.{AreStepped, AreStepsOf, has_steps, numbers_named, numbers_of_step, numbers_under};
 ghost use Rattle.records.specs.Maps.{no_rows, is_instance, is_place, mark_at, instance_numbers, execution_numbers, work_numbers, AreBelow, AreKeyed, AreRising, SetsCheckpoint, MayReplaceExecution, MayReplaceWork};
 ghost use Rattle.records.specs.Placed.{is_elsewhere, with_mark, without_mark};
-ghost use Rattle.records.specs.Left.{job_names, is_first_of_job, names_left, instances_left, executions_of, executions_left, works_of, works_left, works_numbered, works_of_instance};
+ghost use Rattle.records.specs.Left.{is_work_of_instance, job_names, is_first_of_job, names_left, instances_left, executions_of, executions_left, works_of, works_left, works_numbered, works_of_instance};
 ghost use Rattle.batch_history.specs.Rows.{instances_there, executions_there, works_there};
+ghost use Rattle.records.specs.Slots.{rows_left};
 ghost use Rattle.records.specs.Without.{checkpoints_there, without_instance};
 
 use crate::checkpoint_lists::CheckpointLists;
 use crate::name_lists::NameLists;
 use crate::number_lists::{NumberLists, are_rising, numbers_through};
-use crate::places::{
-    execution_place, find_execution, find_instance, find_work, instance_place, is_work_of_instance,
-    work_place,
-};
 use crate::readers::{ExecutionsOf, InstancesOf, Names, WorksOf};
+use crate::row_list::{RowList, RowsLeft};
 use crate::running::{
-    add_running, change_running, executions_numbered, forget_if, running_searched,
+    RunningLists, add_running, change_running, executions_numbered, forget_if, running_searched,
 };
 use crate::step_lists::StepLists;
 use batch_history::{CheckpointRow, CountsByStatus, ExecutionRow, JobInstance, WorkRow};
@@ -49,16 +47,16 @@ use std::marker::Model;
 /// it; one call may cost time as there are rows, where a list of them grows.
 #[derive(Debug, Drop)]
 pub struct Records {
-    instances: Vec<JobInstance>,
-    executions: Vec<ExecutionRow>,
-    works: Vec<WorkRow>,
+    instances: RowList<JobInstance>,
+    executions: RowList<ExecutionRow>,
+    works: RowList<WorkRow>,
     checkpoints: CheckpointLists,
     instances_by_name: NameLists,
     executions_by_instance: NumberLists,
     works_by_execution: NumberLists,
     works_by_step: StepLists,
     counts: CountsByStatus,
-    running_by_name: Option<NameLists>,
+    running: Option<RunningLists>,
 }
 
 impl Model for Records {
@@ -69,9 +67,9 @@ impl Model for Records {
 
     ghost Value = { Maps };
 
-    ghost view = { λ r. record { instances = r.instances.items; executions = r.executions.items; works = r.works.items; checkpoints = r.checkpoints } };
+    ghost view = { λ r. record { instances = r.instances.rows; executions = r.executions.rows; works = r.works.rows; checkpoints = r.checkpoints } };
 
-    ghost invariant = { λ r. AreIndexed record { instances = r.instances.items; executions = r.executions.items; works = r.works.items; checkpoints = r.checkpoints } (numbers_named r.instances_by_name) (numbers_under r.executions_by_instance) (numbers_under r.works_by_execution) × AreStepped record { instances = r.instances.items; executions = r.executions.items; works = r.works.items; checkpoints = r.checkpoints } (numbers_of_step r.works_by_step) (has_steps r.works_by_step) × (r.counts ≡ counts_of r.executions.items) × AreRunning r.running_by_name r.executions.items };
+    ghost invariant = { λ r. AreIndexed record { instances = r.instances.rows; executions = r.executions.rows; works = r.works.rows; checkpoints = r.checkpoints } (numbers_named r.instances_by_name) (numbers_under r.executions_by_instance) (numbers_under r.works_by_execution) × AreStepped record { instances = r.instances.rows; executions = r.executions.rows; works = r.works.rows; checkpoints = r.checkpoints } (numbers_of_step r.works_by_step) (has_steps r.works_by_step) × (r.counts ≡ counts_of r.executions.rows) × AreRunning r.running r.executions.rows };
 }
 
 impl Records {
@@ -80,16 +78,16 @@ impl Records {
         ensures { result ≡ no_rows }
     {
         Records {
-            instances: Vec::new(alloc),
-            executions: Vec::new(alloc),
-            works: Vec::new(alloc),
+            instances: RowList::new(alloc),
+            executions: RowList::new(alloc),
+            works: RowList::new(alloc),
             checkpoints: CheckpointLists::new(alloc),
             instances_by_name: NameLists::new(alloc),
             executions_by_instance: NumberLists::new(alloc),
             works_by_execution: NumberLists::new(alloc),
             works_by_step: StepLists::new(alloc),
             counts: CountsByStatus::zero(),
-            running_by_name: Some(NameLists::new(alloc)),
+            running: Some(RunningLists::new(alloc)),
         }
     }
 
@@ -97,7 +95,7 @@ impl Records {
     pub fn instance(&self, i: InstanceId) -> Option<&JobInstance>
         ensures { option_copied result ≡ find (is_instance i) self.now.instances }
     {
-        find_instance(self.instances.as_slice(), i)
+        self.instances.get(i.value())
     }
 
     /// The job execution of this number, if there is one, by a binary search.
@@ -105,14 +103,14 @@ impl Records {
         ensures found { option_copied result ≡ find (is_execution x) self.now.executions }
         ensures keyed { AreKeyed self.now }
     {
-        find_execution(self.executions.as_slice(), x)
+        self.executions.get(x.value())
     }
 
     /// The work item of this number, if there is one, by a binary search.
     pub fn work(&self, w: WorkId) -> Option<&WorkRow>
         ensures { option_copied result ≡ find (is_work w) self.now.works }
     {
-        find_work(self.works.as_slice(), w)
+        self.works.get(w.value())
     }
 
     /// The checkpoint of a step of a job instance, or of a partition of it, if there is one, in time
@@ -126,13 +124,6 @@ impl Records {
         self.checkpoints.mark(i, step)
     }
 
-    /// All job executions, by rising number.
-    pub fn executions(&self) -> &[ExecutionRow]
-        ensures { result.now ≡ self.now.executions }
-    {
-        self.executions.as_slice()
-    }
-
     /// The names of the jobs that have a job instance, by rising number of the first one that is
     /// there. It takes no memory.
     pub fn names(&self) -> Names<'_>
@@ -142,15 +133,11 @@ impl Records {
     }
 
     /// The job instances up to the last one that is the first of its job.
-    fn rows_to_newest_job(&self) -> &[JobInstance]
-        ensures { job_names (filter (is_first_of_job self.now.instances) result.now)
+    fn rows_to_newest_job(&self) -> RowsLeft<'_, JobInstance>
+        ensures { job_names (filter (is_first_of_job self.now.instances) (rows_left result))
             ≡ distinct (job_names self.now.instances) }
     {
-        let rows = self.instances.as_slice();
-        match instance_place(rows, InstanceId::new(self.instances_by_name.newest())) {
-            Some(place) => &rows[..place + 1],
-            None => rows,
-        }
+        self.instances.rows_through(self.instances_by_name.newest())
     }
 
     /// Whether this is the number of the first job instance of its job.
@@ -319,7 +306,7 @@ impl Records {
         if self.works_by_step.of(i.value()).is_some() {
             return Ok(());
         }
-        let alloc = *self.works.allocator();
+        let alloc = self.works.alloc();
         let names = self.steps_made(alloc, i)?;
         self.works_by_step.put(i.value(), names)
     }
@@ -351,8 +338,8 @@ impl Records {
             ≡ works_of_instance i self.now.executions self.now.works) }
     {
         let mut found = Vec::new(alloc);
-        for row in self.works.as_slice() {
-            if is_work_of_instance(self.executions.as_slice(), i, row) {
+        for row in self.works.rows() {
+            if is_work_of_instance(&self.executions, i, row) {
                 found.push(row)?;
             }
         }
@@ -396,9 +383,9 @@ impl Records {
         }
         self.works_by_step.keep_if(has_no_work);
         self.counts.add(first.status());
-        add_running(&mut self.running_by_name, &first);
-        put_last(&mut self.executions, first);
-        put_last(&mut self.instances, instance);
+        add_running(&mut self.running, &first);
+        self.executions.push_reserved(first);
+        self.instances.push_reserved(instance);
         Ok(())
     }
 
@@ -440,8 +427,8 @@ impl Records {
         }
         self.works_by_step.keep_if(has_no_work);
         self.counts.add(row.status());
-        add_running(&mut self.running_by_name, &row);
-        put_last(&mut self.executions, row);
+        add_running(&mut self.running, &row);
+        self.executions.push_reserved(row);
         Ok(())
     }
 
@@ -456,7 +443,7 @@ impl Records {
             record self.old { works = self.old.works ++ row ∷ [] }) }
         ensures unchanged { OnErr result (self.new ≡ self.old) }
     {
-        let owner = owner_of(self.executions.as_slice(), row.execution);
+        let owner = owner_of(&self.executions, row.execution);
         match index_work(
             &mut self.works,
             &mut self.works_by_step,
@@ -470,13 +457,12 @@ impl Records {
                 return Err(refused);
             }
         }
-        put_last(&mut self.works, row);
+        self.works.push_reserved(row);
         Ok(())
     }
 
     /// Changes the row of a job execution, which keeps what its start or restart gave it. It takes no
     /// memory.
-    #[tactic(auto, using(crate::proofs::Numbered::execution_changed, crate::proofs::Numbered::execution_there))]
     pub fn change_execution(&mut self, x: ExecutionId, row: ExecutionRow)
         requires { MayReplaceExecution self.old.executions x row }
         ensures { self.new ≡ record self.old {
@@ -484,18 +470,17 @@ impl Records {
               (λ old. row) self.old.executions;
         } }
     {
-        let Some(place) = execution_place(self.executions.as_slice(), x) else {
+        let Some(old) = self.executions.get(x.value()) else {
             unreachable!();
         };
-        let was = self.executions[place].status();
+        let was = old.status();
         self.counts.remove(was);
         self.counts.add(row.status());
-        change_running(&mut self.running_by_name, was.is_unfinished(), &row);
-        replace_row(&mut self.executions, place, row);
+        change_running(&mut self.running, was.is_unfinished(), &row);
+        self.executions.put(x.value(), row);
     }
 
     /// Changes the row of a work item, which keeps what its claim gave it. It takes no memory.
-    #[tactic(auto, using(crate::proofs::Numbered::work_changed, crate::proofs::Numbered::work_kept, crate::proofs::Numbered::work_there))]
     pub fn change_work(&mut self, w: WorkId, row: WorkRow)
         requires { MayReplaceWork self.old.works w row }
         ensures { self.new ≡ record self.old {
@@ -503,10 +488,7 @@ impl Records {
               (λ old. row) self.old.works;
         } }
     {
-        let Some(place) = work_place(self.works.as_slice(), w) else {
-            unreachable!();
-        };
-        replace_row(&mut self.works, place, row);
+        self.works.put(w.value(), row);
     }
 
     /// The numbers of the unfinished job executions of a job, rising. It costs time as there are of
@@ -519,16 +501,27 @@ impl Records {
         ensures { IfOk result (λ found. found.items
             ≡ running_executions name.now self.now.executions) }
     {
-        match self.running_by_name.as_ref() {
-            Some(names) => executions_numbered(alloc, names.under(name)),
-            None => running_searched(alloc, self.executions.as_slice(), name),
+        match self.running.as_ref() {
+            Some(lists) => executions_numbered(alloc, lists.of_job(name)),
+            None => running_searched(alloc, &self.executions, name),
         }
     }
 
-    /// Whether a job instance has an unfinished job execution.
-    fn has_unfinished(&self, i: InstanceId) -> bool
-        ensures { result ≡ list_any (λ row. is_unfinished (row_status row))
-            (executions_of i self.now.executions) }
+    /// Whether a job instance has an unfinished job execution, in constant time; in time as it has job
+    /// executions, once memory for looking them up was refused.
+    pub fn has_unfinished(&self, i: InstanceId) -> bool
+        ensures { result ≡ list_any (is_running_in i) self.now.executions }
+    {
+        match self.running.as_ref() {
+            Some(lists) => !lists.of_instance(i.value()).is_empty(),
+            None => self.finds_unfinished(i),
+        }
+    }
+
+    /// The same by a look at each job execution of the job instance.
+    #[tactic(auto, using(crate::proofs::Unfinished::open_among_own))]
+    fn finds_unfinished(&self, i: InstanceId) -> bool
+        ensures { result ≡ list_any (is_running_in i) self.now.executions }
     {
         for row in self.executions_of(i) {
             if row.status().is_unfinished() {
@@ -557,27 +550,28 @@ impl Records {
     }
 
     /// Removes a job instance, its job executions, their work items and its checkpoints. It takes no
-    /// memory, and time as there are rows.
+    /// memory, and time as it has of them: each costs a binary search, and its own number is shifted out
+    /// of those of its job. The slots of its rows stay, empty, among those of the others.
     pub fn remove_instance(&mut self, i: InstanceId)
         requires { is_some (find (is_instance i) self.old.instances) ≡ true }
         ensures { self.new ≡ without_instance i self.old }
     {
         let counts = self.counts_without(i);
         let has_unfinished = self.has_unfinished(i);
-        let Some(row) = find_instance(self.instances.as_slice(), i) else {
+        let Some(row) = self.instances.get(i.value()) else {
             unreachable!();
         };
         self.instances_by_name.remove(row.job.as_str(), i.value());
-        self.works_by_execution
-            .remove_all(self.executions_by_instance.under(i.value()));
+        let executions = self.executions_by_instance.under(i.value());
+        remove_works(&mut self.works, &self.works_by_execution, executions);
+        self.executions.remove_all(executions);
+        self.works_by_execution.remove_all(executions);
         self.executions_by_instance.remove(i.value());
         self.works_by_step.remove(i.value());
-        remove_works(&mut self.works, self.executions.as_slice(), i);
-        remove_executions(&mut self.executions, i);
         self.checkpoints.remove_instance(i);
-        remove_instances(&mut self.instances, i);
+        self.instances.remove(i.value());
         self.counts = counts;
-        forget_if(&mut self.running_by_name, has_unfinished);
+        forget_if(&mut self.running, has_unfinished);
     }
 
     /// Sets the checkpoint of a step of a job instance, or of a partition of it, or clears it where
@@ -612,57 +606,40 @@ impl Records {
     }
 }
 
-/// Puts a row last, for which there is room.
-fn put_last<T>(rows: &mut Vec<T>, row: T)
-    requires { vec_len rows.old < vec_capacity rows.old }
-    ensures { rows.new.items ≡ rows.old.items ++ row ∷ [] }
-{
-    match rows.push(row) {
-        Ok(()) => (),
-        Err(_) => unreachable!(),
-    }
-}
-
-/// Puts a row where another one stands, which goes.
-fn replace_row<T: Drop>(rows: &mut Vec<T>, place: usize, row: T)
-    requires { place < length rows.old.items }
-    ensures { rows.new.items ≡ slice_set rows.old.items place row }
-{
-    rows[place] = row;
-}
-
 /// Makes room for a job execution, and puts it into the index by the job instance.
 fn index_execution(
-    executions: &mut Vec<ExecutionRow>,
+    executions: &mut RowList<ExecutionRow>,
     by_instance: &mut NumberLists,
     row: &ExecutionRow,
 ) -> Result<(), OutOfMemory>
-    ensures rows { executions.new.items ≡ executions.old.items }
-    ensures room { OnOk result (vec_len executions.new < vec_capacity executions.new) }
+    ensures rows { executions.new.rows ≡ executions.old.rows }
+    ensures few { OnOk result (length executions.old.rows < 2 ^ 63) }
+    ensures room { OnOk result (0 < executions.new.room) }
     ensures owned { OnOk result ((q : ℕ) → numbers_under by_instance.new q
         ≡ (if row.now.instance == q then numbers_under by_instance.old q ++ row.now.execution ∷ [] else numbers_under by_instance.old q)) }
     ensures unowned { OnErr result ((q : ℕ)
         → numbers_under by_instance.new q ≡ numbers_under by_instance.old q) }
 {
-    executions.reserve(1)?;
+    executions.reserve()?;
     by_instance.push(row.instance.value(), row.execution.value())
 }
 
 /// Makes room for a job instance and its first job execution, and puts the one into the index by its
 /// name, the other into that by the job instance.
 fn index_instance(
-    instances: &mut Vec<JobInstance>,
-    executions: &mut Vec<ExecutionRow>,
+    instances: &mut RowList<JobInstance>,
+    executions: &mut RowList<ExecutionRow>,
     by_name: &mut NameLists,
     by_instance: &mut NumberLists,
     instance: &JobInstance,
     first: &ExecutionRow,
 ) -> Result<(), OutOfMemory>
     requires { AreBelow instance.now.instance (numbers_named by_name.old instance.now.job) }
-    ensures instances { instances.new.items ≡ instances.old.items }
-    ensures executions { executions.new.items ≡ executions.old.items }
-    ensures instance_room { OnOk result (vec_len instances.new < vec_capacity instances.new) }
-    ensures execution_room { OnOk result (vec_len executions.new < vec_capacity executions.new) }
+    ensures instances { instances.new.rows ≡ instances.old.rows }
+    ensures executions { executions.new.rows ≡ executions.old.rows }
+    ensures few { OnOk result (length executions.old.rows < 2 ^ 63) }
+    ensures instance_room { OnOk result (0 < instances.new.room) }
+    ensures execution_room { OnOk result (0 < executions.new.room) }
     ensures named { OnOk result ((q : List ℕ) → numbers_named by_name.new q
         ≡ (if bytes_eq instance.now.job q then numbers_named by_name.old q ++ instance.now.instance ∷ [] else numbers_named by_name.old q)) }
     ensures owned { OnOk result ((q : ℕ) → numbers_under by_instance.new q
@@ -672,8 +649,8 @@ fn index_instance(
     ensures unowned { OnErr result ((q : ℕ)
         → numbers_under by_instance.new q ≡ numbers_under by_instance.old q) }
 {
-    instances.reserve(1)?;
-    executions.reserve(1)?;
+    instances.reserve()?;
+    executions.reserve()?;
     let name = instance.job.as_str();
     by_name.push(name, instance.instance.value())?;
     match by_instance.push(first.instance.value(), first.execution.value()) {
@@ -698,17 +675,27 @@ fn steps_among(alloc: Global, works: &[&WorkRow]) -> Result<NameLists, OutOfMemo
 }
 
 /// The job instance of a job execution, if it is there.
-fn owner_of(executions: &[ExecutionRow], x: ExecutionId) -> Option<InstanceId>
-    ensures { AreRising (execution_numbers executions.now) → result ≡ instance_in executions.now x }
+fn owner_of(executions: &RowList<ExecutionRow>, x: ExecutionId) -> Option<InstanceId>
+    ensures { result ≡ instance_in executions.now.rows x }
 {
-    let row = find_execution(executions, x)?;
+    let row = executions.get(x.value())?;
     Some(row.instance)
+}
+
+/// Whether a work item is of a job execution of this job instance, by the rows of the job executions.
+fn is_work_of_instance(executions: &RowList<ExecutionRow>, i: InstanceId, row: &WorkRow) -> bool
+    ensures { result ≡ is_work_of_instance i executions.now.rows row.now }
+{
+    match executions.get(row.execution.value()) {
+        None => false,
+        Some(execution) => execution.instance == i,
+    }
 }
 
 /// Makes room for a work item, and puts it into the index by the step of its job instance, if that is
 /// given, and into that by its job execution.
 fn index_work(
-    works: &mut Vec<WorkRow>,
+    works: &mut RowList<WorkRow>,
     by_step: &mut StepLists,
     by_execution: &mut NumberLists,
     owner: Option<InstanceId>,
@@ -716,8 +703,8 @@ fn index_work(
 ) -> Result<(), OutOfMemory>
     requires { IfSome owner (λ i. has_steps by_step.old i ≡ true
         → AreBelow row.now.work (numbers_of_step by_step.old i row.now.element)) }
-    ensures rows { works.new.items ≡ works.old.items }
-    ensures room { OnOk result (vec_len works.new < vec_capacity works.new) }
+    ensures rows { works.new.rows ≡ works.old.rows }
+    ensures room { OnOk result (0 < works.new.room) }
     ensures has { (i : ℕ) → has_steps by_step.new i ≡ has_steps by_step.old i }
     ensures stepped { OnOk result ((i : ℕ) (q : List ℕ) → has_steps by_step.old i ≡ true
         → numbers_of_step by_step.new i q
@@ -729,7 +716,7 @@ fn index_work(
     ensures unowned { OnErr result ((q : ℕ)
         → numbers_under by_execution.new q ≡ numbers_under by_execution.old q) }
 {
-    works.reserve(1)?;
+    works.reserve()?;
     match owner {
         Some(owner) => index_step(by_step, by_execution, owner.value(), row),
         None => by_execution.push(row.execution.value(), row.work.value()),
@@ -767,24 +754,12 @@ fn index_step(
     }
 }
 
-/// Removes the work items of a job instance, by the job executions.
-fn remove_works(works: &mut Vec<WorkRow>, executions: &[ExecutionRow], i: InstanceId)
-    requires { AreRising (execution_numbers executions.now) }
-    ensures { works.new.items ≡ works_there (λ j. j == i) executions.now works.old.items }
+/// Removes the work items of these job executions.
+fn remove_works(works: &mut RowList<WorkRow>, by_execution: &NumberLists, executions: &[u64])
+    ensures { works.new.rows ≡ filter (λ row. not (list_any (λ x. list_any (λ n. n == row.work)
+        (numbers_under by_execution.now x)) executions.now)) works.old.rows }
 {
-    works.retain(|row| !is_work_of_instance(executions, i, row));
-}
-
-/// Removes the job executions of a job instance.
-fn remove_executions(executions: &mut Vec<ExecutionRow>, i: InstanceId)
-    ensures { executions.new.items ≡ executions_there (λ j. j == i) executions.old.items }
-{
-    executions.retain(|row| row.instance != i);
-}
-
-/// Removes the row of a job instance.
-fn remove_instances(instances: &mut Vec<JobInstance>, i: InstanceId)
-    ensures { instances.new.items ≡ instances_there (λ j. j == i) instances.old.items }
-{
-    instances.retain(|row| row.instance != i);
+    for x in executions {
+        works.remove_all(by_execution.under(*x));
+    }
 }

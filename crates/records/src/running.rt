@@ -1,21 +1,80 @@
-//! The unfinished job executions of each job.
-ghost use Rattle.std.specs.Prelude.{◌≡◌, ◌++◌, ◌∷◌, [], true, false, Some, None, List, find, IfOk, if◌then◌else◌};
+//! The unfinished job executions of each job and of each job instance.
+ghost use Rattle.std.specs.Prelude.{◌≡◌, ◌==◌, ◌++◌, ◌∷◌, [], ℕ, true, false, Some, None, List, bytes_eq, find, IfOk, OnOk, if◌then◌else◌};
 ghost use Rattle.batch_ids.specs.Statuses.{is_unfinished};
 ghost use Rattle.batch_history.specs.Answers.{is_running_of, running_executions};
 ghost use Rattle.batch_history.specs.Lists.{change_first};
 ghost use Rattle.batch_history.specs.Replies.{is_execution, row_status};
 ghost use Rattle.batch_history.specs.declared.rows.ExecutionRow.{ExecutionRow as Row};
-ghost use Rattle.records.specs.Indexes.{AreRunning};
+ghost use Rattle.records.specs.Indexes.{AreRunning, numbers_named, numbers_under, without_number};
 
 use crate::name_lists::NameLists;
+use crate::number_lists::NumberLists;
+use crate::row_list::RowList;
 use batch_history::ExecutionRow;
 use batch_ids::{ExecutionId, OutOfMemory};
 use std::alloc::Global;
 
+/// The numbers of the unfinished job executions, by the name of their job and by their job instance.
+#[derive(Debug, Drop)]
+pub struct RunningLists {
+    by_name: NameLists,
+    by_instance: NumberLists,
+}
+
+impl RunningLists {
+    /// None. It takes no memory.
+    pub(crate) fn new(alloc: Global) -> RunningLists
+        ensures { AreRunning (Some result) [] }
+    {
+        RunningLists {
+            by_name: NameLists::new(alloc),
+            by_instance: NumberLists::new(alloc),
+        }
+    }
+
+    /// Those of a job.
+    pub(crate) fn of_job(&self, name: &str) -> &[u64]
+        ensures { result.now ≡ numbers_named self.now.by_name name.now }
+    {
+        self.by_name.under(name)
+    }
+
+    /// Those of a job instance.
+    pub(crate) fn of_instance(&self, i: u64) -> &[u64]
+        ensures { result.now ≡ numbers_under self.now.by_instance i }
+    {
+        self.by_instance.under(i)
+    }
+
+    /// Puts a job execution last.
+    fn push(&mut self, row: &ExecutionRow) -> Result<(), OutOfMemory>
+        ensures named { OnOk result ((q : List ℕ) → numbers_named self.new.by_name q
+            ≡ (if bytes_eq row.now.job q then numbers_named self.old.by_name q ++ row.now.execution ∷ [] else numbers_named self.old.by_name q)) }
+        ensures owned { OnOk result ((q : ℕ) → numbers_under self.new.by_instance q
+            ≡ (if row.now.instance == q then numbers_under self.old.by_instance q ++ row.now.execution ∷ [] else numbers_under self.old.by_instance q)) }
+    {
+        let x = row.execution.value();
+        self.by_name.push(row.job.as_str(), x)?;
+        self.by_instance.push(row.instance.value(), x)
+    }
+
+    /// Removes a job execution. It takes no memory.
+    fn remove(&mut self, row: &ExecutionRow)
+        ensures named { (q : List ℕ) → numbers_named self.new.by_name q
+            ≡ (if bytes_eq row.now.job q then without_number row.now.execution (numbers_named self.old.by_name q) else numbers_named self.old.by_name q) }
+        ensures owned { (q : ℕ) → numbers_under self.new.by_instance q
+            ≡ (if row.now.instance == q then without_number row.now.execution (numbers_under self.old.by_instance q) else numbers_under self.old.by_instance q) }
+    {
+        let x = row.execution.value();
+        self.by_name.remove(row.job.as_str(), x);
+        self.by_instance.leave_out(row.instance.value(), x);
+    }
+}
+
 /// Looks up a job execution that is added, if it is unfinished. Where memory for it is refused, none is
 /// looked up from then on.
 #[tactic(auto, using(crate::proofs::Unfinished::running_added, crate::proofs::Unfinished::finished_added))]
-pub(crate) fn add_running(running: &mut Option<NameLists>, row: &ExecutionRow)
+pub(crate) fn add_running(running: &mut Option<RunningLists>, row: &ExecutionRow)
     ensures { (rows : List Row) → AreRunning running.old rows
         → AreRunning running.new (rows ++ row.now ∷ []) }
 {
@@ -23,7 +82,7 @@ pub(crate) fn add_running(running: &mut Option<NameLists>, row: &ExecutionRow)
         return;
     }
     let added = match running.as_mut() {
-        Some(names) => names.push(row.job.as_str(), row.execution.value()).is_ok(),
+        Some(lists) => lists.push(row).is_ok(),
         None => true,
     };
     if !added {
@@ -36,12 +95,12 @@ pub(crate) fn add_running(running: &mut Option<NameLists>, row: &ExecutionRow)
 /// operation does.
 #[tactic(auto, using(crate::proofs::Unfinished::running_kept))]
 pub(crate) fn change_running(
-    running: &mut Option<NameLists>,
+    running: &mut Option<RunningLists>,
     was_unfinished: bool,
     row: &ExecutionRow,
 )
     ensures { (rows : List Row) (old : Row) → find (is_execution row.now.execution) rows ≡ Some old
-        → old.job ≡ row.now.job → was_unfinished ≡ is_unfinished (row_status old)
+        → old.job ≡ row.now.job → old.instance ≡ row.now.instance → was_unfinished ≡ is_unfinished (row_status old)
         → AreRunning running.old rows → AreRunning running.new
         (change_first (is_execution row.now.execution) (λ gone. row.now) rows) }
 {
@@ -57,20 +116,20 @@ pub(crate) fn change_running(
 }
 
 /// Looks up an unfinished job execution no more, now that it has this row.
-fn leave_out(running: &mut Option<NameLists>, row: &ExecutionRow)
+fn leave_out(running: &mut Option<RunningLists>, row: &ExecutionRow)
     ensures { (rows : List Row) (old : Row) → find (is_execution row.now.execution) rows ≡ Some old
-        → old.job ≡ row.now.job → is_unfinished (row_status old) ≡ true
+        → old.job ≡ row.now.job → old.instance ≡ row.now.instance → is_unfinished (row_status old) ≡ true
         → is_unfinished (row_status row.now) ≡ false
         → AreRunning running.old rows → AreRunning running.new
         (change_first (is_execution row.now.execution) (λ gone. row.now) rows) }
 {
-    if let Some(names) = running.as_mut() {
-        names.remove(row.job.as_str(), row.execution.value());
+    if let Some(lists) = running.as_mut() {
+        lists.remove(row);
     }
 }
 
 /// Looks up no job execution from now on, if that is to be.
-pub(crate) fn forget_if(running: &mut Option<NameLists>, goes: bool)
+pub(crate) fn forget_if(running: &mut Option<RunningLists>, goes: bool)
     ensures { running.new ≡ (if goes then None else running.old) }
 {
     if goes {
@@ -95,13 +154,13 @@ pub(crate) fn executions_numbered(
 /// The numbers of the unfinished job executions of a job among these rows.
 pub(crate) fn running_searched(
     alloc: Global,
-    rows: &[ExecutionRow],
+    rows: &RowList<ExecutionRow>,
     name: &str,
 ) -> Result<Vec<ExecutionId>, OutOfMemory>
-    ensures { IfOk result (λ found. found.items ≡ running_executions name.now rows.now) }
+    ensures { IfOk result (λ found. found.items ≡ running_executions name.now rows.now.rows) }
 {
     let mut found = Vec::new(alloc);
-    for row in rows {
+    for row in rows.rows() {
         if is_running_of(name, row) {
             found.push(row.execution)?;
         }

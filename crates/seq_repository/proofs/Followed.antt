@@ -14,7 +14,7 @@ use Rattle.batch_history.specs.declared.call.Reply.TheVariants.{Work}
 use Rattle.batch_history.specs.declared.call.WorkItem.{WorkItem}
 use Rattle.records.specs.Maps.{AreRising, MayReplaceExecution, execution_numbers}
 use Rattle.seq_repository.specs.Changes.{put_row}
-use Rattle.seq_repository.specs.Searches.{is_open}
+use Rattle.reply_rules.specs.Standings.{is_open}
 use Rattle.seq_repository.proofs.Agendas.{KeepsOthers, either-false, known-there, above-passed}
 use Rattle.std.specs.Ordering.{nat_cmp, is_eq}
 use Rattle.std.proofs.lemmas.Bool.Decides.{nat_tests}

@@ -4,7 +4,6 @@ pub mod Entries
 pub mod Followed
 pub mod Keeping
 pub mod Knowing
-pub mod Lists
 pub mod Metering
 pub mod Numbers
 pub mod Pages

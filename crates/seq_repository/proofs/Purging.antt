@@ -15,7 +15,7 @@ use Rattle.records.specs.Maps.{Maps, is_instance}
 use Rattle.records.specs.Without.{without_instance}
 use Rattle.restart_rules.proofs.Reading.{rows_without}
 use Rattle.restart_rules.specs.Restarting.{rows_over}
-use Rattle.seq_repository.proofs.Lists.{any_found}
+use Rattle.reply_rules.proofs.Lists.{any_found}
 
 -- the rows after a purge
 pub purge_entered : (catalogue : List JobTree) (count : ℕ) (last : LastNumbers) (old m : Maps) (who at i : ℕ) (reply : Reply)

@@ -1,26 +1,14 @@
 -- What is read by an index of the rows is what is read from all of them.
-use Rattle.std.proofs.Common.{◌≡◌, ℕ, ◌==◌, ◌&&◌, ◌||◌, Bool, true, false, cond, Some, IfSome, List, [], ◌∷◌, ◌++◌, map, find, filter, reverse, refl, sym, ◌∙◌, ap}
-use Rattle.std.specs.List.{list_any}
+use Rattle.std.proofs.Common.{◌≡◌, ℕ, ◌==◌, Bool, true, false, cond, Some, IfSome, List, [], ◌∷◌, ◌++◌, map, find, filter, reverse, refl, sym, ◌∙◌, ap}
 use Rattle.std.proofs.lemmas.Bool.{eq-eqb}
 use Rattle.std.proofs.lemmas.List.{append_assoc, append-nil, reverse-append}
 use Rattle.batch_history.specs.Answers.{is_running_of, record_of, records_of, running_executions}
 use Rattle.batch_history.specs.Lists.{change_first}
-use Rattle.batch_history.specs.Replies.{is_running_in}
 use Rattle.batch_history.specs.declared.rows.ExecutionRow.{ExecutionRow}
 use Rattle.batch_history.specs.declared.rows.WorkRow.{WorkRow}
 use Rattle.batch_history.proofs.Knowing.{known_elements}
 use Rattle.records.specs.Left.{executions_of, works_of}
 use Rattle.restart_rules.proofs.Reading.{known_by, known_read}
-use Rattle.seq_repository.specs.Searches.{is_open}
-
--- an unfinished job execution of a job instance
-pub any_open : (i : ℕ) (rows : List ExecutionRow) → list_any is_open (executions_of i rows) ≡ list_any (is_running_in i) rows
-any_open i [] = refl
-any_open i (row ∷ rest) =
-    elim (row.instance == i) as (λ b. list_any is_open (cond b (row ∷ executions_of i rest) (executions_of i rest)) ≡ ((b && is_open row) || list_any (is_running_in i) rest)) [
-      | true ↦ ap (λ b. is_open row || b) (any_open i rest)
-      | false ↦ any_open i rest
-    ]
 
 -- the work items of a job execution, one of them changed
 works-changed : (x : ℕ) (p : WorkRow → Bool) (f : WorkRow → WorkRow) (works : List WorkRow) → ((row : WorkRow) → (f row).execution ≡ row.execution)

@@ -2,7 +2,6 @@
 use Rattle.std.proofs.Common.{◌≡◌, ℕ, ◌+◌, ◌<◌, true, false, cond, Option, None, Some, Result, Ok, Err, IfSome, is_some, List, [], find, refl, sym, ◌∙◌, ap}
 use Rattle.batch_ids.specs.Parameters.{Pair}
 use Rattle.batch_ids.specs.declared.refusal.Refusal.{Refusal}
-use Rattle.batch_ids.specs.Refusals.{is_out_of_memory}
 use Rattle.batch_ids.specs.declared.refusal.Refusal.TheVariants.{JobStartException}
 use Rattle.batch_ids.specs.declared.status.WorkOutcome.{WorkOutcome}
 use Rattle.batch_history.specs.declared.call.Reply.{Reply}
@@ -17,14 +16,13 @@ use Rattle.batch_history.specs.declared.rows.WorkState.TheVariants.{Busy, Over}
 use Rattle.records.specs.Maps.{is_over}
 use Rattle.batch_history.specs.Due.{IsDue}
 use Rattle.batch_history.specs.Walks.{job_named}
-use Rattle.job_walk.specs.declared.plan.Plan.{Plan}
-use Rattle.restart_rules.specs.Restarting.{plan_due, plan_due_for, plan_unless}
-use Rattle.batch_history.specs.Replies.{reply_by, accepted, is_execution, reply_to_claim, claim_reply, reply_to_checkpoint, reply_to_finish, first_ready, walk_in_rows, has_something, is_nothing, report_refusal, reply_to_end, reply_to_loss, loss_refusal, reply_to_restart, restart_refusal, restart_plan, stop_requested_of, unless}
+use Rattle.batch_history.specs.Replies.{reply_by, accepted, is_execution, reply_to_claim, claim_reply, reply_to_checkpoint, reply_to_finish, first_ready, walk_in_rows, has_something, is_nothing, report_refusal, reply_to_end, reply_to_loss, loss_refusal, reply_to_restart, stop_requested_of, unless}
 use Rattle.batch_history.specs.Rows.{History, Rows}
 use Rattle.seq_repository.specs.Kept.{Kept, rows_in, IsNext}
 use Rattle.batch_history.specs.declared.call.Call.{Call}
 use Rattle.job_walk.specs.declared.work_key.WorkKey.{WorkKey}
 use Rattle.batch_history.proofs.Legal.{entered-is, reply_room}
+use Rattle.reply_rules.proofs.Restarted.{is_due}
 
 item-next : (r : Rows) (row : ExecutionRow) (key : Option WorkKey) (item : WorkItem) → claim_reply r row key ≡ Work item → item.work ≡ r.last.work + 1
 item-next r row None item e = cc
@@ -35,16 +33,12 @@ pub claimed_next : (limit : ℕ) (r : Rows) (found : Option ExecutionRow) (item 
 claimed_next limit r None item e = cc
 claimed_next limit r (Some row) item e = item-next r row (first_ready (walk_in_rows r row)) item (sym (entered-is limit r.count _ (Work item) e))
 
-is-due : {R : Type 0} (result due : Result R Refusal) → result ≡ due → IsDue result due
-is-due (Ok reply) due same = sym same
-is-due (Err refusal) due same = λ _. sym same
-
 -- the reply to a claim that finds a job execution is due
 pub claim_due : (limit : ℕ) (r : Rows) (row : ExecutionRow) (key : Option WorkKey) (given : Reply) (result : Result Reply Refusal)
     → Some row ≡ find (has_something r) r.executions → key ≡ first_ready (walk_in_rows r row) → given ≡ claim_reply r row key
     → result ≡ accepted limit r.count given → IsDue result (reply_to_claim limit r (find (has_something r) r.executions))
 claim_due limit r row key given result found first made is =
-    is-due result _ (is ∙ (ap (accepted limit r.count) (made ∙ ap (claim_reply r row) first) ∙ ap (reply_to_claim limit r) found))
+    is_due result _ (is ∙ (ap (accepted limit r.count) (made ∙ ap (claim_reply r row) first) ∙ ap (reply_to_claim limit r) found))
 
 -- what is reported of, is there
 pub checkpointed_there : (limit : ℕ) (r : Rows) (who : ℕ) (found : Option WorkRow) (given : Reply) → reply_to_checkpoint limit r who found ≡ Ok given → is_some found ≡ true
@@ -93,23 +87,6 @@ restarted-some : (limit : ℕ) (r : Rows) (found : Option ExecutionRow) (given :
 restarted-some limit r None given e = cc
 restarted-some limit r (Some row) given e = refl
 
-unless-planned : (refusal : Option Refusal) (plan given : Plan) (reply : Result Reply Refusal) → plan_unless refusal plan ≡ Ok given → unless refusal reply ≡ reply
-unless-planned None plan given reply e = refl
-unless-planned (Some refusal) plan given reply e = cc
-
-planned-reply : (limit : ℕ) (r : Rows) (found : Option ExecutionRow) (plan : Plan) → plan_due_for r found ≡ Ok plan
-    → reply_to_restart limit r found ≡ accepted limit r.count (IsExecution (r.last.execution + 1))
-planned-reply limit r None plan e = cc
-planned-reply limit r (Some row) plan e = unless-planned (restart_refusal r row) (restart_plan r row) plan _ e
-
-unless-refused : (refusal : Option Refusal) (plan : Plan) (given : Refusal) (reply : Result Reply Refusal) → plan_unless refusal plan ≡ Err given → unless refusal reply ≡ Err given
-unless-refused None plan given reply e = cc
-unless-refused (Some refusal) plan given reply e = cc
-
-refused-reply : (limit : ℕ) (r : Rows) (found : Option ExecutionRow) (refusal : Refusal) → plan_due_for r found ≡ Err refusal → reply_to_restart limit r found ≡ Err refusal
-refused-reply limit r None refusal e = cc
-refused-reply limit r (Some row) refusal e = unless-refused (restart_refusal r row) (restart_plan r row) refusal _ e
-
 -- what is lost, is there and is not over yet
 pub lost_there : (limit count : ℕ) (found : Option WorkRow) (given : Reply) → reply_to_loss limit count found ≡ Ok given → is_some found ≡ true
 lost_there limit count None given e = cc
@@ -137,13 +114,3 @@ started_there limit r who job parameters given e =
       | true ↦ λ s. refl
       | false ↦ λ s. cc
     ]) e
-
--- the reply to a restart, by what may restart
-pub restart_due : (limit : ℕ) (r : Rows) (who x : ℕ) (parameters : List Pair) (plan : Plan) (result : Result Reply Refusal)
-    → plan_due r x ≡ Ok plan → result ≡ accepted limit r.count (IsExecution (r.last.execution + 1)) → IsDue result (reply_by limit r who (Restart x parameters))
-restart_due limit r who x parameters plan result due is =
-    is-due result _ (is ∙ sym (planned-reply limit r (find (is_execution x) r.executions) plan due))
-
-pub restart_refused : (limit : ℕ) (r : Rows) (who x : ℕ) (parameters : List Pair) (refusal : Refusal)
-    → (is_out_of_memory refusal ≡ false → plan_due r x ≡ Err refusal) → is_out_of_memory refusal ≡ false → reply_by limit r who (Restart x parameters) ≡ Err refusal
-restart_refused limit r who x parameters refusal due some = refused-reply limit r (find (is_execution x) r.executions) refusal (due some)

@@ -12,7 +12,7 @@ use Rattle.job_walk.specs.Runnables.{all_keys, all_leaves}
 use Rattle.job_walk.specs.Walk.{fact_of}
 use Rattle.job_walk.specs.declared.work_key.WorkKey.{WorkKey}
 use Rattle.jsl_model.specs.Jobs.{JobTree}
-use Rattle.seq_repository.specs.Searches.{is_open}
+use Rattle.reply_rules.specs.Standings.{is_open}
 
 -- a cursor is in the job of a job execution, began where its plan says, and knows of each work key of the job what the plan
 -- and the work items tell

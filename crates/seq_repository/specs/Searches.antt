@@ -1,6 +1,5 @@
--- Which job execution has something to do, which is unfinished, and which job instances a page shows.
+-- Which job execution has something to do, and which job instances a page shows.
 use Rattle.std.specs.Prelude.{ℕ, ◌-◌, Bool, false, nat_lt, List, if◌then◌else◌}
-use Rattle.batch_ids.specs.Statuses.{is_unfinished}
 use Rattle.jsl_model.specs.Jobs.{JobTree}
 use Rattle.batch_history.specs.declared.rows.ExecutionRow.{ExecutionRow}
 use Rattle.batch_history.specs.declared.rows.WorkRow.{WorkRow}
@@ -10,10 +9,6 @@ use Rattle.batch_history.specs.Walks.{walk_value}
 -- whether there is something to do for a job execution, by the catalogue and the work items
 abbrev pub has_ready : List JobTree → List WorkRow → ExecutionRow → Bool
 has_ready catalogue works row = has_something_by (row_status row) (walk_value catalogue works row.execution row.job row.plan)
-
--- whether a job execution is unfinished
-abbrev pub is_open : ExecutionRow → Bool
-is_open row = is_unfinished (row_status row)
 
 -- whether a page of at most `count`, without the `start` newest, shows one that so many are newer than
 abbrev pub is_on_page : ℕ → ℕ → ℕ → Bool

@@ -152,7 +152,7 @@ fn running(alloc: Global, rows: &Records, job: &T256) -> Result<Answer, Refusal>
     Ok(Answer::RunningExecutions(Listed::from_vec(running)))
 }
 
-#[tactic(auto, using(crate::proofs::Lists::any_found))]
+#[tactic(auto, using(reply_rules::proofs::Lists::any_found))]
 fn executions(alloc: Global, rows: &Records, i: InstanceId) -> Result<Answer, Refusal>
     ensures { IsDue result (if list_any
         (λ instance. instance.instance == i) rows.now.instances then Ok (Answer.JobExecutions

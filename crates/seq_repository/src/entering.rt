@@ -21,7 +21,7 @@ ghost use Rattle.seq_repository.specs.Changes.{put_row, place_at, row_after, Lea
 use crate::after::{After, after_report};
 use crate::repository::Repository;
 use crate::rows::Change;
-use crate::{adding, agenda, cursors, rows, status};
+use crate::{adding, agenda, cursors, rows};
 use batch_history::{Call, ExecutionRow, JobInstance, Reply, WorkItem, WorkRow};
 use batch_ids::{
     ExecutionId, InstanceId, MetricStep, Moment, OutOfMemory, Parameters, Refusal, T256, Text,
@@ -87,9 +87,9 @@ pub(crate) fn execution_after(
         None => Ok((None, false)),
         Some(row) => {
             let value = cursor.value();
-            let shown = status::first_ready(value).is_some();
+            let shown = reply_rules::first_ready(value).is_some();
             let new = rows::change_row(alloc, change, value, at, row)?;
-            let ready = status::has_something(new.status(), shown);
+            let ready = reply_rules::has_something(new.status(), shown);
             Ok((Some(new), ready))
         }
     }
@@ -484,7 +484,7 @@ impl<const LIMIT: u64> Repository<LIMIT> {
             unreachable!();
         };
         let x = work.execution;
-        let exit = status::exit_or_name(self.alloc, outcome, exit)?;
+        let exit = reply_rules::exit_or_name(self.alloc, outcome, exit)?;
         let kept = self.take_cursor(x);
         self.finish_with(kept, at, w, outcome, exit, step)
     }

@@ -12,7 +12,6 @@ mod replies;
 mod repository;
 mod rows;
 mod search;
-mod status;
 mod steps;
 
 pub use batch_history::{

@@ -1,255 +1,37 @@
-ghost use Rattle.std.specs.Prelude.{◌≡◌, [], find, IfOk};
-ghost use Rattle.std.specs.Option.{option_copied};
+ghost use Rattle.std.specs.Prelude.{◌≡◌, ◌≤◌};
 ghost use Rattle.batch_history.specs.Due.{IsDue};
-ghost use Rattle.batch_history.specs.Replies.{is_execution, reply_by, accepted, claim_reply, reply_to_stop, reply_to_abandon, reply_to_checkpoint, reply_to_finish, reply_to_loss, reply_to_purge, stop_requested_of, report_refusal, reply_to_kept_checkpoint, reply_to_stopped_step, reply_to_stopped_work, reply_to_end, next_work_item, partition_named, partitions_of_job, work_task, runnable_of_job, walk_in_rows};
-ghost use Rattle.batch_history.specs.Walks.{job_named};
-ghost use Rattle.batch_history.specs.Works.{is_work};
+ghost use Rattle.batch_history.specs.Replies.{reply_by};
+ghost use Rattle.reply_rules.specs.Standings.{rows_at};
+ghost use Rattle.restart_rules.specs.Placed.{ArePlaced};
 ghost use Rattle.seq_repository.specs.Kept.{rows_in};
 
 use crate::repository::Repository;
-use crate::search::Claimable;
-use crate::{search, status};
-use batch_history::{Call, ExecutionRow, Reply, WorkItem, WorkKind, WorkState, WorkTask};
-use batch_ids::{ExecutionId, InstanceId, OutOfMemory, Refusal, T256, Text, WorkId, WorkOutcome};
-use job_walk::{Runnable, WorkKey};
-use jsl_model::Task;
-use restart_rules::may_restart;
-use std::alloc::Global;
-
-/// The reply to a call that is accepted, or the refusal where the history is full.
-fn accept<const LIMIT: u64>(count: u64, reply: Reply) -> Result<Reply, Refusal>
-    ensures { result ≡ accepted LIMIT count reply }
-{
-    if count < LIMIT {
-        Ok(reply)
-    } else {
-        Err(Refusal::RepositoryFull)
-    }
-}
-
-/// What a worker is to run, a chunk from this checkpoint on.
-fn task_of(
-    alloc: Global,
-    mark: Option<&Text<65536>>,
-    found: Option<Runnable>,
-) -> Result<WorkTask, OutOfMemory>
-    ensures { IfOk result (λ task. task ≡ work_task (option_copied mark.entry) found) }
-{
-    match found {
-        None => Ok(WorkTask::Decision {
-            artifact: T256::empty(),
-        }),
-        Some(Runnable::Decision(artifact)) => Ok(WorkTask::Decision { artifact }),
-        Some(Runnable::Step(task)) => match task {
-            Task::Batchlet { artifact } => Ok(WorkTask::Batchlet { artifact }),
-            Task::Chunk {
-                reader,
-                processor,
-                writer,
-                item_count,
-            } => {
-                let checkpoint = match mark {
-                    None => None,
-                    Some(mark) => Some(mark.try_clone()?),
-                };
-                Ok(WorkTask::Chunk {
-                    reader,
-                    processor,
-                    writer,
-                    item_count,
-                    checkpoint,
-                })
-            }
-        },
-    }
-}
-
-/// Why a session may not report of a work item.
-fn report_refusal(who: u64, claimer: u64, state: &WorkState) -> Option<Refusal>
-    ensures { result ≡ report_refusal who claimer state.now }
-{
-    match state {
-        WorkState::Over(_, _) => Some(Refusal::WorkNotRunning),
-        WorkState::Busy => if claimer == who {
-            None
-        } else {
-            Some(Refusal::NotClaimer)
-        },
-    }
-}
-
-/// What the checkpoint of a work item of this kind is answered.
-fn checkpoint_reply<const LIMIT: u64>(
-    count: u64,
-    stop: bool,
-    kind: WorkKind,
-) -> Result<Reply, Refusal>
-    ensures { result ≡ reply_to_kept_checkpoint LIMIT count stop kind }
-{
-    match kind {
-        WorkKind::Chunk => if stop {
-            accept::<LIMIT>(count, Reply::StopAsked)
-        } else {
-            accept::<LIMIT>(count, Reply::Go)
-        },
-        WorkKind::Batchlet => Err(Refusal::WrongOutcome),
-        WorkKind::Decision => Err(Refusal::WrongOutcome),
-    }
-}
-
-fn stopped_step_reply<const LIMIT: u64>(count: u64, stop: bool) -> Result<Reply, Refusal>
-    ensures { result ≡ reply_to_stopped_step LIMIT count stop }
-{
-    if stop {
-        accept::<LIMIT>(count, Reply::Done)
-    } else {
-        Err(Refusal::NotStopping)
-    }
-}
-
-fn stopped_work_reply<const LIMIT: u64>(
-    count: u64,
-    stop: bool,
-    kind: WorkKind,
-) -> Result<Reply, Refusal>
-    ensures { result ≡ reply_to_stopped_work LIMIT count stop kind }
-{
-    match kind {
-        WorkKind::Decision => Err(Refusal::WrongOutcome),
-        WorkKind::Batchlet => stopped_step_reply::<LIMIT>(count, stop),
-        WorkKind::Chunk => stopped_step_reply::<LIMIT>(count, stop),
-    }
-}
-
-/// What the end of a work item of this kind is answered.
-fn finish_reply<const LIMIT: u64>(
-    count: u64,
-    stop: bool,
-    kind: WorkKind,
-    outcome: WorkOutcome,
-) -> Result<Reply, Refusal>
-    ensures { result ≡ reply_to_end LIMIT count stop kind outcome }
-{
-    match outcome {
-        WorkOutcome::Stopped => stopped_work_reply::<LIMIT>(count, stop, kind),
-        WorkOutcome::Completed => accept::<LIMIT>(count, Reply::Done),
-        WorkOutcome::Failed => accept::<LIMIT>(count, Reply::Done),
-    }
-}
+use crate::search::{Claimable, find_claimable};
+use batch_history::{Call, Reply};
+use batch_ids::Refusal;
+use reply_rules::{Standing, accept};
 
 impl<const LIMIT: u64> Repository<LIMIT> {
-    fn reply_to_start(&self, job: &T256) -> Result<Reply, Refusal>
-        ensures { result ≡ reply_by LIMIT (rows_in self.now) 0 (Call.Start job.now []) }
+    /// What its calls are answered by.
+    fn standing(&self) -> Standing<'_, LIMIT>
+        ensures rows { rows_at result ≡ rows_in self.now }
+        ensures executions { result.last.execution ≤ 1000000 }
+        ensures works { result.last.work ≤ 1000000 }
+        ensures placed { ArePlaced result.catalogue.now result.records.now.executions }
     {
-        if self.catalogue.job(job.as_str()).is_none() {
-            return Err(Refusal::JobStartException);
-        }
-        let x = ExecutionId::new(self.last.execution + 1);
-        accept::<LIMIT>(self.count, Reply::Execution(x))
-    }
-
-    fn reply_to_restart(&self, x: ExecutionId) -> Result<Reply, Refusal>
-        ensures { IsDue result (reply_by LIMIT (rows_in self.now) 0 (Call.Restart x [])) }
-    {
-        if let Err(refusal) = may_restart(self.alloc, &self.records, &self.catalogue, x) {
-            return Err(refusal);
-        }
-        let next = ExecutionId::new(self.last.execution + 1);
-        accept::<LIMIT>(self.count, Reply::Execution(next))
-    }
-
-    fn reply_to_stop(&self, x: ExecutionId) -> Result<Reply, Refusal>
-        ensures { result ≡ reply_to_stop LIMIT self.now.count (find
-            (is_execution x) self.now.records.executions) }
-    {
-        match self.records.execution(x) {
-            None => Err(Refusal::NoSuchJobExecutionException),
-            Some(row) => if status::is_finished(row.status()) {
-                Err(Refusal::JobExecutionNotRunningException)
-            } else {
-                accept::<LIMIT>(self.count, Reply::Done)
-            },
-        }
-    }
-
-    fn reply_to_abandon(&self, x: ExecutionId) -> Result<Reply, Refusal>
-        ensures { result ≡ reply_to_abandon LIMIT (rows_in self.now) (find
-            (is_execution x) self.now.records.executions) }
-    {
-        match self.records.execution(x) {
-            None => Err(Refusal::NoSuchJobExecutionException),
-            Some(row) => if search::is_running(&self.records, row.instance) {
-                Err(Refusal::JobExecutionIsRunningException)
-            } else {
-                accept::<LIMIT>(self.count, Reply::Done)
-            },
-        }
-    }
-
-    fn task_in(
-        &self,
-        mark: Option<&Text<65536>>,
-        job: &T256,
-        key: &WorkKey,
-    ) -> Result<WorkTask, OutOfMemory>
-        ensures { IfOk result (λ task. task
-            ≡ work_task (option_copied mark.entry) (runnable_of_job
-            (job_named self.now.catalogue job.now) key.now)) }
-    {
-        match self.catalogue.job(job.as_str()) {
-            None => task_of(self.alloc, mark, None),
-            Some(job) => {
-                let found = job_walk::find_runnable(job.elements(), key)?;
-                task_of(self.alloc, mark, found)
-            }
-        }
-    }
-
-    /// Which partition a work item of this work key names, where its step is partitioned.
-    fn partition_named(&self, job: &T256, key: &WorkKey) -> Option<u32>
-        ensures { result ≡ partition_named key.now.partition (partitions_of_job
-            (job_named self.now.catalogue job.now) key.now) }
-    {
-        match self.catalogue.job(job.as_str()) {
-            None => None,
-            Some(job) => match job_walk::find_partitions(job.elements(), key) {
-                None => None,
-                Some(_) => Some(key.partition),
-            },
-        }
-    }
-
-    fn item_of(&self, row: &ExecutionRow, key: &WorkKey) -> Result<WorkItem, OutOfMemory>
-        ensures { IfOk result (λ item. item ≡ next_work_item (rows_in self.now) row.now key.now) }
-    {
-        let mark = self.records.checkpoint(row.instance, key);
-        let task = self.task_in(mark, &row.job, key)?;
-        let partition = self.partition_named(&row.job, key);
-        let element = key.element.try_clone()?;
-        let work = WorkId::new(self.last.work + 1);
-        Ok(WorkItem {
-            work,
-            execution: row.execution,
-            element,
-            partition,
-            task,
-        })
-    }
-
-    /// What a claim of a job execution is answered, by the first work key that may be run now.
-    fn claim_reply(&self, row: &ExecutionRow, key: &Option<WorkKey>) -> Result<Reply, OutOfMemory>
-        ensures { IfOk result (λ reply. reply ≡ claim_reply (rows_in self.now) row.now key.now) }
-    {
-        match key {
-            None => Ok(Reply::Closed(row.execution)),
-            Some(key) => Ok(Reply::Work(self.item_of(row, key)?)),
+        Standing {
+            alloc: self.alloc,
+            catalogue: &self.catalogue,
+            count: self.count,
+            last: self.last,
+            records: &self.records,
         }
     }
 
     fn reply_to_claim(&self) -> Result<Reply, Refusal>
         ensures { IsDue result (reply_by LIMIT (rows_in self.now) 0 Call.Claim) }
     {
-        match search::find_claimable(
+        match find_claimable(
             self.alloc,
             &self.catalogue,
             &self.records,
@@ -258,76 +40,9 @@ impl<const LIMIT: u64> Repository<LIMIT> {
         )? {
             None => Ok(Reply::Nothing),
             Some(Claimable { row, key }) => {
-                let reply = self.claim_reply(row, &key)?;
+                let reply = self.standing().claim_reply(row, &key)?;
                 accept::<LIMIT>(self.count, reply)
             }
-        }
-    }
-
-    fn stop_requested(&self, x: ExecutionId) -> bool
-        ensures { result ≡ stop_requested_of (rows_in self.now) x }
-    {
-        match self.records.execution(x) {
-            None => false,
-            Some(row) => row.stop,
-        }
-    }
-
-    fn reply_to_checkpoint(&self, who: u64, w: WorkId) -> Result<Reply, Refusal>
-        ensures { result ≡ reply_to_checkpoint LIMIT (rows_in self.now) who (find
-            (is_work w) self.now.records.works) }
-    {
-        match self.records.work(w) {
-            None => Err(Refusal::NoSuchWork),
-            Some(row) => match report_refusal(who, row.claimer, &row.state) {
-                Some(refusal) => Err(refusal),
-                None => checkpoint_reply::<LIMIT>(
-                    self.count,
-                    self.stop_requested(row.execution),
-                    row.kind,
-                ),
-            },
-        }
-    }
-
-    fn reply_to_finish(&self, who: u64, w: WorkId, outcome: WorkOutcome) -> Result<Reply, Refusal>
-        ensures { result ≡ reply_to_finish LIMIT (rows_in self.now) who outcome (find
-            (is_work w) self.now.records.works) }
-    {
-        match self.records.work(w) {
-            None => Err(Refusal::NoSuchWork),
-            Some(row) => match report_refusal(who, row.claimer, &row.state) {
-                Some(refusal) => Err(refusal),
-                None => {
-                    let stop = self.stop_requested(row.execution);
-                    finish_reply::<LIMIT>(self.count, stop, row.kind, outcome)
-                }
-            },
-        }
-    }
-
-    fn reply_to_loss(&self, w: WorkId) -> Result<Reply, Refusal>
-        ensures { result ≡ reply_to_loss LIMIT self.now.count (find
-            (is_work w) self.now.records.works) }
-    {
-        match self.records.work(w) {
-            None => Err(Refusal::NoSuchWork),
-            Some(row) => match &row.state {
-                WorkState::Over(_, _) => Err(Refusal::WorkNotRunning),
-                WorkState::Busy => accept::<LIMIT>(self.count, Reply::Done),
-            },
-        }
-    }
-
-    fn reply_to_purge(&self, i: InstanceId) -> Result<Reply, Refusal>
-        ensures { result ≡ reply_to_purge LIMIT (rows_in self.now) i }
-    {
-        if !search::is_there(&self.records, i) {
-            Err(Refusal::NoSuchJobInstanceException)
-        } else if search::is_running(&self.records, i) {
-            Err(Refusal::JobExecutionIsRunningException)
-        } else {
-            accept::<LIMIT>(self.count, Reply::Done)
         }
     }
 
@@ -335,16 +50,17 @@ impl<const LIMIT: u64> Repository<LIMIT> {
     pub(crate) fn reply(&self, who: u64, call: &Call) -> Result<Reply, Refusal>
         ensures { IsDue result (reply_by LIMIT (rows_in self.now) who call.now) }
     {
+        let standing = self.standing();
         match call {
-            Call::Start { job, .. } => self.reply_to_start(job),
-            Call::Restart { execution, .. } => self.reply_to_restart(*execution),
-            Call::Stop { execution } => self.reply_to_stop(*execution),
-            Call::Abandon { execution } => self.reply_to_abandon(*execution),
+            Call::Start { job, .. } => standing.reply_to_start(job),
+            Call::Restart { execution, .. } => standing.reply_to_restart(*execution),
+            Call::Stop { execution } => standing.reply_to_stop(*execution),
+            Call::Abandon { execution } => standing.reply_to_abandon(*execution),
             Call::Claim => self.reply_to_claim(),
-            Call::Checkpoint { work, .. } => self.reply_to_checkpoint(who, *work),
-            Call::Finish { work, outcome, .. } => self.reply_to_finish(who, *work, *outcome),
-            Call::Lose { work } => self.reply_to_loss(*work),
-            Call::Purge { instance } => self.reply_to_purge(*instance),
+            Call::Checkpoint { work, .. } => standing.reply_to_checkpoint(who, *work),
+            Call::Finish { work, outcome, .. } => standing.reply_to_finish(who, *work, *outcome),
+            Call::Lose { work } => standing.reply_to_loss(*work),
+            Call::Purge { instance } => standing.reply_to_purge(*instance),
         }
     }
 }

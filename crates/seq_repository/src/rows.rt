@@ -7,13 +7,13 @@ ghost use Rattle.batch_history.proofs.Steps.{fresh_row, renewed, refreshed};
 ghost use Rattle.batch_history.specs.Works.{busy_work};
 ghost use Rattle.seq_repository.specs.Changes.{effect_of};
 
-use crate::status::{batch_status, earliest, exit_status, is_finished};
 use batch_history::{ExecutionRow, WorkItem, WorkRow, WorkState};
 use batch_ids::{
     BatchStatus, ExecutionId, InstanceId, MetricStep, Metrics, Moment, OutOfMemory, Parameters,
     Shared, T256, WorkOutcome,
 };
 use job_walk::{Plan, Value};
+use reply_rules::{batch_status, earliest, exit_status, is_finished};
 use std::alloc::Global;
 
 /// What an operation does to the job execution that it is on.

@@ -1,51 +1,29 @@
 ghost use Rattle.std.specs.Prelude.{ℕ, ◌≡◌, Some, true, IfOk, IfSome, find};
 ghost use Rattle.std.specs.BTreeMap.{get};
-ghost use Rattle.std.specs.List.{list_any};
 ghost use Rattle.std.specs.Option.{option_map};
 ghost use Rattle.std.specs.Ordering.{nat_cmp};
 ghost use Rattle.batch_ids.specs.declared.metric_step.MetricStep.{MetricStep as Step};
 ghost use Rattle.batch_history.proofs.Folds.{over_as};
 ghost use Rattle.batch_history.specs.Lists.{change_first};
-ghost use Rattle.batch_history.specs.Replies.{first_ready, is_execution, is_running_in};
+ghost use Rattle.batch_history.specs.Replies.{first_ready, is_execution};
 ghost use Rattle.batch_history.specs.Walks.{walk_value};
 ghost use Rattle.batch_history.proofs.Knowing.{known_elements};
 ghost use Rattle.batch_history.specs.Works.{is_work};
-ghost use Rattle.records.specs.Maps.{is_instance, execution_numbers, AreRising};
+ghost use Rattle.records.specs.Maps.{execution_numbers, AreRising};
 ghost use Rattle.restart_rules.specs.Placed.{ArePlaced, is_placed};
 ghost use Rattle.seq_repository.specs.Agendas.{agenda_of};
 ghost use Rattle.seq_repository.specs.Following.{AreFollowed};
 ghost use Rattle.seq_repository.specs.Searches.{has_ready};
 
-use crate::status;
 use batch_history::ExecutionRow;
-use batch_ids::{ExecutionId, InstanceId, OutOfMemory, T256, WorkId, WorkOutcome};
+use batch_ids::{ExecutionId, OutOfMemory, T256, WorkId, WorkOutcome};
 use job_walk::{Cursor, Fact, Known, Value, WorkKey};
 use jsl_model::Catalogue;
 use records::Records;
+use reply_rules::first_ready;
 use restart_rules::{state_fact, walk_value};
 use std::alloc::Global;
 use std::collections::{BTreeMap, BTreeSet};
-
-/// Whether there is a job instance of this number.
-#[tactic(auto, using(crate::proofs::Lists::any_found))]
-pub(crate) fn is_there(records: &Records, i: InstanceId) -> bool
-    ensures { result ≡ list_any (is_instance i) records.now.instances }
-{
-    records.instance(i).is_some()
-}
-
-/// Whether a job execution of this job instance is unfinished.
-#[tactic(auto, using(crate::proofs::Readers::any_open))]
-pub(crate) fn is_running(records: &Records, i: InstanceId) -> bool
-    ensures { result ≡ list_any (is_running_in i) records.now.executions }
-{
-    for row in records.executions_of(i) {
-        if row.status().is_unfinished() {
-            return true;
-        }
-    }
-    false
-}
 
 /// What is known of the elements of a job execution once a work item of it is over.
 pub(crate) fn known_once_finished(
@@ -86,7 +64,7 @@ pub(crate) fn known_once_finished(
 fn first_key(value: &Value) -> Result<Option<WorkKey>, OutOfMemory>
     ensures { IfOk result (λ key. key ≡ first_ready value.now) }
 {
-    match status::first_ready(value) {
+    match first_ready(value) {
         None => Ok(None),
         Some(key) => Ok(Some(key.try_clone()?)),
     }

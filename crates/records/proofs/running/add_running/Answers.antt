@@ -1,6 +1,6 @@
 use Rattle.std.proofs.Common.{sym, ◌∙◌, ap}
 use Rattle.batch_ids.specs.Statuses.{is_unfinished}
-use Rattle.records.proofs.Unfinished.{running_added, finished_added}
+use Rattle.records.proofs.Unfinished.{finished_added}
 use Rattle.records.proofs.running.add_running.Goals as goal
 
 pub returns-then-not-is_unfinished : goal.returns-then-not-is_unfinished

@@ -1,4 +1,4 @@
-use Rattle.std.proofs.Common.{◌≡◌, ◌==◌, [], ℕ, IsSome, None, Some, Option, cond, Vec, Global, List, filter, refl, sym, ◌∙◌, ap, subst}
+use Rattle.std.proofs.Common.{◌≡◌, ◌==◌, [], ℕ, IsSome, None, Some, cond, Vec, Global, List, filter, refl, sym, ◌∙◌, ap, subst}
 use Rattle.std.specs.Map.{lookup}
 use Rattle.std.specs.BTreeMap.{is_at}
 use Rattle.std.specs.Ordering.{nat_cmp}
@@ -6,7 +6,7 @@ use Rattle.batch_history.specs.declared.rows.CheckpointRow.{CheckpointRow}
 use Rattle.batch_history.specs.Checkpoints.{InstanceStep, is_same_step}
 use Rattle.records.specs.Listed.{AreOf, AreListed, rows_listed}
 use Rattle.records.specs.Maps.{mark_at, AreApart}
-use Rattle.records.specs.Placed.{is_elsewhere, without_mark}
+use Rattle.records.specs.Placed.{is_elsewhere}
 use Rattle.records.proofs.Marks.{apart_without}
 use Rattle.records.proofs.Listing.{rows_found, found_of, own_found, of_filtered, changed, set_of, marks_cleared, marks_absent, apart_of}
 use Rattle.records.proofs.checkpoint_lists.CheckpointLists.leave_out.Goals as goal

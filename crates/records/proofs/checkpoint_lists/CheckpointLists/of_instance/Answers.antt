@@ -1,4 +1,4 @@
-use Rattle.std.proofs.Common.{◌≡◌, ◌==◌, ℕ, Vec, Global, None, Some, filter, List, sym, ◌∙◌, ap}
+use Rattle.std.proofs.Common.{◌==◌, ℕ, Vec, Global, filter, List, ◌∙◌, ap}
 use Rattle.std.specs.Map.{lookup}
 use Rattle.std.specs.BTreeMap.{is_at}
 use Rattle.std.specs.Ordering.{nat_cmp}

@@ -1,4 +1,4 @@
-use Rattle.std.proofs.Common.{◌≡◌, ◌==◌, ◌++◌, ◌∷◌, [], ℕ, IsSome, None, Some, Option, cond, Vec, Global, List, filter, refl, sym, ◌∙◌, ap, subst, Ok, Err}
+use Rattle.std.proofs.Common.{◌≡◌, ◌==◌, ◌++◌, ◌∷◌, [], ℕ, IsSome, Some, cond, Vec, Global, List, filter, refl, sym, ◌∙◌, ap, subst, Ok, Err}
 use Rattle.std.specs.Result.{OnErr}
 use Rattle.std.specs.Map.{lookup}
 use Rattle.std.specs.BTreeMap.{insert_entry}
@@ -6,7 +6,7 @@ use Rattle.std.specs.BTreeMap.{is_at}
 use Rattle.std.specs.Ordering.{nat_cmp}
 use Rattle.batch_history.specs.declared.rows.CheckpointRow.{CheckpointRow}
 use Rattle.batch_history.specs.Checkpoints.{InstanceStep, is_same_step}
-use Rattle.records.specs.Listed.{AreOf, AreListed, rows_listed}
+use Rattle.records.specs.Listed.{AreOf, rows_listed}
 use Rattle.records.specs.Maps.{mark_at, AreApart}
 use Rattle.records.specs.Placed.{with_mark}
 use Rattle.records.proofs.Marks.{apart_with}

@@ -1,7 +1,4 @@
-use Rattle.std.proofs.Common.{◌≡◌, ◌==◌, ℕ, Vec, Global, List, sym, ◌∙◌, ap, subst}
-use Rattle.std.specs.Map.{remove_entry}
-use Rattle.std.specs.BTreeMap.{is_at}
-use Rattle.std.specs.Ordering.{nat_cmp}
+use Rattle.std.proofs.Common.{◌==◌, ℕ, Vec, Global, List, ◌∙◌, ap}
 use Rattle.batch_history.specs.declared.rows.CheckpointRow.{CheckpointRow}
 use Rattle.records.specs.Listed.{rows_listed}
 use Rattle.records.specs.Without.{checkpoints_there}

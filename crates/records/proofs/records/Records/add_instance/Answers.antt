@@ -18,29 +18,29 @@ index_instance-requires c =
 
 pub add-requires : goal.add-requires
 add-requires c =
-    let same : total c.self.inside.counts ≡ length c.self.inside.executions.items = ap total c.self.invariant.2 ∙ total_rows c.self.inside.executions.items in
-    omega (arith, same, c.self.inside.executions.small)
+    let same : total c.self.inside.counts ≡ length c.self.inside.executions.rows = ap total c.self.invariant.2 ∙ total_rows c.self.inside.executions.rows in
+    omega (arith, same, c.in-Ok.ensures.few)
 
 pub invariant_of-self-2 : goal.invariant_of-self-2
 invariant_of-self-2 c =
     let first_below = subst (λ (m : Maps). AreBelow c.args.first.execution (execution_numbers m.executions)) (sym c.self.view_is) c.requires.first in
     let below = subst (λ (m : Maps). AreBelow c.args.instance.instance (instance_numbers m.instances)) (sym c.self.view_is) c.requires.instance in
-    let first_added = c.put_last.ensures ∙ ap (λ (l : List ExecutionRow). l ++ c.args.first ∷ []) c.index_instance.ensures.executions in
-    let added = c.put_last-2.ensures ∙ ap (λ (l : List JobInstance). l ++ c.args.instance ∷ []) c.index_instance.ensures.instances in
+    let first_added = c.push_reserved.ensures ∙ ap (λ (l : List ExecutionRow). l ++ c.args.first ∷ []) c.index_instance.ensures.executions in
+    let added = c.push_reserved-2.ensures ∙ ap (λ (l : List JobInstance). l ++ c.args.instance ∷ []) c.index_instance.ensures.instances in
     let more = execution_added _ _ _ _ _ c.args.first c.self.invariant.0 first_below c.in-Ok.ensures.owned in (
       subst (λ (l : List JobInstance).
-          AreIndexed record { instances = l; executions = c.put_last.new.rows.items; works = c.self.inside.works.items; checkpoints = c.self.inside.checkpoints }
+          AreIndexed record { instances = l; executions = c.push_reserved.new.self.rows; works = c.self.inside.works.rows; checkpoints = c.self.inside.checkpoints }
           (numbers_named c.index_instance.new.by_name) (numbers_under c.index_instance.new.by_instance) (numbers_under c.self.inside.works_by_execution)) (sym added)
           (subst (λ (l : List ExecutionRow).
-          AreIndexed record { instances = c.self.inside.instances.items ++ c.args.instance ∷ []; executions = l; works = c.self.inside.works.items; checkpoints = c.self.inside.checkpoints }
+          AreIndexed record { instances = c.self.inside.instances.rows ++ c.args.instance ∷ []; executions = l; works = c.self.inside.works.rows; checkpoints = c.self.inside.checkpoints }
           (numbers_named c.index_instance.new.by_name) (numbers_under c.index_instance.new.by_instance) (numbers_under c.self.inside.works_by_execution)) (sym first_added)
           (instance_added _ _ _ _ _ c.args.instance more below c.in-Ok.ensures.named)),
-      subst (λ (l : List ExecutionRow). AreStepped record { instances = c.put_last-2.new.rows.items; executions = l; works = c.self.inside.works.items; checkpoints = c.self.inside.checkpoints } (numbers_of_step c.keep_if.new.self) (has_steps c.keep_if.new.self)) (sym first_added)
-          (stepped.execution_added record { instances = c.put_last-2.new.rows.items; executions = c.self.inside.executions.items; works = c.self.inside.works.items; checkpoints = c.self.inside.checkpoints } (numbers_of_step c.self.inside.works_by_step) _ (has_steps c.self.inside.works_by_step) _ c.has_no_work-has_no_work.result c.args.first c.self.invariant.1
+      subst (λ (l : List ExecutionRow). AreStepped record { instances = c.push_reserved-2.new.self.rows; executions = l; works = c.self.inside.works.rows; checkpoints = c.self.inside.checkpoints } (numbers_of_step c.keep_if.new.self) (has_steps c.keep_if.new.self)) (sym first_added)
+          (stepped.execution_added record { instances = c.push_reserved-2.new.self.rows; executions = c.self.inside.executions.rows; works = c.self.inside.works.rows; checkpoints = c.self.inside.checkpoints } (numbers_of_step c.self.inside.works_by_step) _ (has_steps c.self.inside.works_by_step) _ c.has_no_work-has_no_work.result c.args.first c.self.invariant.1
           (λ none. subst (λ (m : Maps). works_of c.args.first.execution m.works ≡ []) (sym c.self.view_is) (c.has_no_work-has_no_work.ensures none)) c.keep_if.ensures.has c.keep_if.ensures.left),
       c.add.ensures
           ∙ (ap (λ s. with_one_more s c.self.inside.counts) c.status.ensures
           ∙ (ap (with_one_more (row_status c.args.first)) c.self.invariant.2
-          ∙ (sym (counts_added c.args.first c.self.inside.executions.items) ∙ ap counts_of (sym first_added)))),
-      subst (λ (l : List ExecutionRow). AreRunning c.add_running.new.running l) (sym first_added) (c.add_running.ensures c.self.inside.executions.items c.self.invariant.3),
+          ∙ (sym (counts_added c.args.first c.self.inside.executions.rows) ∙ ap counts_of (sym first_added)))),
+      subst (λ (l : List ExecutionRow). AreRunning c.add_running.new.running l) (sym first_added) (c.add_running.ensures c.self.inside.executions.rows c.self.invariant.3),
     )

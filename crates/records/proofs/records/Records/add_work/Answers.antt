@@ -1,31 +1,27 @@
 use Rattle.std.proofs.Common.{◌++◌, ◌∷◌, [], List, sym, ◌∙◌, ap, subst}
-use Rattle.batch_history.specs.Rows.{instance_in}
-use Rattle.batch_history.specs.declared.rows.ExecutionRow.{ExecutionRow}
 use Rattle.batch_history.specs.declared.rows.WorkRow.{WorkRow}
 use Rattle.records.specs.Indexes.{AreIndexed, AreStepped, has_steps, numbers_named, numbers_of_step, numbers_under}
-use Rattle.records.specs.Maps.{Maps, AreBelow, AreRising, execution_numbers, work_numbers}
+use Rattle.records.specs.Maps.{Maps, AreBelow, work_numbers}
 use Rattle.records.proofs.Indexing.{work_added}
 use Rattle.records.proofs.Stepped as stepped
 use Rattle.records.proofs.records.Records.add_work.Goals as goal
 
 pub index_work-requires : goal.index_work-requires
 index_work-requires c =
-    let inside : Maps = record { instances = c.self.inside.instances.items; executions = c.self.inside.executions.items; works = c.self.inside.works.items; checkpoints = c.self.inside.checkpoints } in
+    let inside : Maps = record { instances = c.self.inside.instances.rows; executions = c.self.inside.executions.rows; works = c.self.inside.works.rows; checkpoints = c.self.inside.checkpoints } in
     let below = subst (λ (m : Maps). AreBelow c.args.row.work (work_numbers m.works)) (sym c.self.view_is) c.requires in
     stepped.owner_below inside (numbers_of_step c.self.inside.works_by_step) (has_steps c.self.inside.works_by_step) c.owner_of-owner.result c.args.row c.self.invariant.1 below
 
 pub invariant_of-self-2 : goal.invariant_of-self-2
 invariant_of-self-2 c =
-    let inside : Maps = record { instances = c.self.inside.instances.items; executions = c.self.inside.executions.items; works = c.self.inside.works.items; checkpoints = c.self.inside.checkpoints } in
-    let rising = subst (λ (l : List ExecutionRow). AreRising (execution_numbers l)) (sym c.as_slice.ensures.value) c.self.invariant.0.keyed.executions in
-    let owned = c.owner_of-owner.ensures rising ∙ ap (λ (l : List ExecutionRow). instance_in l c.args.row.execution) c.as_slice.ensures.value in
+    let inside : Maps = record { instances = c.self.inside.instances.rows; executions = c.self.inside.executions.rows; works = c.self.inside.works.rows; checkpoints = c.self.inside.checkpoints } in
     let below = subst (λ (m : Maps). AreBelow c.args.row.work (work_numbers m.works)) (sym c.self.view_is) c.requires in
-    let added = c.put_last.ensures ∙ ap (λ (l : List WorkRow). l ++ c.args.row ∷ []) c.index_work.ensures.rows in (
-      subst (λ (l : List WorkRow). AreIndexed record { instances = c.self.inside.instances.items; executions = c.self.inside.executions.items; works = l; checkpoints = c.self.inside.checkpoints }
+    let added = c.push_reserved.ensures ∙ ap (λ (l : List WorkRow). l ++ c.args.row ∷ []) c.index_work.ensures.rows in (
+      subst (λ (l : List WorkRow). AreIndexed record { instances = c.self.inside.instances.rows; executions = c.self.inside.executions.rows; works = l; checkpoints = c.self.inside.checkpoints }
           (numbers_named c.self.inside.instances_by_name) (numbers_under c.self.inside.executions_by_instance) (numbers_under c.index_work.new.by_execution)) (sym added)
           (work_added _ _ _ _ _ c.args.row c.self.invariant.0 below c.in-Ok.ensures.owned),
-      subst (λ (l : List WorkRow). AreStepped record { instances = c.self.inside.instances.items; executions = c.self.inside.executions.items; works = l; checkpoints = c.self.inside.checkpoints } (numbers_of_step c.index_work.new.by_step) (has_steps c.index_work.new.by_step)) (sym added)
-          (stepped.work_added inside (numbers_of_step c.self.inside.works_by_step) _ (has_steps c.self.inside.works_by_step) _ c.owner_of-owner.result c.args.row c.self.invariant.1 owned c.index_work.ensures.has c.in-Ok.ensures.stepped),
+      subst (λ (l : List WorkRow). AreStepped record { instances = c.self.inside.instances.rows; executions = c.self.inside.executions.rows; works = l; checkpoints = c.self.inside.checkpoints } (numbers_of_step c.index_work.new.by_step) (has_steps c.index_work.new.by_step)) (sym added)
+          (stepped.work_added inside (numbers_of_step c.self.inside.works_by_step) _ (has_steps c.self.inside.works_by_step) _ c.owner_of-owner.result c.args.row c.self.invariant.1 c.owner_of-owner.ensures c.index_work.ensures.has c.in-Ok.ensures.stepped),
       c.self.invariant.2,
       c.self.invariant.3,
     )

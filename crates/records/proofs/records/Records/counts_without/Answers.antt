@@ -1,11 +1,11 @@
-use Rattle.std.proofs.Common.{◌≡◌, ◌==◌, ℕ, List, sym, ◌∙◌, ap}
+use Rattle.std.proofs.Common.{◌==◌, List, sym, ◌∙◌, ap}
 use Rattle.batch_history.specs.Answers.{counts_of}
 use Rattle.batch_history.specs.Rows.{executions_there}
 use Rattle.batch_history.specs.declared.query.CountsByStatus.{CountsByStatus}
 use Rattle.batch_history.specs.declared.rows.ExecutionRow.{ExecutionRow}
 use Rattle.records.specs.Left.{executions_left}
 use Rattle.records.specs.Maps.{Maps}
-use Rattle.records.proofs.Tallies.{both, counts_split, first_there, first_gone, all_gone}
+use Rattle.records.proofs.Tallies.{both, counts_split}
 use Rattle.records.proofs.records.Records.counts_without.Goals as goal
 
 pub loop-row-init : goal.loop-row-init

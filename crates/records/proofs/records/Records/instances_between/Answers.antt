@@ -12,6 +12,6 @@ returns c =
     let count : ℕ = c.args.to - c.args.from in
     c.new.ensures
     ∙ (ap (λ (m : Maps). instances_numbered (take count (drop from c.under.result.now)) m.instances) (sym c.self.view_is)
-    ∙ (ap (λ (ns : List ℕ). instances_numbered (take count (drop from ns)) c.self.inside.instances.items) c.under.ensures
+    ∙ (ap (λ (ns : List ℕ). instances_numbered (take count (drop from ns)) c.self.inside.instances.rows) c.under.ensures
     ∙ (instances_sliced _ _ _ _ q from count c.self.invariant.0
     ∙ ap (λ (m : Maps). take count (drop from (instances_of_job q m.instances))) c.self.view_is)))

@@ -12,24 +12,24 @@ use Rattle.records.proofs.records.Records.put_execution.Goals as goal
 
 pub add-requires : goal.add-requires
 add-requires c =
-    let same : total c.self.inside.counts ≡ length c.self.inside.executions.items = ap total c.self.invariant.2 ∙ total_rows c.self.inside.executions.items in
-    omega (arith, same, c.self.inside.executions.small)
+    let same : total c.self.inside.counts ≡ length c.self.inside.executions.rows = ap total c.self.invariant.2 ∙ total_rows c.self.inside.executions.rows in
+    omega (arith, same, c.in-Ok.ensures.few)
 
 pub invariant_of-self-2 : goal.invariant_of-self-2
 invariant_of-self-2 c =
     let below = subst (λ (m : Maps). AreBelow c.args.row.execution (execution_numbers m.executions)) (sym c.self.view_is) c.requires in
-    let added = c.put_last.ensures ∙ ap (λ (l : List ExecutionRow). l ++ c.args.row ∷ []) c.index_execution.ensures.rows in (
+    let added = c.push_reserved.ensures ∙ ap (λ (l : List ExecutionRow). l ++ c.args.row ∷ []) c.index_execution.ensures.rows in (
       subst (λ (l : List ExecutionRow).
-          AreIndexed record { instances = c.self.inside.instances.items; executions = l; works = c.self.inside.works.items; checkpoints = c.self.inside.checkpoints }
+          AreIndexed record { instances = c.self.inside.instances.rows; executions = l; works = c.self.inside.works.rows; checkpoints = c.self.inside.checkpoints }
           (numbers_named c.self.inside.instances_by_name) (numbers_under c.index_execution.new.by_instance) (numbers_under c.self.inside.works_by_execution)) (sym added)
           (execution_added _ _ _ _ _ c.args.row c.self.invariant.0 below
           c.in-Ok.ensures.owned),
-      subst (λ (l : List ExecutionRow). AreStepped record { instances = c.self.inside.instances.items; executions = l; works = c.self.inside.works.items; checkpoints = c.self.inside.checkpoints } (numbers_of_step c.keep_if.new.self) (has_steps c.keep_if.new.self)) (sym added)
-          (stepped.execution_added record { instances = c.self.inside.instances.items; executions = c.self.inside.executions.items; works = c.self.inside.works.items; checkpoints = c.self.inside.checkpoints } (numbers_of_step c.self.inside.works_by_step) _ (has_steps c.self.inside.works_by_step) _ c.has_no_work-has_no_work.result c.args.row c.self.invariant.1
+      subst (λ (l : List ExecutionRow). AreStepped record { instances = c.self.inside.instances.rows; executions = l; works = c.self.inside.works.rows; checkpoints = c.self.inside.checkpoints } (numbers_of_step c.keep_if.new.self) (has_steps c.keep_if.new.self)) (sym added)
+          (stepped.execution_added record { instances = c.self.inside.instances.rows; executions = c.self.inside.executions.rows; works = c.self.inside.works.rows; checkpoints = c.self.inside.checkpoints } (numbers_of_step c.self.inside.works_by_step) _ (has_steps c.self.inside.works_by_step) _ c.has_no_work-has_no_work.result c.args.row c.self.invariant.1
           (λ none. subst (λ (m : Maps). works_of c.args.row.execution m.works ≡ []) (sym c.self.view_is) (c.has_no_work-has_no_work.ensures none)) c.keep_if.ensures.has c.keep_if.ensures.left),
       c.add.ensures
           ∙ (ap (λ s. with_one_more s c.self.inside.counts) c.status.ensures
           ∙ (ap (with_one_more (row_status c.args.row)) c.self.invariant.2
-          ∙ (sym (counts_added c.args.row c.self.inside.executions.items) ∙ ap counts_of (sym added)))),
-      subst (λ (l : List ExecutionRow). AreRunning c.add_running.new.running l) (sym added) (c.add_running.ensures c.self.inside.executions.items c.self.invariant.3),
+          ∙ (sym (counts_added c.args.row c.self.inside.executions.rows) ∙ ap counts_of (sym added)))),
+      subst (λ (l : List ExecutionRow). AreRunning c.add_running.new.running l) (sym added) (c.add_running.ensures c.self.inside.executions.rows c.self.invariant.3),
     )
