@@ -14,6 +14,8 @@ impl<N: Site> Operator<N> {
     /// Starts a job: makes a job instance and its first job execution (Jakarta Batch 2.1,
     /// "JobOperator", start). The reply is `Reply::Execution`.
     ///
+    /// It takes time as the catalogue has jobs and the job has elements.
+    ///
     /// # Errors
     ///
     /// `JobStartException` where the catalogue has no such job, then `RepositoryFull`; `OutOfMemory` in
@@ -33,6 +35,9 @@ impl<N: Site> Operator<N> {
 
     /// Makes a further job execution of a job instance (Jakarta Batch 2.1, "JobOperator", restart). The
     /// reply is `Reply::Execution`.
+    ///
+    /// It takes time as the job has steps and, for each partition of one, as there are job
+    /// executions with work of it; at the first restart of a job instance, as that has work items.
     ///
     /// # Errors
     ///
@@ -65,6 +70,8 @@ impl<N: Site> Operator<N> {
     /// Asks a job execution to stop (Jakarta Batch 2.1, "JobOperator", stop), and tells all sessions so.
     /// The reply is `Reply::Done`.
     ///
+    /// It takes the time to find its row.
+    ///
     /// # Errors
     ///
     /// In this order: `NoSuchJobExecutionException`; `JobExecutionNotRunningException` where it is
@@ -84,6 +91,8 @@ impl<N: Site> Operator<N> {
 
     /// Gives a finished job execution up, so that it is ABANDONED (Jakarta Batch 2.1, "JobOperator",
     /// abandon). The reply is `Reply::Done`.
+    ///
+    /// It takes the time to find its row.
     ///
     /// # Errors
     ///
@@ -106,6 +115,9 @@ impl<N: Site> Operator<N> {
     /// that has something to do. The reply is `Reply::Work`, `Reply::Closed` where a job execution was
     /// taken up that had nothing to run, or `Reply::Nothing`, which is no operation.
     ///
+    /// It takes the time of `finish`, and time as the catalogue has jobs; where it takes a job
+    /// execution up, as that one's job has elements and partitions.
+    ///
     /// # Errors
     ///
     /// `RepositoryFull`; `OutOfMemory` in place of any answer where memory is refused. A refused call
@@ -123,6 +135,8 @@ impl<N: Site> Operator<N> {
 
     /// Reports how far the chunk of a work item is (Jakarta Batch 2.1, "Checkpoint"). The reply is
     /// `Reply::Go`, or `Reply::StopAsked` where its job execution was asked to stop.
+    ///
+    /// It takes time as its job instance has checkpoints.
     ///
     /// # Errors
     ///
@@ -145,6 +159,10 @@ impl<N: Site> Operator<N> {
 
     /// Ends a work item with this outcome and exit status; without one it is the outcome's name. The
     /// reply is `Reply::Done`.
+    ///
+    /// It takes time as there are lists from its element to the job's own, flows of the splits
+    /// among them, and elements that the walk newly passes; and where a step is COMPLETED, as its
+    /// job instance has checkpoints.
     ///
     /// # Errors
     ///
@@ -180,6 +198,8 @@ impl<N: Site> Operator<N> {
     /// Gives a busy work item up whose worker is gone: it is FAILED. Any session may say so. The reply is
     /// `Reply::Done`.
     ///
+    /// It takes the time of `finish`.
+    ///
     /// # Errors
     ///
     /// In this order: `NoSuchWork`; `WorkNotRunning`; `RepositoryFull`. `OutOfMemory` in place of any
@@ -201,6 +221,9 @@ impl<N: Site> Operator<N> {
     /// not given again, and the operations on them stay in the log. Any session may say so. The reply
     /// is `Reply::Done`. The call is this service's own: Jakarta Batch 2.1 leaves to a job repository
     /// when it forgets ("JobRepository"), and its `JobOperator` has no such method.
+    ///
+    /// It takes time as the job instance has job executions, work items and checkpoints, and as its
+    /// job has job instances.
     ///
     /// # Errors
     ///

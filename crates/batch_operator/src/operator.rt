@@ -28,6 +28,12 @@ pub(crate) struct Kept<N: Site> {
 /// Each mutation waits for the lock of the book. A query waits for the lock of a read copy, and for the
 /// book's only where that copy is behind what its session has seen. `operations_at_least` and
 /// `stop_seen` wait for nobody.
+///
+/// What is kept grows by doubling: for that an operation takes constant time on average, and at worst
+/// as much as the log or the rows are long. A row is found by its number by halving. The walk of a job
+/// execution is kept from its first operation to its end; where none is kept, since memory for it was
+/// refused, a call makes it, in time as the job has elements and partitions, times what the plan of the
+/// job execution names and its work items. Beside that, each call takes what its own comment says.
 #[derive(Drop)]
 pub struct Operator<N: Site> {
     pub(crate) desk: Mutex<Kept<N>>,

@@ -13,6 +13,8 @@ impl<N: Site> Operator<N> {
     /// The names of the jobs that have a job instance, in the order of the least one of each (Jakarta
     /// Batch 2.1, "JobOperator", getJobNames).
     ///
+    /// It takes time as there are job instances, at worst.
+    ///
     /// # Errors
     ///
     /// None but `OutOfMemory`, where memory is refused.
@@ -23,6 +25,8 @@ impl<N: Site> Operator<N> {
     }
 
     /// How many job instances a job has (Jakarta Batch 2.1, "JobOperator", getJobInstanceCount).
+    ///
+    /// It takes the time to find the name.
     ///
     /// # Errors
     ///
@@ -41,6 +45,8 @@ impl<N: Site> Operator<N> {
 
     /// The job instances of a job, the newest first: at most `count` of them, without the `start` newest
     /// (Jakarta Batch 2.1, "JobOperator", getJobInstances).
+    ///
+    /// It takes time as there are job instances in the answer.
     ///
     /// # Errors
     ///
@@ -62,6 +68,8 @@ impl<N: Site> Operator<N> {
     /// The numbers of the unfinished job executions of a job, rising (Jakarta Batch 2.1, "JobOperator",
     /// getRunningExecutions).
     ///
+    /// It takes time as there are numbers in the answer.
+    ///
     /// # Errors
     ///
     /// `NoSuchJobException` where the job has no job instance; `OutOfMemory` in place of any answer where memory
@@ -80,6 +88,8 @@ impl<N: Site> Operator<N> {
     /// The parameters that were given to the start or restart of a job execution (Jakarta Batch 2.1,
     /// "JobOperator", getParameters).
     ///
+    /// It takes the time to find the row; the answer shares the parameters.
+    ///
     /// # Errors
     ///
     /// `NoSuchJobExecutionException`; `OutOfMemory` in place of any answer where memory
@@ -96,6 +106,8 @@ impl<N: Site> Operator<N> {
     }
 
     /// The job instance of a job execution (Jakarta Batch 2.1, "JobOperator", getJobInstance).
+    ///
+    /// It takes the time to find two rows.
     ///
     /// # Errors
     ///
@@ -115,6 +127,8 @@ impl<N: Site> Operator<N> {
     /// The records of the job executions of a job instance, the newest first (Jakarta Batch 2.1,
     /// "JobOperator", getJobExecutions).
     ///
+    /// It takes time as there are job executions in the answer.
+    ///
     /// # Errors
     ///
     /// `NoSuchJobInstanceException`; `OutOfMemory` in place of any answer where memory
@@ -131,6 +145,8 @@ impl<N: Site> Operator<N> {
     }
 
     /// The record of a job execution (Jakarta Batch 2.1, "JobOperator", getJobExecution).
+    ///
+    /// It takes the time to find the row.
     ///
     /// # Errors
     ///
@@ -150,6 +166,9 @@ impl<N: Site> Operator<N> {
     /// The records of the step executions of a job execution, by rising number (Jakarta Batch 2.1,
     /// "JobOperator", getStepExecutions).
     ///
+    /// It takes time as the job execution has work items, and for each of a partitioned step as
+    /// often again.
+    ///
     /// # Errors
     ///
     /// `NoSuchJobExecutionException`; `OutOfMemory` in place of any answer where memory
@@ -166,6 +185,8 @@ impl<N: Site> Operator<N> {
     }
 
     /// How many job executions have each batch status.
+    ///
+    /// It takes constant time.
     ///
     /// # Errors
     ///

@@ -22,7 +22,7 @@ use Rattle.job_walk.proofs.SameKeys.{same-one, same-sym, one_of_partitions}
 
 -- ---- How often a work key stands in a list
 
-count-append : (key : WorkKey) (xs ys : List WorkKey) → key_count key (xs ++ ys) ≡ key_count key xs + key_count key ys
+pub count-append : (key : WorkKey) (xs ys : List WorkKey) → key_count key (xs ++ ys) ≡ key_count key xs + key_count key ys
 count-append key [] ys = omega arith
 count-append key (x ∷ xs) ys = let more = count-append key xs ys in omega (arith, more)
 
@@ -115,7 +115,7 @@ inside-keys key i (IsRun runs partitions) n h =
     omega (arith, few, both)
 inside-keys key i (Holds inside) n h = omega (arith, h)
 
-element-keys : (key : WorkKey) (e : Element) → ElementKeys key e
+pub element-keys : (key : WorkKey) (e : Element) → ElementKeys key e
 element-keys key =
     ind-Element (BodyKeys key) (ElementKeys key) (FlowKeys key)
     (λ x y is.
@@ -135,7 +135,7 @@ element-keys key =
     (subst (λ z. key_count key (all_keys (joined (map leaves z.elements))) ≤ one_if (bytes_eq z.id key.element) + total (map (count_in key.element) z.elements)) is
     (let inner = keys-all key leaves (count_in key.element) y.elements in omega (arith, inner)))))
 
-list-keys : (key : WorkKey) (es : List Element) → key_count key (all_keys (all_leaves es)) ≤ count_of key.element es
+pub list-keys : (key : WorkKey) (es : List Element) → key_count key (all_keys (all_leaves es)) ≤ count_of key.element es
 list-keys key [] = omega arith
 list-keys key (e ∷ es) =
     let here = element-keys key e in

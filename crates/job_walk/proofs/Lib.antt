@@ -9,6 +9,7 @@ pub mod KeptTrees
 pub mod KeysOnce
 pub mod Learning
 pub mod Leaves
+pub mod Near
 pub mod Newest
 pub mod Once
 pub mod Ordered

@@ -8,6 +8,7 @@ ghost use Rattle.job_walk.specs.Walk.{fact_of, runnable_result, ready_result, bu
 
 use crate::facts::{Fact, Known, Value};
 use crate::work_key::{WorkKey, key_of};
+use crate::work_keys::WorkKeys;
 use batch_ids::{BatchStatus, Listed, OutOfMemory, T256, WorkOutcome};
 use jsl_model::ElementIndex;
 use std::alloc::Global;
@@ -21,20 +22,20 @@ pub enum ElementResult {
     Outcome(WorkOutcome, T256),
 }
 
-fn list_of_one(alloc: Global, id: &T256) -> Result<Listed<WorkKey>, OutOfMemory>
+fn one_key(alloc: Global, id: &T256) -> Result<WorkKeys, OutOfMemory>
     ensures { IfOk result (λ list. list ≡ key_of id.now 0 ∷ []) }
 {
     let mut list = Listed::new(alloc);
     list.push(key_of(id, 0)?)?;
-    Ok(list)
+    WorkKeys::new(alloc, list)
 }
 
 fn ready_result(alloc: Global, id: &T256) -> Result<ElementResult, OutOfMemory>
     ensures { IfOk result (λ made. made ≡ ready_result (key_of id.now 0)) }
 {
     Ok(ElementResult::ListValue(Value::Open {
-        ready: list_of_one(alloc, id)?,
-        busy: Listed::new(alloc),
+        ready: one_key(alloc, id)?,
+        busy: WorkKeys::none(),
     }))
 }
 
@@ -42,8 +43,8 @@ fn busy_result(alloc: Global, id: &T256) -> Result<ElementResult, OutOfMemory>
     ensures { IfOk result (λ made. made ≡ busy_result (key_of id.now 0)) }
 {
     Ok(ElementResult::ListValue(Value::Open {
-        ready: Listed::new(alloc),
-        busy: list_of_one(alloc, id)?,
+        ready: WorkKeys::none(),
+        busy: one_key(alloc, id)?,
     }))
 }
 

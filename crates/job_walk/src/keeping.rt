@@ -155,7 +155,7 @@ fn keep_first(
         }
         Some(first) => keep_list(alloc, lists, known, index, elements, &first.id)?,
     }
-    lists[base].progress.value.try_clone(alloc)
+    lists[base].progress.value.try_clone()
 }
 
 /// What an element comes to by itself. Adds what is kept of the lists inside it.

@@ -119,17 +119,13 @@ fn size_of(lists: &[KeptList]) -> usize
 }
 
 /// Adds a change of a list; what the list comes to by it.
-fn add_change(
-    alloc: Global,
-    changes: &mut Vec<ListChange>,
-    change: ListChange,
-) -> Result<Value, OutOfMemory>
+fn add_change(changes: &mut Vec<ListChange>, change: ListChange) -> Result<Value, OutOfMemory>
     ensures value { IfOk result (λ value. value ≡ change.progress.value) }
     ensures changes { OnOk result (changes.new.items ≡ changes.old.items ++ change ∷ []) }
 {
     let place = changes.len();
     changes.push(change)?;
-    changes[place].progress.value.try_clone(alloc)
+    changes[place].progress.value.try_clone()
 }
 
 /// What changes of a list and of those inside it, once this is learnt of a work key that it shows,
@@ -189,7 +185,7 @@ pub(crate) fn list_changes(
     match come {
         Ok(progress) => {
             let change = ListChange::new(base, place, result, progress);
-            Ok(add_change(alloc, changes, change)?)
+            Ok(add_change(changes, change)?)
         }
         Err(error) => {
             drop(result);
@@ -290,6 +286,6 @@ fn first_changes(
             alloc, changes, base, lists, elements, index, known, key, fact,
         )?)
     } else {
-        Ok(lists[0].progress.value.try_clone(alloc)?)
+        Ok(lists[0].progress.value.try_clone()?)
     }
 }

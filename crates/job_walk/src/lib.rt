@@ -20,6 +20,7 @@ mod runnable;
 mod splits;
 mod walk;
 mod work_key;
+mod work_keys;
 
 pub use cursor::Cursor;
 pub use element_result::ElementResult;
@@ -34,3 +35,4 @@ pub use prepared::Prepared;
 pub use runnable::{Runnable, find_partitions, find_runnable};
 pub use walk::walk_value;
 pub use work_key::WorkKey;
+pub use work_keys::WorkKeys;

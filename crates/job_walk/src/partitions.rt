@@ -6,6 +6,7 @@ ghost use Rattle.job_walk.specs.Walk.{fact_of, known_of, is_left, is_busy, is_ba
 use crate::element_result::{ElementResult, ended_value, fact_of, runnable_result};
 use crate::facts::{Fact, Known, Value};
 use crate::work_key::{WorkKey, key_of};
+use crate::work_keys::WorkKeys;
 use batch_ids::{BatchStatus, Listed, OutOfMemory, T256, WorkOutcome};
 use std::alloc::Global;
 
@@ -100,7 +101,10 @@ fn open_value(alloc: Global, partitions: &[Known]) -> Result<Value, OutOfMemory>
     let mut ready = Listed::new(alloc);
     let mut busy = Listed::new(alloc);
     add_open(&mut ready, &mut busy, partitions)?;
-    Ok(Value::Open { ready, busy })
+    Ok(Value::Open {
+        ready: WorkKeys::new(alloc, ready)?,
+        busy: WorkKeys::new(alloc, busy)?,
+    })
 }
 
 fn has_left(partitions: &[Known]) -> bool

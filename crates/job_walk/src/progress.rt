@@ -86,7 +86,7 @@ pub(crate) fn walk_on(
         match result_at(results, changed, comes_to, here) {
             ElementResult::ListValue(value) => {
                 return Ok(Progress {
-                    value: value.try_clone(alloc)?,
+                    value: value.try_clone()?,
                     place: at,
                     left: left - passed,
                 });

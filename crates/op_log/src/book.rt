@@ -81,6 +81,9 @@ impl<const LIMIT: u64> Book<LIMIT> {
     /// accepted. The reply Nothing makes no entry. The reply is decided once, and all growths come
     /// before the first change.
     ///
+    /// The log grows by doubling: for that an accepted call takes constant time on average, and at worst
+    /// as the log is long. Beside that it takes what `Repository::apply` takes.
+    ///
     /// # Errors
     ///
     /// The first refusal of the call that stands, `RepositoryFull` after the call's own refusals where

@@ -240,7 +240,7 @@ impl<const LIMIT: u64> Standing<'_, LIMIT> {
         match self.catalogue.job(job.as_str()) {
             None => task_of(self.alloc, mark, None),
             Some(job) => {
-                let found = job_walk::find_runnable(job.elements(), key)?;
+                let found = job_walk::find_runnable(job, key)?;
                 task_of(self.alloc, mark, found)
             }
         }
@@ -253,7 +253,7 @@ impl<const LIMIT: u64> Standing<'_, LIMIT> {
     {
         match self.catalogue.job(job.as_str()) {
             None => None,
-            Some(job) => match job_walk::find_partitions(job.elements(), key) {
+            Some(job) => match job_walk::find_partitions(job, key) {
                 None => None,
                 Some(_) => Some(key.partition),
             },

@@ -7,8 +7,8 @@ ghost use Rattle.batch_history.specs.Statuses.{is_finished, batch_status, exit_s
 ghost use Rattle.batch_history.specs.Works.{exit_or_name};
 ghost use Rattle.job_walk.specs.declared.facts.Value.{Value as Walk};
 
-use batch_ids::{BatchStatus, Listed, Moment, OutOfMemory, T256, WorkOutcome};
-use job_walk::{Value, WorkKey};
+use batch_ids::{BatchStatus, Moment, OutOfMemory, T256, WorkOutcome};
+use job_walk::{Value, WorkKey, WorkKeys};
 use std::alloc::Global;
 
 /// The exit status of a work item: the one that was given, else its outcome's name.
@@ -75,7 +75,7 @@ pub fn earliest(earlier: Option<Moment>, counts: bool, at: Moment) -> Option<Mom
 }
 
 /// The status of a job execution that was asked to stop, by what is being run.
-fn stop_status(busy: &Listed<WorkKey>) -> BatchStatus
+fn stop_status(busy: &WorkKeys) -> BatchStatus
     ensures { result ≡ stopping_status busy.now }
 {
     match busy.as_slice().first() {
@@ -120,7 +120,7 @@ fn stopped_exit(alloc: Global) -> Result<Option<T256>, OutOfMemory>
     Ok(Some(T256::within(alloc, BatchStatus::Stopped.name())?))
 }
 
-fn exit_of_stop(alloc: Global, busy: &Listed<WorkKey>) -> Result<Option<T256>, OutOfMemory>
+fn exit_of_stop(alloc: Global, busy: &WorkKeys) -> Result<Option<T256>, OutOfMemory>
     ensures { IfOk result (λ exit. exit ≡ stopping_exit_status busy.now) }
 {
     match busy.as_slice().first() {

@@ -102,6 +102,8 @@ impl<const LIMIT: u64> Repository<LIMIT> {
     /// Answers a call of the session `who` at this moment, and enters it where it is accepted. The
     /// reply Nothing is not entered.
     ///
+    /// What each call walks is said in docs/PERFORMANCE.md, "Where the time goes now".
+    ///
     /// # Errors
     ///
     /// The first refusal of the call that stands, `RepositoryFull` after the call's own refusals where

@@ -282,7 +282,7 @@ fn partitions_of(catalogue: &Catalogue, owner: &ExecutionRow, key: &WorkKey) -> 
 {
     match catalogue.job(owner.job.as_str()) {
         None => None,
-        Some(job) => job_walk::find_partitions(job.elements(), key),
+        Some(job) => job_walk::find_partitions(job, key),
     }
 }
 

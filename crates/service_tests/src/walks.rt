@@ -207,7 +207,7 @@ fn a_step_waits_for_its_partitions_and_is_failed_if_one_is(rt: HostRuntime) -> R
 /// How many partitions the step has that a work key is of, in the job of a catalogue.
 fn partitions_in(catalogue: &Catalogue, key: &WorkKey) -> Result<Option<u32>, Fail> {
     let job = catalogue.job("j").ok_or("no job")?;
-    Ok(find_partitions(job.elements(), key))
+    Ok(find_partitions(job, key))
 }
 
 /// How many partitions are found by this partition of the step `p`.
