@@ -1,7 +1,8 @@
 use batch_commands::{program, refuse_words};
 use std::io;
 use std::io::{Error, ErrorKind, Read, Write};
-use std::test::Fail;
+use std::sync::Wait;
+use std::thread::Threads;
 
 const SCRIPT: &[u8] = b"{\"jobs\":[]}\n{\"do\":\"start\",\"by\":1,\"at\":0,\"job\":\"a\"}\n";
 
@@ -41,72 +42,101 @@ impl Write for Broken {
     }
 }
 
+/// What the program writes, and what it tells on standard error.
+#[derive(Drop)]
+struct Written {
+    out: Vec<u8>,
+    faults: Vec<u8>,
+}
+
+/// Runs the program on these bytes; its exit status.
+fn run<R: Threads + Wait + AllocGlobal + Sync>(
+    rt: &R,
+    words: &[&str],
+    input: &[u8],
+    written: &mut Written,
+) -> u8 {
+    program(rt, words, input, &mut written.out, &mut written.faults)
+}
+
+/// Whether the program ends with this status, writes this, and tells nothing on standard error.
+fn writes<R: Threads + Wait + AllocGlobal + Sync>(
+    rt: &R,
+    words: &[&str],
+    input: &[u8],
+    status: u8,
+    wanted: &str,
+) -> bool {
+    let mut written = Written {
+        out: Vec::new(rt.alloc()),
+        faults: Vec::new(rt.alloc()),
+    };
+    let found = run(rt, words, input, &mut written);
+    let is_so = written.out.as_slice() == wanted.as_bytes() && written.faults.is_empty();
+    drop(written);
+    found == status && is_so
+}
+
 #[test]
 fn a_script_is_answered_on_the_writer(rt: HostRuntime) {
-    for (input, status, wanted) in [
-        (SCRIPT, 0, "{\"refused\":\"JobStartException\"}\n"),
-        (b"".as_slice(), 3, "{\"fault\":\"NotJson\"}\n"),
-    ] {
-        let mut out = Vec::new(rt.alloc());
-        let mut faults = Vec::new(rt.alloc());
-        let found = program(&rt, &["script"], input, &mut out, &mut faults);
-        assert_eq!(rt; found, status);
-        assert_eq!(rt; out.as_slice(), wanted.as_bytes());
-        assert!(rt; faults.is_empty());
-    }
+    let wanted = "{\"refused\":\"JobStartException\"}\n";
+    assert!(rt; writes(&rt, &["script"], SCRIPT, 0, wanted));
+    assert!(rt; writes(&rt, &["script"], b"", 3, "{\"fault\":\"NotJson\"}\n"));
 }
 
 #[test]
 fn a_catalogue_is_run(rt: HostRuntime) {
-    for (words, input, status, wanted) in [
-        (["run"].as_slice(), CHUNK, 0, CHUNK_RUN),
-        (&["run", "--workers", "16"], STARTS, 0, STARTS_RUN),
-        (&["run", "--workers=1"], b"", 3, "{\"fault\":\"NotJson\"}\n"),
-    ] {
-        let mut out = Vec::new(rt.alloc());
-        let mut faults = Vec::new(rt.alloc());
-        let found = program(&rt, words, input, &mut out, &mut faults);
-        assert_eq!(rt; found, status);
-        assert_eq!(rt; out.as_slice(), wanted.as_bytes());
-        assert!(rt; faults.is_empty());
-    }
+    assert!(rt; writes(&rt, &["run"], CHUNK, 0, CHUNK_RUN));
+    assert!(rt; writes(&rt, &["run", "--workers", "16"], STARTS, 0, STARTS_RUN));
+    let wanted = "{\"fault\":\"NotJson\"}\n";
+    assert!(rt; writes(&rt, &["run", "--workers=1"], b"", 3, wanted));
+}
+
+/// Whether the program tells a fault of a device that it reads.
+fn tells_read_fault<R: Threads + Wait + AllocGlobal + Sync>(rt: &R, words: &[&str]) -> bool {
+    let mut out = Vec::new(rt.alloc());
+    let mut faults = Vec::new(rt.alloc());
+    let found = program(rt, words, Broken, &mut out, &mut faults);
+    drop(out);
+    found == 4 && faults.as_slice() == b"batchctl: read fault\n".as_slice()
+}
+
+/// Whether the program tells a fault of a device that it writes on.
+fn tells_write_fault<R: Threads + Wait + AllocGlobal + Sync>(rt: &R, words: &[&str]) -> bool {
+    let mut faults = Vec::new(rt.alloc());
+    let found = program(rt, words, SCRIPT, Broken, &mut faults);
+    found == 4 && faults.as_slice() == b"batchctl: write fault\n".as_slice()
 }
 
 #[test]
 fn a_failed_device_is_told_on_standard_error(rt: HostRuntime) {
     for word in ["script", "run"] {
-        let mut out = Vec::new(rt.alloc());
-        let mut faults = Vec::new(rt.alloc());
-        let found = program(&rt, &[word], Broken, &mut out, &mut faults);
-        assert_eq!(rt; found, 4);
-        assert_eq!(rt; faults.as_slice(), b"batchctl: read fault\n".as_slice());
-        let mut faults = Vec::new(rt.alloc());
-        let found = program(&rt, &[word], SCRIPT, Broken, &mut faults);
-        assert_eq!(rt; found, 4);
-        assert_eq!(rt; faults.as_slice(), b"batchctl: write fault\n".as_slice());
+        assert!(rt; tells_read_fault(&rt, &[word]), "{word}");
+        assert!(rt; tells_write_fault(&rt, &[word]), "{word}");
     }
 }
 
 #[test]
 fn a_failed_device_is_told_where_help_was_asked_for(rt: HostRuntime) {
-    let mut faults = Vec::new(rt.alloc());
-    let found = program(&rt, &["--help"], SCRIPT, Broken, &mut faults);
-    assert_eq!(rt; found, 4);
-    assert_eq!(rt; faults.as_slice(), b"batchctl: write fault\n".as_slice());
+    assert!(rt; tells_write_fault(&rt, &["--help"]));
+}
+
+/// Whether the program writes some help, and tells nothing on standard error.
+fn helps<R: Threads + Wait + AllocGlobal + Sync>(rt: &R) -> bool {
+    let mut written = Written {
+        out: Vec::new(rt.alloc()),
+        faults: Vec::new(rt.alloc()),
+    };
+    let found = run(rt, &["--help"], SCRIPT, &mut written);
+    let is_so = !written.out.is_empty() && written.faults.is_empty();
+    drop(written);
+    found == 0 && is_so
 }
 
 #[test]
 fn help_goes_to_the_writer(rt: HostRuntime) {
-    let mut out = Vec::new(rt.alloc());
-    let mut faults = Vec::new(rt.alloc());
-    let found = program(&rt, &["--help"], SCRIPT, &mut out, &mut faults);
-    assert_eq!(rt; found, 0);
-    assert!(rt; !out.is_empty() && faults.is_empty());
-    let mut out = Vec::new(rt.alloc());
-    let found = program(&rt, &["--version"], SCRIPT, &mut out, &mut faults);
-    assert_eq!(rt; found, 0);
-    assert_eq!(rt; out.as_slice(), b"batchctl 0.1.0\n".as_slice());
-    assert!(rt; faults.is_empty());
+    assert!(rt; helps(&rt));
+    assert!(rt; writes(&rt, &["--version"], SCRIPT, 0, "batchctl 0.1.0\n"));
 }
 
 #[test]
@@ -122,12 +152,20 @@ fn mistakes_go_to_standard_error(rt: HostRuntime) {
         &["run", "--workers"],
         &["run", "2"],
     ] {
-        let mut out = Vec::new(rt.alloc());
-        let mut faults = Vec::new(rt.alloc());
-        let found = program(&rt, words, SCRIPT, &mut out, &mut faults);
-        assert_eq!(rt; found, 2);
-        assert!(rt; out.is_empty() && !faults.is_empty());
+        assert!(rt; refuses(&rt, words));
     }
+}
+
+/// Whether the program refuses a command line: it writes nothing, and tells why on standard error.
+fn refuses<R: Threads + Wait + AllocGlobal + Sync>(rt: &R, words: &[&str]) -> bool {
+    let mut written = Written {
+        out: Vec::new(rt.alloc()),
+        faults: Vec::new(rt.alloc()),
+    };
+    let found = run(rt, words, SCRIPT, &mut written);
+    let is_so = written.out.is_empty() && !written.faults.is_empty();
+    drop(written);
+    found == 2 && is_so
 }
 
 #[test]

@@ -55,12 +55,15 @@ const PRINTED: [(Refusal, &str); 17] = [
 
 #[test]
 fn a_refusal_prints_as_its_name(rt: HostRuntime) -> Result<(), Fail> {
-    for (refusal, name) in PRINTED {
-        let text = format!(in rt.alloc(); "{refusal}")?;
-        assert_eq!(rt; text.as_str(), name);
+    for (refusal, name) in &PRINTED {
+        assert!(rt; is_printed(rt.alloc(), *refusal, name)?, "{name}");
     }
-    assert_eq!(rt; Refusal::OutOfMemory.number(), 18);
     Ok(())
+}
+
+fn is_printed(alloc: Global, refusal: Refusal, name: &str) -> Result<bool, AllocError> {
+    let text = format!(in alloc; "{refusal}")?;
+    Ok(text.as_str() == name)
 }
 
 /// The parameters of these keys with these values.
@@ -75,14 +78,19 @@ fn parameters_of(alloc: Global, pairs: [(&str, &str); 3]) -> Result<Parameters, 
     Ok(Parameters::new(alloc, given)?)
 }
 
+/// Whether these are two parameters, `from` and then `to` with its last value.
+fn is_last_kept(parameters: &Parameters) -> bool {
+    parameters.len() == 2
+        && parameters.get("to") == Some("3")
+        && parameters.get("via").is_none()
+        && parameters.pairs()[0].key().as_str() == "from"
+}
+
 #[test]
 fn the_last_value_of_a_key_counts(rt: HostRuntime) -> Result<(), Fail> {
     let parameters = parameters_of(rt.alloc(), [("to", "1"), ("from", "2"), ("to", "3")])?;
-    assert_eq!(rt; parameters.len(), 2);
-    assert_eq!(rt; parameters.get("to"), Some("3"));
-    assert_eq!(rt; parameters.get("via"), None);
-    assert_eq!(rt; parameters.pairs()[0].key().as_str(), "from");
-    assert_eq!(rt; parameters.try_clone()?, parameters);
+    assert!(rt; is_last_kept(&parameters));
+    assert!(rt; is_last_kept(&parameters.try_clone()?));
     Ok(())
 }
 
@@ -145,12 +153,21 @@ const STATUSES: [(BatchStatus, &str); 7] = [
     (BatchStatus::Abandoned, "ABANDONED"),
 ];
 
+fn is_status(alloc: Global, status: BatchStatus, printed: &str) -> Result<bool, AllocError> {
+    let text = status.to_string(alloc)?;
+    Ok(text.as_str() == printed && printed.parse::<BatchStatus>() == Ok(status))
+}
+
 #[test]
 fn a_status_prints_as_its_name_and_is_read_from_it(rt: HostRuntime) -> Result<(), Fail> {
-    for (status, printed) in STATUSES {
-        assert_eq!(rt; status.to_string(rt.alloc())?.as_str(), printed);
-        assert_eq!(rt; printed.parse::<BatchStatus>(), Ok(status));
+    for (status, printed) in &STATUSES {
+        assert!(rt; is_status(rt.alloc(), *status, printed)?, "{printed}");
     }
+    Ok(())
+}
+
+#[test]
+fn nothing_else_is_read_as_a_status(rt: HostRuntime) {
     for text in [
         "",
         "starting",
@@ -159,9 +176,13 @@ fn a_status_prints_as_its_name_and_is_read_from_it(rt: HostRuntime) -> Result<()
         "COMPLETE",
         "COMPLETED\0",
     ] {
-        assert_eq!(rt; text.parse::<BatchStatus>(), Err(UnknownName), "{text}");
+        assert!(rt; text.parse::<BatchStatus>().is_err(), "{text}");
     }
-    Ok(())
+}
+
+fn is_outcome(alloc: Global, outcome: WorkOutcome, printed: &str) -> Result<bool, AllocError> {
+    let text = outcome.to_string(alloc)?;
+    Ok(text.as_str() == printed && printed.parse::<WorkOutcome>() == Ok(outcome))
 }
 
 #[test]
@@ -172,14 +193,21 @@ fn an_outcome_prints_as_its_name_and_is_read_from_it(rt: HostRuntime) -> Result<
         (WorkOutcome::Stopped, "STOPPED"),
     ];
     for (outcome, printed) in outcomes {
-        assert_eq!(rt; outcome.name(), printed);
-        assert_eq!(rt; outcome.to_string(rt.alloc())?.as_str(), printed);
-        assert_eq!(rt; printed.parse::<WorkOutcome>(), Ok(outcome));
-    }
-    for text in ["", "failed", "STARTED", "ABANDONED", "STOPPED."] {
-        assert_eq!(rt; text.parse::<WorkOutcome>(), Err(UnknownName), "{text}");
+        assert!(rt; is_outcome(rt.alloc(), outcome, printed)?, "{printed}");
     }
     Ok(())
+}
+
+#[test]
+fn nothing_else_is_read_as_an_outcome(rt: HostRuntime) {
+    for text in ["", "failed", "STARTED", "ABANDONED", "STOPPED."] {
+        assert!(rt; text.parse::<WorkOutcome>().is_err(), "{text}");
+    }
+}
+
+fn is_metric(alloc: Global, metric: Metric, printed: &str) -> Result<bool, AllocError> {
+    let text = metric.to_string(alloc)?;
+    Ok(text.as_str() == printed && printed.parse::<Metric>() == Ok(metric))
 }
 
 #[test]
@@ -195,13 +223,16 @@ fn a_metric_prints_as_its_name_and_is_read_from_it(rt: HostRuntime) -> Result<()
         (Metric::WriteSkipCount, "WRITE_SKIP_COUNT"),
     ];
     for (metric, printed) in metrics {
-        assert_eq!(rt; metric.to_string(rt.alloc())?.as_str(), printed);
-        assert_eq!(rt; printed.parse::<Metric>(), Ok(metric));
-    }
-    for text in ["", "read_count", "READ COUNT", "READ_COUNTS"] {
-        assert_eq!(rt; text.parse::<Metric>(), Err(UnknownName), "{text}");
+        assert!(rt; is_metric(rt.alloc(), metric, printed)?, "{printed}");
     }
     Ok(())
+}
+
+#[test]
+fn nothing_else_is_read_as_a_metric(rt: HostRuntime) {
+    for text in ["", "read_count", "READ COUNT", "READ_COUNTS"] {
+        assert!(rt; text.parse::<Metric>().is_err(), "{text}");
+    }
 }
 
 #[test]
@@ -229,14 +260,18 @@ fn counts_are_zero_by_default(rt: HostRuntime) {
 #[test]
 fn parameters_are_walked_over_by_rising_keys(rt: HostRuntime) -> Result<(), Fail> {
     let parameters = parameters_of(rt.alloc(), [("b", "1"), ("a", "2"), ("c", "3")])?;
-    let mut walked = String::new(rt.alloc());
-    for parameter in &parameters {
+    assert!(rt; walk_over(rt.alloc(), &parameters)?);
+    Ok(())
+}
+
+/// Whether a walk over these parameters goes over three, by rising keys.
+fn walk_over(alloc: Global, parameters: &Parameters) -> Result<bool, AllocError> {
+    let mut walked = String::new(alloc);
+    for parameter in parameters {
         walked.push_str(parameter.key().as_str())?;
         walked.push_str(parameter.value().as_str())?;
     }
-    assert_eq!(rt; walked.as_str(), "a2b1c3");
-    assert_eq!(rt; parameters.iter().len(), 3);
-    Ok(())
+    Ok(walked.as_str() == "a2b1c3" && parameters.iter().len() == 3)
 }
 
 #[test]
@@ -250,9 +285,12 @@ fn a_text_that_is_left_out_is_copied(rt: HostRuntime) -> Result<(), Fail> {
 #[test]
 fn refusals_are_numbered_1_to_16_and_18(rt: HostRuntime) {
     const NUMBERS: [u8; 17] = [1, 2, 3, 4, 5, 6, 7, 8, 9, 10, 11, 12, 13, 14, 15, 16, 18];
-    for ((refusal, name), number) in PRINTED.into_iter().zip(NUMBERS) {
-        assert_eq!(rt; refusal.number(), number, "{name}");
-    }
+    assert!(rt;
+        PRINTED
+            .iter()
+            .map(|(refusal, _)| refusal.number())
+            .eq(NUMBERS)
+    );
 }
 
 #[test]

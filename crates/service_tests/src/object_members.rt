@@ -1,6 +1,7 @@
 use json_members::{
     has_only, is_text, list_at, number_at, object_at, optional_number, read_value, truth_at,
 };
+use serde_json::Value;
 use std::test::Fail;
 
 #[test]
@@ -8,26 +9,40 @@ fn what_is_no_number(rt: HostRuntime) -> Result<(), Fail> {
     let line =
         br#"{"a":-0,"b":1.0,"c":1e3,"d":18446744073709551616,"e":18446744073709551615,"f":null}"#;
     let value = read_value(rt.alloc(), line)?.ok_or("no value")?;
-    for name in ["a", "b", "c", "d", "f", "g"] {
-        assert_eq!(rt; number_at(&value, name), None, "{name}");
-    }
-    assert_eq!(rt; number_at(&value, "e"), Some(u64::MAX));
-    assert_eq!(rt; optional_number(&value, "f"), None);
-    assert_eq!(rt; optional_number(&value, "g"), Some(None));
+    let found = are_numbers_found(&value);
+    drop(value);
+    assert!(rt; found);
     Ok(())
+}
+
+/// Whether the one number is found, and nothing else as a number.
+fn are_numbers_found(value: &Value) -> bool {
+    ["a", "b", "c", "d", "f", "g"]
+        .iter()
+        .all(|name| number_at(value, name).is_none())
+        && number_at(value, "e") == Some(u64::MAX)
+        && optional_number(value, "f").is_none()
+        && optional_number(value, "g") == Some(None)
 }
 
 #[test]
 fn names_and_texts(rt: HostRuntime) -> Result<(), Fail> {
     let line = br#"{"\u0064o":"x","do":"start","on":true,"list":[1,[]],"in":{}}"#;
     let value = read_value(rt.alloc(), line)?.ok_or("no value")?;
-    assert!(rt; is_text(&value, "do", "start"));
-    assert!(rt; has_only(&value, &["in", "on", "list", "do", "at"]));
-    assert!(rt; !has_only(&value, &["in", "on", "list"]));
-    assert_eq!(rt; truth_at(&value, "on"), Some(true));
-    assert_eq!(rt; list_at(&value, "list").map(|list| list.len()), Some(2));
-    assert!(rt; object_at(&value, "in").is_some());
+    let found = are_members_found(&value);
+    drop(value);
+    assert!(rt; found);
     Ok(())
+}
+
+/// Whether each member is found by its name, and is what it is.
+fn are_members_found(value: &Value) -> bool {
+    is_text(value, "do", "start")
+        && has_only(value, &["in", "on", "list", "do", "at"])
+        && !has_only(value, &["in", "on", "list"])
+        && truth_at(value, "on") == Some(true)
+        && list_at(value, "list").map(|list| list.len()) == Some(2)
+        && object_at(value, "in").is_some()
 }
 
 #[test]
