@@ -1,5 +1,6 @@
-ghost use Rattle.std.specs.Prelude.{◌≡◌, ℕ, ◌==◌, ◌≤◌, ◌++◌, ◌∷◌, [], List, bytes_eq, position, slice_get, IfSome, OnOk, OnErr, if◌then◌else◌};
+ghost use Rattle.std.specs.Prelude.{◌≡◌, ℕ, ◌==◌, ◌≤◌, ◌++◌, ◌∷◌, [], List, bytes_eq, position, slice_get, ◌<◌, length, IfSome, OnOk, OnErr, if◌then◌else◌};
 ghost use Rattle.records.specs.Indexes.{numbers_named, without_number};
+ghost use Rattle.records.specs.Maps.{AreRising};
 
 use batch_ids::{Listed, OutOfMemory};
 use indexmap::IndexMap;
@@ -52,7 +53,8 @@ impl NameLists {
         Ok(())
     }
 
-    /// Removes a number from those under this name. It takes no memory.
+    /// Removes a number from those under this name. It takes no memory, and compares the numbers
+    /// before it.
     pub(crate) fn remove(&mut self, name: &str, number: u64)
         ensures { (q : List ℕ) → numbers_named self.new q
             ≡ (if bytes_eq name.now q then without_number number (numbers_named self.old q) else numbers_named self.old q) }
@@ -69,6 +71,27 @@ impl NameLists {
     {
         if let Some(known) = self.lists.get_mut(name) {
             remove_number(known, number);
+        }
+    }
+
+    /// Removes a number from those under this name, which rise. It takes no memory, and a binary
+    /// search.
+    pub(crate) fn remove_rising(&mut self, name: &str, number: u64)
+        ensures { (q : List ℕ) → AreRising (numbers_named self.old q) → numbers_named self.new q
+            ≡ (if bytes_eq name.now q then without_number number (numbers_named self.old q) else numbers_named self.old q) }
+    {
+        self.leave_out_rising(name, number);
+        if self.under(name).is_empty() {
+            self.forget(name);
+        }
+    }
+
+    fn leave_out_rising(&mut self, name: &str, number: u64)
+        ensures { (q : List ℕ) → AreRising (numbers_named self.old q) → numbers_named self.new q
+            ≡ (if bytes_eq name.now q then without_number number (numbers_named self.old q) else numbers_named self.old q) }
+    {
+        if let Some(known) = self.lists.get_mut(name) {
+            remove_rising_number(known, number);
         }
     }
 
@@ -101,6 +124,23 @@ pub(crate) fn remove_number(numbers: &mut Listed<u64>, number: u64)
     if let Some(place) = place_of(numbers.as_slice(), number) {
         numbers.remove(place);
     }
+}
+
+/// Removes the number that is this one, of numbers that rise.
+fn remove_rising_number(numbers: &mut Listed<u64>, number: u64)
+    ensures { AreRising numbers.old → numbers.new ≡ without_number number numbers.old }
+{
+    if let Some(place) = rising_place_of(numbers.as_slice(), number) {
+        numbers.remove(place);
+    }
+}
+
+/// Where a number stands, of numbers that rise.
+fn rising_place_of(numbers: &[u64], number: u64) -> Option<usize>
+    ensures place { AreRising numbers.now → result ≡ position (λ n. n == number) numbers.now }
+    ensures within { IfSome result (λ place. place < length numbers.now) }
+{
+    numbers.binary_search(&number).ok()
 }
 
 /// Where a number stands first.

@@ -6,6 +6,7 @@ ghost use Rattle.batch_history.specs.Lists.{change_first};
 ghost use Rattle.batch_history.specs.Replies.{is_execution, row_status};
 ghost use Rattle.batch_history.specs.declared.rows.ExecutionRow.{ExecutionRow as Row};
 ghost use Rattle.records.specs.Indexes.{AreRunning, numbers_named, numbers_under, without_number};
+ghost use Rattle.records.specs.Maps.{AreRising, execution_numbers};
 
 use crate::name_lists::NameLists;
 use crate::number_lists::NumberLists;
@@ -58,15 +59,15 @@ impl RunningLists {
         self.by_instance.push(row.instance.value(), x)
     }
 
-    /// Removes a job execution. It takes no memory.
+    /// Removes a job execution. It takes no memory, and a binary search.
     fn remove(&mut self, row: &ExecutionRow)
-        ensures named { (q : List ℕ) → numbers_named self.new.by_name q
+        ensures named { (q : List ℕ) → AreRising (numbers_named self.old.by_name q) → numbers_named self.new.by_name q
             ≡ (if bytes_eq row.now.job q then without_number row.now.execution (numbers_named self.old.by_name q) else numbers_named self.old.by_name q) }
         ensures owned { (q : ℕ) → numbers_under self.new.by_instance q
             ≡ (if row.now.instance == q then without_number row.now.execution (numbers_under self.old.by_instance q) else numbers_under self.old.by_instance q) }
     {
         let x = row.execution.value();
-        self.by_name.remove(row.job.as_str(), x);
+        self.by_name.remove_rising(row.job.as_str(), x);
         self.by_instance.leave_out(row.instance.value(), x);
     }
 }
@@ -101,7 +102,7 @@ pub(crate) fn change_running(
 )
     ensures { (rows : List Row) (old : Row) → find (is_execution row.now.execution) rows ≡ Some old
         → old.job ≡ row.now.job → old.instance ≡ row.now.instance → was_unfinished ≡ is_unfinished (row_status old)
-        → AreRunning running.old rows → AreRunning running.new
+        → AreRising (execution_numbers rows) → AreRunning running.old rows → AreRunning running.new
         (change_first (is_execution row.now.execution) (λ gone. row.now) rows) }
 {
     let is_unfinished = row.status().is_unfinished();
@@ -120,7 +121,7 @@ fn leave_out(running: &mut Option<RunningLists>, row: &ExecutionRow)
     ensures { (rows : List Row) (old : Row) → find (is_execution row.now.execution) rows ≡ Some old
         → old.job ≡ row.now.job → old.instance ≡ row.now.instance → is_unfinished (row_status old) ≡ true
         → is_unfinished (row_status row.now) ≡ false
-        → AreRunning running.old rows → AreRunning running.new
+        → AreRising (execution_numbers rows) → AreRunning running.old rows → AreRunning running.new
         (change_first (is_execution row.now.execution) (λ gone. row.now) rows) }
 {
     if let Some(lists) = running.as_mut() {
