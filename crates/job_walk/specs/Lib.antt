@@ -5,4 +5,5 @@ pub mod Preparing
 pub mod Lists
 pub mod Plans
 pub mod Runnables
+pub mod Spots
 pub mod Walk

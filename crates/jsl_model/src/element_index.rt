@@ -11,6 +11,26 @@ struct Spot {
     place: usize,
     /// The place of its first work key, among those of the job.
     first: usize,
+    /// Inside what its list stands; nothing, where that is the job's own.
+    outer: Option<Outer>,
+}
+
+/// The element that a list stands in.
+#[derive(Debug, Drop)]
+pub struct Outer {
+    /// Its id.
+    pub id: T256,
+    /// The place of the flow that has the list, where the element is a split.
+    pub flow: usize,
+}
+
+impl Outer {
+    fn try_clone(&self) -> Result<Outer, OutOfMemory> {
+        Ok(Outer {
+            id: self.id.try_clone()?,
+            flow: self.flow,
+        })
+    }
 }
 
 /// Where to look for each element of a job, and for its work keys, by its id.
@@ -26,7 +46,7 @@ impl ElementIndex {
     /// The index of these elements and of those inside them.
     pub(crate) fn of(alloc: Global, elements: &[Element]) -> Result<ElementIndex, OutOfMemory> {
         let mut spots = BTreeMap::new(alloc);
-        add_all(&mut spots, elements, 0)?;
+        add_all(&mut spots, elements, None, 0)?;
         Ok(ElementIndex { spots })
     }
 
@@ -39,6 +59,12 @@ impl ElementIndex {
         }
     }
 
+    /// Inside what the list of the element with this id stands; nothing, where that is the job's own, or
+    /// there is no such element. It costs as much.
+    pub fn outer_of(&self, id: &T256) -> Option<&Outer> {
+        self.spots.get(id)?.outer.as_ref()
+    }
+
     /// The place of the work key of this partition of the element with this id, among those of the job
     /// in written order, and 0 where there is none. It costs as much.
     pub fn key_place_of(&self, id: &T256, partition: u32) -> usize {
@@ -47,6 +73,14 @@ impl ElementIndex {
             None => 0,
         }
     }
+}
+
+/// What the list of this flow of an element stands in.
+fn outer_at(element: &Element, flow: usize) -> Result<Outer, OutOfMemory> {
+    Ok(Outer {
+        id: element.id.try_clone()?,
+        flow,
+    })
 }
 
 /// Adds an element that stands there.
@@ -63,11 +97,21 @@ fn add_spot(spots: &mut BTreeMap<T256, Spot>, id: T256, spot: Spot) -> Result<()
 fn add_all(
     spots: &mut BTreeMap<T256, Spot>,
     elements: &[Element],
+    outer: Option<&Outer>,
     first: usize,
 ) -> Result<usize, OutOfMemory> {
     let mut next = first;
     for (place, element) in elements.iter().enumerate() {
-        add_spot(spots, element.id.try_clone()?, Spot { place, first: next })?;
+        let outer = match outer {
+            None => None,
+            Some(outer) => Some(outer.try_clone()?),
+        };
+        let spot = Spot {
+            place,
+            first: next,
+            outer,
+        };
+        add_spot(spots, element.id.try_clone()?, spot)?;
         next = add_inside(spots, element, next)?;
     }
     Ok(next)
@@ -86,11 +130,15 @@ fn add_inside(
             None => Ok(first.saturating_add(1)),
         },
         Body::Decision { .. } => Ok(first.saturating_add(1)),
-        Body::Flow(elements) => Ok(add_all(spots, elements.as_slice(), first)?),
+        Body::Flow(elements) => {
+            let outer = outer_at(element, 0)?;
+            Ok(add_all(spots, elements.as_slice(), Some(&outer), first)?)
+        }
         Body::Split(flows) => {
             let mut next = first;
-            for flow in flows.as_slice() {
-                next = add_all(spots, flow.elements.as_slice(), next)?;
+            for (place, flow) in flows.as_slice().iter().enumerate() {
+                let outer = outer_at(element, place)?;
+                next = add_all(spots, flow.elements.as_slice(), Some(&outer), next)?;
             }
             Ok(next)
         }

@@ -20,7 +20,7 @@ mod targets;
 
 pub use catalogue::Catalogue;
 pub use element::{Body, Element, SplitFlow, Step, Task, Then, Transition};
-pub use element_index::ElementIndex;
+pub use element_index::{ElementIndex, Outer};
 pub use job::{Job, JobFault};
 pub use parts::{
     BodyParts, ElementParts, JobParts, SplitFlowParts, StepParts, TaskParts, ThenParts,
