@@ -182,7 +182,8 @@ fn nothing_else_is_read_as_a_status(rt: HostRuntime) {
 
 fn is_outcome(alloc: Global, outcome: WorkOutcome, printed: &str) -> Result<bool, AllocError> {
     let text = outcome.to_string(alloc)?;
-    Ok(text.as_str() == printed && printed.parse::<WorkOutcome>() == Ok(outcome))
+    let is_printed = text.as_str() == printed && outcome.name() == printed;
+    Ok(is_printed && printed.parse::<WorkOutcome>() == Ok(outcome))
 }
 
 #[test]
