@@ -15,6 +15,6 @@ returns-then-flow-flows c = λ key once.
       subst (λ xs. count_of key.element xs ≤ 1) (sym these)
           (split-once-in key.element c.args.element.now flows c.args.flow f is once c.if-flow-flows.true c.index-flows-flow.is),
       λ run found.
-      split-run c.args.element.now flows key c.args.flow f run is once c.if-flow-flows.true c.index-flows-flow.is
+          split-run c.args.element.now flows key c.args.flow f run is once c.if-flow-flows.true c.index-flows-flow.is
           (ap (λ xs. run_with (all_leaves xs) key) (sym these) ∙ found),
     )
