@@ -62,7 +62,7 @@ fn run_over<
     };
     let operator = Operator::<N>::new(rt.alloc(), table, seat, catalogue, copies)?;
     let ran = run_on(rt, workers, lines, replies, &operator, names);
-    drop(operator);
+    operator.close();
     ran
 }
 

@@ -80,6 +80,12 @@ impl<N: Site> Operator<N> {
         }
     }
 
+    /// Gives up the operator, and the memory that its history and its read copies take. A program that lets it
+    /// run out of scope does the same, and takes longer to be proved.
+    pub fn close(self) {
+        drop(self);
+    }
+
     /// The table that all its sessions belong to, as `sessions::meet` takes it.
     pub fn table(&self) -> &SeatTable
         ensures { result.now ≡ N.place }

@@ -31,25 +31,32 @@ const TURNS: u64 = 100;
 type Ended = Result<u64, Refusal>;
 
 /// Starts job executions.
-fn start_jobs<N: Site>(
-    rt: &(impl Wait + AllocGlobal),
-    operator: &Operator<N>,
-    mut session: Session<N>,
-) -> Ended {
+fn start_jobs<N: Site>(rt: &(impl Wait + AllocGlobal), operator: &Operator<N>) -> Ended {
+    let mut session = operator.open_session(rt)?;
     for turn in 0..STARTS {
-        let job = T256::new(rt.alloc(), "report")?;
-        let parameters = Parameters::none();
-        drop(operator.start(rt, &mut session, job, parameters, turn)?);
+        start(rt, operator, &mut session, turn)?;
     }
     Ok(session.accepted())
 }
 
+/// Starts one job execution.
+fn start<N: Site>(
+    rt: &(impl Wait + AllocGlobal),
+    operator: &Operator<N>,
+    session: &mut Session<N>,
+    turn: u64,
+) -> Result<(), Refusal> {
+    let job = T256::new(rt.alloc(), "report")?;
+    drop(operator.start(rt, session, job, Parameters::none(), turn)?);
+    Ok(())
+}
+
 /// Claims work and finishes it.
-fn work<N: Site>(rt: &impl Wait, operator: &Operator<N>, mut session: Session<N>) -> Ended {
+fn work<N: Site>(rt: &impl Wait, operator: &Operator<N>) -> Ended {
+    let mut session = operator.open_session(rt)?;
     for turn in 0..TURNS {
         if let Some(work) = claim(rt, operator, &mut session, turn)? {
-            let (outcome, step) = (WorkOutcome::Completed, MetricStep::zero());
-            drop(operator.finish(rt, &mut session, work, outcome, None, step, turn)?);
+            finish(rt, operator, &mut session, work, turn)?;
         }
     }
     Ok(session.accepted())
@@ -62,65 +69,88 @@ fn claim<N: Site>(
     session: &mut Session<N>,
     turn: u64,
 ) -> Result<Option<WorkId>, Refusal> {
-    match operator.claim(rt, session, turn)? {
-        Reply::Work(item) => Ok(Some(item.work)),
-        _ => Ok(None),
-    }
+    let reply = operator.claim(rt, session, turn)?;
+    let claimed = match &reply {
+        Reply::Work(item) => Some(item.work),
+        _ => None,
+    };
+    drop(reply);
+    Ok(claimed)
 }
 
-/// Brings the read copy to the history, looks on, and asks the first job execution to stop, unless it is finished by then.
-fn look_on<N: Site>(rt: &impl Wait, operator: &Operator<N>, mut session: Session<N>) -> Ended {
-    let first = ExecutionId::new(1);
+/// Reports that a work item is completed.
+fn finish<N: Site>(
+    rt: &impl Wait,
+    operator: &Operator<N>,
+    session: &mut Session<N>,
+    work: WorkId,
+    turn: u64,
+) -> Result<(), Refusal> {
+    let (outcome, step) = (WorkOutcome::Completed, MetricStep::zero());
+    drop(operator.finish(rt, session, work, outcome, None, step, turn)?);
+    Ok(())
+}
+
+/// Looks on, and asks the first job execution to stop, unless it is finished by then.
+fn look_on<N: Site>(rt: &impl Wait, operator: &Operator<N>) -> Ended {
+    let mut session = operator.open_session(rt)?;
     for turn in 0..TURNS {
-        if operator.copies() > 0 {
-            operator.publish(rt, 0)?;
-        }
-        drop(operator.status_counts(rt, &mut session)?);
-        let _operations = operator.operations_at_least(&mut session);
-        if !operator.stop_seen(&mut session, first) {
-            drop(operator.stop(rt, &mut session, first, turn));
-        }
+        look(rt, operator, &mut session)?;
+        stop_first(rt, operator, &mut session, turn);
     }
     Ok(session.accepted())
+}
+
+/// Brings the read copy to the history, and looks at what there is.
+fn look<N: Site>(
+    rt: &impl Wait,
+    operator: &Operator<N>,
+    session: &mut Session<N>,
+) -> Result<(), Refusal> {
+    if operator.copies() > 0 {
+        operator.publish(rt, 0)?;
+    }
+    drop(operator.status_counts(rt, session)?);
+    let _operations = operator.operations_at_least(session);
+    Ok(())
+}
+
+/// Asks the first job execution to stop, unless the session finds that it was asked.
+fn stop_first<N: Site>(
+    rt: &impl Wait,
+    operator: &Operator<N>,
+    session: &mut Session<N>,
+    turn: u64,
+) {
+    let first = ExecutionId::new(1);
+    if !operator.stop_seen(session, first) {
+        drop(operator.stop(rt, session, first, turn));
+    }
 }
 
 fn two_start<N: Site + Send + Sync, R: Threads + Wait + AllocGlobal + Sync>(
     rt: &R,
     operator: &Operator<N>,
-    sessions: (Session<N>, Session<N>),
 ) -> (Ended, Ended) {
-    let (one, other) = sessions;
-    thread::join(
-        rt,
-        || start_jobs(rt, operator, one),
-        || start_jobs(rt, operator, other),
-    )
+    thread::join(rt, || start_jobs(rt, operator), || start_jobs(rt, operator))
 }
 
 fn one_works<N: Site + Send + Sync, R: Threads + Wait + Sync>(
     rt: &R,
     operator: &Operator<N>,
-    sessions: (Session<N>, Session<N>),
 ) -> (Ended, Ended) {
-    let (one, other) = sessions;
-    thread::join(
-        rt,
-        || work(rt, operator, one),
-        || look_on(rt, operator, other),
-    )
+    thread::join(rt, || work(rt, operator), || look_on(rt, operator))
 }
 
 /// Lets four threads run to their end, and gives the number of operations that their sessions had accepted.
 fn run_threads<N: Site + Send + Sync, R: Threads + Wait + AllocGlobal + Sync>(
     rt: &R,
     operator: &Operator<N>,
-) -> Result<u64> {
-    let starters = (operator.open_session(rt)?, operator.open_session(rt)?);
-    let others = (operator.open_session(rt)?, operator.open_session(rt)?);
+) -> Ended {
     let (starters, others) = thread::join(
         rt,
-        || two_start(rt, operator, starters),
-        || one_works(rt, operator, others),
+        || two_start(rt, operator),
+        || one_works(rt, operator),
     );
     let mut accepted: u64 = 0;
     for ended in [starters.0, starters.1, others.0, others.1] {
@@ -145,7 +175,7 @@ fn run<N: Site + Send + Sync, R: Threads + Wait + Print + AllocGlobal + Sync>(
     };
     let operator = Operator::<N>::new(rt.alloc(), table, seat, catalogue, copies)?;
     let shown = show(rt, &operator);
-    drop(operator);
+    operator.close();
     shown
 }
 
@@ -156,14 +186,25 @@ fn show<N: Site + Send + Sync, R: Threads + Wait + Print + AllocGlobal + Sync>(
 ) -> Result<()> {
     let accepted = run_threads(rt, operator)?;
     let mut session = operator.open_session(rt)?;
-    let shown = operator.operations_at_least(&mut session);
+    print_shown(rt, operator, &mut session, accepted)?;
+    let count = job_instances(rt, operator, &mut session)?;
+    println!(rt; "{count} job instances")?;
+    Ok(())
+}
+
+/// Says whether a session is shown all accepted operations.
+fn print_shown<N: Site>(
+    rt: &impl Print,
+    operator: &Operator<N>,
+    session: &mut Session<N>,
+    accepted: u64,
+) -> Result<()> {
+    let shown = operator.operations_at_least(session);
     println!(rt;
         "session {} is shown all accepted operations: {}",
         session.number(),
         shown == accepted
     )?;
-    let count = job_instances(rt, operator, &mut session)?;
-    println!(rt; "{count} job instances")?;
     Ok(())
 }
 
@@ -174,9 +215,15 @@ fn job_instances<N: Site>(
     session: &mut Session<N>,
 ) -> Result<u64> {
     let job = T256::new(rt.alloc(), "report")?;
-    match operator.get_job_instance_count(rt, session, job)? {
-        Answer::JobInstanceCount(count) => Ok(count),
-        _ => bail!("the number of job instances is of another kind"),
+    let answer = operator.get_job_instance_count(rt, session, job)?;
+    let count = match &answer {
+        Answer::JobInstanceCount(count) => Some(*count),
+        _ => None,
+    };
+    drop(answer);
+    match count {
+        Some(count) => Ok(count),
+        None => bail!("the number of job instances is of another kind"),
     }
 }
 
