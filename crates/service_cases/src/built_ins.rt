@@ -1,16 +1,16 @@
 ghost use Rattle.std.specs.Prelude.{◌≡◌};
 
+use crate::hosting::{operator_of, start_job};
 use crate::refusing::Open;
 use anyhow::{Result, bail};
-use batch_ids::{ExecutionId, Metric, Parameters, T256};
-use batch_operator::{CopyCount, Operator};
+use batch_ids::{ExecutionId, Metric};
+use batch_operator::Operator;
 use built_in_artifacts::pool_with_built_ins;
 use job_threads::PoolReport;
 use jsl_json::read_catalogue;
 use jsl_model::Catalogue;
 use op_log::{Answer, StepExecution};
 use seat_rules::{BookSeat, SeatTable, Site};
-use sessions::Session;
 use std::alloc::Global;
 use std::marker::Brand;
 use std::sync::Wait;
@@ -21,16 +21,21 @@ use std::thread::Threads;
 const NAMED: &[u8] =
     b"{\"jobs\":[{\"id\":\"a\",\"elements\":[{\"kind\":\"step\",\"id\":\"s\",\"next\":\"t\",\"chunk\":{\"item-count\":2,\"reader\":{\"ref\":\"count:5\"},\"processor\":{\"ref\":\"odd\"},\"writer\":{\"ref\":\"sink\"}}},{\"kind\":\"step\",\"id\":\"t\",\"next\":\"u\",\"batchlet\":{\"ref\":\"exit:T\"}},{\"kind\":\"step\",\"id\":\"u\",\"batchlet\":{\"ref\":\"other\"}}]}]}";
 
-/// Says how a step ended, and what was counted.
-fn print_step(rt: &impl Print, step: &StepExecution) -> Result<()> {
-    let exit = match &step.exit {
+/// The exit status of a step.
+fn exit_in(step: &StepExecution) -> &str {
+    match &step.exit {
         None => "no exit status",
         Some(exit) => exit.as_str(),
-    };
+    }
+}
+
+/// Says how a step ended, and what was counted.
+fn print_step(rt: &impl Print, step: &StepExecution) -> Result<()> {
     println!(rt;
-        "built in: {} {}, {exit}: {} read, {} filtered, {} written, {} committed",
+        "built in: {} {}, {}: {} read, {} filtered, {} written, {} committed",
         step.step.as_str(),
         step.status,
+        exit_in(step),
         step.metrics.count(Metric::ReadCount),
         step.metrics.count(Metric::FilterCount),
         step.metrics.count(Metric::WriteCount),
@@ -48,30 +53,33 @@ fn catalogue_of(alloc: Global) -> Result<Catalogue> {
 fn print_steps<N: Site, R: Wait + Print + AllocGlobal>(
     rt: &R,
     operator: &Operator<N>,
-    session: &mut Session<N>,
 ) -> Result<()> {
-    match operator.get_step_executions(rt, session, ExecutionId::new(1))? {
-        Answer::StepExecutions(steps) => {
-            for step in steps.as_slice() {
-                print_step(rt, step)?;
-            }
-            Ok(())
-        }
-        _ => bail!("the step executions are of another kind"),
-    }
+    let mut session = operator.open_session(rt)?;
+    let answer = operator.get_step_executions(rt, &mut session, ExecutionId::new(1))?;
+    let printed = print_answer(rt, &answer);
+    drop(answer);
+    printed
 }
 
-/// Starts the job `a`, and runs it by two workers that have built-in artifacts of these names.
+/// Says how each of these step executions ended.
+fn print_answer(rt: &impl Print, answer: &Answer) -> Result<()> {
+    let Answer::StepExecutions(steps) = answer else {
+        bail!("the step executions are of another kind");
+    };
+    for step in steps.as_slice() {
+        print_step(rt, step)?;
+    }
+    Ok(())
+}
+
+/// Starts the job `a`, and runs it by two workers that have built-in artifacts of the names in it.
 fn run_by_two<N: Site + Send + Sync, R: Threads + Wait + AllocGlobal + Sync>(
     rt: &R,
     operator: &Operator<N>,
-    session: &mut Session<N>,
-    names: &[&str],
 ) -> Result<PoolReport> {
-    let alloc = rt.alloc();
-    let job = T256::new(alloc, "a")?;
-    drop(operator.start(rt, session, job, Parameters::none(), 0)?);
-    Ok(pool_with_built_ins(rt, alloc, operator, names, 2, &Open)?)
+    start_job(rt, operator, "a")?;
+    let names = ["count:5", "odd", "sink", "exit:T", "other"];
+    Ok(pool_with_built_ins(rt, rt.alloc(), operator, &names, 2, &Open)?)
 }
 
 /// Runs the job `a` of a catalogue, and says what came of it.
@@ -85,30 +93,29 @@ fn run_named<N: Site + Send + Sync, R: Threads + Wait + Print + AllocGlobal + Sy
     requires seat { seat ≡ N.place.table }
     requires catalogue { catalogue ≡ N.place.catalogue }
 {
-    let Some(copies) = CopyCount::new(1) else {
-        bail!("one copy is too many");
-    };
-    let jobs = catalogue.try_clone()?;
-    let names = jobs.artifacts()?;
-    let operator = Operator::<N>::new(rt.alloc(), table, seat, catalogue, copies)?;
-    let ran = run_on(rt, &operator, names.as_slice());
-    drop(operator);
+    let operator = operator_of::<N>(rt.alloc(), table, seat, catalogue)?;
+    let ran = run_on(rt, &operator);
+    operator.close();
     ran
 }
 
-/// The same on an operator, whose catalogue names these artifacts.
+/// The same on an operator.
 fn run_on<N: Site + Send + Sync, R: Threads + Wait + Print + AllocGlobal + Sync>(
     rt: &R,
     operator: &Operator<N>,
-    names: &[&str],
 ) -> Result<()> {
-    let mut session = operator.open_session(rt)?;
-    let report = run_by_two(rt, operator, &mut session, names)?;
+    let report = run_by_two(rt, operator)?;
+    print_pool(rt, report)?;
+    print_steps(rt, operator)
+}
+
+/// Says what two workers report.
+fn print_pool(rt: &impl Print, report: PoolReport) -> Result<()> {
     println!(rt;
         "built in: {} work items, {} gave up",
         report.items, report.gave_up
     )?;
-    print_steps(rt, operator, &mut session)
+    Ok(())
 }
 
 /// Two workers run a job of built-in artifacts.

@@ -160,12 +160,18 @@ fn print_run(
         Ok(report) => println!(rt; "{name}: {} work items", report.items)?,
         Err(refusal) => println!(rt; "{name}: {refusal}, {} losses", port.losses)?,
     }
+    print_written(rt, name, written)?;
+    print_reports(rt, name, port.reports.as_slice())
+}
+
+/// Says what was written.
+fn print_written(rt: &impl Print, name: &str, written: &Written) -> Result<()> {
     println!(rt;
         "{name}: {} groups of {} items written",
         written.groups.load(Ordering::SeqCst),
         written.items.load(Ordering::SeqCst)
     )?;
-    print_reports(rt, name, port.reports.as_slice())
+    Ok(())
 }
 
 /// Runs the chunk, and prints what came of it.

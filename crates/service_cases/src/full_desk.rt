@@ -42,28 +42,43 @@ fn fill_desk<N: Site, R: Print + AllocGlobal>(
     requires table { table.now ≡ N.place }
     requires alone { desk.old.hosted ≡ [] }
 {
-    let one = desk.open(table)?;
-    let other = desk.open(table)?;
-    print_answers(rt, desk, one, other, table)
+    let mut one = desk.open(table)?;
+    let mut other = desk.open(table)?;
+    print_starts(rt, desk, (&mut one, &mut other), table)?;
+    print_counts(rt, desk, &mut one, table)
 }
 
-fn print_answers<N: Site, R: Print + AllocGlobal>(
+/// Tells what each of two sessions is answered to its first start, and to its second.
+fn print_starts<N: Site, R: Print + AllocGlobal>(
     rt: &R,
     desk: &mut Desk<N, 2>,
-    one: Session<N>,
-    other: Session<N>,
+    sessions: (&mut Session<N>, &mut Session<N>),
+    table: &SeatTable,
+) -> Result<()>
+    requires table { table.now ≡ N.place }
+    requires alone { desk.old.hosted ≡ [] }
+    ensures alone { desk.new.hosted ≡ [] }
+{
+    let (one, other) = sessions;
+    let first = start(rt.alloc(), desk, one, table);
+    let second = start(rt.alloc(), desk, other, table);
+    let third = start(rt.alloc(), desk, one, table);
+    let fourth = start(rt.alloc(), desk, other, table);
+    println!(rt; "a desk of two: {first}, {second}; once it is full: {third}, {fourth}")?;
+    Ok(())
+}
+
+/// Tells what the desk holds then.
+fn print_counts<N: Site, R: Print + AllocGlobal>(
+    rt: &R,
+    desk: &mut Desk<N, 2>,
+    session: &mut Session<N>,
     table: &SeatTable,
 ) -> Result<()>
     requires table { table.now ≡ N.place }
     requires alone { desk.old.hosted ≡ [] }
 {
-    let (mut one, mut other) = (one, other);
-    let first = start(rt.alloc(), desk, &mut one, table);
-    let second = start(rt.alloc(), desk, &mut other, table);
-    let third = start(rt.alloc(), desk, &mut one, table);
-    let fourth = start(rt.alloc(), desk, &mut other, table);
-    println!(rt; "a desk of two: {first}, {second}; once it is full: {third}, {fourth}")?;
-    let counted = count(rt.alloc(), desk, &mut one, table);
+    let counted = count(rt.alloc(), desk, session, table);
     let operations = desk.len();
     println!(rt; "and then: {counted} job instances, {operations} operations")?;
     Ok(())

@@ -14,6 +14,7 @@ mod chunks;
 mod comparison;
 mod directive;
 mod full_desk;
+mod hosting;
 mod memory;
 mod operator_cases;
 mod pools;

@@ -1,16 +1,17 @@
 ghost use Rattle.std.specs.Prelude.{◌≡◌};
 
-use crate::quiet::Quiet;
+use crate::hosting::{operator_of, start_job};
+use crate::quiet::quiet_kit;
 use anyhow::{Result, bail};
 use batch_history::WorkItem;
-use batch_ids::{Moment, Parameters, T256};
-use batch_operator::{CopyCount, Operator};
+use batch_ids::Moment;
+use batch_operator::Operator;
 use job_threads::{Gate, Kit, PoolReport, pool};
 use jsl_json::read_catalogue;
 use jsl_model::Catalogue;
 use op_log::Answer;
 use seat_rules::{BookSeat, SeatTable, Site};
-use sessions::Session;
+use std::alloc::Global;
 use std::marker::Brand;
 use std::sync::Wait;
 use std::sync::atomic::{AtomicU64, Ordering};
@@ -85,12 +86,9 @@ fn run_by_two<N: Site + Send + Sync, R: Threads + Wait + AllocGlobal + Sync>(
     requires seat { seat ≡ N.place.table }
     requires catalogue { catalogue ≡ N.place.catalogue }
 {
-    let Some(copies) = CopyCount::new(1) else {
-        bail!("one copy is too many");
-    };
-    let operator = Operator::<N>::new(rt.alloc(), table, seat, catalogue, copies)?;
+    let operator = operator_of::<N>(rt.alloc(), table, seat, catalogue)?;
     let ran = run_on(rt, gate, &operator);
-    drop(operator);
+    operator.close();
     ran
 }
 
@@ -100,11 +98,9 @@ fn run_on<N: Site + Send + Sync, R: Threads + Wait + AllocGlobal + Sync>(
     gate: &Together,
     operator: &Operator<N>,
 ) -> Result<Ran> {
-    let mut session = operator.open_session(rt)?;
-    let job = T256::new(rt.alloc(), "a")?;
-    drop(operator.start(rt, &mut session, job, Parameters::none(), 0)?);
+    start_job(rt, operator, "a")?;
     let report = work_together(rt, gate, operator)?;
-    let completed = completed(rt, operator, &mut session)?;
+    let completed = completed(rt, operator)?;
     Ok(Ran { report, completed })
 }
 
@@ -114,29 +110,30 @@ fn work_together<N: Site + Send + Sync, R: Threads + Wait + AllocGlobal + Sync>(
     gate: &Together,
     operator: &Operator<N>,
 ) -> Result<PoolReport> {
-    let alloc = rt.alloc();
-    let mut one = Kit::new(alloc);
-    one.add(alloc, "ok", Box::new(alloc, Quiet { alloc })?)?;
-    let mut other = Kit::new(alloc);
-    other.add(alloc, "ok", Box::new(alloc, Quiet { alloc })?)?;
+    let kits = two_kits(rt.alloc())?;
+    Ok(pool(rt, rt.alloc(), operator, kits, gate)?)
+}
+
+/// Two kits with the batchlet `ok`.
+fn two_kits(alloc: Global) -> Result<Vec<Kit>> {
     let mut kits = Vec::new(alloc);
-    kits.push(one)?;
-    kits.push(other)?;
-    Ok(pool(rt, alloc, operator, kits, gate)?)
+    kits.push(quiet_kit(alloc, "ok")?)?;
+    kits.push(quiet_kit(alloc, "ok")?)?;
+    Ok(kits)
 }
 
 /// How many job executions are COMPLETED.
-fn completed<N: Site, R: Wait>(
-    rt: &R,
-    operator: &Operator<N>,
-    session: &mut Session<N>,
-) -> Result<u64> {
-    match operator.status_counts(rt, session)? {
-        Answer::StatusCounts(counts) => Ok(counts.completed),
-        other => {
-            drop(other);
-            bail!("the counts are of another kind")
-        }
+fn completed<N: Site, R: Wait>(rt: &R, operator: &Operator<N>) -> Result<u64> {
+    let mut session = operator.open_session(rt)?;
+    let answer = operator.status_counts(rt, &mut session)?;
+    let completed = match &answer {
+        Answer::StatusCounts(counts) => Some(counts.completed),
+        _ => None,
+    };
+    drop(answer);
+    match completed {
+        Some(completed) => Ok(completed),
+        None => bail!("the counts are of another kind"),
     }
 }
 

@@ -1,10 +1,10 @@
-use crate::quiet::Quiet;
+use crate::quiet::quiet_kit;
 use anyhow::Result;
 use batch_history::{WorkItem, WorkTask};
 use batch_ids::{
     ExecutionId, MetricStep, Moment, OutOfMemory, Refusal, T256, Text, WorkId, WorkOutcome,
 };
-use job_threads::{Claimed, Gate, Kit, Onward, Port, worker};
+use job_threads::{Claimed, Gate, Onward, Port, WorkerReport, worker};
 use std::alloc::Global;
 
 /// A port that hands out one batchlet, and refuses what is reported of it.
@@ -92,17 +92,29 @@ impl Gate for Open {
 /// A worker whose finish is refused gives its work item up once, and answers the first refusal.
 pub(crate) fn print_given_up(rt: &(impl Print + AllocGlobal)) -> Result<()> {
     let alloc = rt.alloc();
-    let mut kit = Kit::new(alloc);
-    kit.add(alloc, "", Box::new(alloc, Quiet { alloc })?)?;
+    let mut kit = quiet_kit(alloc, "")?;
     let mut port = Refusing {
         alloc,
         given_up: 0,
         claims: 0,
     };
-    match worker(alloc, &mut port, &mut kit, &Open, 0, 3) {
+    let ended = worker(alloc, &mut port, &mut kit, &Open, 0, 3);
+    drop(kit);
+    print_ended(rt, &ended)?;
+    print_port(rt, &port)
+}
+
+/// Says how a worker ended.
+fn print_ended(rt: &impl Print, ended: &std::result::Result<WorkerReport, Refusal>) -> Result<()> {
+    match ended {
         Ok(report) => println!(rt; "given up: {} work items", report.items)?,
         Err(refusal) => println!(rt; "given up: {refusal}")?,
     }
+    Ok(())
+}
+
+/// Says how often the port was asked.
+fn print_port(rt: &impl Print, port: &Refusing) -> Result<()> {
     println!(rt;
         "given up: {} claims, {} losses",
         port.claims, port.given_up

@@ -1,9 +1,9 @@
 ghost use Rattle.std.specs.Prelude.{◌≡◌};
 
+use crate::hosting::{operator_of, start_job};
 use crate::refusing::Open;
-use anyhow::{Result, bail};
-use batch_ids::{Parameters, T256};
-use batch_operator::{CopyCount, Operator};
+use anyhow::Result;
+use batch_operator::Operator;
 use built_in_artifacts::{BuiltIn, BuiltInArtifact, pool_with_built_ins};
 use job_threads::{Kit, SessionPort, WorkerReport, worker};
 use jsl_json::read_catalogue;
@@ -18,41 +18,12 @@ use std::thread::Threads;
 const CHUNK: &[u8] =
     b"{\"jobs\":[{\"id\":\"c\",\"elements\":[{\"kind\":\"step\",\"id\":\"s\",\"chunk\":{\"item-count\":2,\"reader\":{\"ref\":\"count:5\"},\"processor\":{\"ref\":\"odd\"},\"writer\":{\"ref\":\"sink\"}}}]}]}";
 
+/// The names of these artifacts.
+const NAMES: [&str; 3] = ["count:5", "odd", "sink"];
+
 /// The catalogue of that job.
 fn catalogue_of(alloc: Global) -> Result<Catalogue> {
     Ok(read_catalogue(alloc, CHUNK)?)
-}
-
-/// An operator over a catalogue, whose job `c` is started.
-fn started<N: Site, R: Wait + AllocGlobal>(
-    rt: &R,
-    table: SeatTable,
-    seat: BookSeat,
-    catalogue: Catalogue,
-) -> Result<Operator<N>>
-    requires table { table ≡ N.place }
-    requires seat { seat ≡ N.place.table }
-    requires catalogue { catalogue ≡ N.place.catalogue }
-{
-    let Some(copies) = CopyCount::new(1) else {
-        bail!("one copy is too many");
-    };
-    let operator = Operator::<N>::new(rt.alloc(), table, seat, catalogue, copies)?;
-    match start(rt, &operator) {
-        Ok(()) => Ok(operator),
-        Err(error) => {
-            drop(operator);
-            Err(error)
-        }
-    }
-}
-
-/// Starts the job `c`.
-fn start<N: Site, R: Wait + AllocGlobal>(rt: &R, operator: &Operator<N>) -> Result<()> {
-    let job = T256::new(rt.alloc(), "c")?;
-    let mut session = operator.open_session(rt)?;
-    drop(operator.start(rt, &mut session, job, Parameters::none(), 0)?);
-    Ok(())
 }
 
 /// Runs the chunk by one worker, and says what it reports.
@@ -66,10 +37,19 @@ fn run_by_a_worker<N: Site, R: Wait + Print + AllocGlobal>(
     requires seat { seat ≡ N.place.table }
     requires catalogue { catalogue ≡ N.place.catalogue }
 {
-    let operator = started::<N, R>(rt, table, seat, catalogue)?;
-    let ran = work_alone(rt, &operator);
-    drop(operator);
-    let report = ran?;
+    let operator = operator_of::<N>(rt.alloc(), table, seat, catalogue)?;
+    let ran = print_worker(rt, &operator);
+    operator.close();
+    ran
+}
+
+/// The same on an operator.
+fn print_worker<N: Site, R: Wait + Print + AllocGlobal>(
+    rt: &R,
+    operator: &Operator<N>,
+) -> Result<()> {
+    start_job(rt, operator, "c")?;
+    let report = work_alone(rt, operator)?;
     println!(rt;
         "one worker: {} work items, gave up: {}",
         report.items, report.gave_up
@@ -82,17 +62,44 @@ fn work_alone<N: Site, R: Wait + AllocGlobal>(
     rt: &R,
     operator: &Operator<N>,
 ) -> Result<WorkerReport> {
-    let alloc = rt.alloc();
+    let mut kit = kit_of(rt.alloc())?;
+    let ran = work_with(rt, operator, &mut kit);
+    drop(kit);
+    ran
+}
+
+/// A kit with the built-in artifacts of the chunk.
+fn kit_of(alloc: Global) -> Result<Kit> {
     let mut kit = Kit::new(alloc);
-    for name in ["count:5", "odd", "sink"] {
+    match add_all(alloc, &mut kit) {
+        Ok(()) => Ok(kit),
+        Err(error) => {
+            drop(kit);
+            Err(error)
+        }
+    }
+}
+
+/// Adds these artifacts.
+fn add_all(alloc: Global, kit: &mut Kit) -> Result<()> {
+    for name in NAMES {
         if let Some(built_in) = BuiltIn::of(alloc, name)? {
             let artifact = Box::new(alloc, BuiltInArtifact::new(alloc, built_in))?;
             kit.add(alloc, name, artifact)?;
         }
     }
+    Ok(())
+}
+
+/// What one worker reports that has this kit.
+fn work_with<N: Site, R: Wait + AllocGlobal>(
+    rt: &R,
+    operator: &Operator<N>,
+    kit: &mut Kit,
+) -> Result<WorkerReport> {
     let session = operator.open_session(rt)?;
     let mut port = SessionPort::new(rt, operator, session);
-    Ok(worker(alloc, &mut port, &mut kit, &Open, 0, 3)?)
+    Ok(worker(rt.alloc(), &mut port, kit, &Open, 0, 3)?)
 }
 
 /// Runs the chunk by a pool of one worker, and says what it reports.
@@ -106,11 +113,19 @@ fn run_by_a_pool<N: Site + Send + Sync, R: Threads + Wait + Print + AllocGlobal 
     requires seat { seat ≡ N.place.table }
     requires catalogue { catalogue ≡ N.place.catalogue }
 {
-    let operator = started::<N, R>(rt, table, seat, catalogue)?;
-    let names = ["count:5", "odd", "sink"];
-    let ran = pool_with_built_ins(rt, rt.alloc(), &operator, &names, 1, &Open);
-    drop(operator);
-    let report = ran?;
+    let operator = operator_of::<N>(rt.alloc(), table, seat, catalogue)?;
+    let ran = print_pool(rt, &operator);
+    operator.close();
+    ran
+}
+
+/// The same on an operator.
+fn print_pool<N: Site + Send + Sync, R: Threads + Wait + Print + AllocGlobal + Sync>(
+    rt: &R,
+    operator: &Operator<N>,
+) -> Result<()> {
+    start_job(rt, operator, "c")?;
+    let report = pool_with_built_ins(rt, rt.alloc(), operator, &NAMES, 1, &Open)?;
     println!(rt;
         "a pool of one: {} work items, {} gave up",
         report.items, report.gave_up

@@ -1,10 +1,11 @@
 ghost use Rattle.std.specs.Prelude.{◌≡◌};
 
 use crate::directive::read_directive;
+use crate::hosting::operator_of;
 use crate::stage::Stage;
-use anyhow::{Result, bail};
+use anyhow::Result;
 use batch_ids::OutOfMemory;
-use batch_operator::{CopyCount, Operator};
+use batch_operator::Operator;
 use jsl_json::read_catalogue;
 use jsl_model::Catalogue;
 use script_text::{Command, read_command};
@@ -65,12 +66,9 @@ fn run_lines<N: Site, R: Wait + AllocGlobal>(
     requires seat { seat ≡ N.place.table }
     requires catalogue { catalogue ≡ N.place.catalogue }
 {
-    let Some(copies) = CopyCount::new(1) else {
-        bail!("one copy is too many");
-    };
-    let operator = Operator::<N>::new(rt.alloc(), table, seat, catalogue, copies)?;
+    let operator = operator_of::<N>(rt.alloc(), table, seat, catalogue)?;
     let ending = run_on(rt, &operator, lines, written);
-    drop(operator);
+    operator.close();
     ending
 }
 

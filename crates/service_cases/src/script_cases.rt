@@ -2,6 +2,7 @@
 //! parted from the next by an empty line, and their replies are parted so too.
 use crate::comparison::print_comparison;
 use script_engine::{EngineFault, Summary, answer_script};
+use std::alloc::Global;
 use std::rt::Files;
 use std::{fs, io};
 
@@ -42,15 +43,7 @@ fn run_cases(
     let lines = fs::read_to_string(rt, scripts)?;
     let wanted = fs::read(rt, replies)?;
     let mut written = Vec::new(rt.alloc());
-    let mut count: usize = 0;
-    for script in lines.as_str().split("\n\n") {
-        if count > 0 {
-            written.push(b'\n')?;
-        }
-        let (text, _outcome) = answer_script(rt.alloc(), script.as_bytes());
-        written.extend_from_slice(text.as_slice())?;
-        count = count.saturating_add(1);
-    }
+    let count = answer_all(rt.alloc(), lines.as_str(), &mut written)?;
     print_comparison(
         rt,
         (scripts, replies),
@@ -60,17 +53,48 @@ fn run_cases(
     println!(rt; "{count} scripts")
 }
 
+/// Adds the replies to these scripts, with an empty line between two of them, and gives the number of scripts.
+fn answer_all(alloc: Global, scripts: &str, written: &mut Vec<u8>) -> io::Result<usize> {
+    let mut count: usize = 0;
+    for script in scripts.split("\n\n") {
+        if count > 0 {
+            written.push(b'\n')?;
+        }
+        answer_one(alloc, script, written)?;
+        count = count.saturating_add(1);
+    }
+    Ok(count)
+}
+
+/// Adds the replies to this script.
+fn answer_one(alloc: Global, script: &str, written: &mut Vec<u8>) -> io::Result<()> {
+    let (text, outcome) = answer_script(alloc, script.as_bytes());
+    drop(outcome);
+    let added = written.extend_from_slice(text.as_slice());
+    drop(text);
+    Ok(added?)
+}
+
 /// Runs the cases of the list.
 pub(crate) fn run_script_cases(rt: &(impl Files + Print + AllocGlobal)) -> io::Result<()> {
     let cases = fs::read_to_string(rt, CASES)?;
     for case in cases.as_str().lines() {
         if let Some((script, replies)) = case.split_once(' ') {
-            if script.ends_with(".scripts") {
-                run_cases(rt, script, replies)?;
-            } else {
-                run_case(rt, script, replies)?;
-            }
+            run_listed(rt, script, replies)?;
         }
     }
     Ok(())
+}
+
+/// Runs the script or the scripts of a file.
+fn run_listed(
+    rt: &(impl Files + Print + AllocGlobal),
+    script: &str,
+    replies: &str,
+) -> io::Result<()> {
+    if script.ends_with(".scripts") {
+        run_cases(rt, script, replies)
+    } else {
+        run_case(rt, script, replies)
+    }
 }

@@ -2,14 +2,20 @@ use crate::asking::{ask_query, make_call};
 use crate::directive::{Directive, read_directive};
 use crate::script::Ending;
 use anyhow::{Result, anyhow, bail};
-use batch_ids::{Moment, Refusal};
+use batch_ids::{ExecutionId, Moment, OutOfMemory, Refusal};
 use batch_operator::Operator;
-use op_log::{Call, Query, Reply};
+use op_log::{Answer, Call, Query, Reply};
 use script_text::{Command, answer_text, bad_line_text, read_command, reply_text};
 use seat_rules::Site;
 use sessions::{Session, meet};
 use std::alloc::Global;
 use std::sync::Wait;
+
+/// What a call is answered.
+type Replied = Result<Reply, Refusal>;
+
+/// What a query is answered.
+type Answered = Result<Answer, Refusal>;
 
 /// An operator with its sessions, numbered from 1, and one more that makes no call.
 #[derive(Drop)]
@@ -64,87 +70,102 @@ impl<'a, N: Site> Stage<'a, N> {
     }
 
     fn act(&mut self, rt: &impl Wait, by: u64, call: Call, at: Moment) -> Result<Vec<u8>> {
-        let session = session_of(&mut self.sessions, by)?;
-        let reply = make_call(rt, self.operator, session, call, at);
-        if is_operation(&reply) {
-            self.accepted = self.accepted.saturating_add(1);
-        }
-        let text = reply_text(self.alloc, &reply);
+        let reply = self.reply_to(rt, by, call, at)?;
+        let text = self.tell(&reply);
         drop(reply);
         Ok(text?)
     }
 
+    /// What a session's call is answered.
+    fn reply_to(&mut self, rt: &impl Wait, by: u64, call: Call, at: Moment) -> Result<Replied> {
+        match session_of(&mut self.sessions, by) {
+            Ok(session) => Ok(make_call(rt, self.operator, session, call, at)),
+            Err(error) => {
+                drop(call);
+                Err(error)
+            }
+        }
+    }
+
+    /// The text of a reply, which is counted where it is an operation's.
+    fn tell(&mut self, reply: &Replied) -> Result<Vec<u8>, OutOfMemory> {
+        if is_operation(reply) {
+            self.accepted = self.accepted.saturating_add(1);
+        }
+        reply_text(self.alloc, reply)
+    }
+
     fn ask(&mut self, rt: &impl Wait, query: Query) -> Result<Vec<u8>> {
-        let session = session_of(&mut self.sessions, self.asker)?;
-        let answer = ask_query(rt, self.operator, session, query);
+        let answer = self.answer_to(rt, query)?;
         self.asker = 1;
         let text = answer_text(self.alloc, &answer);
         drop(answer);
         Ok(text?)
     }
 
+    /// What the session that asks is answered.
+    fn answer_to(&mut self, rt: &impl Wait, query: Query) -> Result<Answered> {
+        match session_of(&mut self.sessions, self.asker) {
+            Ok(session) => Ok(ask_query(rt, self.operator, session, query)),
+            Err(error) => {
+                drop(query);
+                Err(error)
+            }
+        }
+    }
+
     fn follow(&mut self, rt: &impl Wait, directive: Directive) -> Result<Vec<u8>> {
-        let alloc = self.alloc;
         let text = match directive {
-            Directive::Meet { one, other } => {
-                self.meet(one, other)?;
-                format!(in alloc; "{{\"met\":true}}\n")
-            }
-            Directive::StopSeen { by, execution } => {
-                let session = session_of(&mut self.sessions, by)?;
-                let seen = self.operator.stop_seen(session, execution);
-                format!(in alloc; "{{\"stop_seen\":{seen}}}\n")
-            }
-            Directive::OperationsAtLeast { by } => {
-                let session = session_of(&mut self.sessions, by)?;
-                let count = self.operator.operations_at_least(session);
-                format!(in alloc; "{{\"operations_at_least\":{count}}}\n")
-            }
-            Directive::Open => {
-                let number = self.open_next(rt)?;
-                format!(in alloc; "{{\"session\":{number}}}\n")
-            }
-            Directive::AskBy { by } => {
-                self.asker = by;
-                format!(in alloc; "{{\"asks\":{by}}}\n")
-            }
-            Directive::Publish { copy } => {
-                self.publish(rt, copy)?;
-                format!(in alloc; "{{\"published\":true}}\n")
-            }
+            Directive::Meet { one, other } => self.meet(one, other),
+            Directive::StopSeen { by, execution } => self.stop_seen(by, execution),
+            Directive::OperationsAtLeast { by } => self.operations_at_least(by),
+            Directive::Open => self.open_next(rt),
+            Directive::AskBy { by } => self.ask_by(by),
+            Directive::Publish { copy } => self.publish(rt, copy),
         };
         Ok(text?.into_bytes())
     }
 
-    /// Opens one more session, and gives its number.
-    fn open_next(&mut self, rt: &impl Wait) -> Result<u64> {
-        let session = self.operator.open_session(rt)?;
-        self.next = self.next.saturating_add(1);
-        Ok(session.number())
+    fn stop_seen(&mut self, by: u64, execution: ExecutionId) -> Result<String> {
+        let session = session_of(&mut self.sessions, by)?;
+        let seen = self.operator.stop_seen(session, execution);
+        Ok(format!(in self.alloc; "{{\"stop_seen\":{seen}}}\n")?)
     }
 
-    fn publish(&self, rt: &impl Wait, copy: u64) -> Result<()> {
+    fn operations_at_least(&mut self, by: u64) -> Result<String> {
+        let session = session_of(&mut self.sessions, by)?;
+        let count = self.operator.operations_at_least(session);
+        Ok(format!(in self.alloc; "{{\"operations_at_least\":{count}}}\n")?)
+    }
+
+    fn open_next(&mut self, rt: &impl Wait) -> Result<String> {
+        let number = self.operator.open_session(rt)?.number();
+        self.next = self.next.saturating_add(1);
+        Ok(format!(in self.alloc; "{{\"session\":{number}}}\n")?)
+    }
+
+    fn ask_by(&mut self, by: u64) -> Result<String> {
+        self.asker = by;
+        Ok(format!(in self.alloc; "{{\"asks\":{by}}}\n")?)
+    }
+
+    fn publish(&self, rt: &impl Wait, copy: u64) -> Result<String> {
         let place = copy as usize;
         if place >= self.operator.copies() {
             bail!("there is no copy {copy}");
         }
-        Ok(self.operator.publish(rt, place)?)
+        self.operator.publish(rt, place)?;
+        Ok(format!(in self.alloc; "{{\"published\":true}}\n")?)
     }
 
-    fn meet(&mut self, one: u64, other: u64) -> Result<()> {
-        let last = one.max(other);
-        if last > self.sessions.len() as u64 || one == other {
-            bail!("sessions {one} and {other} do not meet");
-        }
-        let (before, behind) = self.sessions.split_at_mut(last.saturating_sub(1) as usize);
-        let first = session_of(before, one.min(other))?;
-        let second = session_of(behind, 1)?;
+    fn meet(&mut self, one: u64, other: u64) -> Result<String> {
+        let (first, second) = two_of(&mut self.sessions, one.min(other), one.max(other))?;
         if one < other {
             meet(first, second, self.operator.table());
         } else {
             meet(second, first, self.operator.table());
         }
-        Ok(())
+        Ok(format!(in self.alloc; "{{\"met\":true}}\n")?)
     }
 
     /// What the session that made no call is shown, and how many sessions were opened that nobody asked for.
@@ -170,8 +191,21 @@ fn session_of<N: Site>(sessions: &mut [Session<N>], number: u64) -> Result<&mut 
         .ok_or_else(|| anyhow!("there is no session {number}"))
 }
 
+/// The sessions of two numbers, of which the first is the lesser.
+fn two_of<N: Site>(
+    sessions: &mut [Session<N>],
+    one: u64,
+    other: u64,
+) -> Result<(&mut Session<N>, &mut Session<N>)> {
+    if other > sessions.len() as u64 || one == other {
+        bail!("sessions {one} and {other} do not meet");
+    }
+    let (before, behind) = sessions.split_at_mut(other.saturating_sub(1) as usize);
+    Ok((session_of(before, one)?, session_of(behind, 1)?))
+}
+
 /// Whether a call was accepted as an operation.
-fn is_operation(reply: &Result<Reply, Refusal>) -> bool {
+fn is_operation(reply: &Replied) -> bool {
     match reply {
         Ok(reply) => !reply.is_nothing(),
         Err(_) => false,

@@ -1,12 +1,12 @@
 ghost use Rattle.std.specs.Prelude.{◌≡◌};
 
-use crate::asking::ask_query;
-use anyhow::{Result, bail};
+use crate::hosting::{instances_of, operator_of};
+use anyhow::Result;
 use batch_ids::{ExecutionId, Parameters, Refusal, T256};
-use batch_operator::{CopyCount, Operator};
+use batch_operator::Operator;
 use jsl_json::read_catalogue;
 use jsl_model::Catalogue;
-use op_log::{Answer, Query, Reply};
+use op_log::Reply;
 use seat_rules::{BookSeat, SeatTable, Site};
 use sessions::Session;
 use std::marker::Brand;
@@ -40,12 +40,9 @@ fn start_by_two<N: Site + Send + Sync, R: Threads + Wait + Print + AllocGlobal +
     requires seat { seat ≡ N.place.table }
     requires catalogue { catalogue ≡ N.place.catalogue }
 {
-    let Some(copies) = CopyCount::new(1) else {
-        bail!("one copy is too many");
-    };
-    let operator = Operator::<N>::new(rt.alloc(), table, seat, catalogue, copies)?;
+    let operator = operator_of::<N>(rt.alloc(), table, seat, catalogue)?;
     let started = start_on(rt, &operator);
-    drop(operator);
+    operator.close();
     started
 }
 
@@ -54,37 +51,41 @@ fn start_on<N: Site + Send + Sync, R: Threads + Wait + Print + AllocGlobal + Syn
     rt: &R,
     operator: &Operator<N>,
 ) -> Result<()> {
-    let one = operator.open_session(rt)?;
-    let other = operator.open_session(rt)?;
-    let (of_one, of_other) = start_together(rt, operator, one, other);
-    let mut started = of_one?;
-    started.extend_from_slice(of_other?.as_slice())?;
-    started.sort()?;
-    print_started(rt, started.as_slice())?;
+    let started = start_together(rt, operator)?;
+    let printed = print_started(rt, started.as_slice());
+    drop(started);
+    printed?;
     let mut third = operator.open_session(rt)?;
     print_third(rt, operator, &mut third)
 }
 
-/// Starts job executions by two threads, and gives the numbers of each.
+/// Starts job executions by two threads, and gives their numbers by rising number.
 fn start_together<N: Site + Send + Sync, R: Threads + Wait + AllocGlobal + Sync>(
     rt: &R,
     operator: &Operator<N>,
-    one: Session<N>,
-    other: Session<N>,
-) -> (Result<Vec<u64>, Refusal>, Result<Vec<u64>, Refusal>) {
-    thread::join(
+) -> Result<Vec<u64>, Refusal> {
+    let (of_one, of_other) = thread::join(
         rt,
-        || start_many(rt, operator, one),
-        || start_many(rt, operator, other),
-    )
+        || start_many(rt, operator),
+        || start_many(rt, operator),
+    );
+    sorted(of_one?, of_other?)
 }
 
-/// Starts job executions, and gives their numbers.
+/// These numbers and those, by rising number.
+fn sorted(numbers: Vec<u64>, others: Vec<u64>) -> Result<Vec<u64>, Refusal> {
+    let mut all = numbers;
+    all.extend_from_slice(others.as_slice())?;
+    all.sort()?;
+    Ok(all)
+}
+
+/// Starts job executions by a session of its own, and gives their numbers.
 fn start_many<N: Site>(
     rt: &(impl Wait + AllocGlobal),
     operator: &Operator<N>,
-    mut session: Session<N>,
 ) -> Result<Vec<u64>, Refusal> {
+    let mut session = operator.open_session(rt)?;
     let mut started = Vec::new(rt.alloc());
     for at in 0..STARTS {
         if let Some(execution) = start_one(rt, operator, &mut session, at)? {
@@ -102,10 +103,13 @@ fn start_one<N: Site>(
     at: u64,
 ) -> Result<Option<ExecutionId>, Refusal> {
     let job = T256::new(rt.alloc(), "a")?;
-    match operator.start(rt, session, job, Parameters::none(), at)? {
-        Reply::Execution(execution) => Ok(Some(execution)),
-        _ => Ok(None),
-    }
+    let reply = operator.start(rt, session, job, Parameters::none(), at)?;
+    let started = match &reply {
+        Reply::Execution(execution) => Some(*execution),
+        _ => None,
+    };
+    drop(reply);
+    Ok(started)
 }
 
 /// Says how many numbers there are, and whether they are those from 1 on, each once.
@@ -132,11 +136,7 @@ fn print_third<N: Site, R: Wait + Print + AllocGlobal>(
     session: &mut Session<N>,
 ) -> Result<()> {
     let shown = operator.operations_at_least(session);
-    let job = T256::new(rt.alloc(), "a")?;
-    let instances = match ask_query(rt, operator, session, Query::JobInstanceCount { job })? {
-        Answer::JobInstanceCount(count) => count,
-        _ => 0,
-    };
+    let instances = instances_of(rt, operator, session, "a")?;
     println!(rt;
         "two threads: session {} is shown {shown} operations, and {instances} job instances",
         session.number()

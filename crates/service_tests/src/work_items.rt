@@ -103,24 +103,66 @@ fn told(alloc: Global, reports: &[Report]) -> Result<String, Fail> {
 
 /// What is reported of a task that runs with these artifacts.
 fn run(alloc: Global, names: &[&str], task: WorkTask) -> Result<String, Fail> {
-    let mut kit = Kit::new(alloc);
-    for name in names {
-        let built_in = BuiltIn::of(alloc, name)?.unwrap_or(BuiltIn::Fail);
-        let artifact = Box::new(alloc, BuiltInArtifact::new(alloc, built_in))?;
-        kit.add(alloc, name, artifact)?;
-    }
-    let item = WorkItem {
+    let item = item_of(alloc, task)?;
+    let told = run_with(alloc, names, &item);
+    drop(item);
+    told
+}
+
+fn item_of(alloc: Global, task: WorkTask) -> Result<WorkItem, Fail> {
+    Ok(WorkItem {
         work: WorkId::new(1),
         execution: ExecutionId::new(1),
         element: T256::new(alloc, "s")?,
         partition: None,
         task,
-    };
+    })
+}
+
+fn run_with(alloc: Global, names: &[&str], item: &WorkItem) -> Result<String, Fail> {
+    let mut kit = kit_of(alloc, names)?;
     let mut port = Memory {
         reports: Vec::new(alloc),
     };
-    let _outcome = run_item(alloc, &mut port, &mut kit, &item, 0)?;
+    let told = run_on(alloc, &mut port, &mut kit, item);
+    drop(port);
+    drop(kit);
+    told
+}
+
+fn run_on(
+    alloc: Global,
+    port: &mut Memory,
+    kit: &mut Kit,
+    item: &WorkItem,
+) -> Result<String, Fail> {
+    let _outcome = run_item(alloc, port, kit, item, 0)?;
     told(alloc, port.reports.as_slice())
+}
+
+fn kit_of(alloc: Global, names: &[&str]) -> Result<Kit, Fail> {
+    let mut kit = Kit::new(alloc);
+    match add_all(alloc, &mut kit, names) {
+        Ok(()) => Ok(kit),
+        Err(fail) => {
+            drop(kit);
+            Err(fail)
+        }
+    }
+}
+
+fn add_all(alloc: Global, kit: &mut Kit, names: &[&str]) -> Result<(), Fail> {
+    for name in names {
+        add(alloc, kit, name)?;
+    }
+    Ok(())
+}
+
+fn add(alloc: Global, kit: &mut Kit, name: &str) -> Result<(), Fail> {
+    let built_in = BuiltIn::of(alloc, name)?.unwrap_or(BuiltIn::Fail);
+    let artifact = Box::new(alloc, BuiltInArtifact::new(alloc, built_in))?;
+    kit.add(alloc, name, artifact)?;
+    Ok(())
 }
 
 fn chunk(alloc: Global, reader: &str, processor: &str, writer: &str) -> Result<WorkTask, Fail> {

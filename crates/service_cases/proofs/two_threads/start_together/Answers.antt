@@ -1,8 +1,7 @@
 use denote.Param.Send.{sendable}
 use Rattle.std.proofs.Crossing.{crosses}
 use Rattle.batch_operator.proofs.Crossing.{operator_sync}
-use Rattle.sessions.proofs.session.Session.TheSendSync as session_crosses
 use Rattle.service_cases.proofs.two_threads.start_together.Goals as goal
 
 pub join-requires-send-F : goal.join-requires-send-F
-join-requires-send-F g c κs within = search (operator_sync, session_crosses.the_send, crosses, sendable) depth 60 fits 20000
+join-requires-send-F g c κs within = search (operator_sync, crosses, sendable) depth 60 fits 20000

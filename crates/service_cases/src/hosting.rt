@@ -1,0 +1,58 @@
+// Operators of the cases.
+ghost use Rattle.std.specs.Prelude.{◌≡◌};
+
+use anyhow::{Result, bail};
+use batch_ids::{Parameters, T256};
+use batch_operator::{CopyCount, Operator};
+use jsl_model::Catalogue;
+use op_log::Answer;
+use seat_rules::{BookSeat, SeatTable, Site};
+use sessions::Session;
+use std::alloc::Global;
+use std::sync::Wait;
+
+/// An operator with one read copy of each kind.
+pub(crate) fn operator_of<N: Site>(
+    alloc: Global,
+    table: SeatTable,
+    seat: BookSeat,
+    catalogue: Catalogue,
+) -> Result<Operator<N>>
+    requires table { table ≡ N.place }
+    requires seat { seat ≡ N.place.table }
+    requires catalogue { catalogue ≡ N.place.catalogue }
+{
+    let Some(copies) = CopyCount::new(1) else {
+        bail!("one copy is too many");
+    };
+    Ok(Operator::<N>::new(alloc, table, seat, catalogue, copies)?)
+}
+
+/// Starts the job of this name, by a session of its own.
+pub(crate) fn start_job<N: Site>(
+    rt: &(impl Wait + AllocGlobal),
+    operator: &Operator<N>,
+    name: &str,
+) -> Result<()> {
+    let mut session = operator.open_session(rt)?;
+    let job = T256::new(rt.alloc(), name)?;
+    drop(operator.start(rt, &mut session, job, Parameters::none(), 0)?);
+    Ok(())
+}
+
+/// How many job instances a job has, or 0 where the answer is of another kind.
+pub(crate) fn instances_of<N: Site>(
+    rt: &(impl Wait + AllocGlobal),
+    operator: &Operator<N>,
+    session: &mut Session<N>,
+    name: &str,
+) -> Result<u64> {
+    let job = T256::new(rt.alloc(), name)?;
+    let answer = operator.get_job_instance_count(rt, session, job)?;
+    let count = match &answer {
+        Answer::JobInstanceCount(count) => *count,
+        _ => 0,
+    };
+    drop(answer);
+    Ok(count)
+}
