@@ -1,4 +1,4 @@
-ghost use Rattle.std.specs.Prelude.{◌≡◌};
+ghost use Rattle.std.specs.Prelude.{◌≡◌, IfOk, length};
 
 use crate::hosting::{operator_of, start_job};
 use crate::quiet::quiet_kit;
@@ -115,7 +115,9 @@ fn work_together<N: Site + Send + Sync, R: Threads + Wait + AllocGlobal + Sync>(
 }
 
 /// Two kits with the batchlet `ok`.
-fn two_kits(alloc: Global) -> Result<Vec<Kit>> {
+fn two_kits(alloc: Global) -> Result<Vec<Kit>>
+    ensures { IfOk result (λ kits. length kits.items ≡ 2) }
+{
     let mut kits = Vec::new(alloc);
     kits.push(quiet_kit(alloc, "ok")?)?;
     kits.push(quiet_kit(alloc, "ok")?)?;

@@ -3,5 +3,5 @@ use Rattle.std.proofs.Crossing.{crosses}
 use Rattle.batch_operator.proofs.Crossing.{operator_sync}
 use Rattle.service_cases.proofs.two_threads.start_together.Goals as goal
 
-pub join-requires-send-F : goal.join-requires-send-F
-join-requires-send-F g c κs within = search (operator_sync, crosses, sendable) depth 60 fits 20000
+pub join-of_one-requires-send-F : goal.join-of_one-requires-send-F
+join-of_one-requires-send-F g c κs within = search (operator_sync, crosses, sendable) depth 60 fits 20000
