@@ -12,44 +12,45 @@ fn book(alloc: Global) -> Result<Book<1>, Fail> {
     Ok(Book::new(alloc, catalogue)?)
 }
 
-// What a claim and the first four calls are answered.
-fn replies(
-    alloc: Global,
-    book: &mut Book<1>,
-    calls: Vec<Call>,
-) -> Result<Vec<Result<Reply, Refusal>>, Fail> {
-    let mut replies = Vec::new(alloc);
-    replies.push(book.act(1, Call::Claim, 0))?;
-    for call in calls.into_iter().take(4) {
-        replies.push(book.act(1, call, 0))?;
-    }
-    Ok(replies)
+// Whether this is what the log answers a call.
+fn is_answered(book: &mut Book<1>, call: Call, wanted: &Result<Reply, Refusal>) -> bool {
+    let reply = book.act(1, call, 0);
+    let is_wanted = reply == *wanted;
+    drop(reply);
+    is_wanted
 }
 
-// The same by a log that has room for one entry, and how many it then has.
-fn replies_of_one(alloc: Global) -> Result<(Vec<Result<Reply, Refusal>>, usize), Fail> {
-    let calls = calls(alloc)?;
-    let mut book = book(alloc)?;
-    let replies = replies(alloc, &mut book, calls);
-    let len = book.len();
-    drop(book);
-    Ok((replies?, len))
-}
-
-// What would be entered is refused, behind the refusals of the call itself; a claim without work makes no entry.
-#[test]
-fn a_full_log_refuses_what_would_be_entered(rt: HostRuntime) -> Result<(), Fail> {
-    let (replies, len) = replies_of_one(rt.alloc())?;
+// Whether a start is entered, and what would be entered behind it is refused, behind the refusals of the call itself.
+fn is_filled(book: &mut Book<1>, calls: Vec<Call>) -> bool {
     let full = Refusal::RepositoryFull;
     let wanted = [
-        Ok(Reply::Nothing),
         Ok(Reply::Execution(ExecutionId::new(1))),
         Err(full),
         Err(Refusal::NoSuchWork),
         Err(full),
     ];
-    let as_wanted = replies.as_slice() == wanted.as_slice();
+    let is_wanted = calls
+        .into_iter()
+        .zip(&wanted)
+        .all(|(call, wanted)| is_answered(book, call, wanted));
     drop(wanted);
+    is_wanted
+}
+
+// The same of a log that has room for one entry, and how many it then has. A claim without work makes no entry.
+fn fill_one(alloc: Global) -> Result<(bool, usize), Fail> {
+    let calls = calls(alloc)?;
+    let mut book = book(alloc)?;
+    let claimed = is_answered(&mut book, Call::Claim, &Ok(Reply::Nothing));
+    let filled = is_filled(&mut book, calls);
+    let len = book.len();
+    drop(book);
+    Ok((claimed && filled, len))
+}
+
+#[test]
+fn a_full_log_refuses_what_would_be_entered(rt: HostRuntime) -> Result<(), Fail> {
+    let (as_wanted, len) = fill_one(rt.alloc())?;
     assert!(rt; as_wanted);
     assert_eq!(rt; len, 1);
     Ok(())

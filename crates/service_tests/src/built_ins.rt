@@ -1,7 +1,7 @@
 // Each built-in artifact alone, in each use.
 use built_in_artifacts::{BuiltIn, BuiltInArtifact};
 use job_threads::{Artifact, ArtifactFault};
-use std::alloc::Global;
+use std::alloc::{AllocError, Global};
 use std::test::Fail;
 
 /// Names, and what they are names of.
@@ -133,7 +133,9 @@ fn came_of(artifact: &mut BuiltInArtifact) -> [&'static str; 6] {
 fn is_used(alloc: Global, name: &str, wanted: &[&str; 6]) -> Result<bool, Fail> {
     let mut artifact = artifact_of(alloc, name)?;
     let begins = artifact.begin(Some(1)).is_ok();
-    Ok(begins && came_of(&mut artifact) == *wanted)
+    let came = came_of(&mut artifact);
+    drop(artifact);
+    Ok(begins && came == *wanted)
 }
 
 #[test]
@@ -154,18 +156,22 @@ const READ: [(&str, Option<&str>, &str); 6] = [
     ("count:5", Some("12"), "12 end"),
 ];
 
+/// Tells an item, with the checkpoint after it.
+fn tell(told: &mut String, item: &str, checkpoint: &str) -> Result<(), AllocError> {
+    told.push(' ')?;
+    told.push_str(item)?;
+    told.push('@')?;
+    told.push_str(checkpoint)
+}
+
 /// Tells the next item, with the checkpoint after it; whether there is one.
 fn tell_next(reader: &mut BuiltInArtifact, told: &mut String) -> Result<bool, Fail> {
-    match reader.read()? {
-        None => Ok(false),
-        Some(item) => {
-            told.push(' ')?;
-            told.push_str(item.as_str())?;
-            told.push('@')?;
-            told.push_str(reader.checkpoint()?.as_str())?;
-            Ok(true)
-        }
-    }
+    let Some(item) = reader.read()? else {
+        return Ok(false);
+    };
+    let checkpoint = reader.checkpoint()?;
+    tell(told, item.as_str(), checkpoint.as_str())?;
+    Ok(true)
 }
 
 fn read_all(reader: &mut BuiltInArtifact, told: &mut String) -> Result<(), Fail> {

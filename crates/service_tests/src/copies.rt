@@ -48,7 +48,14 @@ fn calls_are_copied(rt: HostRuntime) -> Result<(), Fail> {
 }
 
 fn is_copied(call: &Call) -> bool {
-    matches!(call.try_clone(), Ok(copy) if copy == *call)
+    match call.try_clone() {
+        Ok(copy) => {
+            let is_same = copy == *call;
+            drop(copy);
+            is_same
+        }
+        Err(_) => false,
+    }
 }
 
 // A copy of the catalogue.

@@ -56,14 +56,21 @@ fn replies_to_cut(alloc: Global, cut: usize) -> Result<String, AllocError> {
     }
 }
 
+/// Whether the script that ends behind so many bytes is answered as it is to be.
+fn is_answered_to(alloc: Global, cut: usize) -> Result<bool, Fail> {
+    let wanted = replies_to_cut(alloc, cut)?;
+    let script = SCRIPT.as_bytes().get(..cut).unwrap_or(b"");
+    let (replies, outcome) = answer_script(alloc, script);
+    drop(outcome);
+    let is_wanted = replies.as_slice() == wanted.as_bytes();
+    drop(replies);
+    Ok(is_wanted)
+}
+
 #[test]
 fn a_script_may_end_at_each_byte(rt: HostRuntime) -> Result<(), Fail> {
-    let alloc = rt.alloc();
     for cut in 0..SCRIPT.len() {
-        let script = SCRIPT.as_bytes().get(..cut).unwrap_or(b"");
-        let (replies, _outcome) = answer_script(alloc, script);
-        let wanted = replies_to_cut(alloc, cut)?;
-        assert_eq!(rt; replies.as_slice(), wanted.as_bytes(), "cut at {cut}");
+        assert!(rt; is_answered_to(rt.alloc(), cut)?, "cut at {cut}");
     }
     Ok(())
 }
@@ -87,17 +94,23 @@ impl Read for Broken<'_> {
     }
 }
 
+/// Whether a run whose read fails behind so many bytes says so, and has written the replies to the lines before.
+fn is_broken_behind(alloc: Global, calls: usize) -> Result<bool, Fail> {
+    let rest = SCRIPT.as_bytes().get(..calls).unwrap_or(b"");
+    let wanted = replies_and(alloc, replies_due(rest), "")?;
+    let mut reader = Counted::new(Broken { rest });
+    let mut writer = Counted::new(Vec::new(alloc));
+    let outcome = run_script(alloc, &mut reader, &mut writer);
+    let is_told = outcome == Err(EngineFault::Read);
+    drop(outcome);
+    let written = writer.into_inner();
+    Ok(is_told && written.as_slice() == wanted.as_bytes())
+}
+
 #[test]
 fn each_read_may_fail(rt: HostRuntime) -> Result<(), Fail> {
-    let alloc = rt.alloc();
     for calls in 0..SCRIPT.len() {
-        let rest = SCRIPT.as_bytes().get(..calls).unwrap_or(b"");
-        let mut reader = Counted::new(Broken { rest });
-        let mut writer = Counted::new(Vec::new(alloc));
-        let outcome = run_script(alloc, &mut reader, &mut writer);
-        assert_eq!(rt; outcome, Err(EngineFault::Read));
-        let wanted = replies_and(alloc, replies_due(rest), "")?;
-        assert_eq!(rt; writer.into_inner().as_slice(), wanted.as_bytes());
+        assert!(rt; is_broken_behind(rt.alloc(), calls)?, "call {calls}");
     }
     Ok(())
 }
@@ -126,20 +139,26 @@ impl Write for Narrow {
     }
 }
 
+/// Whether a run whose write fails behind so many bytes says so, and these are the first of what it was to write.
+fn is_cut_behind(alloc: Global, calls_left: usize, wanted: &[u8]) -> bool {
+    let mut reader = Counted::new(SCRIPT.as_bytes());
+    let mut writer = Counted::new(Narrow {
+        taken: Vec::new(alloc),
+        calls_left,
+    });
+    let outcome = run_script(alloc, &mut reader, &mut writer);
+    let is_told = outcome == Err(EngineFault::Write);
+    drop(outcome);
+    let taken = writer.into_inner().taken;
+    is_told && Some(taken.as_slice()) == wanted.get(..calls_left)
+}
+
 #[test]
 fn each_write_may_fail(rt: HostRuntime) -> Result<(), Fail> {
-    let alloc = rt.alloc();
-    let wanted = replies_and(alloc, 3, "")?;
+    let wanted = replies_and(rt.alloc(), 3, "")?;
     for calls_left in 0..wanted.len() {
-        let mut reader = Counted::new(SCRIPT.as_bytes());
-        let mut writer = Counted::new(Narrow {
-            taken: Vec::new(alloc),
-            calls_left,
-        });
-        let outcome = run_script(alloc, &mut reader, &mut writer);
-        assert_eq!(rt; outcome, Err(EngineFault::Write));
-        let taken = writer.into_inner().taken;
-        assert_eq!(rt; Some(taken.as_slice()), wanted.as_bytes().get(..calls_left));
+        let is_cut = is_cut_behind(rt.alloc(), calls_left, wanted.as_bytes());
+        assert!(rt; is_cut, "call {calls_left}");
     }
     Ok(())
 }

@@ -211,19 +211,20 @@ fn is_metric(alloc: Global, metric: Metric, printed: &str) -> Result<bool, Alloc
     Ok(text.as_str() == printed && printed.parse::<Metric>() == Ok(metric))
 }
 
+const METRICS: [(Metric, &str); 8] = [
+    (Metric::ReadCount, "READ_COUNT"),
+    (Metric::WriteCount, "WRITE_COUNT"),
+    (Metric::CommitCount, "COMMIT_COUNT"),
+    (Metric::RollbackCount, "ROLLBACK_COUNT"),
+    (Metric::ReadSkipCount, "READ_SKIP_COUNT"),
+    (Metric::ProcessSkipCount, "PROCESS_SKIP_COUNT"),
+    (Metric::FilterCount, "FILTER_COUNT"),
+    (Metric::WriteSkipCount, "WRITE_SKIP_COUNT"),
+];
+
 #[test]
 fn a_metric_prints_as_its_name_and_is_read_from_it(rt: HostRuntime) -> Result<(), Fail> {
-    let metrics = [
-        (Metric::ReadCount, "READ_COUNT"),
-        (Metric::WriteCount, "WRITE_COUNT"),
-        (Metric::CommitCount, "COMMIT_COUNT"),
-        (Metric::RollbackCount, "ROLLBACK_COUNT"),
-        (Metric::ReadSkipCount, "READ_SKIP_COUNT"),
-        (Metric::ProcessSkipCount, "PROCESS_SKIP_COUNT"),
-        (Metric::FilterCount, "FILTER_COUNT"),
-        (Metric::WriteSkipCount, "WRITE_SKIP_COUNT"),
-    ];
-    for (metric, printed) in metrics {
+    for (metric, printed) in METRICS {
         assert!(rt; is_metric(rt.alloc(), metric, printed)?, "{printed}");
     }
     Ok(())
@@ -261,7 +262,9 @@ fn counts_are_zero_by_default(rt: HostRuntime) {
 #[test]
 fn parameters_are_walked_over_by_rising_keys(rt: HostRuntime) -> Result<(), Fail> {
     let parameters = parameters_of(rt.alloc(), [("b", "1"), ("a", "2"), ("c", "3")])?;
-    assert!(rt; walk_over(rt.alloc(), &parameters)?);
+    let walked = walk_over(rt.alloc(), &parameters);
+    drop(parameters);
+    assert!(rt; walked?);
     Ok(())
 }
 
