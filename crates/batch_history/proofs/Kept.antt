@@ -8,16 +8,16 @@ use Rattle.batch_ids.specs.declared.metric_step.MetricStep.{MetricStep}
 use Rattle.batch_ids.specs.declared.status.WorkOutcome.{WorkOutcome}
 use Rattle.batch_ids.specs.declared.status.WorkOutcome.TheVariants.{Failed}
 use Rattle.jsl_model.specs.Jobs.{JobTree}
-use Rattle.job_walk.specs.declared.work_key.WorkKey.{WorkKey}
-use Rattle.job_walk.specs.declared.facts.Fact.{Fact}
+use Rattle.walk_rules.specs.declared.work_key.WorkKey.{WorkKey}
+use Rattle.walk_rules.specs.declared.facts.Fact.{Fact}
 use Rattle.job_walk.specs.Runnables.{all_leaves, runnable_with}
-use Rattle.job_walk.specs.Keys.{is_same_key}
-use Rattle.job_walk.specs.Walk.{is_busy}
-use Rattle.job_walk.proofs.SameKeys.{same-self}
-use Rattle.job_walk.specs.declared.facts.Fact.TheVariants.{Nothing as FactNothing, Busy as FactBusy, Over as FactOver, Carried as FactCarried, Barred as FactBarred}
+use Rattle.walk_rules.specs.Keys.{is_same_key}
+use Rattle.walk_rules.specs.Walk.{is_busy}
+use Rattle.walk_rules.proofs.SameKeys.{same-self}
+use Rattle.walk_rules.specs.declared.facts.Fact.TheVariants.{Nothing as FactNothing, Busy as FactBusy, Over as FactOver, Carried as FactCarried, Barred as FactBarred}
 use Rattle.job_walk.specs.declared.plan.Plan.{Plan}
-use Rattle.job_walk.specs.declared.facts.Value.{Value}
-use Rattle.job_walk.specs.declared.facts.Value.TheVariants.{Open, Done as IsDone, Ended}
+use Rattle.walk_rules.specs.declared.facts.Value.{Value}
+use Rattle.walk_rules.specs.declared.facts.Value.TheVariants.{Open, Done as IsDone, Ended}
 use Rattle.batch_history.specs.declared.call.Call.{Call}
 use Rattle.batch_history.specs.declared.call.Call.TheVariants.{Start, Restart, Stop, Abandon, Claim, Checkpoint, Finish, Lose, Purge}
 use Rattle.batch_history.specs.declared.call.Reply.{Reply}

@@ -2,10 +2,10 @@
 use mathlib.Core.Path.{fun_ext}
 use Rattle.std.proofs.Common.{◌≡◌, ℕ, ◌==◌, ◌&&◌, true, false, cond, Some, List, [], ◌∷◌, find, refl, sym, ◌∙◌, ap}
 use Rattle.jsl_model.specs.Jobs.{JobTree}
-use Rattle.job_walk.specs.Keys.{is_same_key}
-use Rattle.job_walk.specs.Walk.{fact_of}
-use Rattle.job_walk.specs.declared.work_key.WorkKey.{WorkKey}
-use Rattle.job_walk.specs.declared.facts.Known.{Known}
+use Rattle.walk_rules.specs.Keys.{is_same_key}
+use Rattle.walk_rules.specs.Walk.{fact_of}
+use Rattle.walk_rules.specs.declared.work_key.WorkKey.{WorkKey}
+use Rattle.walk_rules.specs.declared.facts.Known.{Known}
 use Rattle.job_walk.specs.declared.plan.Plan.{Plan}
 use Rattle.batch_history.specs.Walks.{fact_of_state, is_work_of, fact_by_work, facts_by_work, walk_of, walk_value, job_named}
 use Rattle.batch_history.specs.Works.{work_key}

@@ -5,7 +5,7 @@ use Rattle.std.specs.Option.{option_map}
 use Rattle.std.proofs.lemmas.List.{append_assoc}
 use Rattle.std.proofs.lemmas.Bool.{ne_eqb, lt-ltb, le-ltb, leb-true}
 use Rattle.jsl_model.specs.Jobs.{JobTree}
-use Rattle.job_walk.specs.declared.facts.Value.{Value}
+use Rattle.walk_rules.specs.declared.facts.Value.{Value}
 use Rattle.job_walk.specs.declared.plan.Plan.{Plan}
 use Rattle.batch_history.specs.declared.call.Call.{Call}
 use Rattle.batch_history.specs.declared.call.Call.TheVariants.{Start, Restart, Stop, Abandon, Claim, Checkpoint, Finish, Lose, Purge}
@@ -19,7 +19,7 @@ use Rattle.batch_history.specs.Lists.{is_at}
 use Rattle.batch_history.specs.Moments.{first_moment, start_moment}
 use Rattle.batch_history.specs.Operations.{effects, taken_up_by}
 use Rattle.batch_history.specs.Partitions.{is_kept_after, partitions_kept}
-use Rattle.job_walk.specs.Keys.{numbers_to}
+use Rattle.walk_rules.specs.Keys.{numbers_to}
 use Rattle.std.specs.List.{flat_map}
 use Rattle.batch_history.specs.Restarts.{exit_carried, kept_partitions, starts_of, is_same_number, is_earlier_work, carried_step, is_barred, plan_by, first_plan, restart_point, is_taken_up, job_of_origin, plan_from, walk_from, beginning_by_making, beginning_among, plan_of}
 use Rattle.batch_history.specs.Rows.{IsAsBefore}

@@ -17,17 +17,17 @@ use Rattle.jsl_model.specs.declared.element.SplitFlow.{SplitFlow, fold-roll-Spli
 use Rattle.jsl_model.specs.declared.element.Body.{Body, Body-F, map-Body, fold-roll-Body}
 use Rattle.jsl_model.specs.declared.element.Body.TheOpen.{Step, Flow, Split, Decision}
 use Rattle.transitions.specs.Transitions.{matching_transition}
-use Rattle.job_walk.specs.declared.work_key.WorkKey.{WorkKey}
-use Rattle.job_walk.specs.declared.facts.Fact.{Fact}
-use Rattle.job_walk.specs.declared.facts.Fact.TheVariants.{Nothing, Carried, Busy, Over, Barred}
-use Rattle.job_walk.specs.declared.facts.Value.{Value}
-use Rattle.job_walk.specs.declared.facts.Value.TheVariants.{Open, Done, Ended}
-use Rattle.job_walk.specs.declared.element_result.ElementResult.{ElementResult}
-use Rattle.job_walk.specs.declared.element_result.ElementResult.TheVariants.{ListValue, Outcome}
-use Rattle.job_walk.proofs.SameKeys.{same-one, same-self, differing-keys}
-use Rattle.job_walk.specs.Keys.{is_same_key, has_key, key_of, numbers_to}
-use Rattle.job_walk.specs.declared.facts.Known.{Known}
-use Rattle.job_walk.specs.Walk.{WalkedElement, BodyResult, IsStep, IsDecision, HasResult, runnable_result, ready_result, busy_result, step_result, partitioned_result, open_or_over, named_outcome, strongest_outcome, known_of, has_fact, keys_with, is_left, is_busy, is_barred, value_by_transition, value_after_outcome, value_by_result, value_at, follow, list_value, first_id, whole_value, flow_result, all_ready, all_busy, is_open, any_open, ended_as, strongest_end, split_result, body_result, element_with_result, flow_value, walked_element, walked_body, element_result, value_of_flow, value_of}
+use Rattle.walk_rules.specs.declared.work_key.WorkKey.{WorkKey}
+use Rattle.walk_rules.specs.declared.facts.Fact.{Fact}
+use Rattle.walk_rules.specs.declared.facts.Fact.TheVariants.{Nothing, Carried, Busy, Over, Barred}
+use Rattle.walk_rules.specs.declared.facts.Value.{Value}
+use Rattle.walk_rules.specs.declared.facts.Value.TheVariants.{Open, Done, Ended}
+use Rattle.walk_rules.specs.declared.element_result.ElementResult.{ElementResult}
+use Rattle.walk_rules.specs.declared.element_result.ElementResult.TheVariants.{ListValue, Outcome}
+use Rattle.walk_rules.proofs.SameKeys.{same-one, same-self, differing-keys}
+use Rattle.walk_rules.specs.Keys.{is_same_key, has_key, key_of, numbers_to}
+use Rattle.walk_rules.specs.declared.facts.Known.{Known}
+use Rattle.walk_rules.specs.Walk.{WalkedElement, BodyResult, IsStep, IsDecision, HasResult, runnable_result, ready_result, busy_result, step_result, partitioned_result, open_or_over, named_outcome, strongest_outcome, known_of, has_fact, keys_with, is_left, is_busy, is_barred, value_by_transition, value_after_outcome, value_by_result, value_at, follow, list_value, first_id, whole_value, flow_result, all_ready, all_busy, is_open, any_open, ended_as, strongest_end, split_result, body_result, element_with_result, flow_value, walked_element, walked_body, element_result, value_of_flow, value_of}
 
 -- ---- Values
 

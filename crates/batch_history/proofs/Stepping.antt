@@ -7,8 +7,8 @@ use mathlib.Core.Path.{fun_ext}
 use Rattle.std.proofs.lemmas.List.{map-append, length-map, length-append}
 use Rattle.std.proofs.lemmas.Bool.{eqb-true, eqb-false, eq-eqb, ne_eqb}
 use Rattle.job_walk.proofs.Following.{find-map}
-use Rattle.job_walk.specs.declared.facts.Known.{Known}
-use Rattle.job_walk.specs.declared.facts.Value.{Value}
+use Rattle.walk_rules.specs.declared.facts.Known.{Known}
+use Rattle.walk_rules.specs.declared.facts.Value.{Value}
 use Rattle.job_walk.specs.declared.plan.Plan.{Plan}
 use Rattle.batch_ids.specs.Parameters.{Pair}
 use Rattle.batch_ids.specs.Metrics.{zero_step}

@@ -3,13 +3,13 @@ use Rattle.std.proofs.Common.{◌≡◌, ◌≢◌, ℕ, ◌==◌, Bool, true, f
 use Rattle.std.proofs.lemmas.Bool.{eqb-true, eqb-false, eq-eqb}
 use Rattle.batch_ids.specs.declared.metric_step.MetricStep.{MetricStep}
 use Rattle.batch_ids.specs.declared.status.WorkOutcome.{WorkOutcome}
-use Rattle.job_walk.specs.declared.facts.Fact.TheVariants.{Nothing, Busy as FactBusy}
-use Rattle.job_walk.specs.declared.facts.Known.{Known}
-use Rattle.job_walk.proofs.SameKeys.{same-self, differing-keys}
-use Rattle.job_walk.specs.Keys.{is_same_key}
-use Rattle.job_walk.specs.declared.work_key.WorkKey.{WorkKey}
+use Rattle.walk_rules.specs.declared.facts.Fact.TheVariants.{Nothing, Busy as FactBusy}
+use Rattle.walk_rules.specs.declared.facts.Known.{Known}
+use Rattle.walk_rules.proofs.SameKeys.{same-self, differing-keys}
+use Rattle.walk_rules.specs.Keys.{is_same_key}
+use Rattle.walk_rules.specs.declared.work_key.WorkKey.{WorkKey}
 use Rattle.batch_history.specs.Works.{work_key}
-use Rattle.job_walk.specs.Walk.{fact_of}
+use Rattle.walk_rules.specs.Walk.{fact_of}
 use Rattle.batch_history.specs.declared.rows.WorkRow.{WorkRow}
 use Rattle.batch_history.specs.declared.rows.WorkState.{WorkState}
 use Rattle.batch_history.specs.declared.rows.WorkState.TheVariants.{Busy, Over}

@@ -2,7 +2,7 @@
 -- partitions a restart keeps. The works here are work items of one step in the job executions of one job instance.
 use Rattle.std.specs.List.{list_any, list_all, last_or}
 use Rattle.std.specs.Prelude.{ℕ, ◌==◌, ◌&&◌, nat_le, nat_lt, ◌||◌, not, Bool, false, Option, Some, None, is_some, List, [], ◌∷◌, map, filter, reverse, if◌then◌else◌}
-use Rattle.job_walk.specs.Keys.{numbers_to}
+use Rattle.walk_rules.specs.Keys.{numbers_to}
 use Rattle.batch_history.specs.Lists.{is_at}
 use Rattle.batch_history.specs.Works.{completed_exit}
 use Rattle.batch_history.specs.declared.rows.WorkRow.{WorkRow}

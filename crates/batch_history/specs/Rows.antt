@@ -13,7 +13,7 @@ use Rattle.batch_history.specs.declared.rows.ExecutionRow.{ExecutionRow}
 use Rattle.batch_history.specs.declared.rows.JobInstance.{JobInstance}
 use Rattle.batch_history.specs.declared.rows.LastNumbers.{LastNumbers}
 use Rattle.batch_history.specs.declared.rows.WorkRow.{WorkRow}
-use Rattle.job_walk.specs.declared.facts.Value.{Value}
+use Rattle.walk_rules.specs.declared.facts.Value.{Value}
 use Rattle.job_walk.specs.declared.plan.Plan.{Plan}
 use Rattle.jsl_model.specs.Jobs.{JobTree}
 

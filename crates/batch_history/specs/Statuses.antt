@@ -8,9 +8,9 @@ use Rattle.batch_history.specs.declared.call.Entry.{Entry}
 use Rattle.batch_ids.specs.Statuses.{status_name, is_unfinished}
 use Rattle.batch_ids.specs.declared.status.BatchStatus.{BatchStatus}
 use Rattle.batch_ids.specs.declared.status.BatchStatus.TheVariants.{Starting, Started, Stopping, Stopped as IsStopped, Completed as IsCompleted}
-use Rattle.job_walk.specs.declared.work_key.WorkKey.{WorkKey}
-use Rattle.job_walk.specs.declared.facts.Value.{Value}
-use Rattle.job_walk.specs.declared.facts.Value.TheVariants.{Open, Done as IsDone, Ended}
+use Rattle.walk_rules.specs.declared.work_key.WorkKey.{WorkKey}
+use Rattle.walk_rules.specs.declared.facts.Value.{Value}
+use Rattle.walk_rules.specs.declared.facts.Value.TheVariants.{Open, Done as IsDone, Ended}
 
 -- whether some entry is a Stop that names job execution x
 abbrev pub stop_requested : List Entry → ℕ → Bool

@@ -8,7 +8,7 @@ use Rattle.batch_ids.specs.Metrics.{sum_of_metrics}
 use Rattle.batch_ids.specs.Statuses.{is_unfinished, outcome_status, status_name}
 use Rattle.batch_ids.specs.declared.status.BatchStatus.{BatchStatus}
 use Rattle.batch_ids.specs.declared.status.BatchStatus.TheVariants.{Started, Stopped, Failed, Completed}
-use Rattle.job_walk.specs.Keys.{key_of, numbers_to}
+use Rattle.walk_rules.specs.Keys.{key_of, numbers_to}
 use Rattle.job_walk.specs.Plans.{is_kept}
 use Rattle.job_walk.specs.declared.plan.Plan.{Plan}
 use Rattle.batch_ids.specs.declared.status.WorkOutcome.{WorkOutcome}

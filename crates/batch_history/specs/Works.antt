@@ -14,7 +14,7 @@ use Rattle.batch_history.specs.declared.call.WorkTask.TheVariants.{Batchlet as B
 use Rattle.batch_history.specs.declared.rows.WorkRow.{WorkRow}
 use Rattle.batch_history.specs.declared.rows.WorkState.{WorkState}
 use Rattle.batch_history.specs.declared.rows.WorkState.TheVariants.{Busy, Over}
-use Rattle.job_walk.specs.declared.work_key.WorkKey.{WorkKey}
+use Rattle.walk_rules.specs.declared.work_key.WorkKey.{WorkKey}
 use Rattle.batch_ids.specs.Metrics.{zero_metrics, added}
 use Rattle.batch_ids.specs.Statuses.{outcome_name}
 use Rattle.batch_ids.specs.declared.metric_step.MetricStep.{MetricStep}

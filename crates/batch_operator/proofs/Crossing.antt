@@ -4,7 +4,7 @@ use denote.Param.Send.{IsSend, IsSync, sendable}
 use Rattle.std.proofs.Crossing.{crosses}
 use Rattle.std.proofs.MapsCrossing as maps
 use Rattle.std.proofs.MapsCrossingOver as sets
-use Rattle.job_walk.proofs.facts.Known.TheSendSync as known_crosses
+use Rattle.walk_rules.proofs.facts.Known.TheSendSync as known_crosses
 use Rattle.job_walk.proofs.kept_list.KeptList.TheSendSync as list_crosses
 use Rattle.job_walk.specs.contracts.cursor.Cursor as cursor
 use Rattle.batch_history.proofs.call.Entry.TheSendSync as entry_crosses

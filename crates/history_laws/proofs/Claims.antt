@@ -2,8 +2,8 @@
 -- of its job, a partition where that step is partitioned.
 use Rattle.std.proofs.Common.{◌≡◌, ℕ, true, Option, None, Some, is_some, unwrap_or, List, [], ◌∷◌, find, refl, sym, ◌∙◌, ap, subst}
 use Rattle.jsl_model.specs.Jobs.{JobTree}
-use Rattle.job_walk.specs.declared.facts.Fact.{Fact}
-use Rattle.job_walk.specs.declared.work_key.WorkKey.{WorkKey}
+use Rattle.walk_rules.specs.declared.facts.Fact.{Fact}
+use Rattle.walk_rules.specs.declared.work_key.WorkKey.{WorkKey}
 use Rattle.batch_history.specs.Executions.{Made}
 use Rattle.batch_history.specs.Lists.{change_first}
 use Rattle.batch_history.specs.Replies.{first_ready, walk_in_rows, runnable_of_job, partitions_of_job, partition_named, claim_reply, next_work_item, has_something}

@@ -8,12 +8,12 @@ use Rattle.jsl_model.specs.declared.element.SplitFlow.{SplitFlow, fold-roll-Spli
 use Rattle.jsl_model.specs.declared.element.Body.{Body, Body-F, map-Body, fold-roll-Body}
 use Rattle.jsl_model.specs.declared.element.Body.TheOpen.{Step, Flow, Split, Decision}
 use Rattle.jsl_model.specs.Trees.{joined}
-use Rattle.job_walk.specs.declared.work_key.WorkKey.{WorkKey}
-use Rattle.job_walk.specs.declared.facts.Fact.{Fact}
-use Rattle.job_walk.specs.declared.facts.Value.{Value}
-use Rattle.job_walk.specs.declared.element_result.ElementResult.{ElementResult}
-use Rattle.job_walk.specs.Walk.{WalkedElement, BodyResult, IsStep, IsDecision, HasResult, known_of, runnable_result, partitioned_result, step_result, list_value, whole_value, flow_result, split_result, body_result, element_result, element_with_result, flow_value, walked_element, walked_body, value_of_flow, value_of}
-use Rattle.job_walk.specs.Keys.{key_of, keys_of_step}
+use Rattle.walk_rules.specs.declared.work_key.WorkKey.{WorkKey}
+use Rattle.walk_rules.specs.declared.facts.Fact.{Fact}
+use Rattle.walk_rules.specs.declared.facts.Value.{Value}
+use Rattle.walk_rules.specs.declared.element_result.ElementResult.{ElementResult}
+use Rattle.walk_rules.specs.Walk.{WalkedElement, BodyResult, IsStep, IsDecision, HasResult, known_of, runnable_result, partitioned_result, step_result, list_value, whole_value, flow_result, split_result, body_result, element_result, element_with_result, flow_value, walked_element, walked_body, value_of_flow, value_of}
+use Rattle.walk_rules.specs.Keys.{key_of, keys_of_step}
 use Rattle.job_walk.specs.Runnables.{keys_of, all_keys, Leaf, Inside, IsRun, Holds, body_leaves, leaves_at, element_leaves, flow_leaves, leaves, leaves_in_body, leaves_of_flow, all_leaves}
 use Rattle.job_walk.specs.Lists.{Agree}
 use Rattle.job_walk.proofs.Alls.{All-left, All-right, All-tail}

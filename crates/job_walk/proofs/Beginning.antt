@@ -5,20 +5,20 @@ use Rattle.std.proofs.lemmas.Grind.{flat_map-append}
 use Rattle.std.proofs.lemmas.List.{append_assoc, at_drop_more, drop_all, map-append}
 use Rattle.std.proofs.lemmas.List.Elements.{All-head}
 use Rattle.std.proofs.lemmas.List.Folds.{list_any-append}
-use Rattle.std.proofs.lemmas.List.FromFn.{map-range_with_len_more}
 use Rattle.jsl_model.specs.Jobs.{JobTree}
 use Rattle.jsl_model.specs.Trees.{joined}
-use Rattle.job_walk.specs.declared.facts.Fact.{Fact}
-use Rattle.job_walk.specs.declared.facts.Known.{Known}
-use Rattle.job_walk.specs.declared.work_key.WorkKey.{WorkKey}
+use Rattle.walk_rules.specs.declared.facts.Fact.{Fact}
+use Rattle.walk_rules.specs.declared.facts.Known.{Known}
+use Rattle.walk_rules.specs.declared.work_key.WorkKey.{WorkKey}
 use Rattle.job_walk.specs.declared.plan.Plan.{Plan}
 use Rattle.job_walk.specs.Cursors.{known_keys, known_at_first, fact_at_first, resumed, value_in}
-use Rattle.job_walk.specs.Keys.{key_of, numbers_to, is_same_key, has_key}
+use Rattle.walk_rules.specs.Keys.{key_of, numbers_to, is_same_key, has_key}
 use Rattle.job_walk.specs.Runnables.{Leaf, all_leaves, keys_of, all_keys}
-use Rattle.job_walk.specs.Walk.{fact_of, known_of, value_of}
+use Rattle.walk_rules.specs.Walk.{fact_of, known_of, value_of}
 use Rattle.job_walk.proofs.Agreeing.{value-same}
 use Rattle.job_walk.proofs.Alls.{All-tail}
-use Rattle.job_walk.proofs.SameKeys.{same-one, same-self, same-sym}
+use Rattle.walk_rules.proofs.SameKeys.{same-one, same-self, same-sym}
+use Rattle.walk_rules.proofs.Pushing.{known-more}
 
 -- ---- One fact for each work key
 
@@ -57,13 +57,6 @@ pub added-all : {X : Type 0} (at_first : Leaf → List Known) (held : X → List
 added-all at_first held xs i before whole past left =
     sym (no-more before) ∙ (ap (λ ys. before ++ flat_map at_first (joined (map held ys))) (sym (drop_all i xs past)) ∙ left)
 
--- what is known of one partition more
-pub known-more : (facts : WorkKey → Fact) (id : List ℕ) (n : ℕ)
-    → known_of facts (map (key_of id) (numbers_to (n + 1))) ≡ known_of facts (map (key_of id) (numbers_to n)) ++ known_of facts (key_of id n ∷ [])
-known-more facts id n =
-    ap (known_of facts) (map-range_with_len_more (key_of id) 0 n n (omega arith))
-    ∙ map-append (λ (key : WorkKey). record { key = key; fact = facts key }) (map (key_of id) (numbers_to n)) (key_of id n ∷ [])
-
 -- the partition is added to those before it
 pub partition-next : (facts : WorkKey → Fact) (id : List ℕ) (n : ℕ) (first before after : List Known)
     → before ≡ first ++ known_of facts (map (key_of id) (numbers_to n)) → after ≡ before ++ known_of facts (key_of id n ∷ [])
@@ -73,16 +66,6 @@ partition-next facts id n first before after was added =
     ∙ (ap (λ (ks : List Known). ks ++ known_of facts (key_of id n ∷ [])) was
     ∙ (append_assoc first (known_of facts (map (key_of id) (numbers_to n))) (known_of facts (key_of id n ∷ []))
     ∙ ap (λ (ks : List Known). first ++ ks) (sym (known-more facts id n))))
-
--- what is pushed is known of the partition
-pub partition-pushed : (facts : WorkKey → Fact) (id : List ℕ) (n : ℕ) (before after : List Known) (key : WorkKey) (fact : Fact)
-    → before ≡ known_of facts (map (key_of id) (numbers_to n)) → after ≡ before ++ record { key = key; fact = fact } ∷ [] → key ≡ key_of id n → fact ≡ facts (key_of id n)
-    → after ≡ known_of facts (map (key_of id) (numbers_to (n + 1)))
-partition-pushed facts id n before after key fact was pushed named says =
-    pushed
-    ∙ (ap (λ k. before ++ record { key = k; fact = fact } ∷ []) named
-    ∙ (ap (λ f. before ++ record { key = key_of id n; fact = f } ∷ []) says
-    ∙ (ap (λ ks. ks ++ known_of facts (key_of id n ∷ [])) was ∙ sym (known-more facts id n))))
 
 -- ---- What facts say of it
 

@@ -7,23 +7,27 @@ use Rattle.std.specs.Cmp.Lexicographic.{bytes_decides}
 use Rattle.std.specs.Str.{bytes_eq}
 use Rattle.jsl_model.specs.Trees.{joined}
 use Rattle.jsl_model.specs.declared.element.Element.{Element}
-use Rattle.job_walk.specs.declared.element_result.ElementResult.{ElementResult}
-use Rattle.job_walk.specs.declared.element_result.ElementResult.TheVariants.{ListValue}
-use Rattle.job_walk.specs.declared.facts.Fact.{Fact}
-use Rattle.job_walk.specs.declared.facts.Value.{Value}
+use Rattle.walk_rules.specs.declared.element_result.ElementResult.{ElementResult}
+use Rattle.walk_rules.specs.declared.element_result.ElementResult.TheVariants.{ListValue}
+use Rattle.walk_rules.specs.declared.facts.Fact.{Fact}
+use Rattle.walk_rules.specs.declared.facts.Value.{Value}
 use Rattle.job_walk.specs.declared.kept_list.KeptList.{KeptList}
 use Rattle.job_walk.specs.declared.kept_list.ListChange.{ListChange}
-use Rattle.job_walk.specs.declared.kept_list.Progress.{Progress}
-use Rattle.job_walk.specs.declared.work_key.WorkKey.{WorkKey}
-use Rattle.job_walk.specs.declared.facts.Known.{Known}
-use Rattle.job_walk.specs.Walk.{WalkedElement, fact_of, follow}
-use Rattle.job_walk.specs.KeptLists.{KeptElement, head_of, rows_in, rows_by, insides, starts_from, stands, progress, row_place, kept_element, tree_of, kept_of, value_kept, count_in, count_of, shows, first_shows, result_shows, put_in, Puts, DifferAt, Keeps, KeepsInside, facts_after}
+use Rattle.walk_rules.specs.declared.progress.Progress.{Progress}
+use Rattle.walk_rules.specs.declared.work_key.WorkKey.{WorkKey}
+use Rattle.walk_rules.specs.declared.facts.Known.{Known}
+use Rattle.walk_rules.specs.Walk.{WalkedElement, fact_of, follow}
+use Rattle.job_walk.specs.KeptLists.{KeptElement, head_of, rows_in, insides, starts_from, kept_element, tree_of, kept_of, value_kept, first_shows, result_shows, put_in, Puts, DifferAt, Keeps, KeepsInside, facts_after}
+use Rattle.walk_rules.specs.Standing.{rows_by, stands, progress, row_place}
+use Rattle.walk_rules.specs.Counts.{count_in, count_of}
+use Rattle.walk_rules.specs.Shown.{shows}
 use Rattle.job_walk.proofs.KeptTrees.{kept-row}
 use Rattle.job_walk.proofs.Newest.{put-others}
 use Rattle.job_walk.proofs.Putting.{puts-list, puts-length, joined-set, start-at}
 use Rattle.job_walk.proofs.Reporting.{states, owns_in, rows-self, list-reported, Passes, find-passes}
-use Rattle.job_walk.proofs.ShownCounts.{shown-counts, others-none, within}
-use Rattle.job_walk.proofs.Stands.{is_row, shown-stands, place-found, place-none, row_place-by}
+use Rattle.job_walk.proofs.ShownCounts.{shown-counts, others-none}
+use Rattle.walk_rules.proofs.Places.{within}
+use Rattle.walk_rules.proofs.Stands.{is_row, shown-stands, place-found, place-none, row_place-by}
 
 -- ---- The first of the lists
 

@@ -7,21 +7,24 @@ use Rattle.jsl_model.specs.declared.element.SplitFlow.{SplitFlow, out-SplitFlow,
 use Rattle.jsl_model.specs.declared.element.Body.{fold-roll-Body}
 use Rattle.jsl_model.specs.declared.element.Body.TheVariants.{Flow, Split, rolls-Flow, rolls-Split}
 use Rattle.jsl_model.specs.declared.element.Body.TheOpen.{Flow as OpenFlow, Split as OpenSplit}
-use Rattle.job_walk.specs.declared.element_result.ElementResult.{ElementResult}
-use Rattle.job_walk.specs.declared.facts.Fact.{Fact}
-use Rattle.job_walk.specs.declared.facts.Value.{Value}
+use Rattle.walk_rules.specs.declared.element_result.ElementResult.{ElementResult}
+use Rattle.walk_rules.specs.declared.facts.Fact.{Fact}
+use Rattle.walk_rules.specs.declared.facts.Value.{Value}
 use Rattle.job_walk.specs.declared.kept_list.KeptList.{KeptList}
 use Rattle.job_walk.specs.declared.kept_list.ListChange.{ListChange}
-use Rattle.job_walk.specs.declared.work_key.WorkKey.{WorkKey}
-use Rattle.job_walk.specs.Walk.{WalkedElement, first_id, element_result, flow_result, split_result}
-use Rattle.job_walk.specs.KeptLists.{KeptElement, KeptBody, KeptTree, rows_in, insides, kept_element, kept_body, kept_flow, body_kept, element_kept, flow_kept, tree_first, tree_of, kept_of, lists_in, value_kept, total, body_count, element_count, flow_count, count_in, count_in_body, count_in_flow, count_of, shows, first_shows, result_shows, Puts, DifferAt, Keeps, KeepsFirst, KeepsInside}
+use Rattle.walk_rules.specs.declared.work_key.WorkKey.{WorkKey}
+use Rattle.walk_rules.specs.Walk.{WalkedElement, first_id, element_result, flow_result, split_result}
+use Rattle.job_walk.specs.KeptLists.{KeptElement, KeptBody, KeptTree, rows_in, insides, kept_element, kept_body, kept_flow, body_kept, element_kept, flow_kept, tree_first, tree_of, kept_of, lists_in, value_kept, first_shows, result_shows, Puts, DifferAt, Keeps, KeepsFirst, KeepsInside}
+use Rattle.walk_rules.specs.Counts.{total, body_count, element_count, flow_count, count_in, count_in_body, count_in_flow, count_of}
+use Rattle.walk_rules.specs.Shown.{shows}
 use Rattle.job_walk.proofs.Descent.{head_in, reached, reached-shows, kept-some, never-nowhere}
 use Rattle.job_walk.proofs.Following.{walked_element-parts}
 use Rattle.job_walk.proofs.KeptAtFirst.{one-more, joined-last, values-more, whole-parts, kept-split}
 use Rattle.job_walk.proofs.KeptTrees.{kept-row, kept-same}
 use Rattle.job_walk.proofs.Putting.{puts-none, puts-more}
 use Rattle.job_walk.proofs.Reporting.{states}
-use Rattle.job_walk.proofs.ShownCounts.{all_show, one-shows, split-shown, flow-shown, shown-counts, others-none, within}
+use Rattle.job_walk.proofs.ShownCounts.{all_show, one-shows, split-shown, flow-shown, shown-counts, others-none}
+use Rattle.walk_rules.proofs.Places.{within}
 
 -- ---- The first element is the same one, whatever is known
 

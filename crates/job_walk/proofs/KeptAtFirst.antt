@@ -7,13 +7,14 @@ use Rattle.jsl_model.specs.declared.element.SplitFlow.{SplitFlow, out-SplitFlow,
 use Rattle.jsl_model.specs.declared.element.Body.{fold-roll-Body}
 use Rattle.jsl_model.specs.declared.element.Body.TheVariants.{Split, rolls-Split}
 use Rattle.jsl_model.specs.declared.element.Body.TheOpen.{Split as OpenSplit}
-use Rattle.job_walk.specs.declared.facts.Fact.{Fact}
-use Rattle.job_walk.specs.declared.element_result.ElementResult.{ElementResult}
+use Rattle.walk_rules.specs.declared.facts.Fact.{Fact}
+use Rattle.walk_rules.specs.declared.element_result.ElementResult.{ElementResult}
 use Rattle.job_walk.specs.declared.kept_list.KeptList.{KeptList}
-use Rattle.job_walk.specs.declared.kept_list.Progress.{Progress}
-use Rattle.job_walk.specs.declared.work_key.WorkKey.{WorkKey}
-use Rattle.job_walk.specs.Walk.{split_result, element_result}
-use Rattle.job_walk.specs.KeptLists.{KeptElement, KeptBody, KeptTree, rows_in, rows_by, insides, starts_from, progress, head_of, tree_first, kept_of, value_kept, lists_in, body_kept, element_kept, flow_kept, kept_element, kept_body, kept_flow}
+use Rattle.walk_rules.specs.declared.progress.Progress.{Progress}
+use Rattle.walk_rules.specs.declared.work_key.WorkKey.{WorkKey}
+use Rattle.walk_rules.specs.Walk.{split_result, element_result}
+use Rattle.job_walk.specs.KeptLists.{KeptElement, KeptBody, KeptTree, rows_in, insides, starts_from, head_of, tree_first, kept_of, value_kept, lists_in, body_kept, element_kept, flow_kept, kept_element, kept_body, kept_flow}
+use Rattle.walk_rules.specs.Standing.{rows_by, progress}
 use Rattle.job_walk.proofs.Reporting.{states, owns_in, rows-self}
 
 pub one-more : {X Y : Type 0} (f : X → Y) (xs : List X) (i : ℕ) (x : X) → i < length xs → x ≡ get_or xs i x → map f (take (i + 1) xs) ≡ map f (take i xs) ++ f x ∷ []

@@ -6,14 +6,15 @@ use Rattle.jsl_model.specs.declared.element.Element.{Element, ind-Element, map-E
 use Rattle.jsl_model.specs.declared.element.SplitFlow.{SplitFlow, fold-roll-SplitFlow}
 use Rattle.jsl_model.specs.declared.element.Body.{Body, Body-F, map-Body, fold-roll-Body}
 use Rattle.jsl_model.specs.declared.element.Body.TheOpen.{Step, Flow, Split, Decision}
-use Rattle.job_walk.specs.declared.facts.Fact.{Fact}
-use Rattle.job_walk.specs.declared.facts.Value.{Value}
-use Rattle.job_walk.specs.declared.element_result.ElementResult.{ElementResult}
+use Rattle.walk_rules.specs.declared.facts.Fact.{Fact}
+use Rattle.walk_rules.specs.declared.facts.Value.{Value}
+use Rattle.walk_rules.specs.declared.element_result.ElementResult.{ElementResult}
 use Rattle.job_walk.specs.declared.kept_list.KeptList.{KeptList}
-use Rattle.job_walk.specs.declared.work_key.WorkKey.{WorkKey}
-use Rattle.job_walk.specs.Keys.{key_of, numbers_to}
-use Rattle.job_walk.specs.Walk.{WalkedElement, BodyResult, IsStep, IsDecision, HasResult, known_of, runnable_result, partitioned_result, step_result, follow, first_id, flow_result, split_result, body_result, element_with_result, flow_value, walked_element, walked_body, element_result, value_of_flow}
-use Rattle.job_walk.specs.KeptLists.{DifferAt, KeptElement, KeptBody, KeptTree, rows_in, tree_first, value_kept, body_kept, element_kept, flow_kept, kept_element, kept_body, kept_flow, body_count, element_count, flow_count, one_if, total, count_in, count_in_body, count_in_flow}
+use Rattle.walk_rules.specs.declared.work_key.WorkKey.{WorkKey}
+use Rattle.walk_rules.specs.Keys.{key_of, numbers_to}
+use Rattle.walk_rules.specs.Walk.{WalkedElement, BodyResult, IsStep, IsDecision, HasResult, known_of, runnable_result, partitioned_result, step_result, follow, first_id, flow_result, split_result, body_result, element_with_result, flow_value, walked_element, walked_body, element_result, value_of_flow}
+use Rattle.job_walk.specs.KeptLists.{DifferAt, KeptElement, KeptBody, KeptTree, rows_in, tree_first, value_kept, body_kept, element_kept, flow_kept, kept_element, kept_body, kept_flow}
+use Rattle.walk_rules.specs.Counts.{body_count, element_count, flow_count, one_if, total, count_in, count_in_body, count_in_flow}
 
 -- ---- The rows that are kept are the walk's
 

@@ -10,15 +10,16 @@ use Rattle.jsl_model.specs.declared.element.SplitFlow.{SplitFlow, fold-roll-Spli
 use Rattle.jsl_model.specs.declared.element.Body.{Body, Body-F, map-Body, fold-roll-Body}
 use Rattle.jsl_model.specs.declared.element.Body.TheOpen.{Step, Flow, Split, Decision}
 use Rattle.jsl_model.specs.Trees.{joined}
-use Rattle.job_walk.specs.declared.work_key.WorkKey.{WorkKey}
-use Rattle.job_walk.specs.declared.facts.Known.{Known}
+use Rattle.walk_rules.specs.declared.work_key.WorkKey.{WorkKey}
+use Rattle.walk_rules.specs.declared.facts.Known.{Known}
 use Rattle.job_walk.specs.Cursors.{known_keys}
-use Rattle.job_walk.specs.Keys.{key_of, keys_of_step, numbers_to, is_same_key, has_key}
-use Rattle.job_walk.specs.KeptLists.{key_count, one_if, total, body_count, element_count, flow_count, count_in, count_in_body, count_in_flow, count_of}
+use Rattle.walk_rules.specs.Keys.{key_of, keys_of_step, numbers_to, is_same_key, has_key}
+use Rattle.job_walk.specs.KeptLists.{key_count}
+use Rattle.walk_rules.specs.Counts.{one_if, total, body_count, element_count, flow_count, count_in, count_in_body, count_in_flow, count_of}
 use Rattle.job_walk.specs.Runnables.{keys_of, all_keys, Leaf, Inside, IsRun, Holds, body_leaves, leaves_at, element_leaves, flow_leaves, leaves, leaves_in_body, leaves_of_flow, all_leaves}
-use Rattle.job_walk.specs.Walk.{fact_of}
+use Rattle.walk_rules.specs.Walk.{fact_of}
 use Rattle.job_walk.proofs.Newest.{AreOther}
-use Rattle.job_walk.proofs.SameKeys.{same-one, same-sym, one_of_partitions}
+use Rattle.walk_rules.proofs.SameKeys.{same-one, same-sym, one_of_partitions}
 
 -- ---- How often a work key stands in a list
 

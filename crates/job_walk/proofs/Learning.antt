@@ -3,20 +3,21 @@ use Rattle.std.proofs.Common.{◌≡◌, ◌||◌, ℕ, Bool, true, false, List,
 use Rattle.std.specs.List.{flat_map}
 use Rattle.jsl_model.specs.Jobs.{JobTree}
 use Rattle.jsl_model.specs.declared.element.Element.{Element}
-use Rattle.job_walk.specs.declared.facts.Fact.{Fact}
-use Rattle.job_walk.specs.declared.facts.Known.{Known}
-use Rattle.job_walk.specs.declared.facts.Value.{Value}
+use Rattle.walk_rules.specs.declared.facts.Fact.{Fact}
+use Rattle.walk_rules.specs.declared.facts.Known.{Known}
+use Rattle.walk_rules.specs.declared.facts.Value.{Value}
 use Rattle.job_walk.specs.declared.kept_list.KeptList.{KeptList}
 use Rattle.job_walk.specs.declared.kept_list.ListChange.{ListChange}
 use Rattle.job_walk.specs.declared.plan.Plan.{Plan}
-use Rattle.job_walk.specs.Cursors.{CursorState, IsCursor, known_keys, known_at_first, value_in, ready_of, busy_of, is_shown, put_fact, with_fact}
-use Rattle.job_walk.specs.declared.work_key.WorkKey.{WorkKey}
-use Rattle.job_walk.specs.Keys.{has_key}
+use Rattle.job_walk.specs.Cursors.{CursorState, IsCursor, known_keys, known_at_first, value_in, put_fact, with_fact}
+use Rattle.walk_rules.specs.Shown.{ready_of, busy_of, is_shown}
+use Rattle.walk_rules.specs.declared.work_key.WorkKey.{WorkKey}
+use Rattle.walk_rules.specs.Keys.{has_key}
 use Rattle.job_walk.specs.Lists.{has_element}
 use Rattle.job_walk.specs.Runnables.{all_leaves, all_keys}
 use Rattle.job_walk.specs.KeptLists.{IsKept, ChangesList, ComesTo, facts_after, first_shows, kept_of, put_all}
 use Rattle.job_walk.specs.Preparing.{kept_in}
-use Rattle.job_walk.specs.Walk.{fact_of, value_of}
+use Rattle.walk_rules.specs.Walk.{fact_of, value_of}
 use Rattle.job_walk.proofs.Beginning.{first-keys}
 use Rattle.job_walk.proofs.Descent.{head_in}
 use Rattle.job_walk.proofs.KeptAtFirst.{no-more}

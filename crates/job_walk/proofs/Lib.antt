@@ -14,13 +14,10 @@ pub mod Newest
 pub mod Once
 pub mod Ordered
 pub mod Passing
-pub mod Places
 pub mod Points
 pub mod Putting
 pub mod Ranks
 pub mod Reporting
-pub mod SameKeys
 pub mod Shown
 pub mod ShownCounts
 pub mod Sizes
-pub mod Stands

@@ -1,5 +1,5 @@
 -- A step or decision that is found anywhere in a checked job is the one with its work key.
-use Rattle.std.proofs.Common.{◌≡◌, ℕ, zero, suc, ◌+◌, ◌<◌, ◌≤◌, ◌||◌, true, false, cond, Option, None, Some, List, [], ◌∷◌, ◌++◌, length, map, find, get_or, refl, sym, ◌∙◌, ap, arith}
+use Rattle.std.proofs.Common.{◌≡◌, ℕ, zero, suc, ◌+◌, ◌<◌, ◌≤◌, ◌||◌, true, false, cond, None, Some, List, [], ◌∷◌, ◌++◌, length, map, find, get_or, refl, sym, ◌∙◌, ap, arith}
 use Rattle.std.specs.Option.{option_map}
 use Rattle.jsl_model.specs.Trees.{joined}
 use Rattle.jsl_model.specs.declared.element.Element.{Element, fold_out-Element}
@@ -7,14 +7,15 @@ use Rattle.jsl_model.specs.declared.element.SplitFlow.{SplitFlow, out-SplitFlow}
 use Rattle.jsl_model.specs.declared.element.Body.{fold-roll-Body}
 use Rattle.jsl_model.specs.declared.element.Body.TheVariants.{Flow, Split, rolls-Flow, rolls-Split}
 use Rattle.jsl_model.specs.declared.element.Body.TheOpen.{Flow as OpenFlow, Split as OpenSplit}
-use Rattle.job_walk.specs.declared.work_key.WorkKey.{WorkKey}
-use Rattle.job_walk.specs.Keys.{is_same_key, has_key}
-use Rattle.job_walk.specs.KeptLists.{key_count, one_if, total, count_in, count_in_flow, count_of}
+use Rattle.walk_rules.specs.declared.work_key.WorkKey.{WorkKey}
+use Rattle.walk_rules.specs.Keys.{is_same_key, has_key}
+use Rattle.job_walk.specs.KeptLists.{key_count}
+use Rattle.walk_rules.specs.Counts.{one_if, total, count_in, count_in_flow, count_of}
 use Rattle.job_walk.specs.Runnables.{Leaf, Inside, IsRun, keys_of, all_keys, run_with, leaves, leaves_at, leaves_in_body, leaves_of_flow, all_leaves, body_leaves, element_leaves, flow_leaves}
 use Rattle.job_walk.proofs.Flows.{flow-once, split-count, flow-count}
 use Rattle.job_walk.proofs.KeysOnce.{count-append, element-keys, list-keys}
 use Rattle.job_walk.proofs.Leaves.{run-here, run-later, leaves_of_flow-parts}
-use Rattle.job_walk.proofs.ShownCounts.{within}
+use Rattle.walk_rules.proofs.Places.{within}
 
 some-counts : (key : WorkKey) (keys : List WorkKey) → has_key keys key ≡ true → 1 ≤ key_count key keys
 some-counts key [] h = cc

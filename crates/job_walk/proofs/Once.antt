@@ -13,7 +13,7 @@ use Rattle.jsl_model.specs.Names.{is_among, has_twice}
 use Rattle.jsl_model.specs.Trees.{joined, Node, BodyNodes, body_nodes, element_nodes, flow_nodes, nodes_of, in_body, nodes_of_flow, nodes}
 use Rattle.jsl_model.specs.Faults.{has_long_text, has_empty, is_too_deep, has_too_many, has_duplicate, node_ids, tree_fault, IsChecked}
 use Rattle.jsl_model.proofs.Among.{bytes_eq-sym}
-use Rattle.job_walk.specs.KeptLists.{total, one_if, body_count, element_count, flow_count, count_in, count_in_body, count_in_flow, count_of}
+use Rattle.walk_rules.specs.Counts.{total, one_if, body_count, element_count, flow_count, count_in, count_in_body, count_in_flow, count_of}
 use Rattle.job_walk.proofs.Ordered.{not-fault}
 use Rattle.job_walk.proofs.Points.{no-fault}
 

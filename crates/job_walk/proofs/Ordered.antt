@@ -15,9 +15,9 @@ use Rattle.jsl_model.specs.Names.{is_among}
 use Rattle.jsl_model.specs.Targets.{Item, ids, targets_in, item_of, outline, named_in, lists_of, lists_inside, lists_of_flow, lacks_target, lacks_some_target, HasRanks}
 use Rattle.jsl_model.specs.Faults.{has_long_text, has_empty, is_too_deep, has_too_many, has_duplicate, tree_fault, IsChecked}
 use Rattle.jsl_model.proofs.InnerLists.{inside-flow, inside-split, flow-lists}
-use Rattle.job_walk.specs.declared.work_key.WorkKey.{WorkKey}
-use Rattle.job_walk.specs.declared.facts.Fact.{Fact}
-use Rattle.job_walk.specs.Walk.{WalkedElement, walked_element, value_of}
+use Rattle.walk_rules.specs.declared.work_key.WorkKey.{WorkKey}
+use Rattle.walk_rules.specs.declared.facts.Fact.{Fact}
+use Rattle.walk_rules.specs.Walk.{WalkedElement, walked_element, value_of}
 use Rattle.job_walk.specs.Lists.{has_element, IsOrdered, StandsIn, Itself, InFlow, InSplit, value_from}
 use Rattle.job_walk.proofs.Alls.{All-tail, All-held}
 use Rattle.job_walk.proofs.Following.{find-walked}

@@ -10,13 +10,13 @@ use Rattle.jsl_model.specs.Targets.{outline, ids, lacks_some_target, has_some_lo
 use Rattle.jsl_model.specs.Jobs.{JobTree}
 use Rattle.jsl_model.specs.Faults.{has_restarts, has_long_text, has_empty, is_too_deep, has_too_many, has_duplicate, tree_fault, IsChecked}
 use Rattle.jsl_model.proofs.Among.{bytes_eq-sym}
-use Rattle.job_walk.specs.declared.work_key.WorkKey.{WorkKey}
+use Rattle.walk_rules.specs.declared.work_key.WorkKey.{WorkKey}
 use Rattle.job_walk.specs.Lists.{has_element}
 use Rattle.job_walk.proofs.Passing.{Passes, walk-passes, all-true}
 use Rattle.job_walk.specs.Runnables.{all_leaves, all_keys}
-use Rattle.job_walk.specs.declared.facts.Fact.{Fact}
-use Rattle.job_walk.specs.declared.facts.Value.TheVariants.{Ended}
-use Rattle.job_walk.specs.Walk.{value_of}
+use Rattle.walk_rules.specs.declared.facts.Fact.{Fact}
+use Rattle.walk_rules.specs.declared.facts.Value.TheVariants.{Ended}
+use Rattle.walk_rules.specs.Walk.{value_of}
 
 pub among-own : (elements : List Element) (id : List ℕ) → is_among (ids (outline elements)) id ≡ has_element elements id
 among-own [] id = refl

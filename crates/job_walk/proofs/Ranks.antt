@@ -12,13 +12,13 @@ use Rattle.jsl_model.specs.declared.element.Then.{Then}
 use Rattle.jsl_model.specs.declared.element.Then.TheVariants.{Next, End, Fail, Stop}
 use Rattle.jsl_model.specs.Targets.{Item, named_by, named_in, outline, ids, place_in, graph_of, HasRanks}
 use Rattle.transitions.specs.Transitions.{matches_on, matching_transition}
-use Rattle.job_walk.specs.declared.work_key.WorkKey.{WorkKey}
-use Rattle.job_walk.specs.declared.facts.Fact.{Fact}
-use Rattle.job_walk.specs.declared.facts.Value.{Value}
-use Rattle.job_walk.specs.declared.facts.Value.TheVariants.{Done}
-use Rattle.job_walk.specs.declared.element_result.ElementResult.{ElementResult}
-use Rattle.job_walk.specs.declared.element_result.ElementResult.TheVariants.{ListValue, Outcome}
-use Rattle.job_walk.specs.Walk.{WalkedElement, value_by_transition, value_after_outcome, value_by_result, value_at, follow, list_value, walked_element}
+use Rattle.walk_rules.specs.declared.work_key.WorkKey.{WorkKey}
+use Rattle.walk_rules.specs.declared.facts.Fact.{Fact}
+use Rattle.walk_rules.specs.declared.facts.Value.{Value}
+use Rattle.walk_rules.specs.declared.facts.Value.TheVariants.{Done}
+use Rattle.walk_rules.specs.declared.element_result.ElementResult.{ElementResult}
+use Rattle.walk_rules.specs.declared.element_result.ElementResult.TheVariants.{ListValue, Outcome}
+use Rattle.walk_rules.specs.Walk.{WalkedElement, value_by_transition, value_after_outcome, value_by_result, value_at, follow, list_value, walked_element}
 use Rattle.job_walk.proofs.Following.{walked_element-parts}
 
 -- ---- Numbers of ids

@@ -5,17 +5,19 @@ use Rattle.std.proofs.lemmas.Option.{slice_get-get_or}
 use Rattle.std.specs.Cmp.Lexicographic.{bytes_decides}
 use Rattle.std.specs.Str.{bytes_eq}
 use Rattle.jsl_model.specs.declared.element.Element.{Element}
-use Rattle.job_walk.specs.declared.facts.Fact.{Fact}
-use Rattle.job_walk.specs.declared.facts.Value.{Value}
-use Rattle.job_walk.specs.declared.element_result.ElementResult.{ElementResult}
-use Rattle.job_walk.specs.declared.element_result.ElementResult.TheVariants.{ListValue}
+use Rattle.walk_rules.specs.declared.facts.Fact.{Fact}
+use Rattle.walk_rules.specs.declared.facts.Value.{Value}
+use Rattle.walk_rules.specs.declared.element_result.ElementResult.{ElementResult}
+use Rattle.walk_rules.specs.declared.element_result.ElementResult.TheVariants.{ListValue}
 use Rattle.job_walk.specs.declared.kept_list.KeptList.{KeptList}
-use Rattle.job_walk.specs.declared.kept_list.Progress.{Progress}
-use Rattle.job_walk.specs.declared.work_key.WorkKey.{WorkKey}
-use Rattle.job_walk.specs.Walk.{WalkedElement, walked_element, value_of, follow}
-use Rattle.job_walk.specs.KeptLists.{DifferAt, KeptElement, rows_in, rows_by, insides, stands, progress, row_place, kept_element, count_in, kept_of}
+use Rattle.walk_rules.specs.declared.progress.Progress.{Progress}
+use Rattle.walk_rules.specs.declared.work_key.WorkKey.{WorkKey}
+use Rattle.walk_rules.specs.Walk.{WalkedElement, walked_element, value_of, follow}
+use Rattle.job_walk.specs.KeptLists.{DifferAt, KeptElement, rows_in, insides, kept_element, kept_of}
+use Rattle.walk_rules.specs.Standing.{rows_by, stands, progress, row_place}
+use Rattle.walk_rules.specs.Counts.{count_in}
 use Rattle.job_walk.proofs.Following.{walked_element-parts}
-use Rattle.job_walk.proofs.Stands.{is_row, list-moves, place-found}
+use Rattle.walk_rules.proofs.Stands.{is_row, list-moves, place-found}
 use Rattle.job_walk.proofs.KeptTrees.{kept-row, kept-same}
 
 abbrev pub states : (WorkKey → Fact) → List Element → List KeptElement

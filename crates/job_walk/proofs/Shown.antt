@@ -2,15 +2,15 @@
 use Rattle.std.proofs.Common.{◌≡◌, ℕ, Bool, true, false, ◌||◌, List, [], ◌∷◌, refl, ◌∙◌, ap}
 use Rattle.std.specs.List.{list_all}
 use Rattle.jsl_model.specs.declared.element.Element.{Element}
-use Rattle.job_walk.specs.Keys.{is_same_key, has_key}
-use Rattle.job_walk.specs.declared.work_key.WorkKey.{WorkKey}
-use Rattle.job_walk.specs.declared.facts.Fact.{Fact}
-use Rattle.job_walk.specs.declared.facts.Value.{Value}
-use Rattle.job_walk.specs.declared.facts.Value.TheVariants.{Open, Done, Ended}
-use Rattle.job_walk.specs.Walk.{value_of}
+use Rattle.walk_rules.specs.Keys.{is_same_key, has_key}
+use Rattle.walk_rules.specs.declared.work_key.WorkKey.{WorkKey}
+use Rattle.walk_rules.specs.declared.facts.Fact.{Fact}
+use Rattle.walk_rules.specs.declared.facts.Value.{Value}
+use Rattle.walk_rules.specs.declared.facts.Value.TheVariants.{Open, Done, Ended}
+use Rattle.walk_rules.specs.Walk.{value_of}
 use Rattle.job_walk.specs.Runnables.{all_leaves, all_keys}
-use Rattle.job_walk.specs.Cursors.{ready_of, busy_of}
-use Rattle.job_walk.proofs.SameKeys.{same-one, same-self}
+use Rattle.walk_rules.specs.Shown.{ready_of, busy_of}
+use Rattle.walk_rules.proofs.SameKeys.{same-one, same-self}
 use Rattle.job_walk.proofs.Passing.{Tests, Passes, both-true, walk-passes, all-true}
 use Rattle.jsl_model.specs.Trees.{nodes}
 use Rattle.jsl_model.specs.Faults.{restarts}

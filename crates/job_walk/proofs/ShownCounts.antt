@@ -9,20 +9,23 @@ use Rattle.jsl_model.specs.declared.element.Element.{Element, ind-Element, map-E
 use Rattle.jsl_model.specs.declared.element.SplitFlow.{SplitFlow, fold-roll-SplitFlow}
 use Rattle.jsl_model.specs.declared.element.Body.{Body, Body-F, map-Body, fold-roll-Body}
 use Rattle.jsl_model.specs.declared.element.Body.TheOpen.{Step, Flow, Split, Decision}
-use Rattle.job_walk.specs.declared.facts.Fact.{Fact}
-use Rattle.job_walk.specs.declared.work_key.WorkKey.{WorkKey}
-use Rattle.job_walk.specs.Cursors.{ready_of, busy_of}
-use Rattle.job_walk.specs.Keys.{key_of, keys_of_step, numbers_to, is_same_key, has_key}
-use Rattle.job_walk.specs.declared.facts.Value.{Value}
-use Rattle.job_walk.specs.declared.facts.Value.TheVariants.{Open, Done, Ended}
-use Rattle.job_walk.specs.declared.element_result.ElementResult.{ElementResult}
-use Rattle.job_walk.specs.declared.element_result.ElementResult.TheVariants.{ListValue, Outcome}
-use Rattle.job_walk.specs.Walk.{WalkedElement, BodyResult, IsStep, IsDecision, HasResult, step_result, follow, whole_value, flow_result, split_result, strongest_end, any_open, all_ready, all_busy, ended_as, body_result, element_with_result, flow_value, walked_element, walked_body, element_result, value_of_flow}
-use Rattle.job_walk.specs.KeptLists.{shows, result_shows, total, one_if, body_count, element_count, flow_count, count_in, count_in_body, count_in_flow}
-use Rattle.job_walk.proofs.Stands.{shown-stands}
+use Rattle.walk_rules.specs.declared.facts.Fact.{Fact}
+use Rattle.walk_rules.specs.declared.work_key.WorkKey.{WorkKey}
+use Rattle.walk_rules.specs.Shown.{ready_of, busy_of}
+use Rattle.walk_rules.specs.Keys.{key_of, keys_of_step, numbers_to, is_same_key, has_key}
+use Rattle.walk_rules.specs.declared.facts.Value.{Value}
+use Rattle.walk_rules.specs.declared.facts.Value.TheVariants.{Open, Done, Ended}
+use Rattle.walk_rules.specs.declared.element_result.ElementResult.{ElementResult}
+use Rattle.walk_rules.specs.declared.element_result.ElementResult.TheVariants.{ListValue, Outcome}
+use Rattle.walk_rules.specs.Walk.{WalkedElement, BodyResult, IsStep, IsDecision, HasResult, step_result, follow, whole_value, flow_result, split_result, strongest_end, any_open, all_ready, all_busy, ended_as, body_result, element_with_result, flow_value, walked_element, walked_body, element_result, value_of_flow}
+use Rattle.walk_rules.specs.Shown.{shows}
+use Rattle.job_walk.specs.KeptLists.{result_shows}
+use Rattle.walk_rules.specs.Counts.{total, one_if, body_count, element_count, flow_count, count_in, count_in_body, count_in_flow}
+use Rattle.walk_rules.proofs.Stands.{shown-stands}
 use Rattle.job_walk.proofs.Passing.{Tests, Passes, ResultPasses, step-passes}
 use Rattle.job_walk.proofs.Reporting.{Passes as FoundPasses, find-passes}
 use Rattle.job_walk.proofs.Shown.{ready-passes, busy-passes}
+use Rattle.walk_rules.proofs.Places.{within}
 
 turned-round : (one other : List ℕ) → bytes_eq one other ≡ true → bytes_eq other one ≡ true
 turned-round one other h = (bytes_decides other one).1 (sym ((bytes_decides one other).0 h))
@@ -190,11 +193,6 @@ shown-counts key facts =
     (rw (fold-roll-SplitFlow BodyResult WalkedElement Value body_result (element_with_result facts) flow_value x)
     (subst (λ z. shows key (whole_value (map (walked_element facts) z.elements)) ≡ true → 1 ≤ one_if (bytes_eq z.id key.element) + total (map (count_in key.element) z.elements)) is
     (λ h. let more = list-counts key (walked_element facts) (count_in key.element) y.elements _ _ h in omega (arith, more)))))
-
-pub within : {X : Type 0} (count : X → ℕ) (xs : List X) (j : ℕ) (d : X) → j < length xs → count (get_or xs j d) ≤ total (map count xs)
-within count [] j d lt = absurd (omega (arith, lt))
-within count (x ∷ xs) zero d lt = omega arith
-within count (x ∷ xs) (suc j) d lt = let more = within count xs j d (omega (arith, lt)) in omega (arith, more)
 
 -- of an key that stands once, no other element holds it
 pub others-none : {X : Type 0} (count : X → ℕ) (xs : List X) (k : ℕ) (d : X) → k < length xs → total (map count xs) ≤ 1 → 1 ≤ count (get_or xs k d)

@@ -1,88 +1,24 @@
 -- What a cursor keeps of each list of its job, and what a report changes of it.
-use Rattle.std.specs.Prelude.{ℕ, zero, suc, ◌≡◌, ◌≢◌, ◌+◌, Bool, true, false, Option, Some, None, unwrap_or, List, [], ◌∷◌, ◌++◌, length, map, find, slice_set}
-use Rattle.std.specs.List.{position}
-use Rattle.std.specs.Str.{bytes_eq}
-use Rattle.batch_ids.specs.Statuses.{status_name}
-use Rattle.batch_ids.specs.declared.status.BatchStatus.TheVariants.{Completed, Failed, Stopped}
-use Rattle.batch_ids.specs.declared.status.WorkOutcome.{WorkOutcome}
-use Rattle.batch_ids.specs.declared.status.WorkOutcome.TheVariants.{Completed as CameCompleted, Failed as CameFailed, Stopped as CameStopped}
+use Rattle.std.specs.Prelude.{ℕ, zero, suc, ◌≡◌, ◌≢◌, ◌+◌, Bool, false, List, [], ◌∷◌, ◌++◌, length, map, slice_set}
 use Rattle.jsl_model.specs.Trees.{joined}
-use Rattle.jsl_model.specs.declared.element.Then.{Then}
-use Rattle.jsl_model.specs.declared.element.Then.TheVariants.{Next, End, Fail, Stop}
-use Rattle.jsl_model.specs.declared.element.Transition.{Transition}
 use Rattle.jsl_model.specs.declared.element.Element.{Element, Element-F, fold-Element}
 use Rattle.jsl_model.specs.declared.element.SplitFlow.{SplitFlow, SplitFlow-F, fold-SplitFlow}
 use Rattle.jsl_model.specs.declared.element.Body.{Body, Body-F, fold-Body}
 use Rattle.jsl_model.specs.declared.element.Body.TheOpen.{Step, Flow, Split, Decision}
-use Rattle.transitions.specs.Transitions.{matching_transition}
-use Rattle.job_walk.specs.declared.facts.Fact.{Fact}
-use Rattle.job_walk.specs.declared.continuation.Continuation.{Continuation}
-use Rattle.job_walk.specs.declared.continuation.Continuation.TheVariants.{AtElement, WithValue}
-use Rattle.job_walk.specs.declared.facts.Known.{Known}
-use Rattle.job_walk.specs.declared.facts.Value.{Value}
-use Rattle.job_walk.specs.declared.facts.Value.TheVariants.{Done, Ended}
-use Rattle.job_walk.specs.declared.element_result.ElementResult.{ElementResult}
-use Rattle.job_walk.specs.declared.element_result.ElementResult.TheVariants.{ListValue, Outcome}
+use Rattle.walk_rules.specs.declared.facts.Fact.{Fact}
+use Rattle.walk_rules.specs.declared.facts.Known.{Known}
+use Rattle.walk_rules.specs.declared.facts.Value.{Value}
+use Rattle.walk_rules.specs.declared.element_result.ElementResult.{ElementResult}
+use Rattle.walk_rules.specs.declared.element_result.ElementResult.TheVariants.{ListValue, Outcome}
 use Rattle.job_walk.specs.declared.kept_list.KeptList.{KeptList}
 use Rattle.job_walk.specs.declared.kept_list.ListChange.{ListChange}
-use Rattle.job_walk.specs.declared.kept_list.Progress.{Progress}
-use Rattle.job_walk.specs.declared.work_key.WorkKey.{WorkKey}
-use Rattle.job_walk.specs.Keys.{is_same_key}
-use Rattle.job_walk.specs.Cursors.{CursorState, IsCursor, is_shown, put_fact}
-use Rattle.job_walk.specs.Walk.{WalkedElement, BodyResult, IsStep, IsDecision, HasResult, fact_of, element_result, first_id, follow, flow_result, split_result}
-
--- ---- Where a list goes after an outcome
-
-abbrev pub continuation_by : Then → Continuation
-continuation_by (Next to) = AtElement to
-continuation_by (End exit) = WithValue (Ended Completed (unwrap_or exit (status_name Completed)) None)
-continuation_by (Fail exit) = WithValue (Ended Failed (unwrap_or exit (status_name Failed)) None)
-continuation_by (Stop exit point) = WithValue (Ended Stopped (unwrap_or exit (status_name Stopped)) point)
-
-abbrev pub continuation_of : Option (List ℕ) → Option Transition → WorkOutcome → List ℕ → Continuation
-continuation_of next transition CameStopped exit = WithValue (Ended Stopped (status_name Stopped) None)
-continuation_of next (Some transition) CameCompleted exit = continuation_by transition.then
-continuation_of next (Some transition) CameFailed exit = continuation_by transition.then
-continuation_of next None CameFailed exit = WithValue (Ended Failed (status_name Failed) None)
-continuation_of (Some to) None CameCompleted exit = AtElement to
-continuation_of None None CameCompleted exit = WithValue (Done exit)
-
--- ---- Where a walk stands: at an element that halts or ends it, and how many elements it may still go over
-
-pub record Stand : Type 0 where
-  pub id : List ℕ
-  pub left : ℕ
-
-abbrev pub stand_by_continuation : Stand → (List ℕ → Stand) → Continuation → Stand
-stand_by_continuation here on (AtElement to) = on to
-stand_by_continuation here on (WithValue value) = here
-
-abbrev pub stand_by_result : Stand → (List ℕ → Stand) → WalkedElement → ElementResult → Stand
-stand_by_result here on row (ListValue value) = here
-stand_by_result here on row (Outcome outcome exit) = stand_by_continuation here on (continuation_of row.next (matching_transition row.transitions exit) outcome exit)
-
-abbrev pub stand_at : Stand → (List ℕ → Stand) → Option WalkedElement → Stand
-stand_at here on None = here
-stand_at here on (Some row) = stand_by_result here on row row.own_result
-
-abbrev pub stands : ℕ → List WalkedElement → List ℕ → Stand
-stands zero rows id = record { id = id; left = 0 }
-stands (suc n) rows id = stand_at record { id = id; left = suc n } (stands n rows) (find (λ row. bytes_eq row.id id) rows)
-
--- the place of the element with this id
-abbrev pub row_place : List WalkedElement → List ℕ → Option ℕ
-row_place rows id = position (λ row. bytes_eq row.id id) rows
-
--- what a walk over these rows has come to, from an id on
-abbrev pub progress : ℕ → List WalkedElement → List ℕ → Progress
-progress n rows id =
-    record { value = follow n rows id; place = row_place rows (stands n rows id).id; left = (stands n rows id).left }
-
--- the rows of elements that came to these by themselves
-abbrev pub rows_by : List Element → List ElementResult → List WalkedElement
-rows_by [] results = []
-rows_by (e ∷ es) [] = []
-rows_by (e ∷ es) (own ∷ owns) = record { id = e.id; next = e.next; transitions = e.transitions; own_result = own } ∷ rows_by es owns
+use Rattle.walk_rules.specs.declared.work_key.WorkKey.{WorkKey}
+use Rattle.walk_rules.specs.Keys.{is_same_key}
+use Rattle.job_walk.specs.Cursors.{CursorState, IsCursor, put_fact}
+use Rattle.walk_rules.specs.Walk.{WalkedElement, BodyResult, IsStep, IsDecision, HasResult, fact_of, element_result, first_id, flow_result, split_result}
+use Rattle.walk_rules.specs.Shown.{shows}
+use Rattle.walk_rules.specs.Standing.{progress}
+use Rattle.walk_rules.specs.Counts.{one_if}
 
 -- ---- What is kept
 
@@ -167,40 +103,7 @@ tree_of facts elements from = tree_from (map (kept_element facts) elements) from
 abbrev pub kept_of : (WorkKey → Fact) → List Element → List ℕ → List KeptList
 kept_of facts elements from = lists_in (tree_of facts elements from)
 
--- ---- How often an id stands
-
-abbrev pub total : List ℕ → ℕ
-total [] = 0
-total (n ∷ rest) = n + total rest
-
-abbrev pub body_count : Body-F ℕ ℕ ℕ → ℕ
-body_count (Step step) = 0
-body_count (Decision artifact) = 0
-body_count (Flow elements) = total elements
-body_count (Split flows) = total flows
-
-abbrev pub one_if : Bool → ℕ
-one_if true = 1
-one_if false = 0
-
-abbrev pub element_count : List ℕ → Element-F ℕ ℕ ℕ → ℕ
-element_count id x = one_if (bytes_eq x.id id) + x.body
-
-abbrev pub flow_count : List ℕ → SplitFlow-F ℕ ℕ ℕ → ℕ
-flow_count id x = one_if (bytes_eq x.id id) + total x.elements
-
-abbrev pub count_in : List ℕ → Element → ℕ
-count_in id = fold-Element ℕ ℕ ℕ body_count (element_count id) (flow_count id)
-
-abbrev pub count_in_body : List ℕ → Body → ℕ
-count_in_body id = fold-Body ℕ ℕ ℕ body_count (element_count id) (flow_count id)
-
-abbrev pub count_in_flow : List ℕ → SplitFlow → ℕ
-count_in_flow id = fold-SplitFlow ℕ ℕ ℕ body_count (element_count id) (flow_count id)
-
--- how often an id stands among elements, at all depths
-abbrev pub count_of : List ℕ → List Element → ℕ
-count_of id elements = total (map (count_in id) elements)
+-- ---- How often a work key stands
 
 -- how often a work key stands in a list
 abbrev pub key_count : WorkKey → List WorkKey → ℕ
@@ -208,10 +111,6 @@ key_count key [] = 0
 key_count key (one ∷ rest) = one_if (is_same_key key one) + key_count key rest
 
 -- ---- What a report changes
-
--- whether a value shows this work key: it may be run now or is being run
-abbrev pub shows : WorkKey → Value → Bool
-shows key value = is_shown value key
 
 -- whether what an element comes to by itself shows it
 abbrev pub result_shows : WorkKey → ElementResult → Bool

@@ -6,11 +6,11 @@ use Rattle.jsl_model.specs.declared.element.Element.{Element}
 use Rattle.jsl_model.specs.declared.element.SplitFlow.{SplitFlow, out-SplitFlow}
 use Rattle.jsl_model.specs.declared.element.Body.TheVariants.{Flow, Split}
 use Rattle.jsl_model.specs.Targets.{Item, lacks_target, HasRanks}
-use Rattle.job_walk.specs.declared.facts.Fact.{Fact}
-use Rattle.job_walk.specs.declared.facts.Value.{Value}
-use Rattle.job_walk.specs.declared.work_key.WorkKey.{WorkKey}
+use Rattle.walk_rules.specs.declared.facts.Fact.{Fact}
+use Rattle.walk_rules.specs.declared.facts.Value.{Value}
+use Rattle.walk_rules.specs.declared.work_key.WorkKey.{WorkKey}
 use Rattle.job_walk.specs.Runnables.{Leaf, all_keys}
-use Rattle.job_walk.specs.Walk.{walked_element, value_by_result, value_of}
+use Rattle.walk_rules.specs.Walk.{walked_element, value_by_result, value_of}
 
 -- ---- Lists
 

@@ -5,11 +5,11 @@ use Rattle.std.specs.Str.{bytes_eq}
 use Rattle.batch_ids.specs.Statuses.{status_name}
 use Rattle.batch_ids.specs.declared.status.BatchStatus.TheVariants.{Completed}
 use Rattle.jsl_model.specs.Names.{is_among}
-use Rattle.job_walk.specs.Keys.{has_key}
-use Rattle.job_walk.specs.declared.facts.Fact.{Fact}
-use Rattle.job_walk.specs.declared.facts.Fact.TheVariants.{Nothing, Carried, Busy, Over, Barred}
+use Rattle.walk_rules.specs.Keys.{has_key}
+use Rattle.walk_rules.specs.declared.facts.Fact.{Fact}
+use Rattle.walk_rules.specs.declared.facts.Fact.TheVariants.{Nothing, Carried, Busy, Over, Barred}
 use Rattle.job_walk.specs.declared.plan.Plan.{Plan}
-use Rattle.job_walk.specs.declared.work_key.WorkKey.{WorkKey}
+use Rattle.walk_rules.specs.declared.work_key.WorkKey.{WorkKey}
 
 -- the exit status with which a step is carried, if it is
 abbrev pub carried_exit : List (List ℕ × List ℕ) → List ℕ → Option (List ℕ)

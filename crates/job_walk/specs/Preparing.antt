@@ -1,13 +1,13 @@
 -- What a walk is about to learn.
 use Rattle.std.specs.Prelude.{◌≡◌, ◌≤◌, true, List}
-use Rattle.job_walk.specs.declared.facts.Fact.{Fact}
+use Rattle.walk_rules.specs.declared.facts.Fact.{Fact}
 use Rattle.job_walk.specs.declared.kept_list.KeptList.{KeptList}
 use Rattle.job_walk.specs.declared.prepared.Prepared.{Prepared}
-use Rattle.job_walk.specs.declared.work_key.WorkKey.{WorkKey}
+use Rattle.walk_rules.specs.declared.work_key.WorkKey.{WorkKey}
 use Rattle.job_walk.specs.Cursors.{CursorState, known_keys, value_in, with_fact}
 use Rattle.job_walk.specs.KeptLists.{kept_of, key_count, put_all}
-use Rattle.job_walk.specs.Keys.{has_key}
-use Rattle.job_walk.specs.Walk.{fact_of}
+use Rattle.walk_rules.specs.Keys.{has_key}
+use Rattle.walk_rules.specs.Walk.{fact_of}
 
 -- what is kept of a walk's lists
 abbrev pub kept_in : CursorState → List KeptList

@@ -1,8 +1,8 @@
 -- Where a step or decision stands: what is run for its work key there is run for it in the whole, if its id stands there once.
 use Rattle.std.specs.Prelude.{ℕ, ◌≡◌, ◌≤◌, Some, List}
 use Rattle.jsl_model.specs.declared.element.Element.{Element}
-use Rattle.job_walk.specs.declared.work_key.WorkKey.{WorkKey}
-use Rattle.job_walk.specs.KeptLists.{count_in, count_of}
+use Rattle.walk_rules.specs.declared.work_key.WorkKey.{WorkKey}
+use Rattle.walk_rules.specs.Counts.{count_in, count_of}
 use Rattle.job_walk.specs.Runnables.{Inside, run_with, leaves, all_leaves}
 
 -- an element of a list

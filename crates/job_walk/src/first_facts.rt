@@ -4,18 +4,16 @@ ghost use Rattle.std.specs.List.{flat_map};
 ghost use Rattle.std.specs.Option.{option_copied};
 ghost use Rattle.jsl_model.specs.Names.{is_among};
 ghost use Rattle.job_walk.specs.Cursors.{step_at_first, known_at_first};
-ghost use Rattle.job_walk.specs.Keys.{key_of, keys_of_step};
+ghost use Rattle.walk_rules.specs.Keys.{key_of, keys_of_step};
 ghost use Rattle.job_walk.specs.Plans.{carried_exit, unless_barred};
 ghost use Rattle.job_walk.specs.Runnables.{leaves, all_leaves};
-ghost use Rattle.job_walk.specs.Walk.{fact_of, known_of};
+ghost use Rattle.walk_rules.specs.Walk.{fact_of, known_of};
 
-use crate::element_result::{fact_of, name_of};
-use crate::facts::{Fact, Known};
 use crate::plan::Plan;
-use crate::work_key::{WorkKey, has_key, key_of};
 use batch_ids::{BatchStatus, OutOfMemory, T256};
 use jsl_model::{Body, Element};
 use std::alloc::Global;
+use walk_rules::{Fact, Known, WorkKey, fact_of, has_key, key_of, name_of};
 
 /// The exit status with which an earlier job execution completed this step.
 fn find_carried<'a>(carried: &'a [(T256, T256)], id: &T256) -> Option<&'a T256>

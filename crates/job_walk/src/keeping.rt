@@ -2,23 +2,24 @@
 ghost use Rattle.std.specs.Prelude.{◌≡◌, ◌++◌, ◌≤◌, ℕ, List, [], length, map, IfOk, OnOk};
 ghost use Rattle.jsl_model.specs.Trees.{joined};
 ghost use Rattle.jsl_model.specs.declared.element.Element.{Element};
-ghost use Rattle.job_walk.specs.declared.work_key.WorkKey.{WorkKey};
+ghost use Rattle.walk_rules.specs.declared.work_key.WorkKey.{WorkKey};
 ghost use Rattle.job_walk.specs.Cursors.{known_keys};
-ghost use Rattle.job_walk.specs.Keys.{key_of};
-ghost use Rattle.job_walk.specs.Walk.{fact_of, flow_result, runnable_result, step_result};
-ghost use Rattle.job_walk.specs.KeptLists.{count_of, count_in, kept_of, kept_element, tree_first, value_kept, lists_in, key_count, starts_from, progress, rows_by};
+ghost use Rattle.walk_rules.specs.Keys.{key_of};
+ghost use Rattle.walk_rules.specs.Walk.{fact_of, flow_result, runnable_result, step_result};
+ghost use Rattle.walk_rules.specs.Counts.{count_of, count_in};
+ghost use Rattle.job_walk.specs.KeptLists.{kept_of, kept_element, tree_first, value_kept, lists_in, key_count, starts_from};
+ghost use Rattle.walk_rules.specs.Standing.{progress, rows_by};
 
-use crate::element_result::{ElementResult, known_fact, result_by};
-use crate::facts::{Known, Value};
-use crate::kept_list::{KeptList, Progress};
-use crate::partitions::partitioned_result;
-use crate::progress::{place_in, walk_on};
-use crate::splits::split_result;
-use crate::work_key::key_of;
+use crate::kept_list::KeptList;
+use crate::known_fact::known_fact;
 use batch_ids::{Listed, OutOfMemory, T256, WorkOutcome};
 use jsl_model::{Body, Element, ElementIndex};
 use std::alloc::Global;
 use std::mem::replace;
+use walk_rules::{
+    ElementResult, Known, Progress, Value, key_of, partitioned_result, place_in, result_by,
+    split_result, walk_on,
+};
 
 /// What stands in the place of what is kept of a list, until that is known.
 fn nothing_kept(alloc: Global) -> KeptList {

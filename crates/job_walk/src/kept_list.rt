@@ -1,20 +1,8 @@
 //! What a cursor keeps of each list of its job, and what changes of it.
 ghost use Rattle.std.specs.Prelude.{◌≡◌};
 
-use crate::element_result::ElementResult;
-use crate::facts::Value;
 use batch_ids::Listed;
-
-/// How far the walk over a list has come.
-#[derive(Debug, Drop)]
-pub(crate) struct Progress {
-    /// What the list comes to.
-    pub value: Value,
-    /// The place of the element at which the walk stands.
-    pub place: Option<usize>,
-    /// Over how many elements the walk may go from there.
-    pub left: usize,
-}
+use walk_rules::{ElementResult, Progress, Value};
 
 /// What is kept of a list of elements.
 #[derive(Debug, Drop)]

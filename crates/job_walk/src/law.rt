@@ -4,18 +4,19 @@ ghost use Rattle.batch_ids.specs.declared.status.BatchStatus.{BatchStatus};
 ghost use Rattle.jsl_model.specs.Jobs.{JobTree};
 ghost use Rattle.jsl_model.specs.Faults.{IsChecked};
 ghost use Rattle.jsl_model.specs.Targets.{named_in};
-ghost use Rattle.job_walk.specs.declared.facts.Fact.{Fact};
-ghost use Rattle.job_walk.specs.declared.facts.Known.{Known};
+ghost use Rattle.walk_rules.specs.declared.facts.Fact.{Fact};
+ghost use Rattle.walk_rules.specs.declared.facts.Known.{Known};
 ghost use Rattle.job_walk.specs.declared.plan.Plan.{Plan};
-ghost use Rattle.job_walk.specs.Keys.{has_key};
-ghost use Rattle.job_walk.specs.Cursors.{CursorState, known_keys, fact_at_first, resumed, value_in, with_fact, ready_of, busy_of, is_shown, IsCursor};
-ghost use Rattle.job_walk.specs.declared.work_key.WorkKey.{WorkKey};
+ghost use Rattle.walk_rules.specs.Keys.{has_key};
+ghost use Rattle.job_walk.specs.Cursors.{CursorState, known_keys, fact_at_first, resumed, value_in, with_fact, IsCursor};
+ghost use Rattle.walk_rules.specs.Shown.{ready_of, busy_of, is_shown};
+ghost use Rattle.walk_rules.specs.declared.work_key.WorkKey.{WorkKey};
 ghost use Rattle.job_walk.specs.Lists.{has_element, value_from, Agree, StandsIn};
 ghost use Rattle.job_walk.specs.Runnables.{leaves, all_leaves, all_keys, keys_of};
-ghost use Rattle.job_walk.specs.Walk.{fact_of, value_of, walked_element};
+ghost use Rattle.walk_rules.specs.Walk.{fact_of, value_of, walked_element};
 
-use crate::facts::Value;
 use jsl_model::Element;
+use walk_rules::Value;
 
 /// What a walk learns of a work key is what is known of it from then on, and what is known of any
 /// other one stays.

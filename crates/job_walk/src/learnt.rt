@@ -2,23 +2,24 @@
 //! list, and no other.
 ghost use Rattle.std.specs.Prelude.{◌≡◌, ◌+◌, ◌++◌, ◌∷◌, [], ◌<◌, ◌≤◌, ◌^◌, true, false, ℕ, List, length, map, drop, slice_index_or, IfOk, OnOk};
 ghost use Rattle.job_walk.specs.declared.kept_list.KeptList.{KeptList};
-ghost use Rattle.job_walk.specs.declared.work_key.WorkKey.{WorkKey};
-ghost use Rattle.job_walk.specs.Cursors.{known_keys, put_fact, is_shown};
-ghost use Rattle.job_walk.specs.Keys.{key_of, has_key};
-ghost use Rattle.job_walk.specs.KeptLists.{Keeps, KeepsFirst, KeepsInside, tree_first, lists_in, value_kept, Puts, ChangesList, ComesTo, facts_after, first_shows, result_shows, kept_element, count_of, count_in, key_count};
-ghost use Rattle.job_walk.specs.Walk.{fact_of, runnable_result, step_result};
+ghost use Rattle.walk_rules.specs.declared.work_key.WorkKey.{WorkKey};
+ghost use Rattle.job_walk.specs.Cursors.{known_keys, put_fact};
+ghost use Rattle.walk_rules.specs.Shown.{is_shown};
+ghost use Rattle.walk_rules.specs.Keys.{key_of, has_key};
+ghost use Rattle.job_walk.specs.KeptLists.{Keeps, KeepsFirst, KeepsInside, tree_first, lists_in, value_kept, Puts, ChangesList, ComesTo, facts_after, first_shows, result_shows, kept_element, key_count};
+ghost use Rattle.walk_rules.specs.Counts.{count_of, count_in};
+ghost use Rattle.walk_rules.specs.Walk.{fact_of, runnable_result, step_result};
 
-use crate::element_result::{ElementResult, known_fact, result_by};
-use crate::facts::{Fact, Known, Value};
 use crate::keeping::flow_result;
 use crate::kept_list::{KeptList, ListChange};
-use crate::partitions::partitioned_result;
-use crate::progress::walk_on;
-use crate::splits::split_result;
-use crate::work_key::{WorkKey, has_key, key_of};
+use crate::known_fact::known_fact;
 use batch_ids::{OutOfMemory, T256};
 use jsl_model::{Body, Element, ElementIndex};
 use std::alloc::Global;
+use walk_rules::{
+    ElementResult, Fact, Known, Value, WorkKey, has_key, key_of, partitioned_result, result_by,
+    split_result, walk_on,
+};
 
 /// Whether a value shows this work key as ready or busy.
 fn shows(value: &Value, key: &WorkKey) -> bool

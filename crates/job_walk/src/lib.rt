@@ -2,29 +2,19 @@
 #![tactic(auto)]
 
 mod changes;
-mod continuation;
-mod copies;
 mod cursor;
-mod element_result;
-mod facts;
 mod first_facts;
 mod keeping;
 mod kept_list;
+mod known_fact;
 mod law;
 mod learnt;
-mod partitions;
 mod plan;
 mod prepared;
-mod progress;
 mod runnable;
-mod splits;
 mod walk;
-mod work_key;
-mod work_keys;
 
 pub use cursor::Cursor;
-pub use element_result::ElementResult;
-pub use facts::{Fact, Known, Value};
 pub use law::{
     a_list_goes_on_from_element_to_element, a_restart_begins_at_a_job_level_element,
     steps_and_decisions_decide_a_walk, the_newest_fact_counts,
@@ -34,5 +24,4 @@ pub use plan::Plan;
 pub use prepared::Prepared;
 pub use runnable::{Runnable, find_partitions, find_runnable};
 pub use walk::walk_value;
-pub use work_key::WorkKey;
-pub use work_keys::WorkKeys;
+pub use walk_rules::{ElementResult, Fact, Known, Value, WorkKey, WorkKeys};

@@ -1,9 +1,8 @@
 //! What a walk is about to learn.
 ghost use Rattle.std.specs.Prelude.{◌≡◌};
 
-use crate::facts::{Fact, Value};
 use crate::kept_list::ListChange;
-use crate::work_key::WorkKey;
+use walk_rules::{Fact, Value, WorkKey};
 
 /// What a walk is about to learn of a work key, with all that changes by it. `Cursor::put` takes it
 /// up and takes no memory for it.

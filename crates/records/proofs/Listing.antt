@@ -14,7 +14,7 @@ use Rattle.std.proofs.lemmas.List.{append-nil}
 use Rattle.std.proofs.lemmas.List.Elements.{filter-append}
 use Rattle.batch_history.specs.declared.rows.CheckpointRow.{CheckpointRow}
 use Rattle.batch_history.specs.Checkpoints.{InstanceStep, is_same_step}
-use Rattle.job_walk.specs.Keys.{is_same_key}
+use Rattle.walk_rules.specs.Keys.{is_same_key}
 use Rattle.records.specs.Listed.{AreOf, AreOwn, AreListed, rows_listed}
 use Rattle.records.specs.Maps.{step_of, is_place, mark_at, AreApart}
 use Rattle.records.specs.Placed.{marked, with_mark, without_mark, SetsMark}

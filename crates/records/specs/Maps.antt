@@ -10,7 +10,7 @@ use Rattle.batch_history.specs.declared.rows.CheckpointRow.{CheckpointRow}
 use Rattle.batch_history.specs.Checkpoints.{InstanceStep}
 use Rattle.batch_history.specs.Replies.{is_execution}
 use Rattle.batch_history.specs.Works.{is_work}
-use Rattle.job_walk.specs.Keys.{is_same_key}
+use Rattle.walk_rules.specs.Keys.{is_same_key}
 
 -- the job instances, the job executions and the work items by their numbers, and the checkpoints by job instance and step
 -- (`mark_at`), in any order

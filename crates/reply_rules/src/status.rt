@@ -5,7 +5,7 @@ ghost use Rattle.batch_history.specs.Moments.{first_moment};
 ghost use Rattle.batch_history.specs.Replies.{first_ready, has_something_by};
 ghost use Rattle.batch_history.specs.Statuses.{is_finished, batch_status, exit_status, status_of_walk, exit_of_walk, stopping_status, stopped_exit, stopping_exit_status};
 ghost use Rattle.batch_history.specs.Works.{exit_or_name};
-ghost use Rattle.job_walk.specs.declared.facts.Value.{Value as Walk};
+ghost use Rattle.walk_rules.specs.declared.facts.Value.{Value as Walk};
 
 use batch_ids::{BatchStatus, Moment, OutOfMemory, T256, WorkOutcome};
 use job_walk::{Value, WorkKey, WorkKeys};

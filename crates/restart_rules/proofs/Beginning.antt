@@ -9,11 +9,11 @@ use Rattle.job_walk.proofs.Points.{checked-point}
 use Rattle.job_walk.specs.Cursors.{begins_in}
 use Rattle.job_walk.specs.Lists.{has_element}
 use Rattle.job_walk.specs.Runnables.{all_leaves}
-use Rattle.job_walk.specs.declared.facts.Fact.{Fact}
-use Rattle.job_walk.specs.declared.facts.Value.{Value}
-use Rattle.job_walk.specs.declared.facts.Value.TheVariants.{Open, Done, Ended}
+use Rattle.walk_rules.specs.declared.facts.Fact.{Fact}
+use Rattle.walk_rules.specs.declared.facts.Value.{Value}
+use Rattle.walk_rules.specs.declared.facts.Value.TheVariants.{Open, Done, Ended}
 use Rattle.job_walk.specs.declared.plan.Plan.{Plan}
-use Rattle.job_walk.specs.declared.work_key.WorkKey.{WorkKey}
+use Rattle.walk_rules.specs.declared.work_key.WorkKey.{WorkKey}
 use Rattle.batch_history.specs.Restarts.{plan_by, restart_point}
 use Rattle.batch_history.specs.Walks.{planned_facts, walk_of}
 use Rattle.batch_history.specs.declared.rows.WorkRow.{WorkRow}

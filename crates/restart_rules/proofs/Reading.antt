@@ -2,7 +2,7 @@
 use Rattle.std.proofs.Common.{◌≡◌, ℕ, ◌==◌, ◌&&◌, ◌||◌, Bool, true, false, cond, nat_lt, List, [], ◌∷◌, map, refl, ap}
 use Rattle.std.specs.List.{list_any}
 use Rattle.jsl_model.specs.Jobs.{JobTree}
-use Rattle.job_walk.specs.declared.facts.Known.{Known}
+use Rattle.walk_rules.specs.declared.facts.Known.{Known}
 use Rattle.batch_history.specs.Replies.{is_later_than}
 use Rattle.batch_history.specs.Rows.{existing}
 use Rattle.batch_history.specs.Walks.{fact_of_state}

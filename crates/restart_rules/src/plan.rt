@@ -5,7 +5,7 @@ ghost use Rattle.std.specs.List.{filter_map, flat_map};
 ghost use Rattle.std.specs.Option.{option_copied, option_map};
 ghost use Rattle.batch_history.specs.Restarts.{carried_step, exit_carried, exit_if_done, exit_of_newest, first_plan, is_barred, kept_partitions, plan_by, starts_of, works_of_step};
 ghost use Rattle.job_walk.specs.Cursors.{begins_in};
-ghost use Rattle.job_walk.specs.Keys.{key_of};
+ghost use Rattle.walk_rules.specs.Keys.{key_of};
 ghost use Rattle.jsl_model.specs.Jobs.{JobTree};
 ghost use Rattle.batch_history.specs.Partitions.{partitions_kept};
 ghost use Rattle.records.specs.Left.{works_of_instance};

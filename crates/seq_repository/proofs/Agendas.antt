@@ -17,8 +17,8 @@ use Rattle.batch_history.specs.declared.rows.WorkRow.{WorkRow}
 use Rattle.batch_ids.specs.Statuses.{is_unfinished}
 use Rattle.batch_ids.specs.declared.status.BatchStatus.{BatchStatus}
 use Rattle.batch_ids.specs.declared.status.BatchStatus.TheVariants.{Starting, Started, Stopping, Stopped, Failed, Completed, Abandoned}
-use Rattle.job_walk.specs.declared.facts.Known.{Known}
-use Rattle.job_walk.specs.declared.facts.Value.{Value}
+use Rattle.walk_rules.specs.declared.facts.Known.{Known}
+use Rattle.walk_rules.specs.declared.facts.Value.{Value}
 use Rattle.jsl_model.specs.Jobs.{JobTree}
 use Rattle.records.specs.Maps.{AreAbove, AreBelow, AreRising, MayReplaceExecution, execution_numbers}
 use Rattle.seq_repository.specs.Agendas.{agenda_of, is_ready_row, put_number, without_number}

@@ -24,7 +24,7 @@ use Rattle.batch_history.specs.Rows.{Rows}
 use Rattle.batch_history.specs.Restarts.{first_plan}
 use Rattle.batch_history.specs.Walks.{job_named}
 use Rattle.batch_history.specs.Works.{is_work, busy_work, work_key}
-use Rattle.job_walk.specs.declared.work_key.WorkKey.{WorkKey}
+use Rattle.walk_rules.specs.declared.work_key.WorkKey.{WorkKey}
 use Rattle.restart_rules.specs.Restarting.{rows_over}
 use Rattle.seq_repository.specs.Kept.{Kept, rows_in}
 use Rattle.batch_history.specs.declared.rows.LastNumbers.{LastNumbers}

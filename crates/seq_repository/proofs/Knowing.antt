@@ -8,7 +8,7 @@ use Rattle.batch_history.specs.Walks.{fact_of_state}
 use Rattle.batch_history.proofs.Knowing.{known_elements}
 use Rattle.batch_history.specs.Works.{work_key}
 use Rattle.seq_repository.proofs.Entries.{change-found}
-use Rattle.job_walk.specs.declared.facts.Known.{Known}
+use Rattle.walk_rules.specs.declared.facts.Known.{Known}
 
 -- what is reported of a work item says nothing of its element
 pub known_reported : (x : ℕ) (p : WorkRow → Bool) (step : MetricStep) (works : List WorkRow)

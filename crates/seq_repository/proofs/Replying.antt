@@ -20,7 +20,7 @@ use Rattle.batch_history.specs.Replies.{reply_by, accepted, is_execution, reply_
 use Rattle.batch_history.specs.Rows.{History, Rows}
 use Rattle.seq_repository.specs.Kept.{Kept, rows_in, IsNext}
 use Rattle.batch_history.specs.declared.call.Call.{Call}
-use Rattle.job_walk.specs.declared.work_key.WorkKey.{WorkKey}
+use Rattle.walk_rules.specs.declared.work_key.WorkKey.{WorkKey}
 use Rattle.batch_history.proofs.Legal.{entered-is, reply_room}
 use Rattle.reply_rules.proofs.Restarted.{is_due}
 

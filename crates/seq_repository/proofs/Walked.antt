@@ -15,11 +15,12 @@ use Rattle.batch_history.specs.Rows.{is_execution}
 use Rattle.batch_history.specs.Walks.{walk_value}
 use Rattle.batch_history.specs.declared.rows.ExecutionRow.{ExecutionRow}
 use Rattle.batch_history.specs.declared.rows.WorkRow.{WorkRow}
-use Rattle.job_walk.specs.Cursors.{CursorState, busy_of, ready_of, value_in, with_fact}
-use Rattle.job_walk.specs.Keys.{has_key}
-use Rattle.job_walk.specs.declared.facts.Fact.TheVariants.{Busy, Over}
-use Rattle.job_walk.specs.declared.facts.Value.{Value}
-use Rattle.job_walk.specs.declared.work_key.WorkKey.{WorkKey}
+use Rattle.job_walk.specs.Cursors.{CursorState, value_in, with_fact}
+use Rattle.walk_rules.specs.Shown.{busy_of, ready_of}
+use Rattle.walk_rules.specs.Keys.{has_key}
+use Rattle.walk_rules.specs.declared.facts.Fact.TheVariants.{Busy, Over}
+use Rattle.walk_rules.specs.declared.facts.Value.{Value}
+use Rattle.walk_rules.specs.declared.work_key.WorkKey.{WorkKey}
 use Rattle.jsl_model.specs.Jobs.{JobTree}
 use Rattle.seq_repository.proofs.Entries.{change-found, copied-some, found-execution}
 use Rattle.seq_repository.proofs.Followed.{first_among, follows_reported, follows_taken, follows_value}

@@ -4,7 +4,7 @@ ghost use Rattle.std.specs.List.{list_any, list_all};
 ghost use Rattle.std.specs.Option.{option_and_then, option_copied};
 ghost use Rattle.batch_ids.specs.Metrics.{most_after, sum_of_metrics};
 ghost use Rattle.job_walk.specs.Plans.{is_kept};
-ghost use Rattle.job_walk.specs.Keys.{key_of};
+ghost use Rattle.walk_rules.specs.Keys.{key_of};
 ghost use Rattle.batch_history.specs.Lists.{is_at};
 ghost use Rattle.batch_history.specs.Replies.{partitions_of_job, row_status};
 ghost use Rattle.batch_history.specs.Rows.{Rows};

@@ -1,6 +1,6 @@
 use Rattle.std.proofs.Common.{◌≡◌, ◌<◌, ◌∙◌, true, length, refl, sym, ap, rules}
-use Rattle.job_walk.specs.Keys.{is_same_key}
-use Rattle.job_walk.specs.declared.facts.Known.{Known}
+use Rattle.walk_rules.specs.Keys.{is_same_key}
+use Rattle.walk_rules.specs.declared.facts.Known.{Known}
 use Rattle.job_walk.proofs.KeysOnce.{others-before}
 use Rattle.job_walk.proofs.Newest.{put-read}
 use Rattle.job_walk.proofs.cursor.put_fact.Goals as goal

@@ -1,6 +1,6 @@
 use Rattle.std.proofs.Common.{◌≡◌, ◌∙◌, true, refl, sym, ap, arith, Vec, Global}
-use Rattle.job_walk.specs.Keys.{is_same_key}
-use Rattle.job_walk.specs.declared.facts.Known.{Known}
+use Rattle.walk_rules.specs.Keys.{is_same_key}
+use Rattle.walk_rules.specs.declared.facts.Known.{Known}
 use Rattle.job_walk.proofs.Newest.{put-read}
 use Rattle.job_walk.proofs.cursor.search_fact.Goals as goal
 

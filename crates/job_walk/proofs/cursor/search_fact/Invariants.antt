@@ -1,6 +1,6 @@
 use Rattle.std.proofs.Common.{◌≡◌, true, drop}
 use Rattle.job_walk.specs.Cursors.{known_keys}
-use Rattle.job_walk.specs.Keys.{has_key}
+use Rattle.walk_rules.specs.Keys.{has_key}
 use Rattle.job_walk.proofs.Newest.{AreOther}
 use Rattle.job_walk.proofs.cursor.search_fact.Given as goal
 

@@ -5,13 +5,13 @@ use Rattle.jsl_model.specs.declared.element.Element.{Element}
 use Rattle.jsl_model.specs.declared.element.SplitFlow.{SplitFlow}
 use Rattle.jsl_model.specs.declared.element.Body.TheVariants.{Flow, Split}
 use Rattle.job_walk.specs.declared.kept_list.KeptList.{KeptList}
-use Rattle.job_walk.specs.declared.element_result.ElementResult.{ElementResult}
-use Rattle.job_walk.specs.Walk.{fact_of, split_result}
+use Rattle.walk_rules.specs.declared.element_result.ElementResult.{ElementResult}
+use Rattle.walk_rules.specs.Walk.{fact_of, split_result}
 use Rattle.job_walk.specs.KeptLists.{kept_element, kept_flow, tree_first, value_kept, lists_in}
 use Rattle.job_walk.proofs.Reporting.{states}
 use Rattle.job_walk.proofs.KeptAtFirst.{lists-more, values-more, starts-more, whole-parts, kept-split, list-kept, added-count, on-ok}
 use Rattle.job_walk.proofs.Flows.{flow-all, split-once}
-use Rattle.job_walk.proofs.Places.{at-once}
+use Rattle.walk_rules.proofs.Places.{at-once}
 use Rattle.job_walk.proofs.Sizes.{nodes-at, nodes-flow, nodes-split}
 use Rattle.job_walk.proofs.keeping.+keeping.Goals as goal
 

@@ -2,7 +2,7 @@ use Rattle.std.proofs.Common.{◌≡◌, ◌+◌, ◌*◌, length, ◌++◌, map
 use Rattle.jsl_model.specs.Trees.{joined, nodes, nodes_of}
 use Rattle.jsl_model.specs.declared.element.Element.{Element}
 use Rattle.jsl_model.specs.declared.element.SplitFlow.{SplitFlow}
-use Rattle.job_walk.specs.Walk.{fact_of}
+use Rattle.walk_rules.specs.Walk.{fact_of}
 use Rattle.job_walk.specs.KeptLists.{kept_element, starts_from, kept_flow, value_kept, lists_in}
 use Rattle.job_walk.proofs.keeping.+keeping.Given as goal
 

@@ -1,5 +1,5 @@
-use Rattle.job_walk.specs.Walk.{fact_of}
-use Rattle.job_walk.proofs.Beginning.{partition-pushed}
+use Rattle.walk_rules.specs.Walk.{fact_of}
+use Rattle.walk_rules.proofs.Pushing.{partition-pushed}
 use Rattle.job_walk.proofs.keeping.step_kept.Goals as goal
 
 pub loop-partition-preserved : goal.loop-partition-preserved

@@ -1,6 +1,6 @@
 use Rattle.std.proofs.Common.{◌≡◌, map}
-use Rattle.job_walk.specs.Keys.{key_of, numbers_to}
-use Rattle.job_walk.specs.Walk.{fact_of, known_of}
+use Rattle.walk_rules.specs.Keys.{key_of, numbers_to}
+use Rattle.walk_rules.specs.Walk.{fact_of, known_of}
 use Rattle.job_walk.proofs.keeping.step_kept.Given as goal
 
 abbrev pub invariant-loop-partition : goal.invariant-loop-partition

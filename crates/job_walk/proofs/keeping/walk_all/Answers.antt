@@ -1,7 +1,7 @@
 use Rattle.std.proofs.Common.{◌≡◌, length, List, subst, arith, IfOk}
 use Rattle.std.proofs.lemmas.List.{set_past}
-use Rattle.job_walk.specs.declared.element_result.ElementResult.{ElementResult}
-use Rattle.job_walk.specs.KeptLists.{progress, rows_by}
+use Rattle.walk_rules.specs.declared.element_result.ElementResult.{ElementResult}
+use Rattle.walk_rules.specs.Standing.{progress, rows_by}
 use Rattle.job_walk.proofs.keeping.walk_all.Goals as goal
 
 pub returns : goal.returns

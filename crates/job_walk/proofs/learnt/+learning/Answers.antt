@@ -3,12 +3,13 @@ use Rattle.jsl_model.specs.declared.element.SplitFlow.{out-SplitFlow}
 use Rattle.jsl_model.specs.declared.element.Body.TheVariants.{Flow, Split}
 use Rattle.job_walk.specs.declared.kept_list.KeptList.{KeptList}
 use Rattle.job_walk.specs.declared.kept_list.ListChange.{ListChange}
-use Rattle.job_walk.specs.declared.kept_list.Progress.{Progress}
-use Rattle.job_walk.specs.KeptLists.{progress, rows_by, facts_after, rows_in, lists_in, tree_first, KeepsFirst}
-use Rattle.job_walk.specs.Walk.{fact_of, first_id, flow_result}
+use Rattle.walk_rules.specs.declared.progress.Progress.{Progress}
+use Rattle.walk_rules.specs.Standing.{progress, rows_by}
+use Rattle.job_walk.specs.KeptLists.{facts_after, rows_in, lists_in, tree_first, KeepsFirst}
+use Rattle.walk_rules.specs.Walk.{fact_of, first_id, flow_result}
 use Rattle.job_walk.proofs.Descent.{at-nowhere, way, entered, became, learnt-apart, drop-length, first-hides, first-shown, at-first}
 use Rattle.job_walk.proofs.Flows.{either, first-kept, first-some, flow-kept, flow-shows, flow-all, kept-flow, first-value, first-puts, same-value, same-puts, flow-puts, split-inside, split-size, split-elsewhere, split-once, split-more, split-start, split-value, split-comes, split-puts}
-use Rattle.job_walk.proofs.Places.{at-once}
+use Rattle.walk_rules.proofs.Places.{at-once}
 use Rattle.job_walk.proofs.Reporting.{states}
 use Rattle.job_walk.proofs.Sizes.{nodes-at, nodes-flow, nodes-split}
 use Rattle.job_walk.proofs.learnt.+learning.Goals as goal

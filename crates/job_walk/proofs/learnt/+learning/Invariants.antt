@@ -1,7 +1,7 @@
 use Rattle.std.proofs.Common.{◌≡◌, ◌+◌, ◌*◌, length, map, take}
 use Rattle.jsl_model.specs.Trees.{joined, nodes, nodes_of}
 use Rattle.jsl_model.specs.declared.element.SplitFlow.{SplitFlow}
-use Rattle.job_walk.specs.Walk.{fact_of}
+use Rattle.walk_rules.specs.Walk.{fact_of}
 use Rattle.job_walk.specs.KeptLists.{facts_after, kept_flow, value_kept, lists_in, Puts}
 use Rattle.job_walk.proofs.learnt.+learning.Given as goal
 

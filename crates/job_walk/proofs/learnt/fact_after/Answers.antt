@@ -1,8 +1,8 @@
 use Rattle.std.proofs.Common.{◌≡◌, ◌≢◌, ◌∙◌, true, false, sym, ap}
-use Rattle.job_walk.specs.Keys.{key_of, is_same_key}
+use Rattle.walk_rules.specs.Keys.{key_of, is_same_key}
 use Rattle.job_walk.specs.KeptLists.{facts_after}
 use Rattle.job_walk.proofs.Newest.{put-one, put-others}
-use Rattle.job_walk.proofs.SameKeys.{same-one, same-self}
+use Rattle.walk_rules.proofs.SameKeys.{same-one, same-self}
 use Rattle.job_walk.proofs.learnt.fact_after.Goals as goal
 
 pub returns-in_ok-try_clone : goal.returns-in_ok-try_clone

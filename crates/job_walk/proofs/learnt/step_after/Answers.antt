@@ -1,5 +1,5 @@
 use Rattle.job_walk.specs.KeptLists.{facts_after}
-use Rattle.job_walk.proofs.Beginning.{partition-pushed}
+use Rattle.walk_rules.proofs.Pushing.{partition-pushed}
 use Rattle.job_walk.proofs.learnt.step_after.Goals as goal
 
 pub loop-partition-preserved : goal.loop-partition-preserved

@@ -1,7 +1,7 @@
 use Rattle.std.proofs.Common.{◌≡◌, map}
-use Rattle.job_walk.specs.Keys.{key_of, numbers_to}
+use Rattle.walk_rules.specs.Keys.{key_of, numbers_to}
 use Rattle.job_walk.specs.KeptLists.{facts_after}
-use Rattle.job_walk.specs.Walk.{known_of}
+use Rattle.walk_rules.specs.Walk.{known_of}
 use Rattle.job_walk.proofs.learnt.step_after.Given as goal
 
 abbrev pub invariant-loop-partition : goal.invariant-loop-partition

@@ -1,7 +1,7 @@
 use Rattle.std.proofs.Common.{◌≤◌, Option, None, Some, IfSome, Bor, List, arith}
 use Rattle.jsl_model.specs.declared.element.Element.{Element}
-use Rattle.job_walk.specs.KeptLists.{count_of}
-use Rattle.job_walk.specs.declared.work_key.WorkKey.{WorkKey}
+use Rattle.walk_rules.specs.Counts.{count_of}
+use Rattle.walk_rules.specs.declared.work_key.WorkKey.{WorkKey}
 use Rattle.job_walk.specs.Spots.{IsListIn, IsElementIn, IsListBelow}
 use Rattle.job_walk.proofs.runnable.+descending.Goals as goal
 

@@ -2,10 +2,10 @@ use Rattle.std.proofs.Common.{◌≡◌, ◌≤◌, Option, None, Some, IfSome, 
 use Rattle.std.specs.Option.{option_map}
 use Rattle.jsl_model.specs.declared.element.Body.{Body}
 use Rattle.jsl_model.specs.declared.element.Element.{Element}
-use Rattle.job_walk.specs.KeptLists.{count_of}
+use Rattle.walk_rules.specs.Counts.{count_of}
 use Rattle.job_walk.specs.Runnables.{leaves, leaves_in_body, all_leaves, run_with}
 use Rattle.job_walk.specs.Spots.{IsElementIn, IsListBelow}
-use Rattle.job_walk.specs.declared.work_key.WorkKey.{WorkKey}
+use Rattle.walk_rules.specs.declared.work_key.WorkKey.{WorkKey}
 use Rattle.job_walk.proofs.Once.{ids-once}
 use Rattle.job_walk.proofs.runnable.body_at.Goals as goal
 

@@ -1,7 +1,7 @@
 use Rattle.std.proofs.Common.{◌≤◌, ap, sym, ◌∙◌, subst}
 use Rattle.jsl_model.specs.declared.element.Body.TheVariants.{Flow, Split}
 use Rattle.jsl_model.specs.declared.element.SplitFlow.{out-SplitFlow}
-use Rattle.job_walk.specs.KeptLists.{count_of}
+use Rattle.walk_rules.specs.Counts.{count_of}
 use Rattle.job_walk.specs.Runnables.{all_leaves, run_with}
 use Rattle.job_walk.proofs.Near.{flow-run, flow-once-in, split-run, split-once-in}
 use Rattle.job_walk.proofs.runnable.list_inside.Goals as goal

@@ -1,7 +1,7 @@
 use Rattle.std.proofs.Common.{sym, ◌∙◌, ap, arith, ◌≡◌, ◌-◌, ◌+◌, length}
-use Rattle.job_walk.specs.declared.facts.Value.TheVariants.{Done}
-use Rattle.job_walk.specs.declared.element_result.ElementResult.TheVariants.{ListValue, Outcome}
-use Rattle.job_walk.specs.Walk.{fact_of, walked_element, value_of_continuation, follow}
+use Rattle.walk_rules.specs.declared.facts.Value.TheVariants.{Done}
+use Rattle.walk_rules.specs.declared.element_result.ElementResult.TheVariants.{ListValue, Outcome}
+use Rattle.walk_rules.specs.Walk.{fact_of, walked_element, value_of_continuation, follow}
 use Rattle.job_walk.proofs.Following.{follow-none, follow-to_value, follow-on, rows}
 use Rattle.job_walk.proofs.walk.+walking.Goals as goal
 

@@ -1,5 +1,5 @@
 use Rattle.std.proofs.Common.{◌≡◌, ◌++◌, map, drop}
-use Rattle.job_walk.specs.Keys.{key_of}
+use Rattle.walk_rules.specs.Keys.{key_of}
 use Rattle.restart_rules.proofs.plan.add_keys.Given as goal
 
 abbrev pub invariant-loop-partition : goal.invariant-loop-partition

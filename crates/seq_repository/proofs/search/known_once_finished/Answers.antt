@@ -3,7 +3,7 @@ use Rattle.batch_history.proofs.Folds.{over_as}
 use Rattle.batch_history.specs.Lists.{change_first}
 use Rattle.batch_history.specs.Works.{is_work}
 use Rattle.batch_history.specs.declared.rows.WorkRow.{WorkRow}
-use Rattle.job_walk.specs.declared.facts.Known.{Known}
+use Rattle.walk_rules.specs.declared.facts.Known.{Known}
 use Rattle.records.specs.Left.{works_left, works_of}
 use Rattle.restart_rules.proofs.Reading.{known_by}
 use Rattle.seq_repository.proofs.Readers.{known_changed}

@@ -1,5 +1,5 @@
 use Rattle.std.proofs.Common.{◌≡◌, drop}
-use Rattle.job_walk.specs.Keys.{has_key, key_of}
+use Rattle.walk_rules.specs.Keys.{has_key, key_of}
 use Rattle.seq_repository.proofs.steps.is_kept.Given as goal
 
 abbrev pub invariant-loop-key : goal.invariant-loop-key

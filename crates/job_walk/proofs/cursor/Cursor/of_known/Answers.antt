@@ -1,6 +1,7 @@
 use Rattle.std.proofs.Common.{◌≤◌, sym, subst}
 use Rattle.job_walk.specs.Cursors.{known_keys}
-use Rattle.job_walk.specs.KeptLists.{count_of, key_count}
+use Rattle.walk_rules.specs.Counts.{count_of}
+use Rattle.job_walk.specs.KeptLists.{key_count}
 use Rattle.job_walk.proofs.KeysOnce.{keys-once}
 use Rattle.job_walk.proofs.Learning.{kept-first}
 use Rattle.job_walk.proofs.Once.{ids-once}

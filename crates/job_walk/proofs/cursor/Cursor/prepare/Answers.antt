@@ -1,7 +1,9 @@
 use Rattle.std.proofs.Common.{◌≡◌, ◌≤◌, true, [], refl, sym, ◌∙◌, ap, subst, rules}
-use Rattle.job_walk.specs.Cursors.{CursorState, known_keys, is_shown, value_in}
-use Rattle.job_walk.specs.Keys.{has_key}
-use Rattle.job_walk.specs.KeptLists.{count_of, key_count}
+use Rattle.job_walk.specs.Cursors.{CursorState, known_keys, value_in}
+use Rattle.walk_rules.specs.Shown.{is_shown}
+use Rattle.walk_rules.specs.Keys.{has_key}
+use Rattle.walk_rules.specs.Counts.{count_of}
+use Rattle.job_walk.specs.KeptLists.{key_count}
 use Rattle.job_walk.proofs.KeysOnce.{keys-once}
 use Rattle.job_walk.proofs.Learning.{shown-known, at-hand, shown-first, learnt-lists, learnt-value}
 use Rattle.job_walk.proofs.Once.{ids-once}

@@ -1,8 +1,0 @@
-use Rattle.job_walk.specs.Walk.{fact_of}
-use Rattle.job_walk.proofs.Beginning.{partition-pushed}
-use Rattle.job_walk.proofs.partitions.known_partitions.Goals as goal
-
-pub loop-partition-preserved : goal.loop-partition-preserved
-loop-partition-preserved c =
-    partition-pushed (fact_of c.args.known.now) c.args.id.now c.loop-partition.partition c.loop-partition.partitions.items c.push.new.self.items
-    c.in_ok-key.key c.in_ok-fact.fact c.loop-partition.invariant c.in_ok-push.ensures.items c.in_ok-key.ensures c.in_ok-fact.ensures

@@ -1,7 +1,0 @@
-use Rattle.std.proofs.Common.{◌≡◌, map}
-use Rattle.job_walk.specs.Keys.{key_of, numbers_to}
-use Rattle.job_walk.specs.Walk.{fact_of, known_of}
-use Rattle.job_walk.proofs.partitions.known_partitions.Given as goal
-
-abbrev pub invariant-loop-partition : goal.invariant-loop-partition
-invariant-loop-partition l = l.partitions.items ≡ known_of (fact_of l.known) (map (key_of l.id) (numbers_to l.partition))

@@ -1,0 +1,4 @@
+pub mod Places
+pub mod Pushing
+pub mod SameKeys
+pub mod Stands

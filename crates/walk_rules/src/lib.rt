@@ -1,0 +1,22 @@
+//! What an element of a job comes to by itself, by what is known of its work keys, and how far the walk over its list comes then.
+#![tactic(auto)]
+
+mod continuation;
+mod copies;
+mod element_result;
+mod facts;
+mod partitions;
+mod progress;
+mod splits;
+mod work_key;
+mod work_keys;
+
+pub use continuation::{Continuation, continuation_after};
+pub use copies::copies_of_known;
+pub use element_result::{ElementResult, fact_of, name_of, result_by, runnable_result};
+pub use facts::{Fact, Known, Value};
+pub use partitions::{partitioned_result, step_result};
+pub use progress::{Progress, place_in, walk_on};
+pub use splits::split_result;
+pub use work_key::{WorkKey, has_key, key_of};
+pub use work_keys::WorkKeys;

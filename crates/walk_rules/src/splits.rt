@@ -1,0 +1,104 @@
+ghost use Rattle.std.specs.Prelude.{◌≡◌, IfOk, find};
+ghost use Rattle.std.specs.Option.{option_copied};
+ghost use Rattle.walk_rules.specs.Walk.{split_result, all_ready, all_busy, any_open, ended_as};
+
+use crate::copies::add_keys;
+use crate::element_result::{ElementResult, name_of};
+use crate::facts::Value;
+use crate::work_keys::WorkKeys;
+use batch_ids::{BatchStatus, Listed, OutOfMemory, WorkOutcome};
+use std::alloc::Global;
+
+/// What is ready and busy in all of these.
+fn open_of_all(alloc: Global, values: &[Value]) -> Result<Value, OutOfMemory>
+    ensures { IfOk result (λ value.
+        value ≡ Value.Open (all_ready values.now) (all_busy values.now)) }
+{
+    let mut ready = Listed::new(alloc);
+    let mut busy = Listed::new(alloc);
+    for value in values {
+        match value {
+            Value::Open {
+                ready: more,
+                busy: more_busy,
+            } => {
+                add_keys(&mut ready, more.as_slice())?;
+                add_keys(&mut busy, more_busy.as_slice())?;
+            }
+            Value::Done { .. } => {}
+            Value::Ended { .. } => {}
+        }
+    }
+    Ok(Value::Open {
+        ready: WorkKeys::new(alloc, ready)?,
+        busy: WorkKeys::new(alloc, busy)?,
+    })
+}
+
+fn is_one_open(values: &[Value]) -> bool
+    ensures { result ≡ any_open values.now }
+{
+    for value in values {
+        match value {
+            Value::Open { .. } => return true,
+            Value::Done { .. } => {}
+            Value::Ended { .. } => {}
+        }
+    }
+    false
+}
+
+fn is_ended(value: &Value, wanted: BatchStatus) -> bool
+    ensures { result ≡ ended_as wanted value.now }
+{
+    match value {
+        Value::Ended { status, .. } => match wanted {
+            BatchStatus::Failed => matches!(status, BatchStatus::Failed),
+            BatchStatus::Stopped => matches!(status, BatchStatus::Stopped),
+            BatchStatus::Completed => matches!(status, BatchStatus::Completed),
+            BatchStatus::Starting => false,
+            BatchStatus::Started => false,
+            BatchStatus::Stopping => false,
+            BatchStatus::Abandoned => false,
+        },
+        Value::Open { .. } => false,
+        Value::Done { .. } => false,
+    }
+}
+
+fn find_ended(values: &[Value], wanted: BatchStatus) -> Option<&Value>
+    ensures { option_copied result ≡ find (ended_as wanted) values.now }
+{
+    for value in values {
+        if is_ended(value, wanted) {
+            return Some(value);
+        }
+    }
+    None
+}
+
+/// What a split comes to by itself, of its flows' values. See Jakarta Batch 2.1, "Split".
+///
+/// # Errors
+///
+/// `OutOfMemory` where memory is refused.
+pub fn split_result(alloc: Global, values: &[Value]) -> Result<ElementResult, OutOfMemory>
+    ensures { IfOk result (λ made. made ≡ split_result values.now) }
+{
+    if is_one_open(values) {
+        return Ok(ElementResult::ListValue(open_of_all(alloc, values)?));
+    }
+    if let Some(value) = find_ended(values, BatchStatus::Failed) {
+        return Ok(ElementResult::ListValue(value.try_clone()?));
+    }
+    if let Some(value) = find_ended(values, BatchStatus::Stopped) {
+        return Ok(ElementResult::ListValue(value.try_clone()?));
+    }
+    if let Some(value) = find_ended(values, BatchStatus::Completed) {
+        return Ok(ElementResult::ListValue(value.try_clone()?));
+    }
+    Ok(ElementResult::Outcome(
+        WorkOutcome::Completed,
+        name_of(alloc, BatchStatus::Completed)?,
+    ))
+}
