@@ -1,6 +1,5 @@
 ghost use Rattle.std.specs.Prelude.{◌≡◌, []};
 
-use crate::two_threads::CATALOGUE;
 use anyhow::Result;
 use batch_ids::{Parameters, T256};
 use jsl_json::read_catalogue;
@@ -10,6 +9,10 @@ use seat_rules::{BookSeat, SeatTable, Site};
 use sessions::{Desk, Session};
 use std::alloc::Global;
 use std::marker::Brand;
+
+/// A job of one step.
+const CATALOGUE: &[u8] =
+    b"{\"jobs\":[{\"id\":\"a\",\"elements\":[{\"kind\":\"step\",\"id\":\"s\",\"batchlet\":{\"ref\":\"ok\"}}]}]}";
 
 /// Tells what sessions are answered by a desk of at most two operations.
 pub(crate) fn print_full_desk<R: Print + AllocGlobal>(rt: &R) -> Result<()> {

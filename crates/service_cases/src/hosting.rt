@@ -5,9 +5,7 @@ use anyhow::{Result, bail};
 use batch_ids::{Parameters, T256};
 use batch_operator::{CopyCount, Operator};
 use jsl_model::Catalogue;
-use op_log::Answer;
 use seat_rules::{BookSeat, SeatTable, Site};
-use sessions::Session;
 use std::alloc::Global;
 use std::sync::Wait;
 
@@ -38,21 +36,4 @@ pub(crate) fn start_job<N: Site>(
     let job = T256::new(rt.alloc(), name)?;
     drop(operator.start(rt, &mut session, job, Parameters::none(), 0)?);
     Ok(())
-}
-
-/// How many job instances a job has, or 0 where the answer is of another kind.
-pub(crate) fn instances_of<N: Site>(
-    rt: &(impl Wait + AllocGlobal),
-    operator: &Operator<N>,
-    session: &mut Session<N>,
-    name: &str,
-) -> Result<u64> {
-    let job = T256::new(rt.alloc(), name)?;
-    let answer = operator.get_job_instance_count(rt, session, job)?;
-    let count = match &answer {
-        Answer::JobInstanceCount(count) => *count,
-        _ => 0,
-    };
-    drop(answer);
-    Ok(count)
 }

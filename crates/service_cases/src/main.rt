@@ -2,7 +2,7 @@
 //!
 //! - Scripts: says of each whether its replies are those of a file, and where they begin to differ. The scripts, the replies
 //!   and the list of both lie in `data/`.
-//! - Scripts on an operator: the same of those in `data/operator/`; then two threads on one operator, and a full desk.
+//! - Scripts on an operator: the same of those in `data/operator/`; then four threads on one operator, and a full desk.
 //! - Workers with an operator, and with a port that refuses: two of them at once, a step in partitions, a job of built-in
 //!   artifacts, what a worker and a pool report, a work item that is given up, a chunk whose artifacts fault at each of
 //!   their places, and names that the kit lacks.
@@ -13,6 +13,7 @@ mod built_ins;
 mod chunks;
 mod comparison;
 mod directive;
+mod four_threads;
 mod full_desk;
 mod hosting;
 mod memory;
@@ -25,11 +26,11 @@ mod script;
 mod script_cases;
 mod stage;
 mod staged;
-mod two_threads;
 
 use anyhow::Result;
 use built_ins::print_built_ins;
 use chunks::{print_ended_early, print_faults, print_unknown_names};
+use four_threads::print_four_threads;
 use full_desk::print_full_desk;
 use operator_cases::run_operator_cases;
 use pools::{print_partitions, print_together};
@@ -38,7 +39,6 @@ use reports::print_reports;
 use script_cases::run_script_cases;
 use std::sync::Wait;
 use std::thread::Threads;
-use two_threads::print_two_threads;
 
 /// What workers do.
 fn print_workers<R: Threads + Wait + Print + AllocGlobal + Sync>(rt: &R) -> Result<()> {
@@ -55,7 +55,7 @@ fn print_workers<R: Threads + Wait + Print + AllocGlobal + Sync>(rt: &R) -> Resu
 fn main(rt: HostRuntime) -> Result<()> {
     run_script_cases(&rt)?;
     run_operator_cases(&rt)?;
-    print_two_threads(&rt)?;
+    print_four_threads(&rt)?;
     print_full_desk(&rt)?;
     print_workers(&rt)
 }

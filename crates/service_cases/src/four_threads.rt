@@ -1,8 +1,6 @@
 //! Four threads share one job repository: two start jobs, one claims work and finishes it, and one looks on and asks a job
-//! execution to stop. Each has a session of its own and ends after so many turns. What is printed does not depend on which
-//! thread came first.
-#![tactic(auto)]
-
+//! execution to stop. Each opens a session of its own and ends after so many turns. What is printed does not depend on which
+//! thread came first. It stands by itself, as an example of how a program embeds an operator.
 ghost use Rattle.std.specs.Prelude.{◌≡◌};
 
 use anyhow::{Result, bail};
@@ -22,33 +20,44 @@ const CATALOGUE: &[u8] =
     b"{\"jobs\":[{\"id\":\"report\",\"elements\":[{\"kind\":\"step\",\"id\":\"print\",\"batchlet\":{\"ref\":\"printer\"}}]}]}";
 
 /// How many job executions each of two threads starts.
-const STARTS: u64 = 20;
+const STARTS: u64 = 100;
 
 /// How often work is claimed, or the repository looked at.
 const TURNS: u64 = 100;
+
+/// The numbers of the job executions that a thread has started, or what its last call was refused for.
+type Started = Result<Vec<u64>, Refusal>;
 
 /// How many operations the session of a thread had accepted, or what its last call was refused for.
 type Ended = Result<u64, Refusal>;
 
 /// Starts job executions.
-fn start_jobs<N: Site>(rt: &(impl Wait + AllocGlobal), operator: &Operator<N>) -> Ended {
+fn start_jobs<N: Site>(rt: &(impl Wait + AllocGlobal), operator: &Operator<N>) -> Started {
     let mut session = operator.open_session(rt)?;
+    let mut started = Vec::new(rt.alloc());
     for turn in 0..STARTS {
-        start(rt, operator, &mut session, turn)?;
+        if let Some(execution) = start(rt, operator, &mut session, turn)? {
+            started.push(execution.value())?;
+        }
     }
-    Ok(session.accepted())
+    Ok(started)
 }
 
-/// Starts one job execution.
+/// The job execution that a session has started.
 fn start<N: Site>(
     rt: &(impl Wait + AllocGlobal),
     operator: &Operator<N>,
     session: &mut Session<N>,
     turn: u64,
-) -> Result<(), Refusal> {
+) -> Result<Option<ExecutionId>, Refusal> {
     let job = T256::new(rt.alloc(), "report")?;
-    drop(operator.start(rt, session, job, Parameters::none(), turn)?);
-    Ok(())
+    let reply = operator.start(rt, session, job, Parameters::none(), turn)?;
+    let started = match &reply {
+        Reply::Execution(execution) => Some(*execution),
+        _ => None,
+    };
+    drop(reply);
+    Ok(started)
 }
 
 /// Claims work and finishes it.
@@ -128,35 +137,59 @@ fn stop_first<N: Site>(
     }
 }
 
+/// Lets two threads start job executions, and gives the numbers of all of them, rising.
 fn two_start<N: Site + Send + Sync, R: Threads + Wait + AllocGlobal + Sync>(
     rt: &R,
     operator: &Operator<N>,
-) -> (Ended, Ended) {
-    thread::join(rt, || start_jobs(rt, operator), || start_jobs(rt, operator))
+) -> Started {
+    let (of_one, of_other) = thread::join(
+        rt,
+        || start_jobs(rt, operator),
+        || start_jobs(rt, operator),
+    );
+    rising(of_one?, of_other?)
 }
 
+/// These numbers and those, rising.
+fn rising(numbers: Vec<u64>, others: Vec<u64>) -> Started {
+    let mut all = numbers;
+    all.extend_from_slice(others.as_slice())?;
+    all.sort()?;
+    Ok(all)
+}
+
+/// Lets one thread work and another look on, and gives the number of operations that their sessions had accepted.
 fn one_works<N: Site + Send + Sync, R: Threads + Wait + Sync>(
     rt: &R,
     operator: &Operator<N>,
-) -> (Ended, Ended) {
-    thread::join(rt, || work(rt, operator), || look_on(rt, operator))
+) -> Ended {
+    let (of_one, of_other) = thread::join(rt, || work(rt, operator), || look_on(rt, operator));
+    Ok(of_one?.saturating_add(of_other?))
 }
 
 /// Lets four threads run to their end, and gives the number of operations that their sessions had accepted.
-fn run_threads<N: Site + Send + Sync, R: Threads + Wait + AllocGlobal + Sync>(
+fn run_threads<N: Site + Send + Sync, R: Threads + Wait + Print + AllocGlobal + Sync>(
     rt: &R,
     operator: &Operator<N>,
-) -> Ended {
-    let (starters, others) = thread::join(
+) -> Result<u64> {
+    let (started, accepted) = thread::join(
         rt,
         || two_start(rt, operator),
         || one_works(rt, operator),
     );
-    let mut accepted: u64 = 0;
-    for ended in [starters.0, starters.1, others.0, others.1] {
-        accepted = accepted.saturating_add(ended?);
-    }
-    Ok(accepted)
+    let count = print_started(rt, started?)?;
+    Ok(count.saturating_add(accepted?))
+}
+
+/// Says how many job executions were started, and whether their numbers are those from 1 on, each once.
+fn print_started(rt: &impl Print, started: Vec<u64>) -> Result<u64> {
+    let count = started.len() as u64;
+    let are_from_one = started.iter().copied().eq(1..=count);
+    drop(started);
+    println!(rt;
+        "{count} job executions, each with a number of its own from 1 on: {are_from_one}"
+    )?;
+    Ok(count)
 }
 
 /// Makes the operator, and lends it to all that use it.
@@ -227,13 +260,11 @@ fn job_instances<N: Site>(
     }
 }
 
-/// Makes the table, and names it.
-fn share<R: Threads + Wait + Print + AllocGlobal + Sync>(rt: &R) -> Result<()> {
+/// Makes the table, names it, and lets four threads share the operator over it.
+pub(crate) fn print_four_threads<R: Threads + Wait + Print + AllocGlobal + Sync>(
+    rt: &R,
+) -> Result<()> {
     let catalogue = read_catalogue(rt.alloc(), CATALOGUE)?;
     let (table, seat) = SeatTable::new(rt.alloc(), &catalogue)?;
     run::<Brand, _>(rt, table, seat, catalogue)
-}
-
-fn main(rt: HostRuntime) -> Result<()> {
-    share(&rt)
 }

@@ -1,0 +1,7 @@
+use denote.Param.Send.{sendable}
+use Rattle.std.proofs.Crossing.{crosses}
+use Rattle.batch_operator.proofs.Crossing.{operator_sync}
+use Rattle.service_cases.proofs.four_threads.two_start.Goals as goal
+
+pub join-of_one-requires-send-F : goal.join-of_one-requires-send-F
+join-of_one-requires-send-F g c κs within = search (operator_sync, crosses, sendable) depth 60 fits 20000
