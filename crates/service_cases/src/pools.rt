@@ -1,7 +1,7 @@
-ghost use Rattle.std.specs.Prelude.{◌≡◌, IfOk, length};
+ghost use Rattle.std.specs.Prelude.{◌≡◌};
 
 use crate::hosting::{operator_of, start_job};
-use crate::quiet::quiet_kit;
+use crate::quiet::Quiet;
 use anyhow::{Result, bail};
 use batch_history::WorkItem;
 use batch_ids::Moment;
@@ -11,7 +11,6 @@ use jsl_json::read_catalogue;
 use jsl_model::Catalogue;
 use op_log::Answer;
 use seat_rules::{BookSeat, SeatTable, Site};
-use std::alloc::Global;
 use std::marker::Brand;
 use std::sync::Wait;
 use std::sync::atomic::{AtomicU64, Ordering};
@@ -110,18 +109,15 @@ fn work_together<N: Site + Send + Sync, R: Threads + Wait + AllocGlobal + Sync>(
     gate: &Together,
     operator: &Operator<N>,
 ) -> Result<PoolReport> {
-    let kits = two_kits(rt.alloc())?;
-    Ok(pool(rt, rt.alloc(), operator, kits, gate)?)
-}
-
-/// Two kits with the batchlet `ok`.
-fn two_kits(alloc: Global) -> Result<Vec<Kit>>
-    ensures { IfOk result (λ kits. length kits.items ≡ 2) }
-{
+    let alloc = rt.alloc();
+    let mut one = Kit::new(alloc);
+    one.add(alloc, "ok", Box::new(alloc, Quiet { alloc })?)?;
+    let mut other = Kit::new(alloc);
+    other.add(alloc, "ok", Box::new(alloc, Quiet { alloc })?)?;
     let mut kits = Vec::new(alloc);
-    kits.push(quiet_kit(alloc, "ok")?)?;
-    kits.push(quiet_kit(alloc, "ok")?)?;
-    Ok(kits)
+    kits.push(one)?;
+    kits.push(other)?;
+    Ok(pool(rt, alloc, operator, kits, gate)?)
 }
 
 /// How many job executions are COMPLETED.

@@ -1,25 +1,11 @@
-use anyhow::Result;
 use batch_ids::T256;
-use job_threads::{Artifact, ArtifactFault, Kit};
+use job_threads::{Artifact, ArtifactFault};
 use std::alloc::Global;
 
 /// An artifact that completes, reads no item, keeps none, and takes each group.
 #[derive(Drop)]
 pub(crate) struct Quiet {
     pub(crate) alloc: Global,
-}
-
-/// A kit with such an artifact, of this name.
-pub(crate) fn quiet_kit(alloc: Global, name: &str) -> Result<Kit> {
-    let artifact = Box::new(alloc, Quiet { alloc })?;
-    let mut kit = Kit::new(alloc);
-    match kit.add(alloc, name, artifact) {
-        Ok(()) => Ok(kit),
-        Err(refused) => {
-            drop(kit);
-            Err(refused.into())
-        }
-    }
 }
 
 impl Artifact for Quiet {

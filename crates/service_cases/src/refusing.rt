@@ -1,10 +1,10 @@
-use crate::quiet::quiet_kit;
+use crate::quiet::Quiet;
 use anyhow::Result;
 use batch_history::{WorkItem, WorkTask};
 use batch_ids::{
     ExecutionId, MetricStep, Moment, OutOfMemory, Refusal, T256, Text, WorkId, WorkOutcome,
 };
-use job_threads::{Claimed, Gate, Onward, Port, WorkerReport, worker};
+use job_threads::{Claimed, Gate, Kit, Onward, Port, WorkerReport, worker};
 use std::alloc::Global;
 
 /// A port that hands out one batchlet, and refuses what is reported of it.
@@ -92,7 +92,8 @@ impl Gate for Open {
 /// A worker whose finish is refused gives its work item up once, and answers the first refusal.
 pub(crate) fn print_given_up(rt: &(impl Print + AllocGlobal)) -> Result<()> {
     let alloc = rt.alloc();
-    let mut kit = quiet_kit(alloc, "")?;
+    let mut kit = Kit::new(alloc);
+    kit.add(alloc, "", Box::new(alloc, Quiet { alloc })?)?;
     let mut port = Refusing {
         alloc,
         given_up: 0,

@@ -62,44 +62,17 @@ fn work_alone<N: Site, R: Wait + AllocGlobal>(
     rt: &R,
     operator: &Operator<N>,
 ) -> Result<WorkerReport> {
-    let mut kit = kit_of(rt.alloc())?;
-    let ran = work_with(rt, operator, &mut kit);
-    drop(kit);
-    ran
-}
-
-/// A kit with the built-in artifacts of the chunk.
-fn kit_of(alloc: Global) -> Result<Kit> {
+    let alloc = rt.alloc();
     let mut kit = Kit::new(alloc);
-    match add_all(alloc, &mut kit) {
-        Ok(()) => Ok(kit),
-        Err(error) => {
-            drop(kit);
-            Err(error)
-        }
-    }
-}
-
-/// Adds these artifacts.
-fn add_all(alloc: Global, kit: &mut Kit) -> Result<()> {
-    for name in NAMES {
+    for name in ["count:5", "odd", "sink"] {
         if let Some(built_in) = BuiltIn::of(alloc, name)? {
             let artifact = Box::new(alloc, BuiltInArtifact::new(alloc, built_in))?;
             kit.add(alloc, name, artifact)?;
         }
     }
-    Ok(())
-}
-
-/// What one worker reports that has this kit.
-fn work_with<N: Site, R: Wait + AllocGlobal>(
-    rt: &R,
-    operator: &Operator<N>,
-    kit: &mut Kit,
-) -> Result<WorkerReport> {
     let session = operator.open_session(rt)?;
     let mut port = SessionPort::new(rt, operator, session);
-    Ok(worker(rt.alloc(), &mut port, kit, &Open, 0, 3)?)
+    Ok(worker(alloc, &mut port, &mut kit, &Open, 0, 3)?)
 }
 
 /// Runs the chunk by a pool of one worker, and says what it reports.

@@ -120,49 +120,23 @@ fn item_of(alloc: Global, task: WorkTask) -> Result<WorkItem, Fail> {
 }
 
 fn run_with(alloc: Global, names: &[&str], item: &WorkItem) -> Result<String, Fail> {
-    let mut kit = kit_of(alloc, names)?;
-    let mut port = Memory {
-        reports: Vec::new(alloc),
-    };
-    let told = run_on(alloc, &mut port, &mut kit, item);
-    drop(port);
+    let mut kit = Kit::new(alloc);
+    for name in names {
+        let built_in = BuiltIn::of(alloc, name)?.unwrap_or(BuiltIn::Fail);
+        let artifact = Box::new(alloc, BuiltInArtifact::new(alloc, built_in))?;
+        kit.add(alloc, name, artifact)?;
+    }
+    let told = run_on(alloc, &mut kit, item);
     drop(kit);
     told
 }
 
-fn run_on(
-    alloc: Global,
-    port: &mut Memory,
-    kit: &mut Kit,
-    item: &WorkItem,
-) -> Result<String, Fail> {
-    let _outcome = run_item(alloc, port, kit, item, 0)?;
+fn run_on(alloc: Global, kit: &mut Kit, item: &WorkItem) -> Result<String, Fail> {
+    let mut port = Memory {
+        reports: Vec::new(alloc),
+    };
+    let _outcome = run_item(alloc, &mut port, kit, item, 0)?;
     told(alloc, port.reports.as_slice())
-}
-
-fn kit_of(alloc: Global, names: &[&str]) -> Result<Kit, Fail> {
-    let mut kit = Kit::new(alloc);
-    match add_all(alloc, &mut kit, names) {
-        Ok(()) => Ok(kit),
-        Err(fail) => {
-            drop(kit);
-            Err(fail)
-        }
-    }
-}
-
-fn add_all(alloc: Global, kit: &mut Kit, names: &[&str]) -> Result<(), Fail> {
-    for name in names {
-        add(alloc, kit, name)?;
-    }
-    Ok(())
-}
-
-fn add(alloc: Global, kit: &mut Kit, name: &str) -> Result<(), Fail> {
-    let built_in = BuiltIn::of(alloc, name)?.unwrap_or(BuiltIn::Fail);
-    let artifact = Box::new(alloc, BuiltInArtifact::new(alloc, built_in))?;
-    kit.add(alloc, name, artifact)?;
-    Ok(())
 }
 
 fn chunk(alloc: Global, reader: &str, processor: &str, writer: &str) -> Result<WorkTask, Fail> {
