@@ -235,7 +235,7 @@ fn element_changes(
             Ok(flow_result(value))
         }
         Body::Split(flows) => {
-            let mut values = Vec::new(alloc);
+            let mut values = Vec::with_capacity(alloc, flows.as_slice().len())?;
             let mut start = 0;
             for flow in flows.as_slice() {
                 let rest = lists_from(lists, start);

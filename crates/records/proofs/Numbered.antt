@@ -79,6 +79,17 @@ module _ {R : Type 0} (num : R → ℕ) where
       ]) in
       sym (position-none (is_numbered x) rows (position_or_len_is (is_numbered x) rows (length rows) row (omega arith) off (λ lt. absurd (omega (arith, lt)))))
 
+  -- the place of a row that has the number
+  pub at_place : (rows : List R) (x k : ℕ) (d : R) → AreRising (numbers rows) → k < length rows → num (get_or rows k d) ≡ x → position (is_numbered x) rows ≡ Some k
+  at_place [] x k d h lt is = absurd (omega (arith, lt))
+  at_place (row ∷ rest) x k d h lt is =
+      let rows : List R = row ∷ rest in
+      let before : (j : ℕ) → j < k → is_numbered x (get_or rows j d) ≡ false =
+      λ j less. ne_eqb (num (get_or rows j d)) x (λ e. omega (arith, rising-at rows j k d h less lt, is, e)) in
+      position-at (is_numbered x) rows k
+      (position_or_len_is (is_numbered x) rows k d (omega (arith, lt)) before (λ under. eq-eqb (num (get_or rows k d)) x is))
+      lt
+
   -- The row at its place
 
   change-at : (p : R → Bool) (rows : List R) (k : ℕ) (new d : R) → k < length rows → p (get_or rows k d) ≡ true → ((j : ℕ) → j < k → p (get_or rows j d) ≡ false)

@@ -1,5 +1,5 @@
 //! Rows by rising number, of which any goes without a move of the others.
-ghost use Rattle.std.specs.Prelude.{◌≡◌, ◌==◌, ◌<◌, ◌≤◌, ◌^◌, ◌++◌, ◌∷◌, [], ℕ, Bool, List, not, true, false, is_some, find, filter, map, length, position, vec_len, vec_capacity, slice_get, IfSome, OnOk};
+ghost use Rattle.std.specs.Prelude.{◌≡◌, ◌==◌, ◌<◌, ◌≤◌, ◌^◌, ◌++◌, ◌∷◌, [], ℕ, Bool, List, not, true, false, is_some, find, filter, map, length, position, vec_len, vec_capacity, slice_get, Some, IfSome, OnOk};
 ghost use Rattle.std.specs.List.{list_any};
 ghost use Rattle.std.specs.Option.{option_copied};
 ghost use Rattle.batch_history.specs.Lists.{change_first};
@@ -90,7 +90,7 @@ impl<T: Numbered> RowList<T> {
         *self.slots.allocator()
     }
 
-    /// The row of a number, if it is there, by a binary search.
+    /// The row of a number, if it is there, by a look at its usual place, else by a binary search.
     pub(crate) fn get(&self, number: u64) -> Option<&T>
         ensures row { option_copied result ≡ find (λ row. T.number row == number) self.now.rows }
         ensures few { length self.now.rows < 2 ^ 63 }
@@ -211,7 +211,33 @@ fn slot_place<T>(slots: &[Slot<T>], number: u64) -> Option<usize>
     ensures { AreRising (slot_numbers slots.now)
         → result ≡ position (λ (slot : OneSlot T). slot.number == number) slots.now }
 {
+    match gapless_place(slots, number) {
+        Some(place) => Some(place),
+        None => searched_place(slots, number),
+    }
+}
+
+/// The same by a binary search.
+fn searched_place<T>(slots: &[Slot<T>], number: u64) -> Option<usize>
+    ensures { AreRising (slot_numbers slots.now)
+        → result ≡ position (λ (slot : OneSlot T). slot.number == number) slots.now }
+{
     slots.binary_search_by_key(&number, |slot| slot.number).ok()
+}
+
+/// Where the slot of a number stands if the slots up to it are those of 1, 2, 3 and so on, as they
+/// mostly are; `None` says nothing.
+fn gapless_place<T>(slots: &[Slot<T>], number: u64) -> Option<usize>
+    ensures { AreRising (slot_numbers slots.now) → IfSome result (λ place.
+        position (λ (slot : OneSlot T). slot.number == number) slots.now ≡ Some place) }
+{
+    let place = number.checked_sub(1)? as usize;
+    let slot = slots.get(place)?;
+    if slot.number == number {
+        Some(place)
+    } else {
+        None
+    }
 }
 
 /// Drops the slots from a number on, which are empty.

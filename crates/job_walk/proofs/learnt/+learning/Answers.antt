@@ -270,8 +270,8 @@ element_changes-loop-flow-preserved t c =
 
 pub element_changes-returns-in_ok-split_result-in-Split-clause-comes : goal.element_changes-returns-in_ok-split_result-in-Split-clause-comes
 element_changes-returns-in_ok-split_result-in-Split-clause-comes t c =
-    split-comes (facts_after c.args.known.now c.args.key.now c.args.fact.now) c.args.element.now c.as_slice-flow-items.result.now c.loop-flow.flow-index c.loop-flow.values.items c.as_slice.result.now
-    c.in_ok-split_result-in-Split.field-0 (c.in-Split.is ∙ ap Split (sym c.as_slice-flow-items.ensures)) c.loop-flow-test.false c.loop-flow.invariant.1 c.as_slice.ensures.value c.in_ok-split_result-in-Split.ensures
+    split-comes (facts_after c.args.known.now c.args.key.now c.args.fact.now) c.args.element.now c.as_slice-flow-items.result.now c.loop-flow.flow-index c.loop-flow.values.items c.as_slice-in-Split.result.now
+    c.in_ok-split_result-in-Split.field-0 (c.in-Split.is ∙ ap Split (sym c.as_slice-flow-items.ensures)) c.loop-flow-test.false c.loop-flow.invariant.1 c.as_slice-in-Split.ensures.value c.in_ok-split_result-in-Split.ensures
 
 pub element_changes-returns-in_ok-split_result-in-Split-clause-changes : goal.element_changes-returns-in_ok-split_result-in-Split-clause-changes
 element_changes-returns-in_ok-split_result-in-Split-clause-changes t c =

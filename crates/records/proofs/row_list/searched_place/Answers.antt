@@ -1,9 +1,9 @@
 use Rattle.std.proofs.Common.{rules, ◌∙◌}
 use Rattle.std.proofs.lemmas.List.Sorted.{answers_always}
-use Rattle.records.specs.contracts.row_list.slot_place.{T-type}
+use Rattle.records.specs.contracts.row_list.searched_place.{T-type}
 use Rattle.records.specs.declared.row_list.Slot.{Slot}
 use Rattle.records.proofs.Numbered.{searched}
-use Rattle.records.proofs.row_list.slot_place.Goals as goal
+use Rattle.records.proofs.row_list.searched_place.Goals as goal
 
 pub returns : goal.returns
 returns g c rising =
