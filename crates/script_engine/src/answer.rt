@@ -12,7 +12,7 @@ use crate::summary::Kind;
 use batch_ids::{Moment, OutOfMemory, Refusal};
 use op_log::{Answer, Book, Call, Query, Reply};
 use script_lines::Line;
-use script_text::{Command, answer_text, bad_line_text, read_command, reply_text};
+use script_text::{Command, CommandReader, answer_text, bad_line_text, reply_text};
 use std::alloc::{AllocError, Global};
 
 /// How many operations the log may have.
@@ -31,6 +31,7 @@ pub(crate) struct Answered {
 #[tactic(auto, unfolding(crate::specs::Script::line_text, crate::specs::Script::line_after, crate::specs::Summaries::line_kind))]
 pub(crate) fn answer(
     alloc: Global,
+    commands: &mut CommandReader,
     book: &mut Book<LIMIT>,
     line: &Line,
 ) -> Result<Answered, OutOfMemory>
@@ -46,7 +47,7 @@ pub(crate) fn answer(
                     kind: Kind::Empty,
                 });
             }
-            let command = read_command(alloc, bytes)?;
+            let command = commands.read(bytes)?;
             answer_command(alloc, book, command)
         }
         Line::TooLong => reply_bad_line(alloc),

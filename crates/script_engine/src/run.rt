@@ -9,6 +9,7 @@ use batch_ids::OutOfMemory;
 use jsl_model::Catalogue;
 use op_log::Book;
 use script_lines::{Counted, InputBuffer, OutputBuffer, Sink, Source};
+use script_text::CommandReader;
 use std::alloc::{AllocError, Global};
 
 /// A book with an empty log over this catalogue, on the heap.
@@ -42,9 +43,10 @@ fn run<R: Source, W: Sink>(
     };
     let mut boxed = boxed_book(alloc, catalogue)?;
     let book: &mut Book<LIMIT> = &mut boxed;
+    let mut commands = CommandReader::new(alloc);
     let mut summary = Summary::default();
     while let Some(line) = input.next_line(alloc, reader, output, writer)? {
-        let answered = answer(alloc, book, &line)?;
+        let answered = answer(alloc, &mut commands, book, &line)?;
         output.put(writer, &answered.text)?;
         summary.count(answered.kind);
     }

@@ -1,2 +1,3 @@
+pub mod LentParameters
 pub mod Floats
 pub mod Texts

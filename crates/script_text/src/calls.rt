@@ -1,21 +1,21 @@
 // The calls of a script, a row of the table each.
-ghost use Rattle.std.specs.Prelude.{◌≡◌, option_map};
-ghost use Rattle.serde_json.specs.View.{view};
+ghost use Rattle.std.specs.Prelude.{◌≡◌, true, option_map};
+ghost use Rattle.lent_json.specs.Looks.{shown, is_open};
 ghost use Rattle.batch_ids.specs.Statuses.{outcome_named};
 ghost use Rattle.script_text.specs.Calls.{start_of, restart_of, stop_of, abandon_of, claim_of, checkpoint_of, finish_of, lose_of, purge_of, call_named};
 ghost use Rattle.script_text.specs.RawCommands.{call_in};
 
 use crate::metrics::metrics_at;
-use crate::parameters::parameters_at;
+use crate::parameters::parameters_in;
 use crate::raw::RawCall;
 use batch_ids::WorkOutcome;
-use json_members::{has_only, number_at, optional_text, text_at};
-use serde_json::Value;
+use lent_json::Look;
 
 /// The call of a line whose `do` is this word.
 #[tactic(auto, unfolding(crate::specs::Calls::call_named))]
-pub fn call_named<'v>(word: &str, value: &'v Value) -> Option<RawCall<'v>>
-    ensures { option_map call_in result ≡ call_named word.now (view value.now) }
+pub fn call_named<'v>(word: &str, value: Look<'v, '_>) -> Option<RawCall<'v>>
+    requires { is_open value ≡ true }
+    ensures { option_map call_in result ≡ call_named word.now (shown value.entry) }
 {
     if word == "start" {
         return start_of(value);
@@ -48,26 +48,28 @@ pub fn call_named<'v>(word: &str, value: &'v Value) -> Option<RawCall<'v>>
 }
 
 #[tactic(auto, unfolding(crate::specs::Calls::start_of))]
-fn start_of(value: &Value) -> Option<RawCall<'_>>
-    ensures { option_map call_in result ≡ start_of (view value.now) }
+fn start_of<'v>(value: Look<'v, '_>) -> Option<RawCall<'v>>
+    requires { is_open value ≡ true }
+    ensures { option_map call_in result ≡ start_of (shown value.entry) }
 {
-    if !has_only(value, &["do", "by", "at", "job", "parameters"]) {
+    if !value.has_only(&["do", "by", "at", "job", "parameters"]) {
         return None;
     }
-    let job = text_at(value, "job")?;
-    let parameters = parameters_at(value)?;
+    let job = value.text_at("job")?;
+    let parameters = parameters_in(value)?;
     Some(RawCall::Start { job, parameters })
 }
 
 #[tactic(auto, unfolding(crate::specs::Calls::restart_of))]
-fn restart_of(value: &Value) -> Option<RawCall<'_>>
-    ensures { option_map call_in result ≡ restart_of (view value.now) }
+fn restart_of<'v>(value: Look<'v, '_>) -> Option<RawCall<'v>>
+    requires { is_open value ≡ true }
+    ensures { option_map call_in result ≡ restart_of (shown value.entry) }
 {
-    if !has_only(value, &["do", "by", "at", "execution", "parameters"]) {
+    if !value.has_only(&["do", "by", "at", "execution", "parameters"]) {
         return None;
     }
-    let execution = number_at(value, "execution")?;
-    let parameters = parameters_at(value)?;
+    let execution = value.number_at("execution")?;
+    let parameters = parameters_in(value)?;
     Some(RawCall::Restart {
         execution,
         parameters,
@@ -75,62 +77,67 @@ fn restart_of(value: &Value) -> Option<RawCall<'_>>
 }
 
 #[tactic(auto, unfolding(crate::specs::Calls::stop_of))]
-fn stop_of(value: &Value) -> Option<RawCall<'_>>
-    ensures { option_map call_in result ≡ stop_of (view value.now) }
+fn stop_of<'v>(value: Look<'v, '_>) -> Option<RawCall<'v>>
+    requires { is_open value ≡ true }
+    ensures { option_map call_in result ≡ stop_of (shown value.entry) }
 {
-    if !has_only(value, &["do", "by", "at", "execution"]) {
+    if !value.has_only(&["do", "by", "at", "execution"]) {
         return None;
     }
-    let execution = number_at(value, "execution")?;
+    let execution = value.number_at("execution")?;
     Some(RawCall::Stop { execution })
 }
 
 #[tactic(auto, unfolding(crate::specs::Calls::abandon_of))]
-fn abandon_of(value: &Value) -> Option<RawCall<'_>>
-    ensures { option_map call_in result ≡ abandon_of (view value.now) }
+fn abandon_of<'v>(value: Look<'v, '_>) -> Option<RawCall<'v>>
+    requires { is_open value ≡ true }
+    ensures { option_map call_in result ≡ abandon_of (shown value.entry) }
 {
-    if !has_only(value, &["do", "by", "at", "execution"]) {
+    if !value.has_only(&["do", "by", "at", "execution"]) {
         return None;
     }
-    let execution = number_at(value, "execution")?;
+    let execution = value.number_at("execution")?;
     Some(RawCall::Abandon { execution })
 }
 
 #[tactic(auto, unfolding(crate::specs::Calls::claim_of))]
-fn claim_of(value: &Value) -> Option<RawCall<'_>>
-    ensures { option_map call_in result ≡ claim_of (view value.now) }
+fn claim_of<'v>(value: Look<'v, '_>) -> Option<RawCall<'v>>
+    requires { is_open value ≡ true }
+    ensures { option_map call_in result ≡ claim_of (shown value.entry) }
 {
-    if !has_only(value, &["do", "by", "at"]) {
+    if !value.has_only(&["do", "by", "at"]) {
         return None;
     }
     Some(RawCall::Claim)
 }
 
 #[tactic(auto, unfolding(crate::specs::Calls::checkpoint_of))]
-fn checkpoint_of(value: &Value) -> Option<RawCall<'_>>
-    ensures { option_map call_in result ≡ checkpoint_of (view value.now) }
+fn checkpoint_of<'v>(value: Look<'v, '_>) -> Option<RawCall<'v>>
+    requires { is_open value ≡ true }
+    ensures { option_map call_in result ≡ checkpoint_of (shown value.entry) }
 {
-    if !has_only(value, &["do", "by", "at", "work", "data", "metrics"]) {
+    if !value.has_only(&["do", "by", "at", "work", "data", "metrics"]) {
         return None;
     }
-    let work = number_at(value, "work")?;
-    let mark = text_at(value, "data")?;
+    let work = value.number_at("work")?;
+    let mark = value.text_at("data")?;
     let step = metrics_at(value)?;
     Some(RawCall::Checkpoint { work, mark, step })
 }
 
 #[tactic(auto, unfolding(crate::specs::Calls::finish_of))]
-fn finish_of(value: &Value) -> Option<RawCall<'_>>
-    ensures { option_map call_in result ≡ finish_of (view value.now) }
+fn finish_of<'v>(value: Look<'v, '_>) -> Option<RawCall<'v>>
+    requires { is_open value ≡ true }
+    ensures { option_map call_in result ≡ finish_of (shown value.entry) }
 {
     let names = ["do", "by", "at", "work", "outcome", "exit", "metrics"];
-    if !has_only(value, &names) {
+    if !value.has_only(&names) {
         return None;
     }
-    let work = number_at(value, "work")?;
-    let name = text_at(value, "outcome")?;
+    let work = value.number_at("work")?;
+    let name = value.text_at("outcome")?;
     let outcome = outcome_named(name)?;
-    let exit = optional_text(value, "exit")?;
+    let exit = value.optional_text("exit")?;
     let step = metrics_at(value)?;
     Some(RawCall::Finish {
         work,
@@ -141,24 +148,26 @@ fn finish_of(value: &Value) -> Option<RawCall<'_>>
 }
 
 #[tactic(auto, unfolding(crate::specs::Calls::lose_of))]
-fn lose_of(value: &Value) -> Option<RawCall<'_>>
-    ensures { option_map call_in result ≡ lose_of (view value.now) }
+fn lose_of<'v>(value: Look<'v, '_>) -> Option<RawCall<'v>>
+    requires { is_open value ≡ true }
+    ensures { option_map call_in result ≡ lose_of (shown value.entry) }
 {
-    if !has_only(value, &["do", "by", "at", "work"]) {
+    if !value.has_only(&["do", "by", "at", "work"]) {
         return None;
     }
-    let work = number_at(value, "work")?;
+    let work = value.number_at("work")?;
     Some(RawCall::Lose { work })
 }
 
 #[tactic(auto, unfolding(crate::specs::Calls::purge_of))]
-fn purge_of(value: &Value) -> Option<RawCall<'_>>
-    ensures { option_map call_in result ≡ purge_of (view value.now) }
+fn purge_of<'v>(value: Look<'v, '_>) -> Option<RawCall<'v>>
+    requires { is_open value ≡ true }
+    ensures { option_map call_in result ≡ purge_of (shown value.entry) }
 {
-    if !has_only(value, &["do", "by", "at", "instance"]) {
+    if !value.has_only(&["do", "by", "at", "instance"]) {
         return None;
     }
-    let instance = number_at(value, "instance")?;
+    let instance = value.number_at("instance")?;
     Some(RawCall::Purge { instance })
 }
 

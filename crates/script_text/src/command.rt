@@ -1,5 +1,5 @@
-ghost use Rattle.std.specs.Prelude.{◌≡◌, IfOk};
-ghost use Rattle.serde_json.specs.View.{view};
+ghost use Rattle.std.specs.Prelude.{◌≡◌, true, IfOk};
+ghost use Rattle.lent_json.specs.Looks.{shown, is_open};
 ghost use Rattle.script_text.specs.Commands.{command_of, command_of_data, within_bounds};
 ghost use Rattle.script_text.specs.RawCommands.{command_in};
 
@@ -8,7 +8,7 @@ use crate::raw::{RawCommand, raw_command_of};
 use batch_history::{Call, Query};
 use batch_ids::{Moment, OutOfMemory};
 use json_members::read_value;
-use serde_json::Value;
+use lent_json::{Look, Scratch, read_plain};
 use std::alloc::Global;
 
 /// What a line of a script is.
@@ -74,14 +74,48 @@ pub fn read_command(alloc: Global, line: &[u8]) -> Result<Command, OutOfMemory>
 {
     let value = read_value(alloc, line)?;
     match &value {
-        Some(value) => command_of_value(alloc, value),
+        Some(value) => command_of_value(alloc, Look::Own(value)),
         None => Ok(Command::BadLine),
     }
 }
 
+/// Reads the commands of lines, one after another, with memory that it keeps from line to line.
+#[derive(Drop)]
+pub struct CommandReader {
+    alloc: Global,
+    scratch: Scratch,
+}
+
+impl CommandReader {
+    /// A reader that has read nothing. It takes no memory.
+    pub fn new(alloc: Global) -> CommandReader {
+        CommandReader {
+            alloc,
+            scratch: Scratch::new(alloc),
+        }
+    }
+
+    /// The command that a line is, as [`read_command`] says. A line that holds neither a list nor a text
+    /// inside another object is read faster: it is looked into where it stands.
+    ///
+    /// # Errors
+    ///
+    /// `OutOfMemory` where memory is refused.
+    pub fn read(&mut self, line: &[u8]) -> Result<Command, OutOfMemory>
+        ensures { IfOk result (λ command. command ≡ command_of line.now) }
+    {
+        let lent = read_plain(self.alloc, line, &mut self.scratch)?;
+        match &lent {
+            Some(value) => command_of_value(self.alloc, Look::Lent(value)),
+            None => read_command(self.alloc, line),
+        }
+    }
+}
+
 #[tactic(auto, unfolding(crate::specs::Commands::command_of_data))]
-fn command_of_value(alloc: Global, value: &Value) -> Result<Command, OutOfMemory>
-    ensures { IfOk result (λ command. command ≡ command_of_data (view value.now)) }
+fn command_of_value(alloc: Global, value: Look<'_, '_>) -> Result<Command, OutOfMemory>
+    requires { is_open value ≡ true }
+    ensures { IfOk result (λ command. command ≡ command_of_data (shown value.entry)) }
 {
     match raw_command_of(value) {
         Some(raw) => command_within(alloc, &raw),

@@ -18,7 +18,7 @@ mod start;
 mod written;
 
 pub use answer::answer_text;
-pub use command::{Command, read_command};
+pub use command::{Command, CommandReader, read_command};
 pub use fault::fault_text;
 pub use metrics::metrics_value;
 pub use reply::{bad_line_text, reply_text};

@@ -1,30 +1,33 @@
 // The metrics of a step execution: an object of counts by the metrics' names.
-ghost use Rattle.std.specs.Prelude.{◌≡◌, map, IfOk};
+ghost use Rattle.std.specs.Prelude.{◌≡◌, true, map, IfOk};
 ghost use Rattle.serde_json.specs.View.{view};
+ghost use Rattle.lent_json.specs.Looks.{shown, is_open};
 ghost use Rattle.script_text.specs.Metrics.{metric_at, metric_names, step_of, metrics_at, metrics_data};
 
 use crate::written::counts_value;
 use batch_ids::{Metric, MetricStep, Metrics, OutOfMemory};
-use json_members::{has_only, optional_number, optional_object};
+use lent_json::Look;
 use serde_json::Value;
 use std::alloc::Global;
 
 /// The step that the member `metrics` is, which may be left out; `None` where it is there and no
 /// object of counts.
-pub fn metrics_at(value: &Value) -> Option<MetricStep>
-    ensures { result ≡ metrics_at (view value.now) }
+pub fn metrics_at(value: Look<'_, '_>) -> Option<MetricStep>
+    requires { is_open value ≡ true }
+    ensures { result ≡ metrics_at (shown value.entry) }
 {
-    match optional_object(value, "metrics")? {
+    match value.optional_object("metrics")? {
         None => Some(MetricStep::zero()),
         Some(object) => step_of(object),
     }
 }
 
 #[tactic(auto, unfolding(crate::specs::Metrics::step_of))]
-fn step_of(object: &Value) -> Option<MetricStep>
-    ensures { result ≡ step_of (view object.now) }
+fn step_of(object: Look<'_, '_>) -> Option<MetricStep>
+    requires { is_open object ≡ true }
+    ensures { result ≡ step_of (shown object.entry) }
 {
-    if !has_only(object, &metric_names()) {
+    if !object.has_only(&metric_names()) {
         return None;
     }
     Some(MetricStep {
@@ -56,10 +59,11 @@ fn metric_names() -> [&'static str; 8]
 
 /// The count of this metric, which may be left out; `None` where it is there and no number from 0
 /// to 4,294,967,295.
-fn metric_at(metric: Metric, object: &Value) -> Option<u32>
-    ensures { result ≡ metric_at metric (view object.now) }
+fn metric_at(metric: Metric, object: Look<'_, '_>) -> Option<u32>
+    requires { is_open object ≡ true }
+    ensures { result ≡ metric_at metric (shown object.entry) }
 {
-    match optional_number(object, metric.name())? {
+    match object.optional_number(metric.name())? {
         None => Some(0),
         Some(count) => u32::try_from(count).ok(),
     }

@@ -1,16 +1,18 @@
 // The parameters of a job execution: an object of texts.
-ghost use Rattle.std.specs.Prelude.{◌≡◌, IfOk, option_map, is_some};
+ghost use Rattle.std.specs.Prelude.{◌≡◌, true, IfOk, option_map, is_some};
 ghost use Rattle.std.specs.List.{list_all};
 ghost use Rattle.std.specs.BTreeMap.{values};
 ghost use Rattle.serde_json.specs.Find.{as_str};
 ghost use Rattle.serde_json.specs.View.{view, members_view};
 ghost use Rattle.batch_ids.specs.Parameters.{pairs_of};
+ghost use Rattle.lent_json.specs.Looks.{shown, is_open};
 ghost use Rattle.script_text.specs.Parameters.{parameters_at, parameters_within, parameters_data, has_texts, text_pairs};
 ghost use Rattle.script_text.specs.RawCommands.{pairs_in};
 
 use crate::written::Written;
 use batch_ids::{OutOfMemory, Parameters, Refusal};
 use json_members::optional_object;
+use lent_json::Look;
 use serde_json::{Map, Value, put};
 use std::alloc::{AllocError, Global};
 
@@ -28,6 +30,20 @@ pub fn parameters_at(value: &Value) -> Option<Option<&Value>>
                 None
             }
         }
+    }
+}
+
+/// The same of a value that is looked into. One that is lent has no object of texts among its members.
+pub fn parameters_in<'v>(value: Look<'v, '_>) -> Option<Option<&'v Value>>
+    requires { is_open value ≡ true }
+    ensures { option_map pairs_in result ≡ parameters_at (shown value.entry) }
+{
+    match value {
+        Look::Own(value) => parameters_at(value),
+        Look::Lent(value) => match value.get("parameters") {
+            Some(_) => None,
+            None => Some(None),
+        },
     }
 }
 

@@ -1,17 +1,17 @@
 // The queries of a script, a row of the table each.
-ghost use Rattle.std.specs.Prelude.{◌≡◌, Some, None, option_map, if◌then◌else◌};
-ghost use Rattle.serde_json.specs.View.{view};
+ghost use Rattle.std.specs.Prelude.{◌≡◌, true, Some, None, option_map, if◌then◌else◌};
+ghost use Rattle.lent_json.specs.Looks.{shown, is_open};
 ghost use Rattle.script_text.specs.Queries.{is_alone, job_asked, execution_asked, instance_asked, job_instances_of, query_named};
 ghost use Rattle.script_text.specs.RawCommands.{query_in};
 
 use crate::raw::RawQuery;
-use json_members::{has_only, number_at, text_at};
-use serde_json::Value;
+use lent_json::Look;
 
 /// The query of a line whose `ask` is this word.
 #[tactic(auto, unfolding(crate::specs::Queries::query_named))]
-pub fn query_named<'v>(word: &str, value: &'v Value) -> Option<RawQuery<'v>>
-    ensures { option_map query_in result ≡ query_named word.now (view value.now) }
+pub fn query_named<'v>(word: &str, value: Look<'v, '_>) -> Option<RawQuery<'v>>
+    requires { is_open value ≡ true }
+    ensures { option_map query_in result ≡ query_named word.now (shown value.entry) }
 {
     match word {
         "job_names" => alone(value, RawQuery::JobNames),
@@ -43,58 +43,64 @@ pub fn query_named<'v>(word: &str, value: &'v Value) -> Option<RawQuery<'v>>
 }
 
 /// A query that has nothing more.
-fn alone<'v>(value: &Value, query: RawQuery<'v>) -> Option<RawQuery<'v>>
-    ensures { option_map query_in result ≡ (if is_alone (view value.now) then Some (query_in query.entry) else None) }
+fn alone<'v>(value: Look<'_, '_>, query: RawQuery<'v>) -> Option<RawQuery<'v>>
+    requires { is_open value ≡ true }
+    ensures { option_map query_in result ≡ (if is_alone (shown value.entry) then Some (query_in query.entry) else None) }
 {
     if is_alone(value) { Some(query) } else { None }
 }
 
 #[tactic(auto, unfolding(crate::specs::Queries::job_instances_of))]
-fn job_instances_of(value: &Value) -> Option<RawQuery<'_>>
-    ensures { option_map query_in result ≡ job_instances_of (view value.now) }
+fn job_instances_of<'v>(value: Look<'v, '_>) -> Option<RawQuery<'v>>
+    requires { is_open value ≡ true }
+    ensures { option_map query_in result ≡ job_instances_of (shown value.entry) }
 {
-    if !has_only(value, &["ask", "job", "start", "count"]) {
+    if !value.has_only(&["ask", "job", "start", "count"]) {
         return None;
     }
-    let job = text_at(value, "job")?;
-    let start = number_at(value, "start")?;
-    let count = number_at(value, "count")?;
+    let job = value.text_at("job")?;
+    let start = value.number_at("start")?;
+    let count = value.number_at("count")?;
     Some(RawQuery::JobInstances { job, start, count })
 }
 
 /// Whether a query has nothing more.
-fn is_alone(value: &Value) -> bool
-    ensures { result ≡ is_alone (view value.now) }
+fn is_alone(value: Look<'_, '_>) -> bool
+    requires { is_open value ≡ true }
+    ensures { result ≡ is_alone (shown value.entry) }
 {
-    has_only(value, &["ask"])
+    value.has_only(&["ask"])
 }
 
 /// The name of the job that is asked about.
-fn job_asked(value: &Value) -> Option<&str>
-    ensures { option_map (λ job. job.now) result ≡ job_asked (view value.now) }
+fn job_asked<'v>(value: Look<'v, '_>) -> Option<&'v str>
+    requires { is_open value ≡ true }
+    ensures { option_map (λ job. job.now) result ≡ job_asked (shown value.entry) }
 {
-    if !has_only(value, &["ask", "job"]) {
+    if !value.has_only(&["ask", "job"]) {
         return None;
     }
-    text_at(value, "job")
+    value.text_at("job")
 }
 
 /// The job execution that is asked about.
-fn execution_asked(value: &Value) -> Option<u64>
-    ensures { result ≡ execution_asked (view value.now) }
+fn execution_asked(value: Look<'_, '_>) -> Option<u64>
+    requires { is_open value ≡ true }
+    ensures { result ≡ execution_asked (shown value.entry) }
 {
-    if !has_only(value, &["ask", "execution"]) {
+    if !value.has_only(&["ask", "execution"]) {
         return None;
     }
-    number_at(value, "execution")
+    value.number_at("execution")
 }
 
 /// The job instance that is asked about.
-fn instance_asked(value: &Value) -> Option<u64>
-    ensures { result ≡ instance_asked (view value.now) }
+fn instance_asked(value: Look<'_, '_>) -> Option<u64>
+    requires { is_open value ≡ true }
+    ensures { result ≡ instance_asked (shown value.entry) }
 {
-    if !has_only(value, &["ask", "instance"]) {
+    if !value.has_only(&["ask", "instance"]) {
         return None;
     }
-    number_at(value, "instance")
+    value.number_at("instance")
 }

@@ -1,12 +1,12 @@
-ghost use Rattle.std.specs.Prelude.{◌≡◌, option_map};
-ghost use Rattle.serde_json.specs.View.{view};
+ghost use Rattle.std.specs.Prelude.{◌≡◌, true, option_map};
+ghost use Rattle.lent_json.specs.Looks.{shown, is_open};
 ghost use Rattle.script_text.specs.Commands.{session_at, call_of, query_of, raw_command_of};
 ghost use Rattle.script_text.specs.RawCommands.{command_in};
 
 use crate::calls::call_named;
 use crate::queries::query_named;
 use batch_ids::{MetricStep, Moment, WorkOutcome};
-use json_members::{number_at, text_at};
+use lent_json::Look;
 use serde_json::Value;
 
 /// A command as its line spells it. Its texts are those of the line, and may be of any length.
@@ -92,8 +92,9 @@ pub enum RawQuery<'a> {
 
 /// The command that a value is, if it is one of the table.
 #[tactic(auto, unfolding(crate::specs::Commands::raw_command_of))]
-pub fn raw_command_of(value: &Value) -> Option<RawCommand<'_>>
-    ensures { option_map command_in result ≡ raw_command_of (view value.now) }
+pub fn raw_command_of<'v>(value: Look<'v, '_>) -> Option<RawCommand<'v>>
+    requires { is_open value ≡ true }
+    ensures { option_map command_in result ≡ raw_command_of (shown value.entry) }
 {
     match call_of(value) {
         Some(act) => Some(act),
@@ -102,29 +103,32 @@ pub fn raw_command_of(value: &Value) -> Option<RawCommand<'_>>
 }
 
 #[tactic(auto, unfolding(crate::specs::Commands::call_of))]
-fn call_of(value: &Value) -> Option<RawCommand<'_>>
-    ensures { option_map command_in result ≡ call_of (view value.now) }
+fn call_of<'v>(value: Look<'v, '_>) -> Option<RawCommand<'v>>
+    requires { is_open value ≡ true }
+    ensures { option_map command_in result ≡ call_of (shown value.entry) }
 {
-    let word = text_at(value, "do")?;
+    let word = value.text_at("do")?;
     let call = call_named(word, value)?;
     let by = session_at(value)?;
-    let at = number_at(value, "at")?;
+    let at = value.number_at("at")?;
     Some(RawCommand::Act { by, at, call })
 }
 
 #[tactic(auto, unfolding(crate::specs::Commands::query_of))]
-fn query_of(value: &Value) -> Option<RawCommand<'_>>
-    ensures { option_map command_in result ≡ query_of (view value.now) }
+fn query_of<'v>(value: Look<'v, '_>) -> Option<RawCommand<'v>>
+    requires { is_open value ≡ true }
+    ensures { option_map command_in result ≡ query_of (shown value.entry) }
 {
-    let word = text_at(value, "ask")?;
+    let word = value.text_at("ask")?;
     let query = query_named(word, value)?;
     Some(RawCommand::Ask(query))
 }
 
 /// The session that gives a command: a number from 1.
-fn session_at(value: &Value) -> Option<u64>
-    ensures { result ≡ session_at (view value.now) }
+fn session_at(value: Look<'_, '_>) -> Option<u64>
+    requires { is_open value ≡ true }
+    ensures { result ≡ session_at (shown value.entry) }
 {
-    let by = number_at(value, "by")?;
+    let by = value.number_at("by")?;
     if by == 0 { None } else { Some(by) }
 }

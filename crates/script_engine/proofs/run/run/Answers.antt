@@ -31,8 +31,8 @@ returns-in_err-boxed g c =
     let first = first_line _ _ _ _ _ _ _ _ _ c.in_ok-input.ensures c.requires line.line line.passed_on line.grown in
     rw (r.1, r.2) (nothing_done _ _ _ _ _ _ first.2.0.read first.2.1)
 
-pub loop-boxed-init : goal.loop-boxed-init
-loop-boxed-init g c =
+pub loop-commands-init : goal.loop-commands-init
+loop-commands-init g c =
     let line = c.in_ok-first.ensures in
     let first = first_line _ _ _ _ _ _ _ _ _ c.in_ok-input.ensures c.requires line.line line.passed_on line.grown in
     rw (c.deref_mut-book.ensures.value ∙ c.in_ok-boxed.ensures) (begins _ _ _ _ _ _ first.0 c.in-Ok.catalogue _ first.2.0 (c.in-Ok.ensures.read first.0 first.1) first.2.1 (nothing-counted _ c.default-summary.ensures))
@@ -41,41 +41,41 @@ pub returns-in_err-line : goal.returns-in_err-line
 returns-in_err-line g c =
     let r = err_from_is_err_and c.from_residual-in_err-line.result c.from_residual-in_err-line.ensures.1 in
     let line = c.in_err-line.ensures in
-    rw (r.1, r.2) (line_failed _ _ _ _ _ _ _ _ _ _ _ _ _ c.loop-boxed.invariant line.line line.passed_on line.grown line.prompt)
+    rw (r.1, r.2) (line_failed _ _ _ _ _ _ _ _ _ _ _ _ _ c.loop-commands.invariant line.line line.passed_on line.grown line.prompt)
 
 pub returns-in_err-answered : goal.returns-in_err-answered
 returns-in_err-answered g c =
     let r = err_from_is_err_and c.from_residual-in_err-answered.result c.from_residual-in_err-answered.ensures.1 in
     let line = c.in_ok-line.ensures in
-    rw (r.1, r.2) (no_memory _ _ _ _ _ _ _ _ _ _ _ _ _ c.loop-boxed.invariant line.line line.passed_on line.grown line.prompt)
+    rw (r.1, r.2) (no_memory _ _ _ _ _ _ _ _ _ _ _ _ _ c.loop-commands.invariant line.line line.passed_on line.grown line.prompt)
 
 pub returns-in_err-put : goal.returns-in_err-put
 returns-in_err-put g c =
     let line = c.in_ok-line.ensures in
-    let read = subst (λ (o : Option Line). LineRead (g.R.Source.tape c.loop-boxed.reader) (g.R.Source.tape c.next_line-in-loop-boxed.new.source) c.loop-boxed.input c.next_line-in-loop-boxed.new.self (Ok o)) c.in-Some.is line.line in
+    let read = subst (λ (o : Option Line). LineRead (g.R.Source.tape c.loop-commands.reader) (g.R.Source.tape c.next_line-in-loop-commands.new.source) c.loop-commands.input c.next_line-in-loop-commands.new.self (Ok o)) c.in-Some.is line.line in
     let r = err_from_is_err_and c.from_residual-in_err-put.result c.from_residual-in_err-put.ensures.1 in
     let put = c.in_err-put.ensures in
-    rw (r.1, r.2) (put_failed _ _ _ _ _ _ _ _ _ _ _ _ _ _ c.in-Some.line _ put.err.0 c.loop-boxed.invariant read line.passed_on line.grown line.prompt
+    rw (r.1, r.2) (put_failed _ _ _ _ _ _ _ _ _ _ _ _ _ _ c.in-Some.line _ put.err.0 c.loop-commands.invariant read line.passed_on line.grown line.prompt
     (λ bytes shown. c.deref.ensures.value ∙ c.in_ok-answered.ensures.text bytes shown) put.err.1 put.err_failures)
 
-pub loop-boxed-preserved-in_ok-put : goal.loop-boxed-preserved-in_ok-put
-loop-boxed-preserved-in_ok-put g c =
+pub loop-commands-preserved-in_ok-put : goal.loop-commands-preserved-in_ok-put
+loop-commands-preserved-in_ok-put g c =
     let line = c.in_ok-line.ensures in
-    let read = subst (λ (o : Option Line). LineRead (g.R.Source.tape c.loop-boxed.reader) (g.R.Source.tape c.next_line-in-loop-boxed.new.source) c.loop-boxed.input c.next_line-in-loop-boxed.new.self (Ok o)) c.in-Some.is line.line in
+    let read = subst (λ (o : Option Line). LineRead (g.R.Source.tape c.loop-commands.reader) (g.R.Source.tape c.next_line-in-loop-commands.new.source) c.loop-commands.input c.next_line-in-loop-commands.new.self (Ok o)) c.in-Some.is line.line in
     let put = c.in_ok-put.ensures in
-    goes_on _ _ _ _ _ _ _ _ _ _ _ _ _ _ _ _ c.in-Some.line _ _ c.loop-boxed.invariant read line.passed_on line.grown line.prompt
+    goes_on _ _ _ _ _ _ _ _ _ _ _ _ _ _ _ _ c.in-Some.line _ _ c.loop-commands.invariant read line.passed_on line.grown line.prompt
     (λ bytes shown. c.deref.ensures.value ∙ c.in_ok-answered.ensures.text bytes shown) c.in_ok-answered.ensures.after (λ bytes shown. c.in_ok-answered.ensures.kind bytes shown) c.count.ensures put.ok put.ok_grown put.ok_failures
 
-pub loop-boxed-preserved : goal.loop-boxed-preserved
-loop-boxed-preserved g c =
+pub loop-commands-preserved : goal.loop-commands-preserved
+loop-commands-preserved g c =
     let line = c.in_ok-line.ensures in
-    let read = subst (λ (o : Option Line). LineRead (g.R.Source.tape c.loop-boxed.reader) (g.R.Source.tape c.next_line-in-loop-boxed.new.source) c.loop-boxed.input c.next_line-in-loop-boxed.new.self (Ok o)) c.in-Some.is line.line in
+    let read = subst (λ (o : Option Line). LineRead (g.R.Source.tape c.loop-commands.reader) (g.R.Source.tape c.next_line-in-loop-commands.new.source) c.loop-commands.input c.next_line-in-loop-commands.new.self (Ok o)) c.in-Some.is line.line in
     let put = c.in_ok-put.ensures in
-    goes_on _ _ _ _ _ _ _ _ _ _ _ _ _ _ _ _ c.in-Some.line _ _ c.loop-boxed.invariant read line.passed_on line.grown line.prompt
+    goes_on _ _ _ _ _ _ _ _ _ _ _ _ _ _ _ _ c.in-Some.line _ _ c.loop-commands.invariant read line.passed_on line.grown line.prompt
     (λ bytes shown. c.deref.ensures.value ∙ c.in_ok-answered.ensures.text bytes shown) c.in_ok-answered.ensures.after (λ bytes shown. c.in_ok-answered.ensures.kind bytes shown) c.count.ensures put.ok put.ok_grown put.ok_failures
 
 pub returns : goal.returns
 returns g c =
     let line = c.in_ok-line.ensures in
-    let read = subst (λ (o : Option Line). LineRead (g.R.Source.tape c.loop-boxed.reader) (g.R.Source.tape c.next_line-in-loop-boxed.new.source) c.loop-boxed.input c.next_line-in-loop-boxed.new.self (Ok o)) c.in_default.is line.line in
-    ends _ _ _ _ _ _ _ _ _ _ _ _ _ c.loop-boxed.invariant read line.passed_on line.grown line.prompt c.len.ensures.length
+    let read = subst (λ (o : Option Line). LineRead (g.R.Source.tape c.loop-commands.reader) (g.R.Source.tape c.next_line-in-loop-commands.new.source) c.loop-commands.input c.next_line-in-loop-commands.new.self (Ok o)) c.in_default.is line.line in
+    ends _ _ _ _ _ _ _ _ _ _ _ _ _ c.loop-commands.invariant read line.passed_on line.grown line.prompt c.len.ensures.length

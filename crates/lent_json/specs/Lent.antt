@@ -1,0 +1,66 @@
+-- JSON values in the order of their text, and which of them are looked into as they stand: those of which one member's number cannot
+-- be read, so that none of the text is, are not among them.
+use Rattle.std.specs.Prelude.{ℕ, ◌&&◌, List, Bool, true, false, bytes_eq, is_some, Option, option_and_then, unwrap_or}
+use Rattle.std.specs.List.{list_any}
+use Rattle.json.specs.Lex.{tokens}
+use Rattle.json.specs.Json as json
+use Rattle.serde_json.specs.Data.{Data, null}
+use Rattle.serde_json.specs.Read.{of_json, number_of, max_depth}
+use Rattle.serde_json.specs.Find.{as_u64}
+
+-- the JSON value that a text is, its members in their order
+unfoldable pub json_of : List ℕ → Option json.Json
+json_of text = option_and_then (λ p. json.if_last p.0 p.1) (json.value max_depth (tokens text))
+
+-- what a JSON value stands for; null where a number of it is not read
+abbrev pub lent_data : json.Json → Data
+lent_data j = unwrap_or (of_json j) null
+
+-- the whole number that a number's text writes, 0 to 2^64 - 1
+unfoldable pub count_in : List ℕ → Option ℕ
+count_in text = option_and_then as_u64 (number_of text)
+
+-- whether it is such a number
+abbrev pub is_count : json.Json → Bool
+is_count json.null = false
+is_count (json.boolean b) = false
+is_count (json.number text) = is_some (count_in text)
+is_count (json.string text) = false
+is_count (json.array js) = false
+is_count (json.object ms) = false
+
+-- whether each of these members is such a number
+abbrev pub are_counts : json.Members → Bool
+are_counts json.no_members = true
+are_counts (json.member name j ms) = is_count j && are_counts ms
+
+abbrev pub has_members : json.Members → Bool
+has_members json.no_members = false
+has_members (json.member name j ms) = true
+
+-- whether it holds nothing, or is an object of such numbers, of one at least
+abbrev pub is_flat : json.Json → Bool
+is_flat json.null = true
+is_flat (json.boolean b) = true
+is_flat (json.number text) = is_some (count_in text)
+is_flat (json.string text) = true
+is_flat (json.array js) = false
+is_flat (json.object ms) = has_members ms && are_counts ms
+
+abbrev pub are_flat : json.Members → Bool
+are_flat json.no_members = true
+are_flat (json.member name j ms) = is_flat j && are_flat ms
+
+-- whether it is an object whose members hold nothing, or are objects of such numbers
+abbrev pub is_plain : json.Json → Bool
+is_plain json.null = false
+is_plain (json.boolean b) = false
+is_plain (json.number text) = false
+is_plain (json.string text) = false
+is_plain (json.array js) = false
+is_plain (json.object ms) = are_flat ms
+
+-- whether the name of each member is among these
+abbrev pub keys_among : List (List ℕ) → json.Members → Bool
+keys_among names json.no_members = true
+keys_among names (json.member name j ms) = list_any (bytes_eq name) names && keys_among names ms
