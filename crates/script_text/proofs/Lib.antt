@@ -1,3 +1,4 @@
+pub mod Rising
 pub mod LentParameters
 pub mod Floats
 pub mod Texts

@@ -12,3 +12,4 @@ pub mod Faults
 pub mod Starts
 pub mod Runs
 pub mod Shown
+pub mod Telling

@@ -1,12 +1,15 @@
-ghost use Rattle.std.specs.Prelude.{◌≡◌, IfOk};
-ghost use Rattle.serde_json.specs.View.{view};
+ghost use Rattle.std.specs.Prelude.{◌≡◌, false, Ok, IfOk, OnOk};
+ghost use Rattle.batch_history.specs.declared.query.Answer.TheVariants as answers;
 ghost use Rattle.script_text.specs.Answers.{answer_data, answer_text};
+ghost use Rattle.script_text.specs.Telling.{Adds, tells_parameters};
 
-use crate::objects::{one, one_written, refused};
-use crate::written::{Written, line_of};
+use crate::objects::{Shown, one};
+use crate::parameters::parameters_value;
+use crate::telling::{Told, line_from, new_line, tell_object, tell_one, tell_refused};
+use crate::written::line_of;
 use batch_history::Answer;
-use batch_ids::{OutOfMemory, Refusal};
-use serde_json::Value;
+use batch_ids::{OutOfMemory, Parameters, Refusal};
+use json::Writer;
 use std::alloc::Global;
 
 /// The line that answers a query, with its line feed: compact JSON, the members of each object in
@@ -31,28 +34,44 @@ use std::alloc::Global;
 /// # Errors
 ///
 /// `OutOfMemory` where memory is refused.
-#[tactic(auto, using(crate::proofs::Floats::answer_has_no_float))]
 pub fn answer_text(alloc: Global, answer: &Result<Answer, Refusal>) -> Result<Vec<u8>, OutOfMemory>
     ensures { IfOk result (λ text. text.items ≡ answer_text answer.now) }
 {
-    let value = answer_value(alloc, answer)?;
+    if let Ok(Answer::Parameters(parameters)) = answer {
+        return parameters_text(alloc, parameters);
+    }
+    let mut out = new_line(alloc)?;
+    tell_answer(&mut out, answer)?;
+    line_from(out)
+}
+
+/// The line of parameters.
+#[tactic(auto, using(crate::proofs::Floats::answer_has_no_float))]
+fn parameters_text(alloc: Global, parameters: &Parameters) -> Result<Vec<u8>, OutOfMemory>
+    ensures { IfOk result (λ text. text.items ≡ answer_text (Ok (answers.Parameters parameters.now))) }
+{
+    let value = one(alloc, "parameters", parameters_value(alloc, parameters)?)?;
     line_of(alloc, &value)
 }
 
-fn answer_value(alloc: Global, answer: &Result<Answer, Refusal>) -> Result<Value, OutOfMemory>
-    ensures { IfOk result (λ value. view value ≡ answer_data answer.now) }
+/// Writes an answer that is not of parameters.
+fn tell_answer(out: &mut Writer, answer: &Result<Answer, Refusal>) -> Result<(), OutOfMemory>
+    requires { tells_parameters answer.now ≡ false }
+    ensures { OnOk result (Adds (answer_data answer.now) out.old out.new) }
 {
     match answer {
-        Ok(Answer::JobNames(names)) => one_written(alloc, "names", names),
-        Ok(Answer::JobInstanceCount(count)) => one(alloc, "count", Value::from(*count)),
-        Ok(Answer::JobInstances(instances)) => one_written(alloc, "instances", instances),
-        Ok(Answer::RunningExecutions(executions)) => one_written(alloc, "running", executions),
-        Ok(Answer::Parameters(parameters)) => one_written(alloc, "parameters", parameters),
-        Ok(Answer::JobInstance(instance)) => instance.written(alloc),
-        Ok(Answer::JobExecutions(executions)) => one_written(alloc, "job_executions", executions),
-        Ok(Answer::JobExecution(execution)) => one_written(alloc, "job_execution", execution),
-        Ok(Answer::StepExecutions(steps)) => one_written(alloc, "step_executions", steps),
-        Ok(Answer::StatusCounts(counts)) => one_written(alloc, "counts", counts),
-        Err(refusal) => refused(alloc, refusal.name()),
+        Ok(Answer::JobNames(names)) => tell_one(out, "names", names),
+        Ok(Answer::JobInstanceCount(count)) => {
+            tell_object(out, &[("count", Shown::Count(*count))])
+        }
+        Ok(Answer::JobInstances(instances)) => tell_one(out, "instances", instances),
+        Ok(Answer::RunningExecutions(executions)) => tell_one(out, "running", executions),
+        Ok(Answer::Parameters(_)) => unreachable!(),
+        Ok(Answer::JobInstance(instance)) => instance.tell(out),
+        Ok(Answer::JobExecutions(executions)) => tell_one(out, "job_executions", executions),
+        Ok(Answer::JobExecution(execution)) => tell_one(out, "job_execution", execution),
+        Ok(Answer::StepExecutions(steps)) => tell_one(out, "step_executions", steps),
+        Ok(Answer::StatusCounts(counts)) => tell_one(out, "counts", counts),
+        Err(refusal) => tell_refused(out, refusal.name()),
     }
 }

@@ -15,6 +15,7 @@ mod records;
 mod reply;
 mod run;
 mod start;
+mod telling;
 mod written;
 
 pub use answer::answer_text;

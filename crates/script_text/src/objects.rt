@@ -2,11 +2,10 @@
 ghost use Rattle.std.specs.Prelude.{◌≡◌, IfOk};
 ghost use Rattle.serde_json.specs.Data.{object, put as with_member};
 ghost use Rattle.serde_json.specs.View.{view, members_view};
-ghost use Rattle.script_text.specs.Written.{one, text_or_null, count_or_null, refused};
+ghost use Rattle.script_text.specs.Written.{one, text_or_null, count_or_null};
 ghost use Rattle.script_text.specs.Shown.{shown_data, shown_members};
 
 use crate::metrics::metrics_value;
-use crate::written::Written;
 use batch_ids::{Metrics, OutOfMemory, Text};
 use serde_json::{Map, Value, put};
 use std::alloc::Global;
@@ -96,19 +95,4 @@ pub fn one(alloc: Global, name: &str, value: Value) -> Result<Value, OutOfMemory
     ensures { IfOk result (λ made. view made ≡ one name.now (view value)) }
 {
     object_with(alloc, Map::new(alloc), name, value)
-}
-
-/// An object of one member, which is yet to be written.
-pub fn one_written<T: Written>(alloc: Global, name: &str, member: &T) -> Result<Value, OutOfMemory>
-    ensures { IfOk result (λ made. view made ≡ one name.now (T.shown member.now)) }
-{
-    let value = member.written(alloc)?;
-    one(alloc, name, value)
-}
-
-/// A refusal by its name.
-pub fn refused(alloc: Global, name: &str) -> Result<Value, OutOfMemory>
-    ensures { IfOk result (λ value. view value ≡ refused name.now) }
-{
-    object_value(alloc, &[("refused", Shown::Text(name))])
 }

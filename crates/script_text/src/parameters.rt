@@ -9,7 +9,6 @@ ghost use Rattle.lent_json.specs.Looks.{shown, is_open};
 ghost use Rattle.script_text.specs.Parameters.{parameters_at, parameters_within, parameters_data, has_texts, text_pairs};
 ghost use Rattle.script_text.specs.RawCommands.{pairs_in};
 
-use crate::written::Written;
 use batch_ids::{OutOfMemory, Parameters, Refusal};
 use json_members::optional_object;
 use lent_json::Look;
@@ -98,16 +97,8 @@ fn text_pairs(
     Ok(pairs)
 }
 
-impl Written for Parameters {
-    ghost shown = { parameters_data };
-
-    fn written(&self, alloc: Global) -> Result<Value, OutOfMemory> {
-        parameters_value(alloc, self)
-    }
-}
-
 /// Parameters as they are written: an object of texts, by rising keys.
-fn parameters_value(alloc: Global, parameters: &Parameters) -> Result<Value, OutOfMemory>
+pub fn parameters_value(alloc: Global, parameters: &Parameters) -> Result<Value, OutOfMemory>
     ensures { IfOk result (λ value. view value ≡ parameters_data parameters.now) }
 {
     let mut members = Map::new(alloc);

@@ -1,21 +1,19 @@
 // The records that answers show.
-ghost use Rattle.script_text.specs.Written.{counts_data};
-ghost use Rattle.script_text.specs.Answers.{instance_data, execution_data, step_data, status_counts};
+ghost use Rattle.script_text.specs.Answers.{instance_data, execution_data, step_data};
 
-use crate::objects::{Shown, count_or_null, object_value, text_or_null};
-use crate::written::{Written, counts_value};
-use batch_history::{CountsByStatus, JobExecution, JobInstance, StepExecution};
-use batch_ids::{BatchStatus, OutOfMemory};
-use serde_json::Value;
-use std::alloc::Global;
+use crate::objects::{Shown, count_or_null, text_or_null};
+use crate::telling::{Told, tell_object};
+use batch_history::{JobExecution, JobInstance, StepExecution};
+use batch_ids::OutOfMemory;
+use json::Writer;
 
 /// A job instance.
-impl Written for JobInstance {
-    ghost shown = { instance_data };
+impl Told for JobInstance {
+    ghost told = { instance_data };
 
-    fn written(&self, alloc: Global) -> Result<Value, OutOfMemory> {
-        object_value(
-            alloc,
+    fn tell(&self, out: &mut Writer) -> Result<(), OutOfMemory> {
+        tell_object(
+            out,
             &[
                 ("instance", Shown::Count(self.instance.value())),
                 ("job", Shown::Text(self.job.as_str())),
@@ -25,12 +23,12 @@ impl Written for JobInstance {
 }
 
 /// The record of a job execution.
-impl Written for JobExecution {
-    ghost shown = { execution_data };
+impl Told for JobExecution {
+    ghost told = { execution_data };
 
-    fn written(&self, alloc: Global) -> Result<Value, OutOfMemory> {
-        object_value(
-            alloc,
+    fn tell(&self, out: &mut Writer) -> Result<(), OutOfMemory> {
+        tell_object(
+            out,
             &[
                 ("create", Shown::Count(self.create)),
                 ("end", count_or_null(self.end)),
@@ -47,12 +45,12 @@ impl Written for JobExecution {
 }
 
 /// The record of a step execution.
-impl Written for StepExecution {
-    ghost shown = { step_data };
+impl Told for StepExecution {
+    ghost told = { step_data };
 
-    fn written(&self, alloc: Global) -> Result<Value, OutOfMemory> {
-        object_value(
-            alloc,
+    fn tell(&self, out: &mut Writer) -> Result<(), OutOfMemory> {
+        tell_object(
+            out,
             &[
                 ("end", count_or_null(self.end)),
                 ("execution", Shown::Count(self.execution.value())),
@@ -64,23 +62,5 @@ impl Written for StepExecution {
                 ("work", Shown::Count(self.work.value())),
             ],
         )
-    }
-}
-
-/// How many job executions have each batch status.
-impl Written for CountsByStatus {
-    ghost shown = { λ counts. counts_data (status_counts counts) };
-
-    fn written(&self, alloc: Global) -> Result<Value, OutOfMemory> {
-        let named = [
-            (BatchStatus::Starting.name(), self.starting),
-            (BatchStatus::Started.name(), self.started),
-            (BatchStatus::Stopping.name(), self.stopping),
-            (BatchStatus::Stopped.name(), self.stopped),
-            (BatchStatus::Failed.name(), self.failed),
-            (BatchStatus::Completed.name(), self.completed),
-            (BatchStatus::Abandoned.name(), self.abandoned),
-        ];
-        counts_value(alloc, &named)
     }
 }

@@ -1,12 +1,13 @@
-ghost use Rattle.std.specs.Prelude.{◌≡◌, IfOk};
-ghost use Rattle.serde_json.specs.View.{view, members_view};
-ghost use Rattle.script_text.specs.Replies.{item_data, single_members, task_members, reply_data, reply_text, bad_line_text};
+ghost use Rattle.std.specs.Prelude.{◌≡◌, true, IfOk, OnOk};
+ghost use Rattle.serde_json.specs.Data.{object};
+ghost use Rattle.script_text.specs.Replies.{item_data, single_members, with_partition, reply_data, reply_text, bad_line_text};
+ghost use Rattle.script_text.specs.Telling.{Adds, is_chunk};
 
-use crate::objects::{Shown, members_of, object_with, one, one_written, refused, text_or_null};
-use crate::written::{Written, line_of};
+use crate::objects::{Shown, text_or_null};
+use crate::telling::{Told, line_from, new_line, tell_object, tell_one, tell_refused, tell_true};
 use batch_history::{Reply, WorkItem, WorkTask};
-use batch_ids::{OutOfMemory, Refusal, T256, Text};
-use serde_json::{Map, Value};
+use batch_ids::{OutOfMemory, Refusal, T256};
+use json::Writer;
 use std::alloc::Global;
 
 /// The line that replies to a call, with its line feed: compact JSON, the members of each object in
@@ -21,12 +22,12 @@ use std::alloc::Global;
 /// # Errors
 ///
 /// `OutOfMemory` where memory is refused.
-#[tactic(auto, using(crate::proofs::Floats::reply_has_no_float))]
 pub fn reply_text(alloc: Global, reply: &Result<Reply, Refusal>) -> Result<Vec<u8>, OutOfMemory>
     ensures { IfOk result (λ text. text.items ≡ reply_text reply.now) }
 {
-    let value = reply_value(alloc, reply)?;
-    line_of(alloc, &value)
+    let mut out = new_line(alloc)?;
+    tell_reply(&mut out, reply)?;
+    line_from(out)
 }
 
 /// The line that replies to what is no command.
@@ -37,54 +38,92 @@ pub fn reply_text(alloc: Global, reply: &Result<Reply, Refusal>) -> Result<Vec<u
 pub fn bad_line_text(alloc: Global) -> Result<Vec<u8>, OutOfMemory>
     ensures { IfOk result (λ text. text.items ≡ bad_line_text) }
 {
-    let value = refused(alloc, "BadLine")?;
-    line_of(alloc, &value)
+    let mut out = new_line(alloc)?;
+    tell_refused(&mut out, "BadLine")?;
+    line_from(out)
 }
 
-fn reply_value(alloc: Global, reply: &Result<Reply, Refusal>) -> Result<Value, OutOfMemory>
-    ensures { IfOk result (λ value. view value ≡ reply_data reply.now) }
+fn tell_reply(out: &mut Writer, reply: &Result<Reply, Refusal>) -> Result<(), OutOfMemory>
+    ensures { OnOk result (Adds (reply_data reply.now) out.old out.new) }
 {
     match reply {
-        Ok(Reply::Execution(execution)) => {
-            one(alloc, "execution", Value::from(execution.value()))
-        }
-        Ok(Reply::Work(item)) => one_written(alloc, "work", item),
-        Ok(Reply::Closed(execution)) => one(alloc, "closed", Value::from(execution.value())),
-        Ok(Reply::Nothing) => one(alloc, "nothing", Value::Bool(true)),
-        Ok(Reply::Done) => one(alloc, "done", Value::Bool(true)),
-        Ok(Reply::Go) => one(alloc, "go", Value::Bool(true)),
-        Ok(Reply::StopAsked) => one(alloc, "stop", Value::Bool(true)),
-        Err(refusal) => refused(alloc, refusal.name()),
+        Ok(Reply::Execution(execution)) => tell_one(out, "execution", execution),
+        Ok(Reply::Work(item)) => tell_one(out, "work", item),
+        Ok(Reply::Closed(execution)) => tell_one(out, "closed", execution),
+        Ok(Reply::Nothing) => tell_true(out, "nothing"),
+        Ok(Reply::Done) => tell_true(out, "done"),
+        Ok(Reply::Go) => tell_true(out, "go"),
+        Ok(Reply::StopAsked) => tell_true(out, "stop"),
+        Err(refusal) => tell_refused(out, refusal.name()),
     }
 }
 
-impl Written for WorkItem {
-    ghost shown = { item_data };
+impl Told for WorkItem {
+    ghost told = { item_data };
 
-    fn written(&self, alloc: Global) -> Result<Value, OutOfMemory> {
-        let members = task_members(alloc, self)?;
-        match self.partition {
-            None => Ok(Value::Object(members)),
-            Some(partition) => object_with(alloc, members, "partition", Value::from(partition)),
+    fn tell(&self, out: &mut Writer) -> Result<(), OutOfMemory> {
+        match &self.task {
+            WorkTask::Batchlet { artifact } => tell_single(out, "batchlet", artifact, self),
+            WorkTask::Decision { artifact } => tell_single(out, "decision", artifact, self),
+            WorkTask::Chunk { .. } => tell_chunk(out, self),
         }
     }
 }
 
-/// The members of a work item but its partition.
-fn task_members(alloc: Global, item: &WorkItem) -> Result<Map<String, Value>, OutOfMemory>
-    ensures { IfOk result (λ made. members_view made.entries ≡ task_members item.now.task item.now) }
+/// Writes a work item that runs one artifact.
+fn tell_single<'a>(
+    out: &mut Writer,
+    kind: &'a str,
+    artifact: &'a T256,
+    item: &'a WorkItem,
+) -> Result<(), OutOfMemory>
+    ensures { OnOk result (Adds
+        (object (with_partition item.now.partition (single_members kind.now artifact.now item.now)))
+        out.old out.new) }
 {
-    match &item.task {
-        WorkTask::Batchlet { artifact } => single_members(alloc, "batchlet", artifact, item),
-        WorkTask::Decision { artifact } => single_members(alloc, "decision", artifact, item),
-        WorkTask::Chunk {
-            reader,
-            processor,
-            writer,
-            item_count,
-            checkpoint,
-        } => members_of(
-            alloc,
+    match item.partition {
+        None => tell_object(
+            out,
+            &[
+                ("element", Shown::Text(item.element.as_str())),
+                ("execution", Shown::Count(item.execution.value())),
+                ("kind", Shown::Text(kind)),
+                ("ref", Shown::Text(artifact.as_str())),
+                ("work", Shown::Count(item.work.value())),
+            ],
+        ),
+        Some(partition) => tell_object(
+            out,
+            &[
+                ("element", Shown::Text(item.element.as_str())),
+                ("execution", Shown::Count(item.execution.value())),
+                ("kind", Shown::Text(kind)),
+                ("partition", Shown::Count(u64::from(partition))),
+                ("ref", Shown::Text(artifact.as_str())),
+                ("work", Shown::Count(item.work.value())),
+            ],
+        ),
+    }
+}
+
+/// Writes a work item of a chunk.
+fn tell_chunk(out: &mut Writer, item: &WorkItem) -> Result<(), OutOfMemory>
+    requires { is_chunk item.now.task ≡ true }
+    ensures { OnOk result (Adds (item_data item.now) out.old out.new) }
+{
+    let WorkTask::Chunk {
+        reader,
+        processor,
+        writer,
+        item_count,
+        checkpoint,
+    } = &item.task
+    else {
+        unreachable!()
+    };
+    match item.partition {
+        None => tell_object(
+            out,
             &[
                 ("checkpoint", text_or_null(checkpoint)),
                 ("element", Shown::Text(item.element.as_str())),
@@ -97,26 +136,20 @@ fn task_members(alloc: Global, item: &WorkItem) -> Result<Map<String, Value>, Ou
                 ("writer", Shown::Text(writer.as_str())),
             ],
         ),
+        Some(partition) => tell_object(
+            out,
+            &[
+                ("checkpoint", text_or_null(checkpoint)),
+                ("element", Shown::Text(item.element.as_str())),
+                ("execution", Shown::Count(item.execution.value())),
+                ("item-count", Shown::Count(u64::from(*item_count))),
+                ("kind", Shown::Text("chunk")),
+                ("partition", Shown::Count(u64::from(partition))),
+                ("processor", text_or_null(processor)),
+                ("reader", Shown::Text(reader.as_str())),
+                ("work", Shown::Count(item.work.value())),
+                ("writer", Shown::Text(writer.as_str())),
+            ],
+        ),
     }
-}
-
-fn single_members<'a>(
-    alloc: Global,
-    kind: &'a str,
-    artifact: &'a T256,
-    item: &'a WorkItem,
-) -> Result<Map<String, Value>, OutOfMemory>
-    ensures { IfOk result (λ made. members_view made.entries
-        ≡ single_members kind.now artifact.now item.now) }
-{
-    members_of(
-        alloc,
-        &[
-            ("element", Shown::Text(item.element.as_str())),
-            ("execution", Shown::Count(item.execution.value())),
-            ("kind", Shown::Text(kind)),
-            ("ref", Shown::Text(artifact.as_str())),
-            ("work", Shown::Count(item.work.value())),
-        ],
-    )
 }
