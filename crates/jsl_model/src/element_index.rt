@@ -1,8 +1,8 @@
 //! Where to look for an element of a job, and for its work keys.
 use crate::element::{Body, Element};
 use batch_ids::{OutOfMemory, T256};
+use indexmap::IndexMap;
 use std::alloc::{AllocError, Global};
-use std::collections::BTreeMap;
 
 /// Where to look for an element.
 #[derive(Debug, Drop)]
@@ -39,19 +39,19 @@ impl Outer {
 /// something else.
 #[derive(Debug, Drop)]
 pub struct ElementIndex {
-    spots: BTreeMap<T256, Spot>,
+    spots: IndexMap<T256, Spot>,
 }
 
 impl ElementIndex {
     /// The index of these elements and of those inside them.
     pub(crate) fn of(alloc: Global, elements: &[Element]) -> Result<ElementIndex, OutOfMemory> {
-        let mut spots = BTreeMap::new(alloc);
+        let mut spots = IndexMap::new(alloc);
         add_all(&mut spots, elements, None, 0)?;
         Ok(ElementIndex { spots })
     }
 
-    /// The place of the element with this id in its list, and 0 where there is none. It compares as many
-    /// ids as the number of elements has binary digits.
+    /// The place of the element with this id in its list, and 0 where there is none. It costs a look-up by
+    /// the hash of the id.
     pub fn place_of(&self, id: &T256) -> usize {
         match self.spots.get(id) {
             Some(spot) => spot.place,
@@ -84,7 +84,7 @@ fn outer_at(element: &Element, flow: usize) -> Result<Outer, OutOfMemory> {
 }
 
 /// Adds an element that stands there.
-fn add_spot(spots: &mut BTreeMap<T256, Spot>, id: T256, spot: Spot) -> Result<(), OutOfMemory> {
+fn add_spot(spots: &mut IndexMap<T256, Spot>, id: T256, spot: Spot) -> Result<(), OutOfMemory> {
     match spots.insert(id, spot) {
         Ok(_) => Ok(()),
         Err(_) => Err(AllocError),
@@ -95,7 +95,7 @@ fn add_spot(spots: &mut BTreeMap<T256, Spot>, id: T256, spot: Spot) -> Result<()
 /// the place of the next one.
 #[cycle(indexing)]
 fn add_all(
-    spots: &mut BTreeMap<T256, Spot>,
+    spots: &mut IndexMap<T256, Spot>,
     elements: &[Element],
     outer: Option<&Outer>,
     first: usize,
@@ -120,7 +120,7 @@ fn add_all(
 /// Adds the elements inside one; the place of the next work key.
 #[cycle(indexing)]
 fn add_inside(
-    spots: &mut BTreeMap<T256, Spot>,
+    spots: &mut IndexMap<T256, Spot>,
     element: &Element,
     first: usize,
 ) -> Result<usize, OutOfMemory> {
