@@ -8,6 +8,7 @@ ghost use Rattle.walk_rules.specs.Shown.{is_shown};
 ghost use Rattle.walk_rules.specs.Keys.{key_of, has_key};
 ghost use Rattle.job_walk.specs.KeptLists.{Keeps, KeepsFirst, KeepsInside, tree_first, lists_in, value_kept, Puts, ChangesList, ComesTo, facts_after, first_shows, result_shows, kept_element, key_count};
 ghost use Rattle.walk_rules.specs.Counts.{count_of, count_in};
+ghost use Rattle.walk_rules.specs.Flows.{value_of_kept};
 ghost use Rattle.walk_rules.specs.Walk.{fact_of, runnable_result, step_result};
 
 use crate::keeping::flow_result;
@@ -17,8 +18,8 @@ use batch_ids::{OutOfMemory, T256};
 use jsl_model::{Body, Element, ElementIndex};
 use std::alloc::Global;
 use walk_rules::{
-    ElementResult, Fact, Known, Value, WorkKey, has_key, key_of, partitioned_result, result_by,
-    split_result, walk_on,
+    ElementResult, Fact, FlowValue, Known, Value, WorkKey, has_key, key_of, partitioned_result,
+    result_by, split_result_of, walk_on,
 };
 
 /// Whether a value shows this work key as ready or busy.
@@ -232,7 +233,7 @@ fn element_changes(
             let value = first_changes(
                 alloc, changes, base, lists, elements, index, known, key, fact,
             )?;
-            Ok(flow_result(value))
+            Ok(flow_result(value.into_value()?))
         }
         Body::Split(flows) => {
             let mut values = Vec::with_capacity(alloc, flows.as_slice().len())?;
@@ -248,26 +249,26 @@ fn element_changes(
                 values.push(value)?;
                 start += many;
             }
-            Ok(split_result(alloc, values.as_slice())?)
+            Ok(split_result_of(alloc, values.as_slice())?)
         }
     }
 }
 
 /// What changes of a list that begins at its first element, and of those inside it, once this is
 /// learnt of a work key, and what the list comes to then. Where the list doesn't show the work key,
-/// nothing changes.
+/// nothing changes, and its value is lent.
 #[cycle(learning)]
-fn first_changes(
+fn first_changes<'l>(
     alloc: Global,
     changes: &mut Vec<ListChange>,
     base: usize,
-    lists: &[KeptList],
+    lists: &'l [KeptList],
     elements: &[Element],
     index: &ElementIndex,
     known: &[Known],
     key: &WorkKey,
     fact: &Fact,
-) -> Result<Value, OutOfMemory>
+) -> Result<FlowValue<'l>, OutOfMemory>
     requires kept { KeepsFirst (fact_of known.now) elements.now lists.now }
     requires known { has_key (known_keys known.now) key.now ≡ true }
     requires each { (one : WorkKey) → key_count one (known_keys known.now) ≤ 1 }
@@ -275,7 +276,7 @@ fn first_changes(
     requires elsewhere { first_shows key.now lists.now ≡ false
         → count_of key.now.element elements.now ≡ 0 }
     requires numbered { base + length lists.now < 2 ^ 64 }
-    ensures value { IfOk result (λ value. value ≡ value_kept
+    ensures value { IfOk result (λ value. value_of_kept value ≡ value_kept
         (tree_first (map (kept_element (facts_after known.now key.now fact.now)) elements.now))) }
     ensures changes { OnOk result (Puts changes.old.items changes.new.items base
         (lists_in (tree_first (map (kept_element (fact_of known.now)) elements.now)))
@@ -283,10 +284,10 @@ fn first_changes(
         (map (kept_element (facts_after known.now key.now fact.now)) elements.now)))) }
 {
     if shows(&lists[0].progress.value, key) {
-        Ok(list_changes(
+        Ok(FlowValue::Made(list_changes(
             alloc, changes, base, lists, elements, index, known, key, fact,
-        )?)
+        )?))
     } else {
-        Ok(lists[0].progress.value.try_clone()?)
+        Ok(FlowValue::Kept(&lists[0].progress.value))
     }
 }

@@ -1,5 +1,6 @@
 pub mod Continuations
 pub mod Counts
+pub mod Flows
 pub mod Keys
 pub mod Shown
 pub mod Standing

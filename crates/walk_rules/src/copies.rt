@@ -3,12 +3,12 @@ ghost use Rattle.std.specs.Prelude.{◌≡◌, ◌++◌, IfOk, OnOk};
 
 use crate::facts::{Fact, Known, Value};
 use crate::work_key::WorkKey;
-use batch_ids::{Listed, OutOfMemory, try_clone_option};
+use batch_ids::{OutOfMemory, try_clone_option};
 use std::alloc::Global;
 
 /// Adds copies of the work keys.
-pub(crate) fn add_keys(to: &mut Listed<WorkKey>, more: &[WorkKey]) -> Result<(), OutOfMemory>
-    ensures { OnOk result (to.new ≡ to.old ++ more.now) }
+pub(crate) fn add_keys(to: &mut Vec<WorkKey>, more: &[WorkKey]) -> Result<(), OutOfMemory>
+    ensures { OnOk result (to.new.items ≡ to.old.items ++ more.now) }
 {
     for key in more {
         to.push(key.try_clone()?)?;

@@ -1,10 +1,12 @@
-use Rattle.std.proofs.Common.{◌≡◌, ◌+◌, ◌++◌, ◌∷◌, [], length, get_or, set, drop, refl, sym, ◌∙◌, ap, subst, arith, Result, Ok, IfOk}
+use Rattle.std.proofs.Common.{◌≡◌, ◌+◌, ◌++◌, ◌∷◌, [], length, map, get_or, set, drop, refl, sym, ◌∙◌, ap, subst, arith, Result, Ok, IfOk}
 use Rattle.jsl_model.specs.declared.element.SplitFlow.{out-SplitFlow}
 use Rattle.jsl_model.specs.declared.element.Body.TheVariants.{Flow, Split}
 use Rattle.job_walk.specs.declared.kept_list.KeptList.{KeptList}
 use Rattle.job_walk.specs.declared.kept_list.ListChange.{ListChange}
 use Rattle.walk_rules.specs.declared.progress.Progress.{Progress}
 use Rattle.walk_rules.specs.Standing.{progress, rows_by}
+use Rattle.walk_rules.specs.Flows.{value_of_kept}
+use Rattle.std.proofs.lemmas.List.{map-append}
 use Rattle.job_walk.specs.KeptLists.{facts_after, rows_in, lists_in, tree_first, KeepsFirst}
 use Rattle.walk_rules.specs.Walk.{fact_of, first_id, flow_result}
 use Rattle.job_walk.proofs.Descent.{at-nowhere, way, entered, became, learnt-apart, drop-length, first-hides, first-shown, at-first}
@@ -133,18 +135,18 @@ first_changes-list_changes-requires t c =
       ),
     )
 
-pub first_changes-returns-in_ok-try_clone-clause-value : goal.first_changes-returns-in_ok-try_clone-clause-value
-first_changes-returns-in_ok-try_clone-clause-value t c =
+pub first_changes-returns-else-shows-clause-value : goal.first_changes-returns-else-shows-clause-value
+first_changes-returns-else-shows-clause-value t c =
     let facts = fact_of c.args.known.now in
     let es = c.args.elements.now in
     let some = first-some facts es c.args.lists.now c.requires.kept in
     let none = c.requires.elsewhere (first-hides c.args.key.now c.args.lists.now c.index-lists-0.result c.index-lists-0.is some (at-first c.args.key.now c.args.lists.now c.index-lists-0.result c.index-lists-0.is (sym c.shows.ensures ∙ c.if-shows.false))) in
     same-value c.args.key.now.element facts (facts_after c.args.known.now c.args.key.now c.args.fact.now) (learnt-apart c.args.known.now c.args.key.now c.args.fact.now) es c.args.lists.now
-    c.index-lists-0-else-shows.result c.in_ok-try_clone.field-0 none c.requires.kept c.index-lists-0-else-shows.is
-    (c.in_ok-try_clone.ensures ∙ ap (λ (k : KeptList). k.progress.value) (sym c.index-lists-0-else-shows.is))
+    c.index-lists-0-else-shows.result (get_or c.args.lists.now 0 c.index-lists-0-else-shows.result).progress.value none c.requires.kept c.index-lists-0-else-shows.is
+    (ap (λ (k : KeptList). k.progress.value) (sym c.index-lists-0-else-shows.is))
 
-pub first_changes-returns-in_ok-try_clone-clause-changes : goal.first_changes-returns-in_ok-try_clone-clause-changes
-first_changes-returns-in_ok-try_clone-clause-changes t c =
+pub first_changes-returns-else-shows-clause-changes : goal.first_changes-returns-else-shows-clause-changes
+first_changes-returns-else-shows-clause-changes t c =
     let facts = fact_of c.args.known.now in
     let es = c.args.elements.now in
     let some = first-some facts es c.args.lists.now c.requires.kept in
@@ -164,13 +166,13 @@ element_changes-first_changes-requires t c =
     let less = nodes-flow e es es is refl in
     (omega (arith, less), (kept, (c.requires.known, (c.requires.each, (flow-all e es is c.requires.once, ((λ hidden. absurd (either _ shows_it hidden)), c.requires.numbered))))))
 
-pub element_changes-returns-in_ok-value-in-Flow-clause-comes : goal.element_changes-returns-in_ok-value-in-Flow-clause-comes
-element_changes-returns-in_ok-value-in-Flow-clause-comes t c =
+pub element_changes-returns-in_ok-into_value-in-Flow-clause-comes : goal.element_changes-returns-in_ok-into_value-in-Flow-clause-comes
+element_changes-returns-in_ok-into_value-in-Flow-clause-comes t c =
     let later = facts_after c.args.known.now c.args.key.now c.args.fact.now in
-    c.flow_result.ensures ∙ (ap flow_result c.in_ok-value-in-Flow.ensures.value ∙ sym (kept-flow later c.args.element.now c.as_slice-elements.result.now (c.in-Flow.is ∙ ap Flow (sym c.as_slice-elements.ensures))).0)
+    c.flow_result.ensures ∙ (ap flow_result (c.in_ok-into_value-in-Flow.ensures ∙ c.in_ok-value-in-Flow.ensures.value) ∙ sym (kept-flow later c.args.element.now c.as_slice-elements.result.now (c.in-Flow.is ∙ ap Flow (sym c.as_slice-elements.ensures))).0)
 
-pub element_changes-returns-in_ok-value-in-Flow-clause-changes : goal.element_changes-returns-in_ok-value-in-Flow-clause-changes
-element_changes-returns-in_ok-value-in-Flow-clause-changes t c =
+pub element_changes-returns-in_ok-into_value-in-Flow-clause-changes : goal.element_changes-returns-in_ok-into_value-in-Flow-clause-changes
+element_changes-returns-in_ok-into_value-in-Flow-clause-changes t c =
     let es = c.as_slice-elements.result.now in
     flow-puts (fact_of c.args.known.now) (facts_after c.args.known.now c.args.key.now c.args.fact.now) c.args.element.now es es c.args.changes.now.items c.first_changes.new.changes.items c.args.base
     (c.in-Flow.is ∙ ap Flow (sym c.as_slice-elements.ensures)) refl c.in_ok-value-in-Flow.ensures.changes
@@ -262,18 +264,21 @@ element_changes-loop-flow-preserved t c =
     c.requires.kept c.loop-flow-test.true c.flow-item.is c.loop-flow.invariant.0 in
     let many = split-size facts f (out-SplitFlow f).elements c.lists_from-rest.result.now c.size_of-many.result refl (inner.0.0, c.lists_from-rest.ensures ∙ inner.0.1) c.size_of-many.ensures in (
       split-start facts flows i f c.loop-flow.start c.size_of-many.result c.loop-flow-test.true c.flow-item.is c.loop-flow.invariant.0 many,
-      split-value later flows i f es c.loop-flow.values.items c.push.new.self.items c.in_ok-value-in-Split.value c.loop-flow-test.true c.flow-item.is these c.loop-flow.invariant.1
-          c.in_ok-push-in-Split.ensures.items c.in_ok-value-in-Split.ensures.value,
+      split-value later flows i f es (map value_of_kept c.loop-flow.values.items) (map value_of_kept c.push.new.self.items) (value_of_kept c.in_ok-value-in-Split.value) c.loop-flow-test.true
+          c.flow-item.is these c.loop-flow.invariant.1
+          (ap (map value_of_kept) c.in_ok-push-in-Split.ensures.items ∙ map-append value_of_kept c.loop-flow.values.items (c.in_ok-value-in-Split.value ∷ []))
+          c.in_ok-value-in-Split.ensures.value,
       split-more facts later flows i f es c.args.changes.now.items c.loop-flow.changes.items c.first_changes-in-loop-flow.new.changes.items c.args.base c.loop-flow.start c.loop-flow-test.true c.flow-item.is these
           c.loop-flow.invariant.0 c.loop-flow.invariant.2 c.in_ok-value-in-Split.ensures.changes,
     )
 
-pub element_changes-returns-in_ok-split_result-in-Split-clause-comes : goal.element_changes-returns-in_ok-split_result-in-Split-clause-comes
-element_changes-returns-in_ok-split_result-in-Split-clause-comes t c =
-    split-comes (facts_after c.args.known.now c.args.key.now c.args.fact.now) c.args.element.now c.as_slice-flow-items.result.now c.loop-flow.flow-index c.loop-flow.values.items c.as_slice-in-Split.result.now
-    c.in_ok-split_result-in-Split.field-0 (c.in-Split.is ∙ ap Split (sym c.as_slice-flow-items.ensures)) c.loop-flow-test.false c.loop-flow.invariant.1 c.as_slice-in-Split.ensures.value c.in_ok-split_result-in-Split.ensures
+pub element_changes-returns-in_ok-split_result_of-in-Split-clause-comes : goal.element_changes-returns-in_ok-split_result_of-in-Split-clause-comes
+element_changes-returns-in_ok-split_result_of-in-Split-clause-comes t c =
+    split-comes (facts_after c.args.known.now c.args.key.now c.args.fact.now) c.args.element.now c.as_slice-flow-items.result.now c.loop-flow.flow-index (map value_of_kept c.loop-flow.values.items)
+    (map value_of_kept c.as_slice-in-Split.result.now) c.in_ok-split_result_of-in-Split.field-0 (c.in-Split.is ∙ ap Split (sym c.as_slice-flow-items.ensures)) c.loop-flow-test.false c.loop-flow.invariant.1
+    (ap (map value_of_kept) c.as_slice-in-Split.ensures.value) c.in_ok-split_result_of-in-Split.ensures
 
-pub element_changes-returns-in_ok-split_result-in-Split-clause-changes : goal.element_changes-returns-in_ok-split_result-in-Split-clause-changes
-element_changes-returns-in_ok-split_result-in-Split-clause-changes t c =
+pub element_changes-returns-in_ok-split_result_of-in-Split-clause-changes : goal.element_changes-returns-in_ok-split_result_of-in-Split-clause-changes
+element_changes-returns-in_ok-split_result_of-in-Split-clause-changes t c =
     split-puts (fact_of c.args.known.now) (facts_after c.args.known.now c.args.key.now c.args.fact.now) c.args.element.now c.as_slice-flow-items.result.now c.loop-flow.flow-index
     c.args.changes.now.items c.loop-flow.changes.items c.args.base (c.in-Split.is ∙ ap Split (sym c.as_slice-flow-items.ensures)) c.loop-flow-test.false c.loop-flow.invariant.2

@@ -1,6 +1,7 @@
 use Rattle.std.proofs.Common.{◌≡◌, ◌+◌, ◌*◌, length, map, take}
 use Rattle.jsl_model.specs.Trees.{joined, nodes, nodes_of}
 use Rattle.jsl_model.specs.declared.element.SplitFlow.{SplitFlow}
+use Rattle.walk_rules.specs.Flows.{value_of_kept}
 use Rattle.walk_rules.specs.Walk.{fact_of}
 use Rattle.job_walk.specs.KeptLists.{facts_after, kept_flow, value_kept, lists_in, Puts}
 use Rattle.job_walk.proofs.learnt.+learning.Given as goal
@@ -8,7 +9,7 @@ use Rattle.job_walk.proofs.learnt.+learning.Given as goal
 abbrev pub invariant-element_changes-loop-flow : goal.invariant-element_changes-loop-flow
 invariant-element_changes-loop-flow l =
     (l.start ≡ length (joined (map (λ (f : SplitFlow). lists_in (kept_flow (fact_of l.known) f)) (take l.flow-index l.flow-items))))
-    × (l.values.items ≡ map (λ (f : SplitFlow). value_kept (kept_flow (facts_after l.known l.key l.fact) f)) (take l.flow-index l.flow-items))
+    × (map value_of_kept l.values.items ≡ map (λ (f : SplitFlow). value_kept (kept_flow (facts_after l.known l.key l.fact) f)) (take l.flow-index l.flow-items))
     × Puts l.initial.changes.items l.changes.items l.base
     (joined (map (λ (f : SplitFlow). lists_in (kept_flow (fact_of l.known) f)) (take l.flow-index l.flow-items)))
     (joined (map (λ (f : SplitFlow). lists_in (kept_flow (facts_after l.known l.key l.fact) f)) (take l.flow-index l.flow-items)))

@@ -1,6 +1,7 @@
-use Rattle.std.proofs.Common.{◌≡◌, drop, find}
+use Rattle.std.proofs.Common.{◌≡◌, drop, find, map}
+use Rattle.walk_rules.specs.Flows.{value_of_kept}
 use Rattle.walk_rules.specs.Walk.{ended_as}
 use Rattle.walk_rules.proofs.splits.find_ended.Given as goal
 
-abbrev pub invariant-loop-value : goal.invariant-loop-value
-invariant-loop-value l = find (ended_as l.wanted) (drop l.value-index l.values) ≡ find (ended_as l.wanted) l.values
+abbrev pub invariant-loop-flow : goal.invariant-loop-flow
+invariant-loop-flow l = find (ended_as l.wanted) (map value_of_kept (drop l.flow-index l.values)) ≡ find (ended_as l.wanted) (map value_of_kept l.values)
