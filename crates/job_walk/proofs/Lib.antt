@@ -4,6 +4,7 @@ pub mod Beginning
 pub mod Descent
 pub mod Flows
 pub mod Following
+pub mod Fresh
 pub mod KeptAtFirst
 pub mod KeptTrees
 pub mod KeysOnce

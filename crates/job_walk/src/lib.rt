@@ -4,6 +4,7 @@
 mod changes;
 mod cursor;
 mod first_facts;
+mod first_value;
 mod keeping;
 mod kept_list;
 mod known_fact;
@@ -15,6 +16,7 @@ mod runnable;
 mod walk;
 
 pub use cursor::Cursor;
+pub use first_value::value_at_first;
 pub use law::{
     a_list_goes_on_from_element_to_element, a_restart_begins_at_a_job_level_element,
     steps_and_decisions_decide_a_walk, the_newest_fact_counts,

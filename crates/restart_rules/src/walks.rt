@@ -9,7 +9,7 @@ ghost use Rattle.restart_rules.specs.Placed.{is_placed};
 
 use batch_history::{ExecutionRow, WorkRow, WorkState};
 use batch_ids::{ExecutionId, OutOfMemory};
-use job_walk::{Cursor, Fact, Known, Value, WorkKey};
+use job_walk::{Fact, Known, Value, WorkKey, value_at_first};
 use jsl_model::{Catalogue, Job};
 use records::Records;
 use std::alloc::Global;
@@ -112,8 +112,7 @@ pub fn walk_of(
         row.now.execution row.now.job row.now.plan) }
 {
     let job = job_of(catalogue, row);
-    let cursor = Cursor::resume(alloc, job, row.plan.get(), known)?;
-    Ok(cursor.into_value())
+    Ok(value_at_first(alloc, job, row.plan.get(), known)?)
 }
 
 /// What the walk of a job execution comes to.

@@ -6,6 +6,6 @@ use Rattle.restart_rules.proofs.walks.walk_of.Goals as goal
 
 pub returns : goal.returns
 returns c works is =
-    c.into_value.ensures
-    ∙ (ap value_in (c.in_ok-cursor.ensures ∙ ap (λ (plan : Plan). resumed c.job_of-job.result.now plan c.args.known.now) c.get.ensures)
+    c.in_ok-value_at_first.ensures
+    ∙ (ap (λ (plan : Plan). value_in (resumed c.job_of-job.result.now plan c.args.known.now)) c.get.ensures
     ∙ resumed_value c.args.catalogue.now works c.args.row.now.execution c.args.row.now.job c.job_of-job.result.now c.args.row.now.plan c.args.known.now c.job_of-job.ensures.named is)
