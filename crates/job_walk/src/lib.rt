@@ -24,6 +24,6 @@ pub use law::{
 };
 pub use plan::Plan;
 pub use prepared::Prepared;
-pub use runnable::{Runnable, find_partitions, find_runnable};
+pub use runnable::{Runnable, find_partitions, find_runnable, find_task};
 pub use walk::walk_value;
 pub use walk_rules::{ElementResult, Fact, Known, Value, WorkKey, WorkKeys};

@@ -69,6 +69,16 @@ fn task_of(
     }
 }
 
+/// Which partition a work item names, where its step is run in partitions.
+fn partition_named(partition: u32, partitions: Option<u32>) -> Option<u32>
+    ensures { result ≡ partition_named partition partitions }
+{
+    match partitions {
+        None => None,
+        Some(_) => Some(partition),
+    }
+}
+
 /// Why a session may not report of a work item.
 fn report_refusal(who: u64, claimer: u64, state: &WorkState) -> Option<Refusal>
     ensures { result ≡ report_refusal who claimer state.now }
@@ -226,37 +236,28 @@ impl<const LIMIT: u64> Standing<'_, LIMIT> {
         }
     }
 
-    /// What is run for a work key of this job, a chunk from this checkpoint on.
+    /// What is run for a work key of this job, a chunk from this checkpoint on, and which partition a
+    /// work item of it names, where its step is partitioned.
     fn task_in(
         &self,
         mark: Option<&Text<65536>>,
         job: &T256,
         key: &WorkKey,
-    ) -> Result<WorkTask, OutOfMemory>
-        ensures { IfOk result (λ task. task
+    ) -> Result<(WorkTask, Option<u32>), OutOfMemory>
+        ensures task { IfOk result (λ made. made.0
             ≡ work_task (option_copied mark.entry) (runnable_of_job
+            (job_named self.now.catalogue.now job.now) key.now)) }
+        ensures partition { IfOk result (λ made. made.1
+            ≡ partition_named key.now.partition (partitions_of_job
             (job_named self.now.catalogue.now job.now) key.now)) }
     {
         match self.catalogue.job(job.as_str()) {
-            None => task_of(self.alloc, mark, None),
+            None => Ok((task_of(self.alloc, mark, None)?, None)),
             Some(job) => {
-                let found = job_walk::find_runnable(job, key)?;
-                task_of(self.alloc, mark, found)
+                let (found, partitions) = job_walk::find_task(job, key)?;
+                let task = task_of(self.alloc, mark, found)?;
+                Ok((task, partition_named(key.partition, partitions)))
             }
-        }
-    }
-
-    /// Which partition a work item of this work key names, where its step is partitioned.
-    fn partition_named(&self, job: &T256, key: &WorkKey) -> Option<u32>
-        ensures { result ≡ partition_named key.now.partition (partitions_of_job
-            (job_named self.now.catalogue.now job.now) key.now) }
-    {
-        match self.catalogue.job(job.as_str()) {
-            None => None,
-            Some(job) => match job_walk::find_partitions(job, key) {
-                None => None,
-                Some(_) => Some(key.partition),
-            },
         }
     }
 
@@ -266,8 +267,7 @@ impl<const LIMIT: u64> Standing<'_, LIMIT> {
         ensures { IfOk result (λ item. item ≡ next_work_item (rows_at self.now) row.now key.now) }
     {
         let mark = self.records.checkpoint(row.instance, key);
-        let task = self.task_in(mark, &row.job, key)?;
-        let partition = self.partition_named(&row.job, key);
+        let (task, partition) = self.task_in(mark, &row.job, key)?;
         let element = key.element.try_clone()?;
         let work = WorkId::new(self.last.work + 1);
         Ok(WorkItem {
