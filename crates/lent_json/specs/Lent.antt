@@ -1,7 +1,9 @@
 -- JSON values in the order of their text, and which of them are looked into as they stand: those of which one member's number cannot
 -- be read, so that none of the text is, are not among them.
-use Rattle.std.specs.Prelude.{ℕ, ◌&&◌, List, Bool, true, false, bytes_eq, is_some, Option, option_and_then, unwrap_or}
+use Rattle.std.specs.Prelude.{ℕ, ◌&&◌, ◌||◌, List, [], Bool, true, false, bytes_eq, is_some, Option, option_and_then, unwrap_or}
 use Rattle.std.specs.List.{list_any}
+use Rattle.std.specs.Ordering.{nat_cmp, is_lt}
+use Rattle.std.specs.Cmp.Lexicographic.{slice_cmp}
 use Rattle.json.specs.Lex.{tokens}
 use Rattle.json.specs.Json as json
 use Rattle.serde_json.specs.Data.{Data, null}
@@ -34,24 +36,37 @@ abbrev pub are_counts : json.Members → Bool
 are_counts json.no_members = true
 are_counts (json.member name j ms) = is_count j && are_counts ms
 
-abbrev pub has_members : json.Members → Bool
-has_members json.no_members = false
-has_members (json.member name j ms) = true
+abbrev pub is_text : json.Json → Bool
+is_text json.null = false
+is_text (json.boolean b) = false
+is_text (json.number text) = false
+is_text (json.string text) = true
+is_text (json.array js) = false
+is_text (json.object ms) = false
 
--- whether it holds nothing, or is an object of such numbers, of one at least
+-- whether a member is a text under a name that is above this one, by its bytes
+abbrev pub is_text_above : List ℕ → List ℕ → json.Json → Bool
+is_text_above low name j = is_text j && is_lt (slice_cmp nat_cmp low name)
+
+-- whether each of these members is such a text, the first above this name, and each further one above the name before it
+abbrev pub are_texts_above : List ℕ → json.Members → Bool
+are_texts_above low json.no_members = true
+are_texts_above low (json.member name j ms) = is_text_above low name j && are_texts_above name ms
+
+-- whether it holds nothing, or is an object of such numbers, or one of texts under rising names that are not empty
 abbrev pub is_flat : json.Json → Bool
 is_flat json.null = true
 is_flat (json.boolean b) = true
 is_flat (json.number text) = is_some (count_in text)
 is_flat (json.string text) = true
 is_flat (json.array js) = false
-is_flat (json.object ms) = has_members ms && are_counts ms
+is_flat (json.object ms) = are_counts ms || are_texts_above [] ms
 
 abbrev pub are_flat : json.Members → Bool
 are_flat json.no_members = true
 are_flat (json.member name j ms) = is_flat j && are_flat ms
 
--- whether it is an object whose members hold nothing, or are objects of such numbers
+-- whether it is an object whose members hold nothing, or are such objects
 abbrev pub is_plain : json.Json → Bool
 is_plain json.null = false
 is_plain (json.boolean b) = false

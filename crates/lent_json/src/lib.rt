@@ -1,5 +1,5 @@
 //! JSON values that are looked into where they stand in their text: an object whose members are texts, whole numbers, or objects
-//! of whole numbers is read with little memory, and shows what the same text shows to `serde_json`.
+//! of whole numbers or of texts is read with little memory, and shows what the same text shows to `serde_json`.
 #![tactic(auto)]
 
 mod look;

@@ -1,8 +1,8 @@
 // Whether a value is looked into where it stands in its text.
-ghost use Rattle.std.specs.Prelude.{◌≡◌};
+ghost use Rattle.std.specs.Prelude.{◌≡◌, []};
 ghost use Rattle.std.specs.List.{list_all};
-ghost use Rattle.json.specs.Value.{value_view};
-ghost use Rattle.lent_json.specs.Lent.{is_count, is_flat, is_plain};
+ghost use Rattle.json.specs.Value.{value_view, members_view};
+ghost use Rattle.lent_json.specs.Lent.{is_count, is_text_above, are_texts_above, is_flat, is_plain};
 
 use crate::numbers::count_in;
 use json::Value;
@@ -22,6 +22,27 @@ fn are_counts(members: &[(&str, Value<'_>)]) -> bool
     members.iter().all(|member| is_count(&member.1))
 }
 
+/// Whether these are texts under rising names, none of them empty: so no name comes twice, and they
+/// stand in the order that a map has them in.
+fn are_rising_texts(members: &[(&str, Value<'_>)]) -> bool
+    ensures { result ≡ are_texts_above [] (members_view members.now) }
+{
+    let mut last = "";
+    for member in members {
+        if !is_text_above(last, member) {
+            return false;
+        }
+        last = member.0;
+    }
+    true
+}
+
+fn is_text_above(low: &str, member: &(&str, Value<'_>)) -> bool
+    ensures { result ≡ is_text_above low.now member.now.0.now (value_view member.now.1) }
+{
+    matches!(member.1, Value::String(_)) && low < member.0
+}
+
 fn is_flat(value: &Value<'_>) -> bool
     ensures { result ≡ is_flat (value_view value.now) }
 {
@@ -31,7 +52,7 @@ fn is_flat(value: &Value<'_>) -> bool
         Value::Array(_) => false,
         Value::Object(members) => {
             let members = members.as_slice();
-            !members.is_empty() && are_counts(members)
+            are_counts(members) || are_rising_texts(members)
         }
     }
 }
@@ -42,7 +63,8 @@ fn are_flat(members: &[(&str, Value<'_>)]) -> bool
     members.iter().all(|member| is_flat(&member.1))
 }
 
-/// Whether it is an object whose members hold nothing, or are objects of whole numbers.
+/// Whether it is an object whose members hold nothing, or are objects of whole numbers, or of texts
+/// under rising names.
 pub(crate) fn is_plain(value: &Value<'_>) -> bool
     ensures { result ≡ is_plain (value_view value.now) }
 {

@@ -33,9 +33,10 @@ fn read_text<'t>(
     }
 }
 
-/// The value that the bytes stand for, where it may be looked into as it stands there: an object whose
-/// members are null, truth values, texts, whole numbers, or objects of whole numbers, of one at least.
-/// `None` says nothing of the bytes. The memory of `scratch` serves one read after another.
+/// The value that the bytes stand for, where it may be looked into as it stands there: an object
+/// whose members are null, truth values, texts, whole numbers, objects of whole numbers, or objects
+/// of texts under rising names that are not empty. `None` says nothing of the bytes. The memory of
+/// `scratch` serves one read after another.
 ///
 /// # Errors
 ///

@@ -1,4 +1,5 @@
 pub mod Written
+pub mod LentParameters
 pub mod Parameters
 pub mod Metrics
 pub mod Calls

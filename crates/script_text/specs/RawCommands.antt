@@ -1,13 +1,15 @@
 -- What a raw command, call or query stands for: one as its line spells it, whose texts are borrowed from the line.
 use Rattle.std.specs.Prelude.{List, [], Option, Some, None, option_map}
-use Rattle.std.specs.Borrow.{Bor}
+use Rattle.json.specs.Value.{value_view}
 use Rattle.serde_json.specs.View.{view}
-use Rattle.serde_json.specs.declared.value.Value.{Value}
 use Rattle.batch_ids.specs.Parameters.{Pair}
 use Rattle.batch_history.specs.declared.call.Call.{Call}
 use Rattle.batch_history.specs.declared.call.Call.TheVariants.{Start, Restart, Stop, Abandon, Claim, Checkpoint, Finish, Lose, Purge}
 use Rattle.batch_history.specs.declared.query.Query.{Query}
 use Rattle.batch_history.specs.declared.query.Query.TheVariants.{JobNames, JobInstanceCount, JobInstances, RunningExecutions, Parameters, JobInstance, JobExecutions, JobExecution, StepExecutions, StatusCounts}
+use Rattle.lent_json.specs.declared.look.Look.{Look}
+use Rattle.lent_json.specs.declared.look.Look.TheVariants.{Own, Lent}
+use Rattle.script_text.specs.LentParameters.{lent_pairs}
 use Rattle.script_text.specs.Parameters.{given_pairs}
 use Rattle.script_text.specs.declared.command.Command.{Command}
 use Rattle.script_text.specs.declared.command.Command.TheVariants.{Act, Ask}
@@ -19,9 +21,10 @@ use Rattle.script_text.specs.declared.raw.RawCommand.{RawCommand}
 use Rattle.script_text.specs.declared.raw.RawCommand.TheVariants as raw_commands
 
 -- the keys and values that an object of texts gives, if there is one
-abbrev pub pairs_in : Option (Bor Value) → List Pair
+abbrev pub pairs_in : Option Look → List Pair
 pairs_in None = []
-pairs_in (Some value) = given_pairs (view value.now)
+pairs_in (Some (Own value)) = given_pairs (view value.now)
+pairs_in (Some (Lent value)) = lent_pairs (value_view value.now)
 
 -- the call that a raw call spells
 abbrev pub call_in : RawCall → Call

@@ -11,11 +11,11 @@ use batch_history::{Call, Query};
 use batch_ids::{
     ExecutionId, InstanceId, MetricStep, OutOfMemory, T256, Text, WorkId, WorkOutcome,
 };
-use serde_json::Value;
+use lent_json::Look;
 use std::alloc::Global;
 
 /// The call that a raw call spells, with copies of its texts; `None` where one is above its bound.
-pub fn call_within(alloc: Global, call: &RawCall<'_>) -> Result<Option<Call>, OutOfMemory>
+pub fn call_within(alloc: Global, call: &RawCall<'_, '_>) -> Result<Option<Call>, OutOfMemory>
     ensures { IfOk result (λ made. made ≡ call_within (call_in call.now)) }
 {
     match call {
@@ -50,7 +50,7 @@ pub fn call_within(alloc: Global, call: &RawCall<'_>) -> Result<Option<Call>, Ou
 fn start_within(
     alloc: Global,
     job: &str,
-    parameters: Option<&Value>,
+    parameters: Option<Look<'_, '_>>,
 ) -> Result<Option<Call>, OutOfMemory>
     ensures { IfOk result (λ made. made ≡ call_within (Start job.now (pairs_in parameters.entry))) }
 {
@@ -66,7 +66,7 @@ fn start_within(
 fn restart_within(
     alloc: Global,
     execution: u64,
-    parameters: Option<&Value>,
+    parameters: Option<Look<'_, '_>>,
 ) -> Result<Option<Call>, OutOfMemory>
     ensures { IfOk result (λ made. made ≡ call_within (Restart execution (pairs_in parameters.entry))) }
 {

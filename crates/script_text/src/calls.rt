@@ -13,7 +13,7 @@ use lent_json::Look;
 
 /// The call of a line whose `do` is this word.
 #[tactic(auto, unfolding(crate::specs::Calls::call_named))]
-pub fn call_named<'v>(word: &str, value: Look<'v, '_>) -> Option<RawCall<'v>>
+pub fn call_named<'v, 't>(word: &str, value: Look<'v, 't>) -> Option<RawCall<'v, 't>>
     requires { is_open value ≡ true }
     ensures { option_map call_in result ≡ call_named word.now (shown value.entry) }
 {
@@ -48,7 +48,7 @@ pub fn call_named<'v>(word: &str, value: Look<'v, '_>) -> Option<RawCall<'v>>
 }
 
 #[tactic(auto, unfolding(crate::specs::Calls::start_of))]
-fn start_of<'v>(value: Look<'v, '_>) -> Option<RawCall<'v>>
+fn start_of<'v, 't>(value: Look<'v, 't>) -> Option<RawCall<'v, 't>>
     requires { is_open value ≡ true }
     ensures { option_map call_in result ≡ start_of (shown value.entry) }
 {
@@ -61,7 +61,7 @@ fn start_of<'v>(value: Look<'v, '_>) -> Option<RawCall<'v>>
 }
 
 #[tactic(auto, unfolding(crate::specs::Calls::restart_of))]
-fn restart_of<'v>(value: Look<'v, '_>) -> Option<RawCall<'v>>
+fn restart_of<'v, 't>(value: Look<'v, 't>) -> Option<RawCall<'v, 't>>
     requires { is_open value ≡ true }
     ensures { option_map call_in result ≡ restart_of (shown value.entry) }
 {
@@ -77,7 +77,7 @@ fn restart_of<'v>(value: Look<'v, '_>) -> Option<RawCall<'v>>
 }
 
 #[tactic(auto, unfolding(crate::specs::Calls::stop_of))]
-fn stop_of<'v>(value: Look<'v, '_>) -> Option<RawCall<'v>>
+fn stop_of<'v, 't>(value: Look<'v, 't>) -> Option<RawCall<'v, 't>>
     requires { is_open value ≡ true }
     ensures { option_map call_in result ≡ stop_of (shown value.entry) }
 {
@@ -89,7 +89,7 @@ fn stop_of<'v>(value: Look<'v, '_>) -> Option<RawCall<'v>>
 }
 
 #[tactic(auto, unfolding(crate::specs::Calls::abandon_of))]
-fn abandon_of<'v>(value: Look<'v, '_>) -> Option<RawCall<'v>>
+fn abandon_of<'v, 't>(value: Look<'v, 't>) -> Option<RawCall<'v, 't>>
     requires { is_open value ≡ true }
     ensures { option_map call_in result ≡ abandon_of (shown value.entry) }
 {
@@ -101,7 +101,7 @@ fn abandon_of<'v>(value: Look<'v, '_>) -> Option<RawCall<'v>>
 }
 
 #[tactic(auto, unfolding(crate::specs::Calls::claim_of))]
-fn claim_of<'v>(value: Look<'v, '_>) -> Option<RawCall<'v>>
+fn claim_of<'v, 't>(value: Look<'v, 't>) -> Option<RawCall<'v, 't>>
     requires { is_open value ≡ true }
     ensures { option_map call_in result ≡ claim_of (shown value.entry) }
 {
@@ -112,7 +112,7 @@ fn claim_of<'v>(value: Look<'v, '_>) -> Option<RawCall<'v>>
 }
 
 #[tactic(auto, unfolding(crate::specs::Calls::checkpoint_of))]
-fn checkpoint_of<'v>(value: Look<'v, '_>) -> Option<RawCall<'v>>
+fn checkpoint_of<'v, 't>(value: Look<'v, 't>) -> Option<RawCall<'v, 't>>
     requires { is_open value ≡ true }
     ensures { option_map call_in result ≡ checkpoint_of (shown value.entry) }
 {
@@ -126,7 +126,7 @@ fn checkpoint_of<'v>(value: Look<'v, '_>) -> Option<RawCall<'v>>
 }
 
 #[tactic(auto, unfolding(crate::specs::Calls::finish_of))]
-fn finish_of<'v>(value: Look<'v, '_>) -> Option<RawCall<'v>>
+fn finish_of<'v, 't>(value: Look<'v, 't>) -> Option<RawCall<'v, 't>>
     requires { is_open value ≡ true }
     ensures { option_map call_in result ≡ finish_of (shown value.entry) }
 {
@@ -148,7 +148,7 @@ fn finish_of<'v>(value: Look<'v, '_>) -> Option<RawCall<'v>>
 }
 
 #[tactic(auto, unfolding(crate::specs::Calls::lose_of))]
-fn lose_of<'v>(value: Look<'v, '_>) -> Option<RawCall<'v>>
+fn lose_of<'v, 't>(value: Look<'v, 't>) -> Option<RawCall<'v, 't>>
     requires { is_open value ≡ true }
     ensures { option_map call_in result ≡ lose_of (shown value.entry) }
 {
@@ -160,7 +160,7 @@ fn lose_of<'v>(value: Look<'v, '_>) -> Option<RawCall<'v>>
 }
 
 #[tactic(auto, unfolding(crate::specs::Calls::purge_of))]
-fn purge_of<'v>(value: Look<'v, '_>) -> Option<RawCall<'v>>
+fn purge_of<'v, 't>(value: Look<'v, 't>) -> Option<RawCall<'v, 't>>
     requires { is_open value ≡ true }
     ensures { option_map call_in result ≡ purge_of (shown value.entry) }
 {

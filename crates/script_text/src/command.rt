@@ -95,8 +95,9 @@ impl CommandReader {
         }
     }
 
-    /// The command that a line is, as [`read_command`] says. A line that holds neither a list nor a text
-    /// inside another object is read faster: it is looked into where it stands.
+    /// The command that a line is, as [`read_command`] says. A line without a list, whose inner
+    /// objects are of whole numbers, or of texts under rising names that are not empty, is read
+    /// faster: it is looked into where it stands.
     ///
     /// # Errors
     ///
@@ -123,7 +124,7 @@ fn command_of_value(alloc: Global, value: Look<'_, '_>) -> Result<Command, OutOf
     }
 }
 
-fn command_within(alloc: Global, raw: &RawCommand<'_>) -> Result<Command, OutOfMemory>
+fn command_within(alloc: Global, raw: &RawCommand<'_, '_>) -> Result<Command, OutOfMemory>
     ensures { IfOk result (λ command. command ≡ within_bounds (command_in raw.now)) }
 {
     match raw {

@@ -1,12 +1,15 @@
 // The parameters of a job execution: an object of texts.
-ghost use Rattle.std.specs.Prelude.{◌≡◌, true, IfOk, option_map, is_some};
+ghost use Rattle.std.specs.Prelude.{◌≡◌, true, Some, IfOk, option_map, is_some};
 ghost use Rattle.std.specs.List.{list_all};
 ghost use Rattle.std.specs.BTreeMap.{values};
+ghost use Rattle.json.specs.Value.{value_view, members_view as lent_members_view};
 ghost use Rattle.serde_json.specs.Find.{as_str};
 ghost use Rattle.serde_json.specs.View.{view, members_view};
 ghost use Rattle.batch_ids.specs.Parameters.{pairs_of};
 ghost use Rattle.lent_json.specs.Looks.{shown, is_open};
+ghost use Rattle.lent_json.specs.Lent.{is_text};
 ghost use Rattle.script_text.specs.Parameters.{parameters_at, parameters_within, parameters_data, has_texts, text_pairs};
+ghost use Rattle.script_text.specs.LentParameters.{has_lent_texts, lent_text_pairs};
 ghost use Rattle.script_text.specs.RawCommands.{pairs_in};
 
 use batch_ids::{OutOfMemory, Parameters, Refusal};
@@ -17,14 +20,14 @@ use std::alloc::{AllocError, Global};
 
 /// The object of texts that the member `parameters` is, which may be left out; `None` where it is
 /// there and no such object.
-pub fn parameters_at(value: &Value) -> Option<Option<&Value>>
+pub fn parameters_at<'v, 't: 'v>(value: &'v Value) -> Option<Option<Look<'v, 't>>>
     ensures { option_map pairs_in result ≡ parameters_at (view value.now) }
 {
     match optional_object(value, "parameters")? {
         None => Some(None),
         Some(object) => {
             if has_texts(object) {
-                Some(Some(object))
+                Some(Some(Look::Own(object)))
             } else {
                 None
             }
@@ -32,16 +35,22 @@ pub fn parameters_at(value: &Value) -> Option<Option<&Value>>
     }
 }
 
-/// The same of a value that is looked into. One that is lent has no object of texts among its members.
-pub fn parameters_in<'v>(value: Look<'v, '_>) -> Option<Option<&'v Value>>
+/// The same of a value that is looked into.
+pub fn parameters_in<'v, 't>(value: Look<'v, 't>) -> Option<Option<Look<'v, 't>>>
     requires { is_open value ≡ true }
     ensures { option_map pairs_in result ≡ parameters_at (shown value.entry) }
 {
     match value {
         Look::Own(value) => parameters_at(value),
         Look::Lent(value) => match value.get("parameters") {
-            Some(_) => None,
             None => Some(None),
+            Some(member) => {
+                if has_lent_texts(member) {
+                    Some(Some(Look::Lent(member)))
+                } else {
+                    None
+                }
+            }
         },
     }
 }
@@ -62,22 +71,55 @@ fn are_texts(members: &Map<String, Value>) -> bool
     members.values().all(Value::is_string)
 }
 
+/// Whether a lent value is an object whose members are texts.
+fn has_lent_texts(value: &json::Value<'_>) -> bool
+    ensures { result ≡ has_lent_texts (value_view value.now) }
+{
+    match value {
+        json::Value::Object(members) => are_lent_texts(members.as_slice()),
+        _ => false,
+    }
+}
+
+fn are_lent_texts(members: &[(&str, json::Value<'_>)]) -> bool
+    ensures { result ≡ list_all (λ member. is_text (value_view member.1)) members.now }
+{
+    members.iter().all(|member| is_text(&member.1))
+}
+
+fn is_text(value: &json::Value<'_>) -> bool
+    ensures { result ≡ is_text (value_view value.now) }
+{
+    matches!(value, json::Value::String(_))
+}
+
 /// The parameters that an object of texts gives; `None` where a key, a value or their number is
 /// above its bound.
 pub fn parameters_within(
     alloc: Global,
-    object: Option<&Value>,
+    object: Option<Look<'_, '_>>,
 ) -> Result<Option<Parameters>, OutOfMemory>
     ensures { IfOk result (λ made. made ≡ parameters_within (pairs_in object.entry)) }
 {
-    let given = match object.and_then(Value::as_object) {
-        Some(members) => text_pairs(alloc, members)?,
+    let given = match object {
+        Some(object) => given_pairs(alloc, object)?,
         None => Vec::new(alloc),
     };
     match Parameters::new(alloc, given) {
         Ok(parameters) => Ok(Some(parameters)),
         Err(Refusal::TextTooLong) => Ok(None),
         Err(_) => Err(AllocError),
+    }
+}
+
+/// The keys and values that an object gives.
+fn given_pairs(alloc: Global, object: Look<'_, '_>) -> Result<Vec<(String, String)>, OutOfMemory>
+    ensures { IfOk result (λ pairs. pairs_of pairs.items ≡ pairs_in (Some object.entry)) }
+{
+    match object {
+        Look::Own(Value::Object(members)) => text_pairs(alloc, members),
+        Look::Lent(json::Value::Object(members)) => lent_text_pairs(alloc, members.as_slice()),
+        _ => Ok(Vec::new(alloc)),
     }
 }
 
@@ -93,6 +135,23 @@ fn text_pairs(
         let text = value.as_str().unwrap_or("");
         let pair = (name.clone()?, String::from_str(alloc, text)?);
         pairs.push(pair)?;
+    }
+    Ok(pairs)
+}
+
+/// The same of members that are lent, in the order of their line.
+fn lent_text_pairs(
+    alloc: Global,
+    members: &[(&str, json::Value<'_>)],
+) -> Result<Vec<(String, String)>, OutOfMemory>
+    ensures { IfOk result (λ pairs.
+        pairs_of pairs.items ≡ lent_text_pairs (lent_members_view members.now)) }
+{
+    let mut pairs = Vec::new(alloc);
+    for member in members {
+        let key = String::from_str(alloc, member.0)?;
+        let value = String::from_str(alloc, member.1.as_str().unwrap_or(""))?;
+        pairs.push((key, value))?;
     }
     Ok(pairs)
 }

@@ -7,29 +7,28 @@ use crate::calls::call_named;
 use crate::queries::query_named;
 use batch_ids::{MetricStep, Moment, WorkOutcome};
 use lent_json::Look;
-use serde_json::Value;
 
 /// A command as its line spells it. Its texts are those of the line, and may be of any length.
 #[derive(Clone, Copy)]
-pub enum RawCommand<'a> {
+pub enum RawCommand<'a, 't> {
     Act {
         by: u64,
         at: Moment,
-        call: RawCall<'a>,
+        call: RawCall<'a, 't>,
     },
     Ask(RawQuery<'a>),
 }
 
 /// A call as its line spells it. Its parameters are an object of texts.
 #[derive(Clone, Copy)]
-pub enum RawCall<'a> {
+pub enum RawCall<'a, 't> {
     Start {
         job: &'a str,
-        parameters: Option<&'a Value>,
+        parameters: Option<Look<'a, 't>>,
     },
     Restart {
         execution: u64,
-        parameters: Option<&'a Value>,
+        parameters: Option<Look<'a, 't>>,
     },
     Stop {
         execution: u64,
@@ -92,7 +91,7 @@ pub enum RawQuery<'a> {
 
 /// The command that a value is, if it is one of the table.
 #[tactic(auto, unfolding(crate::specs::Commands::raw_command_of))]
-pub fn raw_command_of<'v>(value: Look<'v, '_>) -> Option<RawCommand<'v>>
+pub fn raw_command_of<'v, 't>(value: Look<'v, 't>) -> Option<RawCommand<'v, 't>>
     requires { is_open value ≡ true }
     ensures { option_map command_in result ≡ raw_command_of (shown value.entry) }
 {
@@ -103,7 +102,7 @@ pub fn raw_command_of<'v>(value: Look<'v, '_>) -> Option<RawCommand<'v>>
 }
 
 #[tactic(auto, unfolding(crate::specs::Commands::call_of))]
-fn call_of<'v>(value: Look<'v, '_>) -> Option<RawCommand<'v>>
+fn call_of<'v, 't>(value: Look<'v, 't>) -> Option<RawCommand<'v, 't>>
     requires { is_open value ≡ true }
     ensures { option_map command_in result ≡ call_of (shown value.entry) }
 {
@@ -115,7 +114,7 @@ fn call_of<'v>(value: Look<'v, '_>) -> Option<RawCommand<'v>>
 }
 
 #[tactic(auto, unfolding(crate::specs::Commands::query_of))]
-fn query_of<'v>(value: Look<'v, '_>) -> Option<RawCommand<'v>>
+fn query_of<'v, 't>(value: Look<'v, 't>) -> Option<RawCommand<'v, 't>>
     requires { is_open value ≡ true }
     ensures { option_map command_in result ≡ query_of (shown value.entry) }
 {

@@ -9,6 +9,7 @@ use crate::bounds::text_within;
 use crate::parameters::{parameters_at, parameters_within};
 use batch_ids::{Parameters, T256};
 use json_members::{has_only, read_value, text_at};
+use lent_json::Look;
 use serde_json::Value;
 use std::alloc::{AllocError, Global};
 use thiserror::Error;
@@ -48,7 +49,7 @@ impl From<AllocError> for StartFault {
 #[derive(Clone, Copy)]
 struct RawStart<'a> {
     job: &'a str,
-    parameters: Option<&'a Value>,
+    parameters: Option<Look<'a, 'a>>,
 }
 
 /// The start of a job that a line is, the line feed left out: an object with the member `job`, a text
