@@ -12,8 +12,21 @@ use read_copies::{Copies, StatusCounts};
 use seat_rules::{BookSeat, SeatTable, Site};
 use sessions::{Desk, Session};
 use std::alloc::Global;
-use std::sync::{Mutex, Wait};
+use std::hint::spin_loop;
+use std::sync::{Mutex, MutexGuard, Wait};
 use stop_signals::{look, stop};
+
+/// How often a call tries the lock of the book before it sleeps until the lock is free.
+const TRIES: u32 = 40;
+
+/// How long it pauses after a try in vain, in turns of an empty loop.
+const PAUSES: u32 = 20;
+
+fn pause() {
+    for turn in 0..PAUSES {
+        spin_loop();
+    }
+}
 
 /// What the lock keeps: a desk that hosts no read copy.
 #[derive(Drop)]
@@ -129,6 +142,18 @@ impl<N: Site> Operator<N> {
         self.desk.lock(rt).desk.open(&self.table)
     }
 
+    /// The desk, once its lock is free. A call holds it for less time than a thread takes to fall asleep
+    /// and to be woken, so the lock is tried for a while first.
+    fn take_desk(&self, rt: &impl Wait) -> MutexGuard<'_, Kept<N>> {
+        for turn in 0..TRIES {
+            if let Some(kept) = self.desk.try_lock() {
+                return kept;
+            }
+            pause();
+        }
+        self.desk.lock(rt)
+    }
+
     pub(crate) fn act(
         &self,
         rt: &impl Wait,
@@ -138,7 +163,7 @@ impl<N: Site> Operator<N> {
     ) -> Result<Reply, Refusal>
         ensures { IsReplied N.place.catalogue session.old session.new call at result }
     {
-        self.desk.lock(rt).desk.act(session, call, at, &self.table)
+        self.take_desk(rt).desk.act(session, call, at, &self.table)
     }
 
     pub(crate) fn act_on_stop(
@@ -150,7 +175,7 @@ impl<N: Site> Operator<N> {
     ) -> Result<Reply, Refusal>
         ensures { IsReplied N.place.catalogue session.old session.new (Call.Stop execution) at result }
     {
-        let mut kept = self.desk.lock(rt);
+        let mut kept = self.take_desk(rt);
         stop(&mut kept.desk, session, execution, at, &self.table)
     }
 
@@ -177,7 +202,7 @@ impl<N: Site> Operator<N> {
     ) -> Result<Answer, Refusal>
         ensures { IsAnswered N.place.catalogue session.old session.new query.now result }
     {
-        self.desk.lock(rt).desk.ask(session, query, &self.table)
+        self.take_desk(rt).desk.ask(session, query, &self.table)
     }
 
     /// The read copy that a session reads: its number, divided by how many copies there are, leaves it.
