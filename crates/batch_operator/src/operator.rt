@@ -142,8 +142,8 @@ impl<N: Site> Operator<N> {
         self.desk.lock(rt).desk.open(&self.table)
     }
 
-    /// The desk, once its lock is free. A call holds it for less time than a thread takes to fall asleep
-    /// and to be woken, so the lock is tried for a while first.
+    /// The desk, once its lock is free. A call holds it for a short time, and a thread that falls asleep
+    /// has to be woken, so the lock is tried for a while first.
     fn take_desk(&self, rt: &impl Wait) -> MutexGuard<'_, Kept<N>> {
         for turn in 0..TRIES {
             if let Some(kept) = self.desk.try_lock() {
