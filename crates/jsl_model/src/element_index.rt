@@ -1,8 +1,10 @@
 //! Where to look for an element of a job, and for its work keys.
 use crate::element::{Body, Element};
 use batch_ids::{OutOfMemory, T256};
-use indexmap::IndexMap;
-use std::alloc::{AllocError, Global};
+use std::alloc::Global;
+use std::cmp::Ordering;
+use std::fmt::{self, Debug, Formatter};
+use std::hash::{FoldHasher, Hash, Hasher};
 
 /// Where to look for an element.
 #[derive(Debug, Drop)]
@@ -33,27 +35,102 @@ impl Outer {
     }
 }
 
+/// Spots by the ids of their elements, which rise.
+#[derive(Drop)]
+struct Spots {
+    list: Vec<(T256, Spot)>,
+}
+
+impl Debug for Spots {
+    fn fmt<W: fmt::Write>(&self, f: &mut Formatter<W>) -> fmt::Result {
+        let mut map = f.debug_map();
+        for (id, spot) in self.list.iter() {
+            map.entry(id, spot);
+        }
+        map.finish()
+    }
+}
+
+/// Which of the spots has an id with this hash.
+#[derive(Clone, Copy, PartialEq, Eq, PartialOrd, Ord)]
+struct HashedSpot {
+    hash: u64,
+    number: usize,
+}
+
 /// Where to look for each element of a job, and for its work keys, by its id.
 ///
 /// No contract says what it holds: who looks compares what stands there, and searches where it is
 /// something else.
-#[derive(Debug, Drop)]
+#[derive(Drop)]
 pub struct ElementIndex {
-    spots: IndexMap<T256, Spot>,
+    spots: Spots,
+    /// Rising, so that ids whose hashes meet are told apart by halving.
+    hashes: Vec<HashedSpot>,
+    /// The hashes part their range into as many equal parts as there are spots: where each part begins
+    /// among `hashes`, and then where the last one ends.
+    starts: Vec<usize>,
+}
+
+impl Debug for ElementIndex {
+    fn fmt<W: fmt::Write>(&self, f: &mut Formatter<W>) -> fmt::Result {
+        f.debug_struct("ElementIndex")
+            .field("spots", &self.spots)
+            .finish()
+    }
 }
 
 impl ElementIndex {
     /// The index of these elements and of those inside them.
     pub(crate) fn of(alloc: Global, elements: &[Element]) -> Result<ElementIndex, OutOfMemory> {
-        let mut spots = IndexMap::new(alloc);
-        add_all(&mut spots, elements, None, 0)?;
-        Ok(ElementIndex { spots })
+        let mut list = Vec::new(alloc);
+        add_all(&mut list, elements, None, 0)?;
+        list.sort_unstable_by(|one, other| one.0.cmp(&other.0));
+        let spots = Spots { list };
+        let hashes = hashes_of(alloc, &spots)?;
+        let starts = starts_of(alloc, hashes.as_slice())?;
+        Ok(ElementIndex {
+            spots,
+            hashes,
+            starts,
+        })
+    }
+
+    /// The spots whose hashes lie in the same part of their range as this one.
+    fn near(&self, hash: u64) -> Option<&[HashedSpot]> {
+        let part = part_of(hash, self.hashes.len());
+        let start = *self.starts.get(part)?;
+        let end = *self.starts.get(part.checked_add(1)?)?;
+        self.hashes.get(start..end)
+    }
+
+    /// How the id of the spot with this number is to this one.
+    fn order(&self, number: usize, id: &T256) -> Ordering {
+        match self.spots.list.get(number) {
+            Some(entry) => entry.0.cmp(id),
+            None => Ordering::Greater,
+        }
+    }
+
+    /// The spot of the element with this id. It looks at one spot, mostly, and at no more than the number of
+    /// elements has binary digits.
+    fn spot_of(&self, id: &T256) -> Option<&Spot> {
+        let hash = hash_of(id);
+        let near = self.near(hash)?;
+        let place = near
+            .binary_search_by(|one| match one.hash.cmp(&hash) {
+                Ordering::Equal => self.order(one.number, id),
+                order => order,
+            })
+            .ok()?;
+        let entry = self.spots.list.get(near.get(place)?.number)?;
+        Some(&entry.1)
     }
 
     /// The place of the element with this id in its list, and 0 where there is none. It costs a look-up by
-    /// the hash of the id.
+    /// the hash of the id; where hashes meet, it compares as many ids as their number has binary digits.
     pub fn place_of(&self, id: &T256) -> usize {
-        match self.spots.get(id) {
+        match self.spot_of(id) {
             Some(spot) => spot.place,
             None => 0,
         }
@@ -62,13 +139,13 @@ impl ElementIndex {
     /// Inside what the list of the element with this id stands; nothing, where that is the job's own, or
     /// there is no such element. It costs as much.
     pub fn outer_of(&self, id: &T256) -> Option<&Outer> {
-        self.spots.get(id)?.outer.as_ref()
+        self.spot_of(id)?.outer.as_ref()
     }
 
     /// The place of the work key of this partition of the element with this id, among those of the job
     /// in written order, and 0 where there is none. It costs as much.
     pub fn key_place_of(&self, id: &T256, partition: u32) -> usize {
-        match self.spots.get(id) {
+        match self.spot_of(id) {
             Some(spot) => spot.first.saturating_add(partition as usize),
             None => 0,
         }
@@ -83,19 +160,54 @@ fn outer_at(element: &Element, flow: usize) -> Result<Outer, OutOfMemory> {
     })
 }
 
-/// Adds an element that stands there.
-fn add_spot(spots: &mut IndexMap<T256, Spot>, id: T256, spot: Spot) -> Result<(), OutOfMemory> {
-    match spots.insert(id, spot) {
-        Ok(_) => Ok(()),
-        Err(_) => Err(AllocError),
+fn hash_of(id: &T256) -> u64 {
+    let mut hasher = FoldHasher::default();
+    id.hash(&mut hasher);
+    hasher.finish()
+}
+
+/// In which of so many equal parts of their range a hash lies.
+fn part_of(hash: u64, parts: usize) -> usize {
+    ((u128::from(hash) * parts as u128) >> 64) as usize
+}
+
+fn hashes_of(alloc: Global, spots: &Spots) -> Result<Vec<HashedSpot>, OutOfMemory> {
+    let mut hashes = Vec::with_capacity(alloc, spots.list.len())?;
+    for (number, entry) in spots.list.iter().enumerate() {
+        let hash = hash_of(&entry.0);
+        hashes.push(HashedSpot { hash, number })?;
     }
+    hashes.sort_unstable();
+    Ok(hashes)
+}
+
+/// Where each part begins among rising hashes, and where the last one ends.
+fn starts_of(alloc: Global, hashes: &[HashedSpot]) -> Result<Vec<usize>, OutOfMemory> {
+    let mut starts = Vec::with_capacity(alloc, hashes.len().saturating_add(1))?;
+    for (place, one) in hashes.iter().enumerate() {
+        fill(
+            &mut starts,
+            part_of(one.hash, hashes.len()).saturating_add(1),
+            place,
+        )?;
+    }
+    fill(&mut starts, hashes.len().saturating_add(1), hashes.len())?;
+    Ok(starts)
+}
+
+/// Adds this place until there are so many.
+fn fill(starts: &mut Vec<usize>, many: usize, place: usize) -> Result<(), OutOfMemory> {
+    for _missing in starts.len()..many {
+        starts.push(place)?;
+    }
+    Ok(())
 }
 
 /// Adds the elements of a list and those inside them, of which the first work key has this place;
 /// the place of the next one.
 #[cycle(indexing)]
 fn add_all(
-    spots: &mut IndexMap<T256, Spot>,
+    spots: &mut Vec<(T256, Spot)>,
     elements: &[Element],
     outer: Option<&Outer>,
     first: usize,
@@ -111,7 +223,7 @@ fn add_all(
             first: next,
             outer,
         };
-        add_spot(spots, element.id.try_clone()?, spot)?;
+        spots.push((element.id.try_clone()?, spot))?;
         next = add_inside(spots, element, next)?;
     }
     Ok(next)
@@ -120,7 +232,7 @@ fn add_all(
 /// Adds the elements inside one; the place of the next work key.
 #[cycle(indexing)]
 fn add_inside(
-    spots: &mut IndexMap<T256, Spot>,
+    spots: &mut Vec<(T256, Spot)>,
     element: &Element,
     first: usize,
 ) -> Result<usize, OutOfMemory> {

@@ -344,10 +344,10 @@ followed_at catalogue works executions x row cursor found followed =
 
 -- some of them are kept
 pub followed_some : (catalogue : List JobTree) (works : List WorkRow) (executions : List ExecutionRow) (x : ℕ) (before after : ℕ → Option CursorState)
-    → ((q : ℕ) → after q ≡ cond (x == q) None (before q)) → AreFollowed catalogue works executions before → AreFollowed catalogue works executions after
+    → ((q : ℕ) → after q ≡ cond (is_eq (nat_cmp x q)) None (before q)) → AreFollowed catalogue works executions before → AreFollowed catalogue works executions after
 followed_some catalogue works executions x before after rest followed = λ q.
     subst (λ o. IfSome o (IsFollowed catalogue works executions q)) (sym (rest q))
-    (elim (x == q) as (λ b. IfSome (cond b None (before q)) (IsFollowed catalogue works executions q)) [
+    (elim (is_eq (nat_cmp x q)) as (λ b. IfSome (cond b None (before q)) (IsFollowed catalogue works executions q)) [
       | true ↦ tt
       | false ↦ followed q
     ])

@@ -195,7 +195,7 @@ kept_purge limit old walks kept m i k room finished is =
 
 -- some of the cursors are kept
 pub kept_taken : (limit : ℕ) (numbers : List ℕ) (walks left : ℕ → Option CursorState) (kept : Kept) (x : ℕ) → IsKept limit numbers walks kept
-    → ((q : ℕ) → left q ≡ cond (x == q) None (walks q)) → IsKept limit numbers left kept
+    → ((q : ℕ) → left q ≡ cond (is_eq (nat_cmp x q)) None (walks q)) → IsKept limit numbers left kept
 kept_taken limit numbers walks left kept x k rest =
     record {
       sound = k.sound;

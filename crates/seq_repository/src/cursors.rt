@@ -1,7 +1,7 @@
 //! The walks of job executions, each in a cursor that is kept from its first claim to its end.
-ghost use Rattle.std.specs.Prelude.{ℕ, ◌≡◌, ◌++◌, ◌∷◌, [], true, false, Some, List, find, nat_eq, IfOk, IfSome};
+ghost use Rattle.std.specs.Prelude.{ℕ, ◌≡◌, ◌++◌, ◌∷◌, [], true, false, Some, List, find, IfOk, IfSome};
+ghost use Rattle.std.specs.BTreeMap.{get};
 ghost use Rattle.std.specs.Ordering.{nat_cmp, is_eq};
-ghost use Rattle.indexmap.specs.IndexMap.{get};
 ghost use Rattle.batch_ids.specs.declared.metric_step.MetricStep.{MetricStep as Counts};
 ghost use Rattle.batch_history.proofs.Folds.{over_as};
 ghost use Rattle.batch_history.proofs.Knowing.{known_elements};
@@ -18,12 +18,12 @@ ghost use Rattle.seq_repository.specs.Following.{Follows, IsFirst, IsFollowed, I
 use crate::search;
 use batch_history::{ExecutionRow, WorkItem, WorkRow};
 use batch_ids::{ExecutionId, OutOfMemory, T256, WorkId, WorkOutcome};
-use indexmap::IndexMap;
 use job_walk::{Cursor, Known};
 use jsl_model::Catalogue;
 use records::Records;
 use restart_rules::known_of;
 use std::alloc::Global;
+use std::collections::BTreeMap;
 
 /// The walk of a job execution, where its work items tell this of its work keys.
 fn resumed(
@@ -234,26 +234,23 @@ pub(crate) fn finished(
 /// Keeps the walk of a job execution that is unfinished still. Where memory is refused it is not
 /// kept, and is made anew when it is needed.
 pub(crate) fn keep(
-    cursors: &mut IndexMap<u64, Cursor>,
+    cursors: &mut BTreeMap<u64, Cursor>,
     x: ExecutionId,
     row: &Option<ExecutionRow>,
     cursor: Option<Cursor>,
 )
     ensures others { (q : ℕ) → is_eq (nat_cmp x q) ≡ false
-        → get nat_eq cursors.new q ≡ get nat_eq cursors.old q }
-    ensures own { IfSome (get nat_eq cursors.new x) (IsKeptOf row.now cursor) }
+        → get nat_cmp cursors.new q ≡ get nat_cmp cursors.old q }
+    ensures own { IfSome (get nat_cmp cursors.new x) (IsKeptOf row.now cursor) }
 {
+    cursors.remove(&x.value());
     let (Some(row), Some(cursor)) = (row, cursor) else {
-        cursors.swap_remove(&x.value());
         return;
     };
     if row.status().is_unfinished() {
-        // One that is there is replaced without memory: a refusal leaves none behind.
         match cursors.insert(x.value(), cursor) {
             Ok(_) => {}
             Err(_) => {}
         }
-    } else {
-        cursors.swap_remove(&x.value());
     }
 }

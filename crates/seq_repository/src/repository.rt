@@ -9,12 +9,11 @@ ghost use Rattle.seq_repository.specs.Kept.{IsNext, StandsFor};
 use crate::answers;
 use batch_history::{Answer, Call, CountsByStatus, Entry, LastNumbers, Query, Reply};
 use batch_ids::{Moment, OutOfMemory, Refusal};
-use indexmap::IndexMap;
 use job_walk::Cursor;
 use jsl_model::Catalogue;
 use records::Records;
 use std::alloc::Global;
-use std::collections::BTreeSet;
+use std::collections::{BTreeMap, BTreeSet};
 use std::marker::Model;
 
 /// A job repository for one caller, of at most `LIMIT` accepted operations. Contracts see its rows.
@@ -32,15 +31,15 @@ pub struct Repository<const LIMIT: u64> {
     /// The numbers of the job executions that have something to do.
     pub(crate) agenda: BTreeSet<u64>,
     /// The walks of unfinished job executions that were taken up, by their numbers.
-    pub(crate) cursors: IndexMap<u64, Cursor>,
+    pub(crate) cursors: BTreeMap<u64, Cursor>,
 }
 
 impl<const LIMIT: u64> Model for Repository<LIMIT> {
     ghost use Rattle.seq_repository.specs.Kept.{Kept, IsKept};
     ghost use Rattle.jsl_model.specs.contracts.element.Body as body;
-    ghost use Rattle.indexmap.specs.IndexMap.{get};
+    ghost use Rattle.std.specs.BTreeMap.{get};
     ghost use Rattle.std.specs.Coded.{codes};
-    ghost use Rattle.std.specs.Prelude.{nat_eq};
+    ghost use Rattle.std.specs.Ordering.{nat_cmp};
 
     ghost Value = { Kept };
 
@@ -48,7 +47,7 @@ impl<const LIMIT: u64> Model for Repository<LIMIT> {
 
     ghost view = { λ r. record { catalogue = r.catalogue; count = r.count; last = r.last; records = r.records } };
 
-    ghost invariant = { λ r. IsKept LIMIT r.agenda.keys (get nat_eq r.cursors) record { catalogue = r.catalogue; count = r.count; last = r.last; records = r.records } };
+    ghost invariant = { λ r. IsKept LIMIT r.agenda.keys (get nat_cmp r.cursors) record { catalogue = r.catalogue; count = r.count; last = r.last; records = r.records } };
 }
 
 impl<const LIMIT: u64> Repository<LIMIT> {
@@ -76,7 +75,7 @@ impl<const LIMIT: u64> Repository<LIMIT> {
             },
             records: Records::new(alloc),
             agenda: BTreeSet::new(alloc),
-            cursors: IndexMap::new(alloc),
+            cursors: BTreeMap::new(alloc),
         })
     }
 

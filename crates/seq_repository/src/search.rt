@@ -1,6 +1,7 @@
-ghost use Rattle.std.specs.Prelude.{ℕ, ◌≡◌, Some, true, IfOk, IfSome, find, nat_eq};
+ghost use Rattle.std.specs.Prelude.{ℕ, ◌≡◌, Some, true, IfOk, IfSome, find};
+ghost use Rattle.std.specs.BTreeMap.{get};
 ghost use Rattle.std.specs.Option.{option_map};
-ghost use Rattle.indexmap.specs.IndexMap.{get};
+ghost use Rattle.std.specs.Ordering.{nat_cmp};
 ghost use Rattle.batch_ids.specs.declared.metric_step.MetricStep.{MetricStep as Step};
 ghost use Rattle.batch_history.proofs.Folds.{over_as};
 ghost use Rattle.batch_history.specs.Lists.{change_first};
@@ -16,14 +17,13 @@ ghost use Rattle.seq_repository.specs.Searches.{has_ready};
 
 use batch_history::ExecutionRow;
 use batch_ids::{ExecutionId, OutOfMemory, T256, WorkId, WorkOutcome};
-use indexmap::IndexMap;
 use job_walk::{Cursor, Fact, Known, Value, WorkKey};
 use jsl_model::Catalogue;
 use records::Records;
 use reply_rules::first_ready;
 use restart_rules::{state_fact, walk_value};
 use std::alloc::Global;
-use std::collections::BTreeSet;
+use std::collections::{BTreeMap, BTreeSet};
 
 /// What is known of the elements of a job execution once a work item of it is over.
 pub(crate) fn known_once_finished(
@@ -76,13 +76,13 @@ fn next_key(
     alloc: Global,
     catalogue: &Catalogue,
     records: &Records,
-    cursors: &IndexMap<u64, Cursor>,
+    cursors: &BTreeMap<u64, Cursor>,
     row: &ExecutionRow,
 ) -> Result<Option<WorkKey>, OutOfMemory>
     requires placed { is_placed catalogue.now row.now ≡ true }
     requires there { find (is_execution row.now.execution) records.now.executions ≡ Some row.now }
     requires followed { AreFollowed catalogue.now records.now.works records.now.executions
-        (get nat_eq cursors.now) }
+        (get nat_cmp cursors.now) }
     ensures { IfOk result (λ key. key ≡ first_ready (walk_value catalogue.now records.now.works
         row.now.execution row.now.job row.now.plan)) }
 {
@@ -109,14 +109,14 @@ pub(crate) fn find_claimable<'a>(
     catalogue: &Catalogue,
     records: &'a Records,
     agenda: &BTreeSet<u64>,
-    cursors: &IndexMap<u64, Cursor>,
+    cursors: &BTreeMap<u64, Cursor>,
 ) -> Result<Option<Claimable<'a>>, OutOfMemory>
     requires placed { ArePlaced catalogue.now records.now.executions }
     requires rising { AreRising (execution_numbers records.now.executions) }
     requires agenda { agenda.now.keys
         ≡ agenda_of catalogue.now records.now.works records.now.executions }
     requires followed { AreFollowed catalogue.now records.now.works records.now.executions
-        (get nat_eq cursors.now) }
+        (get nat_cmp cursors.now) }
     ensures first { IfOk result (λ found. option_map (λ c. c.row.now) found
         ≡ find (has_ready catalogue.now records.now.works) records.now.executions) }
     ensures key { IfOk result (λ found. IfSome found (λ c. c.key
