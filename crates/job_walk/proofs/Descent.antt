@@ -1,5 +1,5 @@
 -- From a list that shows a work key to the element that shows it, and what becomes of the list when that element changes.
-use Rattle.std.proofs.Common.{◌≡◌, ℕ, zero, suc, ◌+◌, ◌<◌, ◌≤◌, Bool, true, false, Option, None, Some, List, [], ◌∷◌, ◌++◌, length, length-append, take, drop, get_or, set, refl, sym, ◌∙◌, ap, arith, subst}
+use Rattle.std.proofs.Common.{◌≡◌, ℕ, zero, suc, ◌+◌, ◌<◌, ◌≤◌, true, Option, None, Some, List, [], ◌∷◌, ◌++◌, length, length-append, take, drop, get_or, set, refl, sym, ◌∙◌, ap, arith, subst}
 use Rattle.std.specs.List.{position}
 use Rattle.std.proofs.lemmas.List.{append_assoc, length-map}
 use Rattle.std.proofs.lemmas.Option.{slice_get-get_or}
@@ -38,11 +38,6 @@ head_in facts es from = head_of (rows_in (states facts es)) (insides (states fac
 pub kept-head : (facts : WorkKey → Fact) (es : List Element) (from : List ℕ) (lists rest : List KeptList) (kept : KeptList) → lists ≡ kept_of facts es from ++ rest
     → kept ≡ get_or lists 0 kept → kept ≡ head_in facts es from
 kept-head facts es from lists rest kept is got = got ∙ ap (λ ls. get_or ls 0 kept) is
-
-pub kept-some : (facts : WorkKey → Fact) (es : List Element) (from : List ℕ) (lists rest : List KeptList) → lists ≡ kept_of facts es from ++ rest → 0 < length lists
-kept-some facts es from lists rest is =
-    let l : length lists ≡ suc (length (joined (insides (states facts es)) ++ rest)) = ap length is in
-    omega (arith, l)
 
 abbrev value_in : (WorkKey → Fact) → List Element → List ℕ → Value
 value_in facts es from = follow (length (rows_in (states facts es))) (rows_in (states facts es)) from
@@ -381,15 +376,3 @@ pub drop-length : {X : Type 0} (xs : List X) (n : ℕ) → n ≤ length xs → l
 drop-length xs zero le = omega arith
 drop-length [] (suc n) le = absurd (omega (arith, le))
 drop-length (x ∷ xs) (suc n) le = let more = drop-length xs n (omega (arith, le)) in omega (arith, more)
-
--- what the first of the lists shows
-pub first-hides : (key : WorkKey) (lists : List KeptList) (kept : KeptList) → kept ≡ get_or lists 0 kept → 0 < length lists → shows key kept.progress.value ≡ false → first_shows key lists ≡ false
-first-hides key [] kept got some h = refl
-first-hides key (x ∷ lists) kept got some h = ap (λ (k : KeptList). shows key k.progress.value) (sym got) ∙ h
-
-pub first-shown : (key : WorkKey) (lists : List KeptList) (kept : KeptList) → kept ≡ get_or lists 0 kept → 0 < length lists → shows key kept.progress.value ≡ true → first_shows key lists ≡ true
-first-shown key [] kept got some h = absurd (omega (arith, some))
-first-shown key (x ∷ lists) kept got some h = ap (λ (k : KeptList). shows key k.progress.value) (sym got) ∙ h
-
-pub at-first : (key : WorkKey) (lists : List KeptList) (kept : KeptList) {b : Bool} → kept ≡ get_or lists 0 kept → shows key (get_or lists 0 kept).progress.value ≡ b → shows key kept.progress.value ≡ b
-at-first key lists kept got h = ap (λ (k : KeptList). shows key k.progress.value) got ∙ h

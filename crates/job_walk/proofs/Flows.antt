@@ -1,29 +1,27 @@
 -- Flows: a list that begins at its first element, inside a flow or a flow of a split.
-use Rattle.std.proofs.Common.{◌≡◌, ◌≢◌, ℕ, zero, suc, ◌+◌, ◌<◌, ◌≤◌, Bool, true, false, Option, None, Some, List, [], ◌∷◌, ◌++◌, length, length-append, map, take, drop, get_or, refl, sym, ◌∙◌, ap, arith, subst, ◌⊎◌, inl, inr}
-use Rattle.std.proofs.lemmas.List.{append_assoc, take_all}
+use Rattle.std.proofs.Common.{◌≡◌, ℕ, zero, suc, ◌+◌, ◌<◌, ◌≤◌, true, Option, None, Some, List, [], ◌∷◌, ◌++◌, length, length-append, map, take, drop, get_or, refl, sym, ◌∙◌, ap, arith, subst, ◌⊎◌, inl, inr}
+use Rattle.std.proofs.lemmas.List.{append_assoc}
 use Rattle.jsl_model.specs.Trees.{joined}
 use Rattle.jsl_model.specs.declared.element.Element.{Element, fold_out-Element}
 use Rattle.jsl_model.specs.declared.element.SplitFlow.{SplitFlow, out-SplitFlow, fold_out-SplitFlow}
 use Rattle.jsl_model.specs.declared.element.Body.{fold-roll-Body}
 use Rattle.jsl_model.specs.declared.element.Body.TheVariants.{Flow, Split, rolls-Flow, rolls-Split}
 use Rattle.jsl_model.specs.declared.element.Body.TheOpen.{Flow as OpenFlow, Split as OpenSplit}
-use Rattle.walk_rules.specs.declared.element_result.ElementResult.{ElementResult}
 use Rattle.walk_rules.specs.declared.facts.Fact.{Fact}
 use Rattle.walk_rules.specs.declared.facts.Value.{Value}
 use Rattle.job_walk.specs.declared.kept_list.KeptList.{KeptList}
 use Rattle.job_walk.specs.declared.kept_list.ListChange.{ListChange}
 use Rattle.walk_rules.specs.declared.work_key.WorkKey.{WorkKey}
-use Rattle.walk_rules.specs.Walk.{WalkedElement, first_id, element_result, flow_result, split_result}
-use Rattle.job_walk.specs.KeptLists.{KeptElement, KeptBody, KeptTree, rows_in, insides, kept_element, kept_body, kept_flow, body_kept, element_kept, flow_kept, tree_first, tree_of, kept_of, lists_in, value_kept, first_shows, result_shows, Puts, DifferAt, Keeps, KeepsFirst, KeepsInside}
+use Rattle.walk_rules.specs.Walk.{WalkedElement, first_id, element_result, flow_result}
+use Rattle.job_walk.specs.KeptLists.{KeptElement, KeptBody, KeptTree, rows_in, kept_element, kept_body, kept_flow, body_kept, element_kept, flow_kept, tree_first, tree_of, kept_of, lists_in, value_kept, first_shows, result_shows, Puts, DifferAt, Keeps, KeepsFirst, KeepsInside, KeepsFlows}
 use Rattle.walk_rules.specs.Counts.{total, body_count, element_count, flow_count, count_in, count_in_body, count_in_flow, count_of}
 use Rattle.walk_rules.specs.Shown.{shows}
-use Rattle.job_walk.proofs.Descent.{head_in, reached, reached-shows, kept-some, never-nowhere}
+use Rattle.job_walk.proofs.Descent.{head_in, reached, reached-shows, never-nowhere}
 use Rattle.job_walk.proofs.Following.{walked_element-parts}
-use Rattle.job_walk.proofs.KeptAtFirst.{one-more, joined-last, values-more, whole-parts, kept-split}
+use Rattle.job_walk.proofs.KeptAtFirst.{one-more, joined-last, whole-parts}
 use Rattle.job_walk.proofs.KeptTrees.{kept-row, kept-same}
-use Rattle.job_walk.proofs.Putting.{puts-none, puts-more}
 use Rattle.job_walk.proofs.Reporting.{states}
-use Rattle.job_walk.proofs.ShownCounts.{all_show, one-shows, split-shown, flow-shown, shown-counts, others-none}
+use Rattle.job_walk.proofs.ShownCounts.{flow-shown, shown-counts}
 use Rattle.walk_rules.proofs.Places.{within}
 
 -- ---- The first element is the same one, whatever is known
@@ -41,9 +39,6 @@ first-same facts later (e ∷ es) = first-is later e ∙ sym (first-is facts e)
 pub first-kept : (facts : WorkKey → Fact) (es : List Element) (lists : List KeptList) → KeepsFirst facts es lists → Keeps facts es lists
 first-kept facts es lists keeps = (first_id (rows_in (states facts es)), keeps.0, keeps.1)
 
-pub first-some : (facts : WorkKey → Fact) (es : List Element) (lists : List KeptList) → KeepsFirst facts es lists → 0 < length lists
-first-some facts es lists keeps = kept-some facts es (first_id (rows_in (states facts es))) lists keeps.0 keeps.1
-
 pub first-value : (facts later : WorkKey → Fact) (es : List Element) (value : Value) → value ≡ value_kept (tree_of later es (first_id (rows_in (states facts es))))
     → value ≡ value_kept (tree_first (states later es))
 first-value facts later es value is = is ∙ ap (λ from. value_kept (tree_of later es from)) (sym (first-same facts later es))
@@ -54,7 +49,7 @@ pub first-puts : (facts later : WorkKey → Fact) (es : List Element) (others ch
 first-puts facts later es others changes base puts =
     subst (λ from. Puts others changes base (lists_in (tree_first (states facts es))) (kept_of later es from)) (sym (first-same facts later es)) puts
 
--- ---- Where it does not
+-- ---- Where it does not hold an id
 
 pub list-same : (id : List ℕ) (facts later : WorkKey → Fact) → DifferAt id facts later → (es : List Element) → count_of id es ≡ 0 → states later es ≡ states facts es
 list-same id facts later differ [] none = refl
@@ -62,18 +57,6 @@ list-same id facts later differ (e ∷ es) none =
     let here : count_in id e ≡ 0 = omega (arith, none) in
     let rest : count_of id es ≡ 0 = omega (arith, none) in
     ap (λ s. s ∷ states later es) (kept-same id facts later differ e here) ∙ ap (λ ss. kept_element facts e ∷ ss) (list-same id facts later differ es rest)
-
-pub same-value : (id : List ℕ) (facts later : WorkKey → Fact) → DifferAt id facts later → (es : List Element) (lists : List KeptList) (kept : KeptList) (value : Value)
-    → count_of id es ≡ 0 → KeepsFirst facts es lists → kept ≡ get_or lists 0 kept → value ≡ kept.progress.value → value ≡ value_kept (tree_first (states later es))
-same-value id facts later differ es lists kept value none keeps got copied =
-    copied ∙ (ap (λ (k : KeptList). k.progress.value) got ∙ (ap (λ ls. (get_or ls 0 kept).progress.value) keeps.1
-    ∙ ap (λ ss. value_kept (tree_first ss)) (sym (list-same id facts later differ es none))))
-
-pub same-puts : (id : List ℕ) (facts later : WorkKey → Fact) → DifferAt id facts later → (es : List Element) (others : List ListChange) (base : ℕ) → count_of id es ≡ 0
-    → Puts others others base (lists_in (tree_first (states facts es))) (lists_in (tree_first (states later es)))
-same-puts id facts later differ es others base none =
-    subst (λ ss. Puts others others base (lists_in (tree_first (states facts es))) (lists_in (tree_first ss))) (sym (list-same id facts later differ es none))
-    (puts-none others base (lists_in (tree_first (states facts es))))
 
 -- ---- A flow
 
@@ -144,14 +127,14 @@ flow-count id f =
 abbrev pub flow_lists : (WorkKey → Fact) → SplitFlow → List KeptList
 flow_lists facts f = lists_in (kept_flow facts f)
 
-flow-lists-first : (facts : WorkKey → Fact) (f : SplitFlow) → flow_lists facts f ≡ lists_in (tree_first (states facts (out-SplitFlow f).elements))
+pub flow-lists-first : (facts : WorkKey → Fact) (f : SplitFlow) → flow_lists facts f ≡ lists_in (tree_first (states facts (out-SplitFlow f).elements))
 flow-lists-first facts f = ap lists_in (whole-parts facts f)
 
 drop-past : {X : Type 0} (xs ys : List X) → drop (length xs) (xs ++ ys) ≡ ys
 drop-past [] ys = refl
 drop-past (x ∷ xs) ys = drop-past xs ys
 
-joined-take : {X Y : Type 0} (g : X → List Y) (xs : List X) (i : ℕ) (x : X) → i < length xs → x ≡ get_or xs i x
+pub joined-take : {X Y : Type 0} (g : X → List Y) (xs : List X) (i : ℕ) (x : X) → i < length xs → x ≡ get_or xs i x
     → joined (map g xs) ≡ joined (map g (take i xs)) ++ (g x ++ joined (map g (drop (i + 1) xs)))
 joined-take g [] i x lt is = absurd (omega (arith, lt))
 joined-take g (y ∷ xs) zero x lt is = ap (λ z. g z ++ joined (map g xs)) (sym is)
@@ -162,14 +145,14 @@ joined-take g (y ∷ xs) (suc i) x lt is =
     ∙ ap (λ n. (g y ++ joined (map g (take i xs))) ++ (g x ++ joined (map g (drop n (y ∷ xs))))) (sym e))
 
 -- what is kept of the flow at a place stands behind what is kept of those before it
-pub split-inside : (facts : WorkKey → Fact) (e : Element) (flows : List SplitFlow) (lists : List KeptList) (i start : ℕ) (f : SplitFlow) → e.body ≡ Split flows
-    → KeepsInside facts e lists → i < length flows → f ≡ get_or flows i f → start ≡ length (joined (map (flow_lists facts) (take i flows)))
+pub flows-inside : (facts : WorkKey → Fact) (flows : List SplitFlow) (lists : List KeptList) (i start : ℕ) (f : SplitFlow)
+    → KeepsFlows facts flows lists → i < length flows → f ≡ get_or flows i f → start ≡ length (joined (map (flow_lists facts) (take i flows)))
     → (KeepsFirst facts (out-SplitFlow f).elements (drop start lists)) × (start + length (flow_lists facts f) ≤ length lists)
-split-inside facts e flows lists i start f is keeps lt at begins =
+flows-inside facts flows lists i start f keeps lt at begins =
     let before : List KeptList = joined (map (flow_lists facts) (take i flows)) in
     let behind : List KeptList = joined (map (flow_lists facts) (drop (i + 1) flows)) in
     let whole : lists ≡ before ++ (flow_lists facts f ++ (behind ++ keeps.0)) =
-    keeps.1 ∙ (ap (λ r. r ++ keeps.0) ((kept-split facts e flows is).1 ∙ joined-take (flow_lists facts) flows i f lt at)
+    keeps.1 ∙ (ap (λ r. r ++ keeps.0) (joined-take (flow_lists facts) flows i f lt at)
     ∙ (append_assoc before (flow_lists facts f ++ behind) keeps.0 ∙ ap (λ r. before ++ r) (append_assoc (flow_lists facts f) behind keeps.0))) in
     let l : length lists ≡ length (before ++ (flow_lists facts f ++ (behind ++ keeps.0))) = ap length whole in
     let a = length-append before (flow_lists facts f ++ (behind ++ keeps.0)) in
@@ -181,26 +164,6 @@ split-inside facts e flows lists i start f is keeps lt at begins =
       ),
       omega (arith, begins, l, a, b),
     )
-
--- the size that is kept of it is the number of its lists
-pub split-size : (facts : WorkKey → Fact) (f : SplitFlow) (es : List Element) (lists : List KeptList) (size : ℕ) → es ≡ (out-SplitFlow f).elements → KeepsFirst facts es lists
-    → ((d : KeptList) → size ≡ (get_or lists 0 d).size) → size ≡ length (flow_lists facts f)
-split-size facts f es lists size these keeps got =
-    let from = first_id (rows_in (states facts es)) in
-    let head : size ≡ length (joined (insides (states facts es))) + 1 = got (head_in facts es from) ∙ ap (λ ls. (get_or ls 0 (head_in facts es from)).size) keeps.1 in
-    let l : length (flow_lists facts f) ≡ length (lists_in (tree_first (states facts es))) =
-    ap length (flow-lists-first facts f ∙ ap (λ xs. lists_in (tree_first (states facts xs))) (sym these)) in
-    let m : length (lists_in (tree_first (states facts es))) ≡ suc (length (joined (insides (states facts es)))) = refl in
-    omega (arith, head, l, m)
-
-one-showing : {X : Type 0} (key : WorkKey) (g : X → Value) (xs : List X) (d : X) → all_show key (map g xs) ≡ true
-    → (j : ℕ) × (j < length xs) × (shows key (g (get_or xs j d)) ≡ true)
-one-showing key g [] d h = cc
-one-showing key g (x ∷ xs) d h =
-    elim (one-shows key (g x) _ h) [
-      | inl here ↦ (0, omega arith, here)
-      | inr later ↦ let more = one-showing key g xs d later in (suc more.0, (let lt = more.1 in omega (arith, lt)), more.2)
-    ]
 
 place-there : (p : Option ℕ) → p ≡ None ⊎ ((k : ℕ) × (p ≡ Some k))
 place-there None = inl refl
@@ -220,36 +183,12 @@ list-holds facts es from key d shown =
           omega (arith, counted, part)
     ]
 
-flow-holds : (facts : WorkKey → Fact) (f : SplitFlow) (key : WorkKey) (d : Element) → shows key (value_kept (kept_flow facts f)) ≡ true → 1 ≤ count_in_flow key.element f
+pub flow-holds : (facts : WorkKey → Fact) (f : SplitFlow) (key : WorkKey) (d : Element) → shows key (value_kept (kept_flow facts f)) ≡ true → 1 ≤ count_in_flow key.element f
 flow-holds facts f key d shown =
     let es = (out-SplitFlow f).elements in
     let held = list-holds facts es (first_id (rows_in (states facts es))) key d (ap (λ w. shows key (value_kept w)) (sym (whole-parts facts f)) ∙ shown) in
     let fits = flow-count key.element f in
     omega (arith, held, fits)
-
-pub either : (b : Bool) → b ≡ true → b ≡ false → ⊥
-either b shown hidden = cc
-
--- a flow that does not show a work key, in a split that does, does not hold its element
-pub split-elsewhere : (facts : WorkKey → Fact) (e d : Element) (flows : List SplitFlow) (key : WorkKey) (i : ℕ) (f : SplitFlow) (es : List Element) (lists : List KeptList) → e.body ≡ Split flows
-    → result_shows key (kept_element facts e).row.own_result ≡ true → count_in key.element e ≤ 1 → i < length flows → f ≡ get_or flows i f → es ≡ (out-SplitFlow f).elements
-    → KeepsFirst facts es lists → first_shows key lists ≡ false → count_of key.element es ≡ 0
-split-elsewhere facts e d flows key i f es lists is shown once lt at these keeps hides =
-    let values : all_show key (map (λ g. value_kept (kept_flow facts g)) flows) ≡ true =
-    split-shown key (map (λ g. value_kept (kept_flow facts g)) flows) (ap (result_shows key) (sym (kept-split facts e flows is).0) ∙ shown) in
-    let one = one-showing key (λ g. value_kept (kept_flow facts g)) flows f values in
-    let held = flow-holds facts (get_or flows one.0 f) key d one.2 in
-    let all = split-count key.element e flows is in
-    let fits : total (map (count_in_flow key.element) flows) ≤ 1 = omega (arith, all, once) in
-    let mine : shows key (value_kept (kept_flow facts f)) ≡ false =
-    ap (λ w. shows key (value_kept w)) (whole-parts facts f ∙ ap (λ xs. tree_first (states facts xs)) (sym these)) ∙ (ap (first_shows key) (sym keeps.1) ∙ hides) in
-    let apart : i ≢ one.0 =
-    λ (same : i ≡ one.0). either _ one.2 (ap (λ n. shows key (value_kept (kept_flow facts (get_or flows n f)))) (sym same) ∙ (ap (λ g. shows key (value_kept (kept_flow facts g))) (sym at) ∙ mine)) in
-    let none : count_in_flow key.element (get_or flows i f) ≡ 0 = others-none (count_in_flow key.element) flows one.0 f one.1 fits held i apart lt in
-    let part = flow-count key.element f in
-    let same : count_in_flow key.element f ≡ count_in_flow key.element (get_or flows i f) = ap (count_in_flow key.element) at in
-    let these2 : count_of key.element es ≡ count_of key.element (out-SplitFlow f).elements = ap (count_of key.element) these in
-    omega (arith, none, part, same, these2)
 
 pub split-once : (e : Element) (flows : List SplitFlow) (id : List ℕ) (i : ℕ) (f : SplitFlow) (es : List Element) → e.body ≡ Split flows → count_in id e ≤ 1
     → i < length flows → f ≡ get_or flows i f → es ≡ (out-SplitFlow f).elements → count_of id es ≤ 1
@@ -261,22 +200,6 @@ split-once e flows id i f es is once lt at these =
     let these2 : count_of id es ≡ count_of id (out-SplitFlow f).elements = ap (count_of id) these in
     omega (arith, all, once, part, same, fits, these2)
 
--- what is put into one flow more
-pub split-more : (facts later : WorkKey → Fact) (flows : List SplitFlow) (i : ℕ) (f : SplitFlow) (es : List Element) (others middle changes : List ListChange) (base start : ℕ)
-    → i < length flows → f ≡ get_or flows i f → es ≡ (out-SplitFlow f).elements → start ≡ length (joined (map (flow_lists facts) (take i flows)))
-    → Puts others middle base (joined (map (flow_lists facts) (take i flows))) (joined (map (flow_lists later) (take i flows)))
-    → Puts middle changes (base + start) (lists_in (tree_first (states facts es))) (lists_in (tree_first (states later es)))
-    → Puts others changes base (joined (map (flow_lists facts) (take (i + 1) flows))) (joined (map (flow_lists later) (take (i + 1) flows)))
-split-more facts later flows i f es others middle changes base start lt at these begins first second =
-    let more : (fs : WorkKey → Fact) → joined (map (flow_lists fs) (take (i + 1) flows)) ≡ joined (map (flow_lists fs) (take i flows)) ++ lists_in (tree_first (states fs es)) =
-    λ fs. ap joined (one-more (flow_lists fs) flows i f lt at) ∙ (joined-last (map (flow_lists fs) (take i flows)) (flow_lists fs f)
-    ∙ ap (λ r. joined (map (flow_lists fs) (take i flows)) ++ r) (flow-lists-first fs f ∙ ap (λ xs. lists_in (tree_first (states fs xs))) (sym these))) in
-    let whole = puts-more others middle changes base (joined (map (flow_lists facts) (take i flows))) (joined (map (flow_lists later) (take i flows)))
-    (lists_in (tree_first (states facts es))) (lists_in (tree_first (states later es))) first
-    (subst (λ n. Puts middle changes (base + n) (lists_in (tree_first (states facts es))) (lists_in (tree_first (states later es)))) begins second) in
-    subst (λ x. Puts others changes base x (joined (map (flow_lists later) (take (i + 1) flows)))) (sym (more facts))
-    (subst (λ x. Puts others changes base (joined (map (flow_lists facts) (take i flows)) ++ lists_in (tree_first (states facts es))) x) (sym (more later)) whole)
-
 pub split-start : (facts : WorkKey → Fact) (flows : List SplitFlow) (i : ℕ) (f : SplitFlow) (start size : ℕ) → i < length flows → f ≡ get_or flows i f
     → start ≡ length (joined (map (flow_lists facts) (take i flows))) → size ≡ length (flow_lists facts f)
     → start + size ≡ length (joined (map (flow_lists facts) (take (i + 1) flows)))
@@ -285,25 +208,3 @@ split-start facts flows i f start size lt at begins many =
     ap length (ap joined (one-more (flow_lists facts) flows i f lt at) ∙ joined-last (map (flow_lists facts) (take i flows)) (flow_lists facts f)) in
     let a = length-append (joined (map (flow_lists facts) (take i flows))) (flow_lists facts f) in
     omega (arith, begins, many, more, a)
-
-pub split-value : (later : WorkKey → Fact) (flows : List SplitFlow) (i : ℕ) (f : SplitFlow) (es : List Element) (now more : List Value) (value : Value) → i < length flows → f ≡ get_or flows i f
-    → es ≡ (out-SplitFlow f).elements → now ≡ map (λ g. value_kept (kept_flow later g)) (take i flows) → more ≡ now ++ value ∷ [] → value ≡ value_kept (tree_first (states later es))
-    → more ≡ map (λ g. value_kept (kept_flow later g)) (take (i + 1) flows)
-split-value later flows i f es now more value lt at these so_far pushed is =
-    values-more (λ g. value_kept (kept_flow later g)) flows i f now more value lt at so_far pushed
-    (is ∙ ap value_kept (ap (λ xs. tree_first (states later xs)) these ∙ sym (whole-parts later f)))
-
--- the whole split
-pub split-comes : (later : WorkKey → Fact) (e : Element) (flows : List SplitFlow) (i : ℕ) (values shared : List Value) (made : ElementResult) → e.body ≡ Split flows → length flows ≤ i
-    → values ≡ map (λ g. value_kept (kept_flow later g)) (take i flows) → shared ≡ values → made ≡ split_result shared → made ≡ (kept_element later e).row.own_result
-split-comes later e flows i values shared made is all so_far same comes =
-    comes ∙ (ap split_result (same ∙ (so_far ∙ ap (map (λ g. value_kept (kept_flow later g))) (take_all i flows all))) ∙ sym (kept-split later e flows is).0)
-
-pub split-puts : (facts later : WorkKey → Fact) (e : Element) (flows : List SplitFlow) (i : ℕ) (others changes : List ListChange) (base : ℕ) → e.body ≡ Split flows → length flows ≤ i
-    → Puts others changes base (joined (map (flow_lists facts) (take i flows))) (joined (map (flow_lists later) (take i flows)))
-    → Puts others changes base (kept_element facts e).inside (kept_element later e).inside
-split-puts facts later e flows i others changes base is all puts =
-    let whole : (fs : WorkKey → Fact) → joined (map (flow_lists fs) (take i flows)) ≡ (kept_element fs e).inside =
-    λ fs. ap (λ xs. joined (map (flow_lists fs) xs)) (take_all i flows all) ∙ sym (kept-split fs e flows is).1 in
-    subst (λ x. Puts others changes base x (kept_element later e).inside) (whole facts)
-    (subst (λ x. Puts others changes base (joined (map (flow_lists facts) (take i flows))) x) (whole later) puts)

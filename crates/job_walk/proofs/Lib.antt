@@ -22,3 +22,4 @@ pub mod Reporting
 pub mod Shown
 pub mod ShownCounts
 pub mod Sizes
+pub mod SplitFlows

@@ -1,5 +1,5 @@
 -- What a cursor keeps of each list of its job, and what a report changes of it.
-use Rattle.std.specs.Prelude.{ℕ, zero, suc, ◌≡◌, ◌≢◌, ◌+◌, Bool, false, List, [], ◌∷◌, ◌++◌, length, map, slice_set}
+use Rattle.std.specs.Prelude.{ℕ, zero, suc, ◌≡◌, ◌≢◌, ◌+◌, Bool, true, false, List, [], ◌∷◌, ◌++◌, length, map, slice_set}
 use Rattle.jsl_model.specs.Trees.{joined}
 use Rattle.jsl_model.specs.declared.element.Element.{Element, Element-F, fold-Element}
 use Rattle.jsl_model.specs.declared.element.SplitFlow.{SplitFlow, SplitFlow-F, fold-SplitFlow}
@@ -153,6 +153,17 @@ KeepsFirst facts elements lists = (rest : List KeptList) × (lists ≡ lists_in 
 -- what is kept of the lists inside an element, and then others
 abbrev pub KeepsInside : (WorkKey → Fact) → Element → List KeptList → Type 0
 KeepsInside facts element lists = (rest : List KeptList) × (lists ≡ (kept_element facts element).inside ++ rest)
+
+-- what is kept of the flows of a split, one after another, and then others
+abbrev pub KeepsFlows : (WorkKey → Fact) → List SplitFlow → List KeptList → Type 0
+KeepsFlows facts flows lists =
+    (rest : List KeptList) × (lists ≡ joined (map (λ (f : SplitFlow). lists_in (kept_flow facts f)) flows) ++ rest)
+
+-- what is kept of the flows of a split, whose own result shows a work key
+abbrev pub ShowsInFlow : WorkKey → List SplitFlow → List KeptList → Type 0
+ShowsInFlow key flows lists =
+    (facts : WorkKey → Fact) × KeepsFlows facts flows lists
+    × (result_shows key (split_result (map (λ (f : SplitFlow). value_kept (kept_flow facts f)) flows)) ≡ true)
 
 -- what is known, once this is learnt of a work key
 abbrev pub facts_after : List Known → WorkKey → Fact → WorkKey → Fact

@@ -1,38 +1,25 @@
 //! What a walk changes when it learns something: the lists on the way from the element to the job's
 //! list, and no other.
 ghost use Rattle.std.specs.Prelude.{◌≡◌, ◌+◌, ◌++◌, ◌∷◌, [], ◌<◌, ◌≤◌, ◌^◌, true, false, ℕ, List, length, map, drop, slice_index_or, IfOk, OnOk};
+ghost use Rattle.jsl_model.specs.declared.element.Body.TheVariants.{Split};
 ghost use Rattle.job_walk.specs.declared.kept_list.KeptList.{KeptList};
 ghost use Rattle.walk_rules.specs.declared.work_key.WorkKey.{WorkKey};
 ghost use Rattle.job_walk.specs.Cursors.{known_keys, put_fact};
-ghost use Rattle.walk_rules.specs.Shown.{is_shown};
 ghost use Rattle.walk_rules.specs.Keys.{key_of, has_key};
 ghost use Rattle.job_walk.specs.KeptLists.{Keeps, KeepsFirst, KeepsInside, tree_first, lists_in, value_kept, Puts, ChangesList, ComesTo, facts_after, first_shows, result_shows, kept_element, key_count};
 ghost use Rattle.walk_rules.specs.Counts.{count_of, count_in};
-ghost use Rattle.walk_rules.specs.Flows.{value_of_kept};
 ghost use Rattle.walk_rules.specs.Walk.{fact_of, runnable_result, step_result};
 
 use crate::keeping::flow_result;
 use crate::kept_list::{KeptList, ListChange};
 use crate::known_fact::known_fact;
+use crate::split_flows::{lists_before, place_that_shows, split_after};
 use batch_ids::{OutOfMemory, T256};
-use jsl_model::{Body, Element, ElementIndex};
+use jsl_model::{Body, Element, ElementIndex, SplitFlow};
 use std::alloc::Global;
 use walk_rules::{
-    ElementResult, Fact, FlowValue, Known, Value, WorkKey, has_key, key_of, partitioned_result,
-    result_by, split_result_of, walk_on,
+    ElementResult, Fact, Known, Value, WorkKey, key_of, partitioned_result, result_by, walk_on,
 };
-
-/// Whether a value shows this work key as ready or busy.
-fn shows(value: &Value, key: &WorkKey) -> bool
-    ensures { result ≡ is_shown value.now key.now }
-{
-    match value {
-        Value::Open { ready, busy } => has_key(ready.as_slice(), key)
-            || has_key(busy.as_slice(), key),
-        Value::Done { .. } => false,
-        Value::Ended { .. } => false,
-    }
-}
 
 /// What is known of a partition of an element, once this is learnt of a work key.
 fn fact_after(
@@ -110,14 +97,6 @@ fn lists_from(lists: &[KeptList], start: usize) -> &[KeptList]
     ensures { result.now ≡ drop start lists.now }
 {
     &lists[start..]
-}
-
-/// How many the first of these lists is, with those inside it.
-fn size_of(lists: &[KeptList]) -> usize
-    requires { 0 < length lists.now }
-    ensures { (d : KeptList) → result ≡ (slice_index_or lists.now 0 d).size }
-{
-    lists[0].size
 }
 
 /// Adds a change of a list; what the list comes to by it.
@@ -230,64 +209,64 @@ fn element_changes(
         Body::Decision { .. } => Ok(runnable_after(alloc, index, known, key, fact, &element.id)?),
         Body::Flow(elements) => {
             let elements = elements.as_slice();
-            let value = first_changes(
+            let value = list_changes(
                 alloc, changes, base, lists, elements, index, known, key, fact,
             )?;
-            Ok(flow_result(value.into_value()?))
+            Ok(flow_result(value))
         }
-        Body::Split(flows) => {
-            let mut values = Vec::with_capacity(alloc, flows.as_slice().len())?;
-            let mut start = 0;
-            for flow in flows.as_slice() {
-                let rest = lists_from(lists, start);
-                let many = size_of(rest);
-                let here = base + start;
-                let elements = flow.elements.as_slice();
-                let value = first_changes(
-                    alloc, changes, here, rest, elements, index, known, key, fact,
-                )?;
-                values.push(value)?;
-                start += many;
-            }
-            Ok(split_result_of(alloc, values.as_slice())?)
-        }
+        Body::Split(flows) => Ok(split_changes(
+            alloc,
+            changes,
+            base,
+            lists,
+            element,
+            flows.as_slice(),
+            index,
+            known,
+            key,
+            fact,
+        )?),
     }
 }
 
-/// What changes of a list that begins at its first element, and of those inside it, once this is
-/// learnt of a work key, and what the list comes to then. Where the list doesn't show the work key,
-/// nothing changes, and its value is lent.
+/// The same of a split: it learns inside the flow that shows the work key, and what is kept of the
+/// others is lent.
 #[cycle(learning)]
-fn first_changes<'l>(
+fn split_changes(
     alloc: Global,
     changes: &mut Vec<ListChange>,
     base: usize,
-    lists: &'l [KeptList],
-    elements: &[Element],
+    lists: &[KeptList],
+    element: &Element,
+    flows: &[SplitFlow],
     index: &ElementIndex,
     known: &[Known],
     key: &WorkKey,
     fact: &Fact,
-) -> Result<FlowValue<'l>, OutOfMemory>
-    requires kept { KeepsFirst (fact_of known.now) elements.now lists.now }
+) -> Result<ElementResult, OutOfMemory>
+    requires split { element.now.body ≡ Split flows.now }
+    requires kept { KeepsInside (fact_of known.now) element.now lists.now }
+    requires shown { result_shows key.now (kept_element (fact_of known.now) element.now).row.own_result
+        ≡ true }
     requires known { has_key (known_keys known.now) key.now ≡ true }
     requires each { (one : WorkKey) → key_count one (known_keys known.now) ≤ 1 }
-    requires once { (id : List ℕ) → count_of id elements.now ≤ 1 }
-    requires elsewhere { first_shows key.now lists.now ≡ false
-        → count_of key.now.element elements.now ≡ 0 }
+    requires once { (id : List ℕ) → count_in id element.now ≤ 1 }
     requires numbered { base + length lists.now < 2 ^ 64 }
-    ensures value { IfOk result (λ value. value_of_kept value ≡ value_kept
-        (tree_first (map (kept_element (facts_after known.now key.now fact.now)) elements.now))) }
+    ensures comes { IfOk result (λ made. made
+        ≡ (kept_element (facts_after known.now key.now fact.now) element.now).row.own_result) }
     ensures changes { OnOk result (Puts changes.old.items changes.new.items base
-        (lists_in (tree_first (map (kept_element (fact_of known.now)) elements.now)))
-        (lists_in (tree_first
-        (map (kept_element (facts_after known.now key.now fact.now)) elements.now)))) }
+        (kept_element (fact_of known.now) element.now).inside
+        (kept_element (facts_after known.now key.now fact.now) element.now).inside) }
 {
-    if shows(&lists[0].progress.value, key) {
-        Ok(FlowValue::Made(list_changes(
-            alloc, changes, base, lists, elements, index, known, key, fact,
-        )?))
-    } else {
-        Ok(FlowValue::Kept(&lists[0].progress.value))
-    }
+    let place = place_that_shows(index, &element.id, lists, flows, key);
+    let start = lists_before(lists, flows, place);
+    let here = base + start;
+    let rest = lists_from(lists, start);
+    let elements = flows[place].elements.as_slice();
+    let made = list_changes(
+        alloc, changes, here, rest, elements, index, known, key, fact,
+    )?;
+    let result = split_after(alloc, lists, flows, place, &made);
+    drop(made);
+    result
 }

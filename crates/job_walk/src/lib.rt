@@ -13,6 +13,7 @@ mod learnt;
 mod plan;
 mod prepared;
 mod runnable;
+mod split_flows;
 mod walk;
 
 pub use cursor::Cursor;

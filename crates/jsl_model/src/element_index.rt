@@ -35,17 +35,26 @@ impl Outer {
     }
 }
 
-/// Spots by the ids of their elements, which rise.
+/// An element, and where to look for it.
+#[derive(Drop)]
+struct Entry {
+    id: T256,
+    spot: Spot,
+    /// The place of the element that its list stands in, in that one's own list.
+    outer_place: usize,
+}
+
+/// Elements by their ids, which rise.
 #[derive(Drop)]
 struct Spots {
-    list: Vec<(T256, Spot)>,
+    list: Vec<Entry>,
 }
 
 impl Debug for Spots {
     fn fmt<W: fmt::Write>(&self, f: &mut Formatter<W>) -> fmt::Result {
         let mut map = f.debug_map();
-        for (id, spot) in self.list.iter() {
-            map.entry(id, spot);
+        for entry in self.list.iter() {
+            map.entry(&entry.id, &entry.spot);
         }
         map.finish()
     }
@@ -85,7 +94,7 @@ impl ElementIndex {
     pub(crate) fn of(alloc: Global, elements: &[Element]) -> Result<ElementIndex, OutOfMemory> {
         let mut list = Vec::new(alloc);
         add_all(&mut list, elements, None, 0)?;
-        list.sort_unstable_by(|one, other| one.0.cmp(&other.0));
+        list.sort_unstable_by(|one, other| one.id.cmp(&other.id));
         let spots = Spots { list };
         let hashes = hashes_of(alloc, &spots)?;
         let starts = starts_of(alloc, hashes.as_slice())?;
@@ -104,17 +113,18 @@ impl ElementIndex {
         self.hashes.get(start..end)
     }
 
-    /// How the id of the spot with this number is to this one.
+    /// How the id of the spot with this number is to this one, which it mostly is.
     fn order(&self, number: usize, id: &T256) -> Ordering {
         match self.spots.list.get(number) {
-            Some(entry) => entry.0.cmp(id),
+            Some(entry) if entry.id == *id => Ordering::Equal,
+            Some(entry) => entry.id.cmp(id),
             None => Ordering::Greater,
         }
     }
 
     /// The spot of the element with this id. It looks at one spot, mostly, and at no more than the number of
     /// elements has binary digits.
-    fn spot_of(&self, id: &T256) -> Option<&Spot> {
+    fn entry_of(&self, id: &T256) -> Option<&Entry> {
         let hash = hash_of(id);
         let near = self.near(hash)?;
         let place = near
@@ -123,15 +133,14 @@ impl ElementIndex {
                 order => order,
             })
             .ok()?;
-        let entry = self.spots.list.get(near.get(place)?.number)?;
-        Some(&entry.1)
+        self.spots.list.get(near.get(place)?.number)
     }
 
     /// The place of the element with this id in its list, and 0 where there is none. It costs a look-up by
     /// the hash of the id; where hashes meet, it compares as many ids as their number has binary digits.
     pub fn place_of(&self, id: &T256) -> usize {
-        match self.spot_of(id) {
-            Some(spot) => spot.place,
+        match self.entry_of(id) {
+            Some(entry) => entry.spot.place,
             None => 0,
         }
     }
@@ -139,14 +148,20 @@ impl ElementIndex {
     /// Inside what the list of the element with this id stands; nothing, where that is the job's own, or
     /// there is no such element. It costs as much.
     pub fn outer_of(&self, id: &T256) -> Option<&Outer> {
-        self.spot_of(id)?.outer.as_ref()
+        self.entry_of(id)?.spot.outer.as_ref()
+    }
+
+    /// The same, with the place of the outer element in its own list. It costs as much.
+    pub fn outer_with_place(&self, id: &T256) -> Option<(&Outer, usize)> {
+        let entry = self.entry_of(id)?;
+        Some((entry.spot.outer.as_ref()?, entry.outer_place))
     }
 
     /// The place of the work key of this partition of the element with this id, among those of the job
     /// in written order, and 0 where there is none. It costs as much.
     pub fn key_place_of(&self, id: &T256, partition: u32) -> usize {
-        match self.spot_of(id) {
-            Some(spot) => spot.first.saturating_add(partition as usize),
+        match self.entry_of(id) {
+            Some(entry) => entry.spot.first.saturating_add(partition as usize),
             None => 0,
         }
     }
@@ -174,7 +189,7 @@ fn part_of(hash: u64, parts: usize) -> usize {
 fn hashes_of(alloc: Global, spots: &Spots) -> Result<Vec<HashedSpot>, OutOfMemory> {
     let mut hashes = Vec::with_capacity(alloc, spots.list.len())?;
     for (number, entry) in spots.list.iter().enumerate() {
-        let hash = hash_of(&entry.0);
+        let hash = hash_of(&entry.id);
         hashes.push(HashedSpot { hash, number })?;
     }
     hashes.sort_unstable();
@@ -204,36 +219,42 @@ fn fill(starts: &mut Vec<usize>, many: usize, place: usize) -> Result<(), OutOfM
 }
 
 /// Adds the elements of a list and those inside them, of which the first work key has this place;
-/// the place of the next one.
+/// the place of the next one. `outer` is what the list stands in, with its place.
 #[cycle(indexing)]
 fn add_all(
-    spots: &mut Vec<(T256, Spot)>,
+    list: &mut Vec<Entry>,
     elements: &[Element],
-    outer: Option<&Outer>,
+    outer: Option<(&Outer, usize)>,
     first: usize,
 ) -> Result<usize, OutOfMemory> {
     let mut next = first;
     for (place, element) in elements.iter().enumerate() {
-        let outer = match outer {
-            None => None,
-            Some(outer) => Some(outer.try_clone()?),
+        let (outer, outer_place) = match outer {
+            None => (None, 0),
+            Some((outer, outer_place)) => (Some(outer.try_clone()?), outer_place),
         };
         let spot = Spot {
             place,
             first: next,
             outer,
         };
-        spots.push((element.id.try_clone()?, spot))?;
-        next = add_inside(spots, element, next)?;
+        let id = element.id.try_clone()?;
+        list.push(Entry {
+            id,
+            spot,
+            outer_place,
+        })?;
+        next = add_inside(list, element, place, next)?;
     }
     Ok(next)
 }
 
-/// Adds the elements inside one; the place of the next work key.
+/// Adds the elements inside one that stands at this place of its list; the place of the next work key.
 #[cycle(indexing)]
 fn add_inside(
-    spots: &mut Vec<(T256, Spot)>,
+    list: &mut Vec<Entry>,
     element: &Element,
+    place: usize,
     first: usize,
 ) -> Result<usize, OutOfMemory> {
     match &element.body {
@@ -244,13 +265,13 @@ fn add_inside(
         Body::Decision { .. } => Ok(first.saturating_add(1)),
         Body::Flow(elements) => {
             let outer = outer_at(element, 0)?;
-            Ok(add_all(spots, elements.as_slice(), Some(&outer), first)?)
+            Ok(add_all(list, elements.as_slice(), Some((&outer, place)), first)?)
         }
         Body::Split(flows) => {
             let mut next = first;
-            for (place, flow) in flows.as_slice().iter().enumerate() {
-                let outer = outer_at(element, place)?;
-                next = add_all(spots, flow.elements.as_slice(), Some(&outer), next)?;
+            for (number, flow) in flows.as_slice().iter().enumerate() {
+                let outer = outer_at(element, number)?;
+                next = add_all(list, flow.elements.as_slice(), Some((&outer, place)), next)?;
             }
             Ok(next)
         }

@@ -353,7 +353,7 @@ followed_some catalogue works executions x before after rest followed = λ q.
     ])
 
 -- a number, or another
-cmp-own : {P : Type 0} (x q : ℕ) → (q ≡ x → P) → (is_eq (nat_cmp x q) ≡ false → (q == x) ≡ false → P) → P
+pub cmp-own : {P : Type 0} (x q : ℕ) → (q ≡ x → P) → (is_eq (nat_cmp x q) ≡ false → (q == x) ≡ false → P) → P
 cmp-own {P = P} x q own other =
     (elim (q == x) as (λ b. (q == x) ≡ b → P) [
       | true ↦ λ e. own (eqb-true q x e)
@@ -386,7 +386,7 @@ put-listed x new old (row ∷ rest) found same =
     ]) refl found
 
 -- the row of another number
-found-beside : (x q : ℕ) (new : Option ExecutionRow) (rows : List ExecutionRow) → (q == x) ≡ false → IfSome new (λ row. MayReplaceExecution rows x row)
+pub found-beside : (x q : ℕ) (new : Option ExecutionRow) (rows : List ExecutionRow) → (q == x) ≡ false → IfSome new (λ row. MayReplaceExecution rows x row)
     → find (is_execution q) (put_row x new rows) ≡ find (is_execution q) rows
 found-beside x q None rows off own = refl
 found-beside x q (Some new) rows off own = beside-listed x q new own.0 rows off own.1 own.2.execution
@@ -444,7 +444,7 @@ followed_pushed catalogue works rows new kept followed = λ q.
 
 -- a job instance, none of whose job executions is unfinished, is gone
 
-found-there : (q i : ℕ) (rows : List ExecutionRow) (row : ExecutionRow) → find (is_execution q) rows ≡ Some row → (row.instance == i) ≡ false
+pub found-there : (q i : ℕ) (rows : List ExecutionRow) (row : ExecutionRow) → find (is_execution q) rows ≡ Some row → (row.instance == i) ≡ false
     → find (is_execution q) (executions_there (λ j. j == i) rows) ≡ Some row
 found-there q i [] row found off = cc
 found-there q i (r ∷ rest) row found off =
@@ -463,7 +463,7 @@ found-there q i (r ∷ rest) row found off =
           ]
     ]) refl found
 
-open-elsewhere : (i : ℕ) (p : ExecutionRow → Bool) (rows : List ExecutionRow) (row : ExecutionRow) → find p rows ≡ Some row → is_open row ≡ true → list_any (is_running_in i) rows ≡ false
+pub open-elsewhere : (i : ℕ) (p : ExecutionRow → Bool) (rows : List ExecutionRow) (row : ExecutionRow) → find p rows ≡ Some row → is_open row ≡ true → list_any (is_running_in i) rows ≡ false
     → (row.instance == i) ≡ false
 open-elsewhere i p [] row found still finished = cc
 open-elsewhere i p (r ∷ rest) row found still finished =

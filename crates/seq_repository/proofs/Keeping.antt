@@ -1,13 +1,16 @@
 -- What a repository keeps to, its agenda too, is kept by each operation.
 use Rattle.std.proofs.Common.{◌≡◌, ℕ, ◌+◌, ◌<◌, ◌==◌, Bool, true, false, cond, not, Option, None, Some, IfSome, List, [], ◌∷◌, ◌++◌, find, refl, sym, ◌∙◌, ap, subst}
+use Rattle.std.specs.BTreeMap.{BTreeMap, get, keys}
 use Rattle.std.specs.BTreeSet.{insert_key}
 use Rattle.std.specs.List.{list_any}
-use Rattle.std.specs.Option.{option_map}
+use Rattle.std.specs.Option.{option_and_then, option_map}
 use Rattle.std.specs.Ordering.{nat_cmp, is_eq}
 use Rattle.job_walk.specs.Cursors.{CursorState}
 use Rattle.batch_history.proofs.WorkLists.{AllApart}
 use Rattle.batch_history.specs.Works.{is_work, work_key}
-use Rattle.seq_repository.specs.Following.{AreFollowed, IsKeptOf, Walks}
+use Rattle.seq_repository.specs.Following.{AreFollowed, AreOfUnfinished, IsSlotOf, Walks, kept_at}
+use Rattle.seq_repository.specs.declared.cursors.Slot.{Slot}
+use Rattle.seq_repository.proofs.Slots.{cursor_left, slots_put, slots_pushed, slots_same, slots_without}
 use Rattle.seq_repository.proofs.Followed.{apart_filtered, apart_put, followed_pushed, followed_put, followed_some, followed_without}
 use Rattle.batch_ids.specs.Metrics.{added, zero_metrics}
 use Rattle.batch_ids.specs.declared.metric_step.MetricStep.{MetricStep}
@@ -43,10 +46,10 @@ pub record Puts (ready : Bool) (x : ℕ) (old done : List ℕ) : Type 0 where
   pub is_put : put ≡ cond ready (insert_key nat_cmp old x) old
   pub is_done : done ≡ cond goes (without_number x put) put
 
--- and to the cursors: that of x is kept, or is not, and those of others stay
-pub record KeepsWalk (x : ℕ) (row : Option ExecutionRow) (cursor : Option CursorState) (old kept : ℕ → Option CursorState) : Type 0 where
-  pub others : (q : ℕ) → is_eq (nat_cmp x q) ≡ false → kept q ≡ old q
-  pub own : IfSome (kept x) (IsKeptOf row cursor)
+-- and to the cursors: the slot of x has its cursor, or is not there, and those of others stay
+pub record KeepsWalk (x : ℕ) (row : Option ExecutionRow) (cursor : Option CursorState) (old kept : BTreeMap ℕ Slot) : Type 0 where
+  pub others : (q : ℕ) → is_eq (nat_cmp x q) ≡ false → get nat_cmp kept q ≡ get nat_cmp old q
+  pub own : IfSome (get nat_cmp kept x) (IsSlotOf row cursor)
 
 rising-put : (x : ℕ) (new : Option ExecutionRow) (rows : List ExecutionRow) → IfSome new (λ row. MayReplaceExecution rows x row) → AreRising (execution_numbers rows)
     → AreRising (execution_numbers (put_row x new rows))
@@ -55,7 +58,7 @@ rising-put x (Some row) rows own rising =
     subst AreRising (sym (numbers_changed (λ (r : ExecutionRow). r.execution) (is_execution x) rows own.0 row own.1 own.2.execution)) rising
 
 -- the rows and the agenda after an operation on job execution x
-kept-put : (limit : ℕ) (old done : List ℕ) (walks left : ℕ → Option CursorState) (kept after : Kept) (x : ℕ) (f : ExecutionRow → ExecutionRow) (new : Option ExecutionRow) (ready : Bool) (cursor : Option CursorState)
+kept-put : (limit : ℕ) (old done : List ℕ) (walks left : BTreeMap ℕ Slot) (kept after : Kept) (x : ℕ) (f : ExecutionRow → ExecutionRow) (new : Option ExecutionRow) (ready : Bool) (cursor : Option CursorState)
     → IsKept limit old walks kept → IsSound limit after → after.catalogue ≡ kept.catalogue → after.records.executions ≡ put_row x new kept.records.executions
     → KeepsOthers x kept.records.works after.records.works → IfSome new (λ row. MayReplaceExecution kept.records.executions x row)
     → new ≡ option_map f (find (is_execution x) kept.records.executions) → ready ≡ is_ready_row kept.catalogue after.records.works new → Puts ready x old done
@@ -67,16 +70,18 @@ kept-put limit old done walks left kept after x f new ready cursor k sound same 
       rising = subst (λ l. AreRising (execution_numbers l)) (sym rows) (rising-put x new kept.records.executions own k.rising);
       apart = apart;
       followed =
-          subst (λ catalogue. AreFollowed catalogue after.records.works after.records.executions left) (sym same)
-          (subst (λ (l : List ExecutionRow). AreFollowed kept.catalogue after.records.works l left) (sym rows)
-          (followed_put kept.catalogue kept.records.works after.records.works kept.records.executions x new cursor walks left k.followed others own walked stays.others stays.own));
+          subst (λ catalogue. AreFollowed catalogue after.records.works after.records.executions (kept_at left)) (sym same)
+          (subst (λ (l : List ExecutionRow). AreFollowed kept.catalogue after.records.works l (kept_at left)) (sym rows)
+          (followed_put kept.catalogue kept.records.works after.records.works kept.records.executions x new cursor (kept_at walks) (kept_at left) k.followed others own walked
+          (λ q off. ap (option_and_then (λ (slot : Slot). slot.cursor)) (stays.others q off)) (cursor_left new cursor (get nat_cmp left x) stays.own)));
+      slots = subst (λ l. AreOfUnfinished l left) (sym rows) (slots_put x new cursor kept.records.executions walks left own stays.others stays.own k.slots);
       agenda =
           agenda_changed kept.catalogue kept.records.works after.records.works kept.records.executions x f new ready puts.goes old puts.put done k.rising k.agenda others own made is_ready puts.is_goes puts.is_put puts.is_done
           ∙ (ap (λ (l : List ExecutionRow). agenda_of kept.catalogue after.records.works l) (sym rows)
           ∙ ap (λ catalogue. agenda_of catalogue after.records.works after.records.executions) (sym same));
     }
 
-pub kept_change : (limit : ℕ) (old done : List ℕ) (walks left : ℕ → Option CursorState) (kept : Kept) (m : Maps) (x : ℕ) (f : ExecutionRow → ExecutionRow) (new : Option ExecutionRow) (ready : Bool) (cursor : Option CursorState)
+pub kept_change : (limit : ℕ) (old done : List ℕ) (walks left : BTreeMap ℕ Slot) (kept : Kept) (m : Maps) (x : ℕ) (f : ExecutionRow → ExecutionRow) (new : Option ExecutionRow) (ready : Bool) (cursor : Option CursorState)
     → IsKept limit old walks kept → kept.count < limit → IfSome new (λ row. MayReplaceExecution kept.records.executions x row)
     → new ≡ option_map f (find (is_execution x) kept.records.executions) → ready ≡ is_ready_row kept.catalogue kept.records.works new
     → m ≡ record kept.records { executions = put_row x new kept.records.executions } → Puts ready x old done
@@ -89,7 +94,7 @@ kept_change limit old done walks left kept m x f new ready cursor k room own mad
     (subst (λ works. ready ≡ is_ready_row kept.catalogue works new) same is_ready) puts
     (subst AllApart same k.apart) (subst (λ works. Walks kept.catalogue works (find (is_execution x) kept.records.executions) cursor) same walked) stays
 
-pub kept_work : (limit : ℕ) (old done : List ℕ) (walks left : ℕ → Option CursorState) (kept : Kept) (m1 m2 : Maps) (x : ℕ) (f : ExecutionRow → ExecutionRow) (new : Option ExecutionRow) (ready : Bool) (cursor : Option CursorState) (work : WorkRow)
+pub kept_work : (limit : ℕ) (old done : List ℕ) (walks left : BTreeMap ℕ Slot) (kept : Kept) (m1 m2 : Maps) (x : ℕ) (f : ExecutionRow → ExecutionRow) (new : Option ExecutionRow) (ready : Bool) (cursor : Option CursorState) (work : WorkRow)
     → IsKept limit old walks kept → kept.count < limit → IfSome new (λ row. MayReplaceExecution kept.records.executions x row)
     → new ≡ option_map f (find (is_execution x) kept.records.executions) → ready ≡ is_ready_row kept.catalogue (kept.records.works ++ work ∷ []) new
     → work.work ≡ kept.last.work + 1 → work.execution ≡ x → work.metrics ≡ zero_metrics
@@ -106,7 +111,7 @@ kept_work limit old done walks left kept m1 m2 x f new ready cursor work k room 
     (subst (λ works. ready ≡ is_ready_row kept.catalogue works new) same is_ready) puts
     (subst AllApart same apart) (subst (λ works. Walks kept.catalogue works (find (is_execution x) kept.records.executions) cursor) same walked) stays
 
-kept-report : (limit : ℕ) (old done : List ℕ) (walks left : ℕ → Option CursorState) (kept : Kept) (m1 m2 m3 : Maps) (p : WorkRow → Bool) (x : ℕ) (f : ExecutionRow → ExecutionRow) (row work : WorkRow) (new : Option ExecutionRow) (ready : Bool) (cursor : Option CursorState) (step : MetricStep)
+kept-report : (limit : ℕ) (old done : List ℕ) (walks left : BTreeMap ℕ Slot) (kept : Kept) (m1 m2 m3 : Maps) (p : WorkRow → Bool) (x : ℕ) (f : ExecutionRow → ExecutionRow) (row work : WorkRow) (new : Option ExecutionRow) (ready : Bool) (cursor : Option CursorState) (step : MetricStep)
     → IsKept limit old walks kept → kept.count < limit → IfSome new (λ row. MayReplaceExecution kept.records.executions x row)
     → new ≡ option_map f (find (is_execution x) kept.records.executions) → ready ≡ is_ready_row kept.catalogue (change_first p (λ gone. work) kept.records.works) new
     → find p kept.records.works ≡ Some row → row.execution ≡ x → work.execution ≡ row.execution → work_key work ≡ work_key row
@@ -125,7 +130,7 @@ kept-report limit old done walks left kept m1 m2 m3 p x f row work new ready cur
     (subst AllApart works (apart_put p kept.records.works row work found stays key k.apart))
     (subst (λ l. Walks kept.catalogue l (find (is_execution x) kept.records.executions) cursor) works walked) keeps
 
-pub kept_reported : (limit : ℕ) (old done : List ℕ) (walks left : ℕ → Option CursorState) (kept : Kept) (m1 m2 m3 : Maps) (w at : ℕ) (work : WorkRow) (after : After) (cursor : Option CursorState)
+pub kept_reported : (limit : ℕ) (old done : List ℕ) (walks left : BTreeMap ℕ Slot) (kept : Kept) (m1 m2 m3 : Maps) (w at : ℕ) (work : WorkRow) (after : After) (cursor : Option CursorState)
     → IsKept limit old walks kept → kept.count < limit → IsReport kept w at work after cursor
     → m1 ≡ record kept.records { checkpoints = m1.checkpoints } → m2 ≡ record m1 { works = works_with w work m1.works }
     → m3 ≡ record m2 { executions = put_row work.execution after.row m2.executions } → Puts after.ready work.execution old done → KeepsWalk work.execution after.row cursor walks left
@@ -135,7 +140,7 @@ kept_reported limit old done walks left kept m1 m2 m3 w at work after cursor k r
     k room r.own r.new r.ready r.found (sym r.execution) r.execution r.key r.number r.counts r.small e1 e2 e3 puts r.walks keeps
 
 -- the rows and the agenda after a job execution is made
-kept-pushed : (limit : ℕ) (old put : List ℕ) (walks : ℕ → Option CursorState) (kept after : Kept) (row : ExecutionRow) → IsKept limit old walks kept → IsSound limit after → after.catalogue ≡ kept.catalogue
+kept-pushed : (limit : ℕ) (old put : List ℕ) (walks : BTreeMap ℕ Slot) (kept after : Kept) (row : ExecutionRow) → IsKept limit old walks kept → IsSound limit after → after.catalogue ≡ kept.catalogue
     → after.records.works ≡ kept.records.works → after.records.executions ≡ kept.records.executions ++ row ∷ []
     → row.execution ≡ kept.last.execution + 1 → row_status row ≡ Starting → put ≡ insert_key nat_cmp old row.execution → IsKept limit put walks after
 kept-pushed limit old put walks kept after row k sound catalogue works rows is status is_put =
@@ -146,10 +151,11 @@ kept-pushed limit old put walks kept after row k sound catalogue works rows is s
       rising = subst (λ l. AreRising (execution_numbers l)) (sym rows) (rising_pushed (λ (r : ExecutionRow). r.execution) row.execution kept.records.executions row k.rising below refl);
       apart = subst AllApart (sym works) k.apart;
       followed =
-          subst (λ catalogue. AreFollowed catalogue after.records.works after.records.executions walks) (sym catalogue)
-          (subst (λ (l : List WorkRow). AreFollowed kept.catalogue l after.records.executions walks) (sym works)
-          (subst (λ (l : List ExecutionRow). AreFollowed kept.catalogue kept.records.works l walks) (sym rows)
-          (followed_pushed kept.catalogue kept.records.works kept.records.executions row walks k.followed)));
+          subst (λ catalogue. AreFollowed catalogue after.records.works after.records.executions (kept_at walks)) (sym catalogue)
+          (subst (λ (l : List WorkRow). AreFollowed kept.catalogue l after.records.executions (kept_at walks)) (sym works)
+          (subst (λ (l : List ExecutionRow). AreFollowed kept.catalogue kept.records.works l (kept_at walks)) (sym rows)
+          (followed_pushed kept.catalogue kept.records.works kept.records.executions row (kept_at walks) k.followed)));
+      slots = subst (λ l. AreOfUnfinished l walks) (sym rows) (slots_pushed kept.records.executions row walks k.slots);
       agenda =
           agenda_pushed kept.catalogue kept.records.works kept.records.executions row old put status below k.agenda is_put
           ∙ (ap (λ (l : List ExecutionRow). agenda_of kept.catalogue kept.records.works l) (sym rows)
@@ -157,7 +163,7 @@ kept-pushed limit old put walks kept after row k sound catalogue works rows is s
           ∙ ap (λ catalogue. agenda_of catalogue after.records.works after.records.executions) (sym catalogue)));
     }
 
-pub kept_start : (limit : ℕ) (old put : List ℕ) (walks : ℕ → Option CursorState) (kept : Kept) (m : Maps) (made : JobInstance) (row : ExecutionRow) → IsKept limit old walks kept
+pub kept_start : (limit : ℕ) (old put : List ℕ) (walks : BTreeMap ℕ Slot) (kept : Kept) (m : Maps) (made : JobInstance) (row : ExecutionRow) → IsKept limit old walks kept
     → made.instance ≡ kept.last.instance + 1 → row.execution ≡ kept.last.execution + 1 → row_status row ≡ Starting → kept.count < limit → is_placed kept.catalogue row ≡ true
     → m ≡ record kept.records { instances = kept.records.instances ++ made ∷ []; executions = kept.records.executions ++ row ∷ [] } → put ≡ insert_key nat_cmp old row.execution
     → IsKept limit put walks (record kept { count = kept.count + 1; last = record { instance = kept.last.instance + 1; execution = kept.last.execution + 1; work = kept.last.work }; records = m })
@@ -166,7 +172,7 @@ kept_start limit old put walks kept m made row k i x status room placed is is_pu
     (sound_start limit kept m made row k.sound i x room placed is) refl
     (ap (λ (maps : Maps). maps.works) is) (ap (λ (maps : Maps). maps.executions) is) x status is_put
 
-pub kept_restart : (limit : ℕ) (old put : List ℕ) (walks : ℕ → Option CursorState) (kept : Kept) (m : Maps) (row : ExecutionRow) → IsKept limit old walks kept → row.execution ≡ kept.last.execution + 1
+pub kept_restart : (limit : ℕ) (old put : List ℕ) (walks : BTreeMap ℕ Slot) (kept : Kept) (m : Maps) (row : ExecutionRow) → IsKept limit old walks kept → row.execution ≡ kept.last.execution + 1
     → row_status row ≡ Starting → kept.count < limit → is_placed kept.catalogue row ≡ true
     → m ≡ record kept.records { executions = kept.records.executions ++ row ∷ [] } → put ≡ insert_key nat_cmp old row.execution
     → IsKept limit put walks (record kept { count = kept.count + 1; last = record { instance = kept.last.instance; execution = kept.last.execution + 1; work = kept.last.work }; records = m })
@@ -175,7 +181,7 @@ kept_restart limit old put walks kept m row k x status room placed is is_put =
     (sound_restart limit kept m row k.sound x room placed is) refl
     (ap (λ (maps : Maps). maps.works) is) (ap (λ (maps : Maps). maps.executions) is) x status is_put
 
-pub kept_purge : (limit : ℕ) (old : List ℕ) (walks : ℕ → Option CursorState) (kept : Kept) (m : Maps) (i : ℕ) → IsKept limit old walks kept → kept.count < limit → list_any (is_running_in i) kept.records.executions ≡ false
+pub kept_purge : (limit : ℕ) (old : List ℕ) (walks : BTreeMap ℕ Slot) (kept : Kept) (m : Maps) (i : ℕ) → IsKept limit old walks kept → kept.count < limit → list_any (is_running_in i) kept.records.executions ≡ false
     → m ≡ without_instance i kept.records → IsKept limit old walks (record kept { count = kept.count + 1; records = m })
 kept_purge limit old walks kept m i k room finished is =
     record {
@@ -185,22 +191,24 @@ kept_purge limit old walks kept m i k room finished is =
           (rising_filtered (λ (r : ExecutionRow). r.execution) (λ row. not (row.instance == i)) kept.records.executions k.rising);
       apart = subst (λ (maps : Maps). AllApart maps.works) (sym is) (apart_filtered (λ work. not (is_gone (λ j. j == i) (instance_in kept.records.executions work.execution))) kept.records.works k.apart);
       followed =
-          subst (λ (maps : Maps). AreFollowed kept.catalogue maps.works maps.executions walks) (sym is)
-          (followed_without kept.catalogue i kept.records.works kept.records.executions walks finished k.followed);
+          subst (λ (maps : Maps). AreFollowed kept.catalogue maps.works maps.executions (kept_at walks)) (sym is)
+          (followed_without kept.catalogue i kept.records.works kept.records.executions (kept_at walks) finished k.followed);
+      slots = subst (λ (maps : Maps). AreOfUnfinished maps.executions walks) (sym is) (slots_without i kept.records.executions walks finished k.slots);
       agenda =
           k.agenda
           ∙ (sym (agenda_without kept.catalogue i kept.records.works kept.records.executions k.rising finished)
           ∙ ap (λ (maps : Maps). agenda_of kept.catalogue maps.works maps.executions) (sym is));
     }
 
--- some of the cursors are kept
-pub kept_taken : (limit : ℕ) (numbers : List ℕ) (walks left : ℕ → Option CursorState) (kept : Kept) (x : ℕ) → IsKept limit numbers walks kept
-    → ((q : ℕ) → left q ≡ cond (is_eq (nat_cmp x q)) None (walks q)) → IsKept limit numbers left kept
-kept_taken limit numbers walks left kept x k rest =
+-- a cursor is taken out of its slot
+pub kept_taken : (limit : ℕ) (numbers : List ℕ) (walks left : BTreeMap ℕ Slot) (kept : Kept) (x : ℕ) → IsKept limit numbers walks kept
+    → ((q : ℕ) → kept_at left q ≡ cond (is_eq (nat_cmp x q)) None (kept_at walks q)) → keys left ≡ keys walks → IsKept limit numbers left kept
+kept_taken limit numbers walks left kept x k rest same =
     record {
       sound = k.sound;
       rising = k.rising;
       apart = k.apart;
       agenda = k.agenda;
-      followed = followed_some kept.catalogue kept.records.works kept.records.executions x walks left rest k.followed;
+      followed = followed_some kept.catalogue kept.records.works kept.records.executions x (kept_at walks) (kept_at left) rest k.followed;
+      slots = slots_same kept.records.executions walks left same k.slots;
     }

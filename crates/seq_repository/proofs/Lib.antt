@@ -17,3 +17,4 @@ pub mod Marks
 pub mod Shown
 pub mod Standing
 pub mod Reported
+pub mod Slots

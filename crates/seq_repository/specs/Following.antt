@@ -1,5 +1,8 @@
 -- The cursors that a repository keeps, each of which follows the walk of an unfinished job execution.
-use Rattle.std.specs.Prelude.{ℕ, ◌≡◌, true, Option, None, Some, IfSome, List, find}
+use Rattle.std.specs.Prelude.{ℕ, ◌≡◌, true, Option, None, Some, IfSome, IsSome, List, find}
+use Rattle.std.specs.BTreeMap.{BTreeMap, get}
+use Rattle.std.specs.Option.{option_and_then}
+use Rattle.std.specs.Ordering.{nat_cmp}
 use Rattle.batch_history.specs.Rows.{is_execution}
 use Rattle.batch_history.specs.Replies.{first_ready}
 use Rattle.batch_history.specs.Walks.{facts_by_work, job_named, planned_facts, walk_value}
@@ -13,6 +16,11 @@ use Rattle.walk_rules.specs.Walk.{fact_of}
 use Rattle.walk_rules.specs.declared.work_key.WorkKey.{WorkKey}
 use Rattle.jsl_model.specs.Jobs.{JobTree}
 use Rattle.reply_rules.specs.Standings.{is_open}
+use Rattle.seq_repository.specs.declared.cursors.Slot.{Slot}
+
+-- the cursor that is kept of job execution x: where its slot is empty, as where it has none, there is none
+abbrev pub kept_at : BTreeMap ℕ Slot → ℕ → Option CursorState
+kept_at cursors x = option_and_then (λ (slot : Slot). slot.cursor) (get nat_cmp cursors x)
 
 -- a cursor is in the job of a job execution, began where its plan says, and knows of each work key of the job what the plan
 -- and the work items tell
@@ -33,6 +41,11 @@ pub record IsFollowed (catalogue : List JobTree) (works : List WorkRow) (executi
 abbrev pub AreFollowed : List JobTree → List WorkRow → List ExecutionRow → (ℕ → Option CursorState) → Type 0
 AreFollowed catalogue works executions kept = (x : ℕ) → IfSome (kept x) (IsFollowed catalogue works executions x)
 
+-- each slot, an empty one too, is of a job execution that is there and unfinished
+abbrev pub AreOfUnfinished : List ExecutionRow → BTreeMap ℕ Slot → Type 0
+AreOfUnfinished executions cursors =
+    (x : ℕ) → IsSome (get nat_cmp cursors x) → (row : ExecutionRow) × (find (is_execution x) executions ≡ Some row) × (is_open row ≡ true)
+
 -- the cursor of a job execution, if it is there, follows its walk
 abbrev pub Walks : List JobTree → List WorkRow → Option ExecutionRow → Option CursorState → Type 0
 Walks catalogue works None None = Unit {0}
@@ -47,3 +60,7 @@ IsFirst catalogue works row item = IfSome row (λ r. first_ready (walk_value cat
 -- what is kept of a job execution after an operation on it: its cursor, or nothing once it is over
 abbrev pub IsKeptOf : Option ExecutionRow → Option CursorState → CursorState → Type 0
 IsKeptOf row cursor kept = (cursor ≡ Some kept) × ((r : ExecutionRow) × (row ≡ Some r) × (is_open r ≡ true))
+
+-- what slot is left of a job execution after an operation on it: one that has its cursor, or none once it is over
+abbrev pub IsSlotOf : Option ExecutionRow → Option CursorState → Slot → Type 0
+IsSlotOf row cursor slot = (slot.cursor ≡ cursor) × ((r : ExecutionRow) × (row ≡ Some r) × (is_open r ≡ true))

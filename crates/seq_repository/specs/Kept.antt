@@ -1,7 +1,7 @@
 -- What a repository keeps, and the histories that it stands for.
-use Rattle.std.specs.Prelude.{ℕ, ◌≡◌, ◌≤◌, ◌+◌, Option, List}
+use Rattle.std.specs.Prelude.{ℕ, ◌≡◌, ◌≤◌, ◌+◌, List}
+use Rattle.std.specs.BTreeMap.{BTreeMap}
 use Rattle.batch_ids.specs.Metrics.{most_after}
-use Rattle.job_walk.specs.Cursors.{CursorState}
 use Rattle.jsl_model.specs.Jobs.{JobTree}
 use Rattle.batch_history.proofs.WorkLists.{AllApart}
 use Rattle.batch_history.specs.Legal.{IsLegal, grown}
@@ -12,8 +12,9 @@ use Rattle.records.specs.Maps.{Maps, AreBelow, AreRising, instance_numbers, exec
 use Rattle.restart_rules.specs.Placed.{ArePlaced}
 use Rattle.restart_rules.specs.Restarting.{rows_over}
 use Rattle.seq_repository.specs.Agendas.{agenda_of}
-use Rattle.seq_repository.specs.Following.{AreFollowed}
+use Rattle.seq_repository.specs.Following.{AreFollowed, AreOfUnfinished, kept_at}
 use Rattle.seq_repository.specs.Metered.{AreWithin}
+use Rattle.seq_repository.specs.declared.cursors.Slot.{Slot}
 
 -- what a repository keeps: a catalogue, how many operations were accepted, the last number that was given to a job
 -- instance, a job execution and a work item, and the rows
@@ -46,13 +47,15 @@ pub record IsSound (limit : ℕ) (kept : Kept) : Type 0 where
   pub placed : ArePlaced kept.catalogue kept.records.executions
 
 -- what it keeps to beside: job executions stand by rising number, no work key of one has two work items, its agenda has the
--- numbers of those that have something to do, and each of its cursors follows the walk of an unfinished one
-pub record IsKept (limit : ℕ) (numbers : List ℕ) (cursors : ℕ → Option CursorState) (kept : Kept) : Type 0 where
+-- numbers of those that have something to do, and each of its cursors follows the walk of an unfinished one, of which alone
+-- there are slots
+pub record IsKept (limit : ℕ) (numbers : List ℕ) (cursors : BTreeMap ℕ Slot) (kept : Kept) : Type 0 where
   pub sound : IsSound limit kept
   pub rising : AreRising (execution_numbers kept.records.executions)
   pub apart : AllApart kept.records.works
   pub agenda : numbers ≡ agenda_of kept.catalogue kept.records.works kept.records.executions
-  pub followed : AreFollowed kept.catalogue kept.records.works kept.records.executions cursors
+  pub followed : AreFollowed kept.catalogue kept.records.works kept.records.executions (kept_at cursors)
+  pub slots : AreOfUnfinished kept.records.executions cursors
 
 -- a repository stands for a history if it says what the history says
 abbrev pub StandsFor : Kept → History → Type 0

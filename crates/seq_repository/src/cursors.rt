@@ -1,6 +1,6 @@
 //! The walks of job executions, each in a cursor that is kept from its first claim to its end.
-ghost use Rattle.std.specs.Prelude.{ℕ, ◌≡◌, ◌++◌, ◌∷◌, [], true, false, Some, List, find, IfOk, IfSome};
-ghost use Rattle.std.specs.BTreeMap.{get};
+ghost use Rattle.std.specs.Prelude.{ℕ, ◌≡◌, ◌++◌, ◌∷◌, [], true, false, None, Some, List, find, option_copied, IfOk, IfSome, if◌then◌else◌};
+ghost use Rattle.std.specs.BTreeMap.{get, keys};
 ghost use Rattle.std.specs.Ordering.{nat_cmp, is_eq};
 ghost use Rattle.batch_ids.specs.declared.metric_step.MetricStep.{MetricStep as Counts};
 ghost use Rattle.batch_history.proofs.Folds.{over_as};
@@ -13,7 +13,7 @@ ghost use Rattle.batch_history.specs.declared.rows.ExecutionRow.{ExecutionRow};
 ghost use Rattle.batch_history.specs.declared.rows.WorkRow.{WorkRow as Work};
 ghost use Rattle.jsl_model.specs.Jobs.{JobTree};
 ghost use Rattle.restart_rules.specs.Placed.{is_placed, IsPlaced};
-ghost use Rattle.seq_repository.specs.Following.{Follows, IsFirst, IsFollowed, IsKeptOf, Walks};
+ghost use Rattle.seq_repository.specs.Following.{Follows, IsFirst, IsFollowed, IsSlotOf, Walks, kept_at};
 
 use crate::search;
 use batch_history::{ExecutionRow, WorkItem, WorkRow};
@@ -24,6 +24,23 @@ use records::Records;
 use restart_rules::known_of;
 use std::alloc::Global;
 use std::collections::BTreeMap;
+use std::fmt::{self, Debug, Formatter};
+
+/// Where the walk of a job execution is kept. It is empty while an operation has the walk, and after
+/// one that was refused memory.
+#[derive(Drop)]
+pub(crate) struct Slot {
+    pub(crate) cursor: Option<Cursor>,
+}
+
+impl Debug for Slot {
+    fn fmt<W: fmt::Write>(&self, f: &mut Formatter<W>) -> fmt::Result {
+        match &self.cursor {
+            Some(cursor) => cursor.fmt(f),
+            None => f.write_str("None"),
+        }
+    }
+}
 
 /// The walk of a job execution, where its work items tell this of its work keys.
 fn resumed(
@@ -231,26 +248,65 @@ pub(crate) fn finished(
     }
 }
 
-/// Keeps the walk of a job execution that is unfinished still. Where memory is refused it is not
-/// kept, and is made anew when it is needed.
+/// The walk that is kept of a job execution, if one is.
+pub(crate) fn kept(cursors: &BTreeMap<u64, Slot>, x: ExecutionId) -> Option<&Cursor>
+    ensures { option_copied result ≡ kept_at cursors.now x }
+{
+    match cursors.get(&x.value()) {
+        Some(slot) => slot.cursor.as_ref(),
+        None => None,
+    }
+}
+
+/// Takes the walk of a job execution out of its slot, which stays.
+pub(crate) fn take(cursors: &mut BTreeMap<u64, Slot>, x: ExecutionId) -> Option<Cursor>
+    ensures taken { result ≡ kept_at cursors.old x }
+    ensures left { (q : ℕ) → kept_at cursors.new q
+        ≡ (if is_eq (nat_cmp x q) then None else kept_at cursors.old q) }
+    ensures slots { keys cursors.new ≡ keys cursors.old }
+{
+    match cursors.get_mut(&x.value()) {
+        Some(slot) => slot.cursor.take(),
+        None => None,
+    }
+}
+
+/// Puts the walk of a job execution into its slot, or into a new one. Where memory is refused it is
+/// not kept.
+fn put(cursors: &mut BTreeMap<u64, Slot>, x: ExecutionId, cursor: Cursor)
+    ensures others { (q : ℕ) → is_eq (nat_cmp x q) ≡ false
+        → get nat_cmp cursors.new q ≡ get nat_cmp cursors.old q }
+    ensures own { IfSome (get nat_cmp cursors.new x) (λ slot. slot.cursor ≡ Some cursor) }
+{
+    if let Some(slot) = cursors.get_mut(&x.value()) {
+        slot.cursor = Some(cursor);
+        return;
+    }
+    let slot = Slot {
+        cursor: Some(cursor),
+    };
+    match cursors.insert(x.value(), slot) {
+        Ok(_) => {}
+        Err(_) => {}
+    }
+}
+
+/// Keeps the walk of a job execution that is unfinished still, and otherwise no slot for it. Where
+/// memory is refused it is not kept, and is made anew when it is needed.
 pub(crate) fn keep(
-    cursors: &mut BTreeMap<u64, Cursor>,
+    cursors: &mut BTreeMap<u64, Slot>,
     x: ExecutionId,
     row: &Option<ExecutionRow>,
     cursor: Option<Cursor>,
 )
     ensures others { (q : ℕ) → is_eq (nat_cmp x q) ≡ false
         → get nat_cmp cursors.new q ≡ get nat_cmp cursors.old q }
-    ensures own { IfSome (get nat_cmp cursors.new x) (IsKeptOf row.now cursor) }
+    ensures own { IfSome (get nat_cmp cursors.new x) (IsSlotOf row.now cursor) }
 {
-    cursors.remove(&x.value());
-    let (Some(row), Some(cursor)) = (row, cursor) else {
-        return;
-    };
-    if row.status().is_unfinished() {
-        match cursors.insert(x.value(), cursor) {
-            Ok(_) => {}
-            Err(_) => {}
+    match (row, cursor) {
+        (Some(row), Some(cursor)) if row.status().is_unfinished() => put(cursors, x, cursor),
+        _ => {
+            cursors.remove(&x.value());
         }
     }
 }

@@ -102,7 +102,7 @@ impl<const LIMIT: u64> Repository<LIMIT> {
         ensures cursor { IfSome result (IsFollowed self.old.catalogue
             self.old.records.works self.old.records.executions x) }
     {
-        self.cursors.remove(&x.value())
+        cursors::take(&mut self.cursors, x)
     }
 
     fn enter_start(

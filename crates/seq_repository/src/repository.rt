@@ -7,9 +7,9 @@ ghost use Rattle.batch_history.specs.Rows.{History};
 ghost use Rattle.seq_repository.specs.Kept.{IsNext, StandsFor};
 
 use crate::answers;
+use crate::cursors::Slot;
 use batch_history::{Answer, Call, CountsByStatus, Entry, LastNumbers, Query, Reply};
 use batch_ids::{Moment, OutOfMemory, Refusal};
-use job_walk::Cursor;
 use jsl_model::Catalogue;
 use records::Records;
 use std::alloc::Global;
@@ -31,15 +31,13 @@ pub struct Repository<const LIMIT: u64> {
     /// The numbers of the job executions that have something to do.
     pub(crate) agenda: BTreeSet<u64>,
     /// The walks of unfinished job executions that were taken up, by their numbers.
-    pub(crate) cursors: BTreeMap<u64, Cursor>,
+    pub(crate) cursors: BTreeMap<u64, Slot>,
 }
 
 impl<const LIMIT: u64> Model for Repository<LIMIT> {
     ghost use Rattle.seq_repository.specs.Kept.{Kept, IsKept};
     ghost use Rattle.jsl_model.specs.contracts.element.Body as body;
-    ghost use Rattle.std.specs.BTreeMap.{get};
     ghost use Rattle.std.specs.Coded.{codes};
-    ghost use Rattle.std.specs.Ordering.{nat_cmp};
 
     ghost Value = { Kept };
 
@@ -47,7 +45,7 @@ impl<const LIMIT: u64> Model for Repository<LIMIT> {
 
     ghost view = { λ r. record { catalogue = r.catalogue; count = r.count; last = r.last; records = r.records } };
 
-    ghost invariant = { λ r. IsKept LIMIT r.agenda.keys (get nat_cmp r.cursors) record { catalogue = r.catalogue; count = r.count; last = r.last; records = r.records } };
+    ghost invariant = { λ r. IsKept LIMIT r.agenda.keys r.cursors record { catalogue = r.catalogue; count = r.count; last = r.last; records = r.records } };
 }
 
 impl<const LIMIT: u64> Repository<LIMIT> {

@@ -1,7 +1,5 @@
 ghost use Rattle.std.specs.Prelude.{ℕ, ◌≡◌, Some, true, IfOk, IfSome, find};
-ghost use Rattle.std.specs.BTreeMap.{get};
 ghost use Rattle.std.specs.Option.{option_map};
-ghost use Rattle.std.specs.Ordering.{nat_cmp};
 ghost use Rattle.batch_ids.specs.declared.metric_step.MetricStep.{MetricStep as Step};
 ghost use Rattle.batch_history.proofs.Folds.{over_as};
 ghost use Rattle.batch_history.specs.Lists.{change_first};
@@ -12,12 +10,13 @@ ghost use Rattle.batch_history.specs.Works.{is_work};
 ghost use Rattle.records.specs.Maps.{execution_numbers, AreRising};
 ghost use Rattle.restart_rules.specs.Placed.{ArePlaced, is_placed};
 ghost use Rattle.seq_repository.specs.Agendas.{agenda_of};
-ghost use Rattle.seq_repository.specs.Following.{AreFollowed};
+ghost use Rattle.seq_repository.specs.Following.{AreFollowed, kept_at};
 ghost use Rattle.seq_repository.specs.Searches.{has_ready};
 
+use crate::cursors::{self, Slot};
 use batch_history::ExecutionRow;
 use batch_ids::{ExecutionId, OutOfMemory, T256, WorkId, WorkOutcome};
-use job_walk::{Cursor, Fact, Known, Value, WorkKey};
+use job_walk::{Fact, Known, Value, WorkKey};
 use jsl_model::Catalogue;
 use records::Records;
 use reply_rules::first_ready;
@@ -76,17 +75,17 @@ fn next_key(
     alloc: Global,
     catalogue: &Catalogue,
     records: &Records,
-    cursors: &BTreeMap<u64, Cursor>,
+    cursors: &BTreeMap<u64, Slot>,
     row: &ExecutionRow,
 ) -> Result<Option<WorkKey>, OutOfMemory>
     requires placed { is_placed catalogue.now row.now ≡ true }
     requires there { find (is_execution row.now.execution) records.now.executions ≡ Some row.now }
     requires followed { AreFollowed catalogue.now records.now.works records.now.executions
-        (get nat_cmp cursors.now) }
+        (kept_at cursors.now) }
     ensures { IfOk result (λ key. key ≡ first_ready (walk_value catalogue.now records.now.works
         row.now.execution row.now.job row.now.plan)) }
 {
-    match cursors.get(&row.execution.value()) {
+    match cursors::kept(cursors, row.execution) {
         Some(cursor) => first_key(cursor.value()),
         None => {
             let value = walk_value(alloc, catalogue, records, row)?;
@@ -109,14 +108,14 @@ pub(crate) fn find_claimable<'a>(
     catalogue: &Catalogue,
     records: &'a Records,
     agenda: &BTreeSet<u64>,
-    cursors: &BTreeMap<u64, Cursor>,
+    cursors: &BTreeMap<u64, Slot>,
 ) -> Result<Option<Claimable<'a>>, OutOfMemory>
     requires placed { ArePlaced catalogue.now records.now.executions }
     requires rising { AreRising (execution_numbers records.now.executions) }
     requires agenda { agenda.now.keys
         ≡ agenda_of catalogue.now records.now.works records.now.executions }
     requires followed { AreFollowed catalogue.now records.now.works records.now.executions
-        (get nat_cmp cursors.now) }
+        (kept_at cursors.now) }
     ensures first { IfOk result (λ found. option_map (λ c. c.row.now) found
         ≡ find (has_ready catalogue.now records.now.works) records.now.executions) }
     ensures key { IfOk result (λ found. IfSome found (λ c. c.key

@@ -1,6 +1,5 @@
 pub mod Continuations
 pub mod Counts
-pub mod Flows
 pub mod Keys
 pub mod Shown
 pub mod Standing

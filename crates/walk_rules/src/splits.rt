@@ -1,23 +1,21 @@
 ghost use Rattle.std.specs.Prelude.{◌≡◌, IfOk, OnOk, find, map};
 ghost use Rattle.std.specs.Option.{option_copied};
-ghost use Rattle.walk_rules.specs.Flows.{value_of_kept};
 ghost use Rattle.walk_rules.specs.Walk.{split_result, all_ready, all_busy, any_open, ended_as};
 
 use crate::copies::add_keys;
 use crate::element_result::{ElementResult, name_of};
 use crate::facts::Value;
-use crate::flow_value::FlowValue;
 use crate::work_keys::WorkKeys;
 use batch_ids::{BatchStatus, Listed, OutOfMemory, WorkOutcome};
 use std::alloc::Global;
 
 /// How many work keys are ready in all of these, and how many busy. It is room to ask for, and no
 /// contract says how much.
-fn room_for(values: &[FlowValue<'_>]) -> (usize, usize) {
+fn room_for(values: &[&Value]) -> (usize, usize) {
     let mut ready_room = 0usize;
     let mut busy_room = 0usize;
-    for flow in values {
-        match flow.value() {
+    for value in values {
+        match *value {
             Value::Open { ready, busy } => {
                 ready_room = ready_room.saturating_add(ready.as_slice().len());
                 busy_room = busy_room.saturating_add(busy.as_slice().len());
@@ -30,16 +28,16 @@ fn room_for(values: &[FlowValue<'_>]) -> (usize, usize) {
 }
 
 /// What is ready and busy in all of these.
-fn open_of_all(alloc: Global, values: &[FlowValue<'_>]) -> Result<Value, OutOfMemory>
+fn open_of_all(alloc: Global, values: &[&Value]) -> Result<Value, OutOfMemory>
     ensures { IfOk result (λ value.
-        value ≡ Value.Open (all_ready (map value_of_kept values.now))
-        (all_busy (map value_of_kept values.now))) }
+        value ≡ Value.Open (all_ready (map (λ value. value.now) values.now))
+        (all_busy (map (λ value. value.now) values.now))) }
 {
     let (ready_room, busy_room) = room_for(values);
     let mut ready = Vec::with_capacity(alloc, ready_room)?;
     let mut busy = Vec::with_capacity(alloc, busy_room)?;
-    for flow in values {
-        match flow.value() {
+    for value in values {
+        match *value {
             Value::Open {
                 ready: more,
                 busy: more_busy,
@@ -57,11 +55,11 @@ fn open_of_all(alloc: Global, values: &[FlowValue<'_>]) -> Result<Value, OutOfMe
     })
 }
 
-fn is_one_open(values: &[FlowValue<'_>]) -> bool
-    ensures { result ≡ any_open (map value_of_kept values.now) }
+fn is_one_open(values: &[&Value]) -> bool
+    ensures { result ≡ any_open (map (λ value. value.now) values.now) }
 {
-    for flow in values {
-        match flow.value() {
+    for value in values {
+        match *value {
             Value::Open { .. } => return true,
             Value::Done { .. } => {}
             Value::Ended { .. } => {}
@@ -88,11 +86,10 @@ fn is_ended(value: &Value, wanted: BatchStatus) -> bool
     }
 }
 
-fn find_ended<'v>(values: &'v [FlowValue<'_>], wanted: BatchStatus) -> Option<&'v Value>
-    ensures { option_copied result ≡ find (ended_as wanted) (map value_of_kept values.now) }
+fn find_ended<'v>(values: &[&'v Value], wanted: BatchStatus) -> Option<&'v Value>
+    ensures { option_copied result ≡ find (ended_as wanted) (map (λ value. value.now) values.now) }
 {
-    for flow in values {
-        let value = flow.value();
+    for value in values {
         if is_ended(value, wanted) {
             return Some(value);
         }
@@ -110,21 +107,18 @@ pub fn split_result(alloc: Global, values: &[Value]) -> Result<ElementResult, Ou
 {
     let mut lent = Vec::with_capacity(alloc, values.len())?;
     for value in values {
-        lent.push(FlowValue::Kept(value))?;
+        lent.push(value)?;
     }
     split_result_of(alloc, lent.as_slice())
 }
 
-/// The same, of values that are kept of the flows, or made: those that are kept are not copied.
+/// The same, of values that are lent.
 ///
 /// # Errors
 ///
 /// `OutOfMemory` where memory is refused.
-pub fn split_result_of(
-    alloc: Global,
-    values: &[FlowValue<'_>],
-) -> Result<ElementResult, OutOfMemory>
-    ensures { IfOk result (λ made. made ≡ split_result (map value_of_kept values.now)) }
+pub fn split_result_of(alloc: Global, values: &[&Value]) -> Result<ElementResult, OutOfMemory>
+    ensures { IfOk result (λ made. made ≡ split_result (map (λ value. value.now) values.now)) }
 {
     if is_one_open(values) {
         return Ok(ElementResult::ListValue(open_of_all(alloc, values)?));

@@ -1,16 +1,17 @@
-use Rattle.std.proofs.Common.{◌≡◌, ◌+◌, ◌++◌, ◌∷◌, [], length, map, get_or, set, drop, refl, sym, ◌∙◌, ap, subst, arith, Result, Ok, IfOk}
-use Rattle.jsl_model.specs.declared.element.SplitFlow.{out-SplitFlow}
-use Rattle.jsl_model.specs.declared.element.Body.TheVariants.{Flow, Split}
-use Rattle.job_walk.specs.declared.kept_list.KeptList.{KeptList}
+use Rattle.std.proofs.Common.{true, ◌≡◌, ◌+◌, ◌++◌, ◌∷◌, [], length, map, get_or, set, drop, refl, sym, ◌∙◌, ap, subst, arith, Result, Ok, Err, IfOk, OnOk}
+use Rattle.jsl_model.specs.declared.element.SplitFlow.{SplitFlow, out-SplitFlow}
+use Rattle.jsl_model.specs.declared.element.Body.TheVariants.{Flow}
 use Rattle.job_walk.specs.declared.kept_list.ListChange.{ListChange}
 use Rattle.walk_rules.specs.declared.progress.Progress.{Progress}
 use Rattle.walk_rules.specs.Standing.{progress, rows_by}
-use Rattle.walk_rules.specs.Flows.{value_of_kept}
-use Rattle.std.proofs.lemmas.List.{map-append}
-use Rattle.job_walk.specs.KeptLists.{facts_after, rows_in, lists_in, tree_first, KeepsFirst}
-use Rattle.walk_rules.specs.Walk.{fact_of, first_id, flow_result}
-use Rattle.job_walk.proofs.Descent.{at-nowhere, way, entered, became, learnt-apart, drop-length, first-hides, first-shown, at-first}
-use Rattle.job_walk.proofs.Flows.{either, first-kept, first-some, flow-kept, flow-shows, flow-all, kept-flow, first-value, first-puts, same-value, same-puts, flow-puts, split-inside, split-size, split-elsewhere, split-once, split-more, split-start, split-value, split-comes, split-puts}
+use Rattle.job_walk.specs.KeptLists.{facts_after, first_shows, kept_element, kept_flow, Puts, rows_in, lists_in, tree_first, value_kept, KeepsFirst}
+use Rattle.walk_rules.specs.Shown.{shows}
+use Rattle.job_walk.proofs.KeptAtFirst.{kept-split, whole-parts}
+use Rattle.walk_rules.specs.Walk.{fact_of, first_id, flow_result, split_result}
+use Rattle.jsl_model.specs.Trees.{joined}
+use Rattle.job_walk.proofs.Descent.{at-nowhere, way, entered, became, learnt-apart, drop-length}
+use Rattle.job_walk.proofs.Flows.{first-kept, flow-kept, flow-shows, flow-all, kept-flow, first-value, first-puts, flow-puts, split-once}
+use Rattle.job_walk.proofs.SplitFlows.{split-keeps, split-shows, flow-there, at-flow, stands-alone, flows-values, flows-put}
 use Rattle.walk_rules.proofs.Places.{at-once}
 use Rattle.job_walk.proofs.Reporting.{states}
 use Rattle.job_walk.proofs.Sizes.{nodes-at, nodes-flow, nodes-split}
@@ -103,60 +104,10 @@ list_changes-returns-in_ok-add_change-in-Ok-clause-changes t c from rest is =
     (c.in_ok-add_change-in-Ok.ensures.changes ∙ ap (λ (x : ListChange). c.element_changes.new.changes.items ++ x ∷ []) c.new-change.ensures)
     c.in_ok-add_change-in-Ok.field-0 (c.in_ok-add_change-in-Ok.ensures.value ∙ ap (λ (x : ListChange). x.progress.value) c.new-change.ensures) from rest is).1
 
--- ---- A list from its first element
-
-pub first_changes-returns-in_ok-list_changes-clause-value : goal.first_changes-returns-in_ok-list_changes-clause-value
-first_changes-returns-in_ok-list_changes-clause-value t c =
-    let facts = fact_of c.args.known.now in
-    let es = c.args.elements.now in
-    first-value facts (facts_after c.args.known.now c.args.key.now c.args.fact.now) es c.in_ok-list_changes.field-0
-    (c.in_ok-list_changes.ensures.value (first_id (rows_in (states facts es))) c.requires.kept.0 c.requires.kept.1)
-
-pub first_changes-returns-in_ok-list_changes-clause-changes : goal.first_changes-returns-in_ok-list_changes-clause-changes
-first_changes-returns-in_ok-list_changes-clause-changes t c =
-    let facts = fact_of c.args.known.now in
-    let es = c.args.elements.now in
-    first-puts facts (facts_after c.args.known.now c.args.key.now c.args.fact.now) es c.args.changes.now.items c.list_changes.new.changes.items c.args.base
-    (c.in_ok-list_changes.ensures.changes (first_id (rows_in (states facts es))) c.requires.kept.0 c.requires.kept.1)
-
-pub first_changes-list_changes-requires : goal.first_changes-list_changes-requires
-first_changes-list_changes-requires t c =
-    let facts = fact_of c.args.known.now in
-    let es = c.args.elements.now in
-    let kept = first-kept facts es c.args.lists.now c.requires.kept in
-    let some = first-some facts es c.args.lists.now c.requires.kept in (
-      omega arith,
-      (
-        kept,
-        (
-          first-shown c.args.key.now c.args.lists.now c.index-lists-0.result c.index-lists-0.is some (at-first c.args.key.now c.args.lists.now c.index-lists-0.result c.index-lists-0.is (sym c.shows.ensures ∙ c.if-shows.true)),
-          (c.requires.known, (c.requires.each, (c.requires.once, c.requires.numbered))),
-        ),
-      ),
-    )
-
-pub first_changes-returns-else-shows-clause-value : goal.first_changes-returns-else-shows-clause-value
-first_changes-returns-else-shows-clause-value t c =
-    let facts = fact_of c.args.known.now in
-    let es = c.args.elements.now in
-    let some = first-some facts es c.args.lists.now c.requires.kept in
-    let none = c.requires.elsewhere (first-hides c.args.key.now c.args.lists.now c.index-lists-0.result c.index-lists-0.is some (at-first c.args.key.now c.args.lists.now c.index-lists-0.result c.index-lists-0.is (sym c.shows.ensures ∙ c.if-shows.false))) in
-    same-value c.args.key.now.element facts (facts_after c.args.known.now c.args.key.now c.args.fact.now) (learnt-apart c.args.known.now c.args.key.now c.args.fact.now) es c.args.lists.now
-    c.index-lists-0-else-shows.result (get_or c.args.lists.now 0 c.index-lists-0-else-shows.result).progress.value none c.requires.kept c.index-lists-0-else-shows.is
-    (ap (λ (k : KeptList). k.progress.value) (sym c.index-lists-0-else-shows.is))
-
-pub first_changes-returns-else-shows-clause-changes : goal.first_changes-returns-else-shows-clause-changes
-first_changes-returns-else-shows-clause-changes t c =
-    let facts = fact_of c.args.known.now in
-    let es = c.args.elements.now in
-    let some = first-some facts es c.args.lists.now c.requires.kept in
-    let none = c.requires.elsewhere (first-hides c.args.key.now c.args.lists.now c.index-lists-0.result c.index-lists-0.is some (at-first c.args.key.now c.args.lists.now c.index-lists-0.result c.index-lists-0.is (sym c.shows.ensures ∙ c.if-shows.false))) in
-    same-puts c.args.key.now.element facts (facts_after c.args.known.now c.args.key.now c.args.fact.now) (learnt-apart c.args.known.now c.args.key.now c.args.fact.now) es c.args.changes.now.items c.args.base none
-
 -- ---- A flow
 
-pub element_changes-first_changes-requires : goal.element_changes-first_changes-requires
-element_changes-first_changes-requires t c =
+pub element_changes-list_changes-requires : goal.element_changes-list_changes-requires
+element_changes-list_changes-requires t c =
     let facts = fact_of c.args.known.now in
     let e = c.args.element.now in
     let es = c.as_slice-elements.result.now in
@@ -164,121 +115,152 @@ element_changes-first_changes-requires t c =
     let kept : KeepsFirst facts es c.args.lists.now = flow-kept facts e es c.args.lists.now is c.requires.kept in
     let shows_it = flow-shows facts e es c.args.key.now c.args.lists.now is c.requires.kept c.requires.shown in
     let less = nodes-flow e es es is refl in
-    (omega (arith, less), (kept, (c.requires.known, (c.requires.each, (flow-all e es is c.requires.once, ((λ hidden. absurd (either _ shows_it hidden)), c.requires.numbered))))))
+    (omega (arith, less), (first-kept facts es c.args.lists.now kept, (shows_it, (c.requires.known, (c.requires.each, (flow-all e es is c.requires.once, c.requires.numbered))))))
 
-pub element_changes-returns-in_ok-into_value-in-Flow-clause-comes : goal.element_changes-returns-in_ok-into_value-in-Flow-clause-comes
-element_changes-returns-in_ok-into_value-in-Flow-clause-comes t c =
+pub element_changes-returns-in_ok-value-in-Flow-clause-comes : goal.element_changes-returns-in_ok-value-in-Flow-clause-comes
+element_changes-returns-in_ok-value-in-Flow-clause-comes t c =
+    let facts = fact_of c.args.known.now in
     let later = facts_after c.args.known.now c.args.key.now c.args.fact.now in
-    c.flow_result.ensures ∙ (ap flow_result (c.in_ok-into_value-in-Flow.ensures ∙ c.in_ok-value-in-Flow.ensures.value) ∙ sym (kept-flow later c.args.element.now c.as_slice-elements.result.now (c.in-Flow.is ∙ ap Flow (sym c.as_slice-elements.ensures))).0)
-
-pub element_changes-returns-in_ok-into_value-in-Flow-clause-changes : goal.element_changes-returns-in_ok-into_value-in-Flow-clause-changes
-element_changes-returns-in_ok-into_value-in-Flow-clause-changes t c =
+    let e = c.args.element.now in
     let es = c.as_slice-elements.result.now in
-    flow-puts (fact_of c.args.known.now) (facts_after c.args.known.now c.args.key.now c.args.fact.now) c.args.element.now es es c.args.changes.now.items c.first_changes.new.changes.items c.args.base
-    (c.in-Flow.is ∙ ap Flow (sym c.as_slice-elements.ensures)) refl c.in_ok-value-in-Flow.ensures.changes
+    let is = c.in-Flow.is ∙ ap Flow (sym c.as_slice-elements.ensures) in
+    let kept : KeepsFirst facts es c.args.lists.now = flow-kept facts e es c.args.lists.now is c.requires.kept in
+    c.flow_result.ensures
+    ∙ (ap flow_result (first-value facts later es c.in_ok-value-in-Flow.value (c.in_ok-value-in-Flow.ensures.value (first_id (rows_in (states facts es))) kept.0 kept.1))
+    ∙ sym (kept-flow later e es is).0)
+
+pub element_changes-returns-in_ok-value-in-Flow-clause-changes : goal.element_changes-returns-in_ok-value-in-Flow-clause-changes
+element_changes-returns-in_ok-value-in-Flow-clause-changes t c =
+    let facts = fact_of c.args.known.now in
+    let later = facts_after c.args.known.now c.args.key.now c.args.fact.now in
+    let e = c.args.element.now in
+    let es = c.as_slice-elements.result.now in
+    let is = c.in-Flow.is ∙ ap Flow (sym c.as_slice-elements.ensures) in
+    let kept : KeepsFirst facts es c.args.lists.now = flow-kept facts e es c.args.lists.now is c.requires.kept in
+    flow-puts facts later e es es c.args.changes.now.items c.list_changes.new.changes.items c.args.base is refl
+    (first-puts facts later es c.args.changes.now.items c.list_changes.new.changes.items c.args.base (c.in_ok-value-in-Flow.ensures.changes (first_id (rows_in (states facts es))) kept.0 kept.1))
 
 -- ---- A split
 
-pub element_changes-lists_from-rest-requires : goal.element_changes-lists_from-rest-requires
-element_changes-lists_from-rest-requires t c =
-    let flows = c.as_slice-flow-items.result.now in
-    let room = (split-inside (fact_of c.args.known.now) c.args.element.now flows c.args.lists.now c.loop-flow.flow-index c.loop-flow.start c.flow-item.result (c.in-Split.is ∙ ap Split (sym c.as_slice-flow-items.ensures))
-    c.requires.kept c.loop-flow-test.true c.flow-item.is c.loop-flow.invariant.0).1 in
-    omega (arith, room)
+pub split_changes-place_that_shows-place-requires : goal.split_changes-place_that_shows-place-requires
+split_changes-place_that_shows-place-requires t c =
+    split-shows (fact_of c.args.known.now) c.args.element.now c.args.flows.now c.args.lists.now c.args.key.now c.requires.split c.requires.kept c.requires.shown
 
-pub element_changes-size_of-many-requires : goal.element_changes-size_of-many-requires
-element_changes-size_of-many-requires t c =
+pub split_changes-lists_before-start-requires-clause-kept : goal.split_changes-lists_before-start-requires-clause-kept
+split_changes-lists_before-start-requires-clause-kept t c =
+    (fact_of c.args.known.now, split-keeps (fact_of c.args.known.now) c.args.element.now c.args.flows.now c.args.lists.now c.requires.split c.requires.kept)
+
+pub split_changes-overflow_add-here : goal.split_changes-overflow_add-here
+split_changes-overflow_add-here t c =
     let facts = fact_of c.args.known.now in
-    let flows = c.as_slice-flow-items.result.now in
-    let inner = (split-inside facts c.args.element.now flows c.args.lists.now c.loop-flow.flow-index c.loop-flow.start c.flow-item.result (c.in-Split.is ∙ ap Split (sym c.as_slice-flow-items.ensures))
-    c.requires.kept c.loop-flow-test.true c.flow-item.is c.loop-flow.invariant.0).0 in
-    first-some facts (out-SplitFlow c.flow-item.result).elements c.lists_from-rest.result.now (inner.0, c.lists_from-rest.ensures ∙ inner.1)
-
-pub element_changes-overflow_add-here : goal.element_changes-overflow_add-here
-element_changes-overflow_add-here t c =
-    let flows = c.as_slice-flow-items.result.now in
-    let room = (split-inside (fact_of c.args.known.now) c.args.element.now flows c.args.lists.now c.loop-flow.flow-index c.loop-flow.start c.flow-item.result (c.in-Split.is ∙ ap Split (sym c.as_slice-flow-items.ensures))
-    c.requires.kept c.loop-flow-test.true c.flow-item.is c.loop-flow.invariant.0).1 in
+    let flows = c.args.flows.now in
+    let keeps = split-keeps facts c.args.element.now flows c.args.lists.now c.requires.split c.requires.kept in
+    let there = flow-there flows c.place_that_shows-place.result c.place_that_shows-place.ensures.within in
+    let here = at-flow facts flows c.args.lists.now c.place_that_shows-place.result c.lists_before-start.result there.0 keeps c.place_that_shows-place.ensures.within there.1 (c.lists_before-start.ensures facts keeps) in
+    let some = here.some in
     let fits = c.requires.numbered in
-    omega (arith, room, fits)
+    omega (arith, some, fits)
 
-pub element_changes-first_changes-requires-in-loop-flow : goal.element_changes-first_changes-requires-in-loop-flow
-element_changes-first_changes-requires-in-loop-flow t c =
+pub split_changes-lists_from-rest-requires : goal.split_changes-lists_from-rest-requires
+split_changes-lists_from-rest-requires t c =
+    let facts = fact_of c.args.known.now in
+    let flows = c.args.flows.now in
+    let keeps = split-keeps facts c.args.element.now flows c.args.lists.now c.requires.split c.requires.kept in
+    let there = flow-there flows c.place_that_shows-place.result c.place_that_shows-place.ensures.within in
+    let here = at-flow facts flows c.args.lists.now c.place_that_shows-place.result c.lists_before-start.result there.0 keeps c.place_that_shows-place.ensures.within there.1 (c.lists_before-start.ensures facts keeps) in
+    let some = here.some in
+    omega (arith, some)
+
+pub split_changes-list_changes-requires : goal.split_changes-list_changes-requires
+split_changes-list_changes-requires t c =
     let facts = fact_of c.args.known.now in
     let e = c.args.element.now in
-    let flows = c.as_slice-flow-items.result.now in
-    let i = c.loop-flow.flow-index in
-    let f = c.flow-item.result in
-    let es = c.as_slice-elements-in-loop-flow.result.now in
-    let these = c.as_slice-elements-in-loop-flow.ensures in
-    let is = c.in-Split.is ∙ ap Split (sym c.as_slice-flow-items.ensures) in
-    let inner = split-inside facts e flows c.args.lists.now i c.loop-flow.start f is c.requires.kept c.loop-flow-test.true c.flow-item.is c.loop-flow.invariant.0 in
-    let room = inner.1 in
+    let flows = c.args.flows.now in
+    let lists = c.args.lists.now in
+    let i = c.place_that_shows-place.result in
+    let within = c.place_that_shows-place.ensures.within in
+    let f = c.index-flows-place.result in
+    let at = c.index-flows-place.is in
+    let es = c.as_slice-elements.result.now in
+    let these : es ≡ (out-SplitFlow f).elements = c.as_slice-elements.ensures ∙ ap (λ (g : SplitFlow). (out-SplitFlow g).elements) (sym at) in
+    let start = c.lists_before-start.result in
+    let keeps = split-keeps facts e flows lists c.requires.split c.requires.kept in
+    let here = at-flow facts flows lists i start f keeps within at (c.lists_before-start.ensures facts keeps) in
+    let some = here.some in
     let kept : KeepsFirst facts es c.lists_from-rest.result.now =
-    (inner.0.0, c.lists_from-rest.ensures ∙ (inner.0.1 ∙ ap (λ xs. lists_in (tree_first (states facts xs)) ++ inner.0.0) (sym these))) in
-    let n = drop-length c.args.lists.now c.loop-flow.start (omega (arith, room)) in
-    let l : length c.lists_from-rest.result.now ≡ length (drop c.loop-flow.start c.args.lists.now) = ap length c.lists_from-rest.ensures in
+    (here.first.0, c.lists_from-rest.ensures ∙ (here.first.1 ∙ ap (λ xs. lists_in (tree_first (states facts xs)) ++ here.first.0) (sym these))) in
+    let shown : first_shows c.args.key.now c.lists_from-rest.result.now ≡ true =
+    ap (first_shows c.args.key.now) (c.lists_from-rest.ensures ∙ here.first.1) ∙ (ap (λ w. shows c.args.key.now (value_kept w)) (sym (whole-parts facts f)) ∙ c.place_that_shows-place.ensures.shows facts keeps f at) in
+    let n = drop-length lists start (omega (arith, some)) in
+    let l : length c.lists_from-rest.result.now ≡ length (drop start lists) = ap length c.lists_from-rest.ensures in
     let fits = c.requires.numbered in
-    let less = nodes-split e flows flows i f es is refl c.loop-flow-test.true c.flow-item.is these in (
+    let less = nodes-split e flows flows i f es c.requires.split refl within at these in (
       omega (arith, less),
       (
-        kept,
-        (
-          c.requires.known,
-          (
-            c.requires.each,
-            (
-              (λ id. split-once e flows id i f es is (c.requires.once id) c.loop-flow-test.true c.flow-item.is these),
-              (
-                split-elsewhere facts e e flows c.args.key.now i f es c.lists_from-rest.result.now is c.requires.shown (c.requires.once c.args.key.now.element) c.loop-flow-test.true c.flow-item.is these kept,
-                omega (arith, n, l, fits),
-              ),
-            ),
-          ),
-        ),
+        first-kept facts es c.lists_from-rest.result.now kept,
+        (shown, (c.requires.known, (c.requires.each, ((λ id. split-once e flows id i f es c.requires.split (c.requires.once id) within at these), omega (arith, n, l, fits))))),
       ),
     )
 
-pub element_changes-overflow_add-start : goal.element_changes-overflow_add-start
-element_changes-overflow_add-start t c =
-    let facts = fact_of c.args.known.now in
-    let flows = c.as_slice-flow-items.result.now in
-    let f = c.flow-item.result in
-    let inner = split-inside facts c.args.element.now flows c.args.lists.now c.loop-flow.flow-index c.loop-flow.start f (c.in-Split.is ∙ ap Split (sym c.as_slice-flow-items.ensures))
-    c.requires.kept c.loop-flow-test.true c.flow-item.is c.loop-flow.invariant.0 in
-    let room = inner.1 in
-    let many = split-size facts f (out-SplitFlow f).elements c.lists_from-rest.result.now c.size_of-many.result refl (inner.0.0, c.lists_from-rest.ensures ∙ inner.0.1) c.size_of-many.ensures in
-    let fits = c.requires.numbered in
-    omega (arith, room, many, fits)
+pub split_changes-split_after-result-requires : goal.split_changes-split_after-result-requires
+split_changes-split_after-result-requires t c =
+    (fact_of c.args.known.now, split-keeps (fact_of c.args.known.now) c.args.element.now c.args.flows.now c.args.lists.now c.requires.split c.requires.kept)
 
-pub element_changes-loop-flow-preserved : goal.element_changes-loop-flow-preserved
-element_changes-loop-flow-preserved t c =
+if-ok : {A E : Type 0} {P : Type 0} → (result : Result A E) → P → OnOk result P
+if-ok (Ok a) p = p
+if-ok (Err e) p = tt
+
+pub split_changes-returns-clause-comes : goal.split_changes-returns-clause-comes
+split_changes-returns-clause-comes t c =
     let facts = fact_of c.args.known.now in
     let later = facts_after c.args.known.now c.args.key.now c.args.fact.now in
-    let flows = c.as_slice-flow-items.result.now in
-    let i = c.loop-flow.flow-index in
-    let f = c.flow-item.result in
-    let es = c.as_slice-elements-in-loop-flow.result.now in
-    let these = c.as_slice-elements-in-loop-flow.ensures in
-    let inner = split-inside facts c.args.element.now flows c.args.lists.now i c.loop-flow.start f (c.in-Split.is ∙ ap Split (sym c.as_slice-flow-items.ensures))
-    c.requires.kept c.loop-flow-test.true c.flow-item.is c.loop-flow.invariant.0 in
-    let many = split-size facts f (out-SplitFlow f).elements c.lists_from-rest.result.now c.size_of-many.result refl (inner.0.0, c.lists_from-rest.ensures ∙ inner.0.1) c.size_of-many.ensures in (
-      split-start facts flows i f c.loop-flow.start c.size_of-many.result c.loop-flow-test.true c.flow-item.is c.loop-flow.invariant.0 many,
-      split-value later flows i f es (map value_of_kept c.loop-flow.values.items) (map value_of_kept c.push.new.self.items) (value_of_kept c.in_ok-value-in-Split.value) c.loop-flow-test.true
-          c.flow-item.is these c.loop-flow.invariant.1
-          (ap (map value_of_kept) c.in_ok-push-in-Split.ensures.items ∙ map-append value_of_kept c.loop-flow.values.items (c.in_ok-value-in-Split.value ∷ []))
-          c.in_ok-value-in-Split.ensures.value,
-      split-more facts later flows i f es c.args.changes.now.items c.loop-flow.changes.items c.first_changes-in-loop-flow.new.changes.items c.args.base c.loop-flow.start c.loop-flow-test.true c.flow-item.is these
-          c.loop-flow.invariant.0 c.loop-flow.invariant.2 c.in_ok-value-in-Split.ensures.changes,
-    )
+    let e = c.args.element.now in
+    let flows = c.args.flows.now in
+    let lists = c.args.lists.now in
+    let i = c.place_that_shows-place.result in
+    let within = c.place_that_shows-place.ensures.within in
+    let f = c.index-flows-place.result in
+    let at = c.index-flows-place.is in
+    let es = c.as_slice-elements.result.now in
+    let these : es ≡ (out-SplitFlow f).elements = c.as_slice-elements.ensures ∙ ap (λ (g : SplitFlow). (out-SplitFlow g).elements) (sym at) in
+    let start = c.lists_before-start.result in
+    let keeps = split-keeps facts e flows lists c.requires.split c.requires.kept in
+    let here = at-flow facts flows lists i start f keeps within at (c.lists_before-start.ensures facts keeps) in
+    let kept : KeepsFirst facts es c.lists_from-rest.result.now =
+    (here.first.0, c.lists_from-rest.ensures ∙ (here.first.1 ∙ ap (λ xs. lists_in (tree_first (states facts xs)) ++ here.first.0) (sym these))) in
+    let alone = stands-alone facts e e flows c.args.key.now i f c.requires.split (c.requires.once c.args.key.now.element) within at (c.place_that_shows-place.ensures.shows facts keeps f at) in
+    let apart = learnt-apart c.args.known.now c.args.key.now c.args.fact.now in
+    let is = first-value facts later es c.in_ok-made.made (c.in_ok-made.ensures.value (first_id (rows_in (states facts es))) kept.0 kept.1) ∙ ap value_kept (ap (λ xs. tree_first (states later xs)) these ∙ sym (whole-parts later f)) in
+    subst (λ r. IfOk c.split_after-result.result (λ made. made ≡ r))
+    (ap split_result (flows-values c.args.key.now.element facts later apart flows i f c.in_ok-made.made alone within at is) ∙ sym (kept-split later e flows c.requires.split).0)
+    (c.split_after-result.ensures facts keeps)
 
-pub element_changes-returns-in_ok-split_result_of-in-Split-clause-comes : goal.element_changes-returns-in_ok-split_result_of-in-Split-clause-comes
-element_changes-returns-in_ok-split_result_of-in-Split-clause-comes t c =
-    split-comes (facts_after c.args.known.now c.args.key.now c.args.fact.now) c.args.element.now c.as_slice-flow-items.result.now c.loop-flow.flow-index (map value_of_kept c.loop-flow.values.items)
-    (map value_of_kept c.as_slice-in-Split.result.now) c.in_ok-split_result_of-in-Split.field-0 (c.in-Split.is ∙ ap Split (sym c.as_slice-flow-items.ensures)) c.loop-flow-test.false c.loop-flow.invariant.1
-    (ap (map value_of_kept) c.as_slice-in-Split.ensures.value) c.in_ok-split_result_of-in-Split.ensures
-
-pub element_changes-returns-in_ok-split_result_of-in-Split-clause-changes : goal.element_changes-returns-in_ok-split_result_of-in-Split-clause-changes
-element_changes-returns-in_ok-split_result_of-in-Split-clause-changes t c =
-    split-puts (fact_of c.args.known.now) (facts_after c.args.known.now c.args.key.now c.args.fact.now) c.args.element.now c.as_slice-flow-items.result.now c.loop-flow.flow-index
-    c.args.changes.now.items c.loop-flow.changes.items c.args.base (c.in-Split.is ∙ ap Split (sym c.as_slice-flow-items.ensures)) c.loop-flow-test.false c.loop-flow.invariant.2
+pub split_changes-returns-clause-changes : goal.split_changes-returns-clause-changes
+split_changes-returns-clause-changes t c =
+    let facts = fact_of c.args.known.now in
+    let later = facts_after c.args.known.now c.args.key.now c.args.fact.now in
+    let e = c.args.element.now in
+    let flows = c.args.flows.now in
+    let lists = c.args.lists.now in
+    let i = c.place_that_shows-place.result in
+    let within = c.place_that_shows-place.ensures.within in
+    let f = c.index-flows-place.result in
+    let at = c.index-flows-place.is in
+    let es = c.as_slice-elements.result.now in
+    let these : es ≡ (out-SplitFlow f).elements = c.as_slice-elements.ensures ∙ ap (λ (g : SplitFlow). (out-SplitFlow g).elements) (sym at) in
+    let start = c.lists_before-start.result in
+    let keeps = split-keeps facts e flows lists c.requires.split c.requires.kept in
+    let here = at-flow facts flows lists i start f keeps within at (c.lists_before-start.ensures facts keeps) in
+    let kept : KeepsFirst facts es c.lists_from-rest.result.now =
+    (here.first.0, c.lists_from-rest.ensures ∙ (here.first.1 ∙ ap (λ xs. lists_in (tree_first (states facts xs)) ++ here.first.0) (sym these))) in
+    let alone = stands-alone facts e e flows c.args.key.now i f c.requires.split (c.requires.once c.args.key.now.element) within at (c.place_that_shows-place.ensures.shows facts keeps f at) in
+    let apart = learnt-apart c.args.known.now c.args.key.now c.args.fact.now in
+    let others = c.args.changes.now.items in
+    let changes = c.list_changes.new.changes.items in
+    let base = c.args.base in
+    let one = subst (λ xs. Puts others changes (base + start) (lists_in (tree_first (states facts xs))) (lists_in (tree_first (states later xs)))) these
+    (first-puts facts later es others changes (base + start) (c.in_ok-made.ensures.changes (first_id (rows_in (states facts es))) kept.0 kept.1)) in
+    let all = flows-put c.args.key.now.element facts later apart flows i f others changes base start alone within at (c.lists_before-start.ensures facts keeps) one in
+    if-ok c.split_after-result.result
+    (subst (λ x. Puts others changes base x (kept_element later e).inside) (sym (kept-split facts e flows c.requires.split).1)
+    (subst (λ x. Puts others changes base (joined (map (λ (g : SplitFlow). lists_in (kept_flow facts g)) flows)) x) (sym (kept-split later e flows c.requires.split).1) all))

@@ -1,6 +1,4 @@
 use Rattle.std.proofs.Common.{Option, find, List, not, refl, sym, ap, subst, arith}
-use Rattle.std.specs.BTreeMap.{get}
-use Rattle.std.specs.Ordering.{nat_cmp}
 use Rattle.batch_history.specs.Replies.{is_execution}
 use Rattle.job_walk.specs.Cursors.{CursorState}
 use Rattle.seq_repository.specs.Kept.{Kept}
@@ -24,7 +22,7 @@ invariant_of-self-2 g c =
     let kept : Kept = record { catalogue = c.self.inside.catalogue; count = c.self.inside.count; last = c.self.inside.last; records = c.self.inside.records } in
     let works : List WorkRow = c.self.inside.records.works in
     let walks = subst (λ (k : Kept). Walks k.catalogue k.records.works (find (is_execution c.args.x) k.records.executions) c.args.cursor.now) (sym c.self.view_is) c.requires.walks in
-    kept_change g.row.LIMIT c.self.inside.agenda.keys c.remove_if.new.agenda.keys (get nat_cmp c.self.inside.cursors) (get nat_cmp c.keep.new.cursors) kept c.put_row.new.records c.args.x (row_after c.args.change c.self.inside.catalogue works c.args.at) c.in_ok-row.row c.in_ok-row.ready c.args.cursor.now
+    kept_change g.row.LIMIT c.self.inside.agenda.keys c.remove_if.new.agenda.keys c.self.inside.cursors c.keep.new.cursors kept c.put_row.new.records c.args.x (row_after c.args.change c.self.inside.catalogue works c.args.at) c.in_ok-row.row c.in_ok-row.ready c.args.cursor.now
     c.self.invariant (omega (arith, c.requires.room, ap (λ (r : Kept). r.count) c.self.view_is))
     c.in_ok-row.ensures.own
     (c.in_ok-row.ensures.row c.self.inside.catalogue works walks)
@@ -32,4 +30,4 @@ invariant_of-self-2 g c =
     c.put_row.ensures
     record { goes = not c.in_ok-row.ready; put = c.put.new.agenda.keys; is_goes = refl; is_put = c.in_default.ensures.put; is_done = c.remove_if.ensures }
     walks
-    (subst (λ (o : Option CursorState). KeepsWalk c.args.x c.in_ok-row.row o (get nat_cmp c.self.inside.cursors) (get nat_cmp c.keep.new.cursors)) c.take.ensures.value record { others = c.keep.ensures.others; own = c.keep.ensures.own })
+    (subst (λ (o : Option CursorState). KeepsWalk c.args.x c.in_ok-row.row o c.self.inside.cursors c.keep.new.cursors) c.take.ensures.value record { others = c.keep.ensures.others; own = c.keep.ensures.own })

@@ -1,6 +1,4 @@
 use Rattle.std.proofs.Common.{◌≡◌, ℕ, Option, Some, IfSome, find, not, refl, sym, ap, subst, arith}
-use Rattle.std.specs.BTreeMap.{get}
-use Rattle.std.specs.Ordering.{nat_cmp}
 use Rattle.batch_history.proofs.Folds.{reported}
 use Rattle.batch_history.specs.Works.{is_work}
 use Rattle.batch_history.specs.declared.rows.WorkRow.{WorkRow}
@@ -18,11 +16,11 @@ invariant_of-self-2 g c =
     let kept : Kept = record { catalogue = c.self.inside.catalogue; count = c.self.inside.count; last = c.self.inside.last; records = c.self.inside.records } in
     let x : ℕ = c.args.counted.execution in
     let report = subst (λ (r : Kept). IsReport r c.args.w c.requires.report.0 c.args.counted c.args.after c.args.cursor.now) (sym c.self.view_is) c.requires.report.1 in
-    kept_reported g.row.LIMIT c.self.inside.agenda.keys c.remove_if.new.agenda.keys (get nat_cmp c.self.inside.cursors) (get nat_cmp c.keep.new.cursors) kept c.put_mark-put.new.records _ c.put_row.new.records c.args.w c.requires.report.0 c.args.counted c.args.after c.args.cursor.now
+    kept_reported g.row.LIMIT c.self.inside.agenda.keys c.remove_if.new.agenda.keys c.self.inside.cursors c.keep.new.cursors kept c.put_mark-put.new.records _ c.put_row.new.records c.args.w c.requires.report.0 c.args.counted c.args.after c.args.cursor.now
     c.self.invariant (omega (arith, c.requires.room, ap (λ (r : Kept). r.count) c.self.view_is)) report
     (set-alone (place_at c.args.after.row c.args.after.step) (Some c.args.mark.now) c.self.inside.records c.put_mark-put.new.records c.in_default.ensures.rows) c.change_work.ensures c.put_row.ensures
     record { goes = not c.args.after.ready; put = c.put_mark-put.new.agenda.keys; is_goes = refl; is_put = c.in_default.ensures.agenda; is_done = c.remove_if.ensures }
-    (subst (λ (o : Option CursorState). KeepsWalk x c.args.after.row o (get nat_cmp c.self.inside.cursors) (get nat_cmp c.keep.new.cursors)) c.take.ensures.value record { others = c.keep.ensures.others; own = c.keep.ensures.own })
+    (subst (λ (o : Option CursorState). KeepsWalk x c.args.after.row o c.self.inside.cursors c.keep.new.cursors) c.take.ensures.value record { others = c.keep.ensures.others; own = c.keep.ensures.own })
 
 pub returns-clause-rows : goal.returns-clause-rows
 returns-clause-rows g c = λ at step report made.

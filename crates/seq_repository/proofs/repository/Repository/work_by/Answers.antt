@@ -1,6 +1,4 @@
 use Rattle.std.proofs.Common.{◌≡◌, ℕ, Ok, ◌∙◌, ◌++◌, ◌∷◌, [], Option, List, not, refl, sym, ap, find, subst, arith}
-use Rattle.std.specs.BTreeMap.{get}
-use Rattle.std.specs.Ordering.{nat_cmp}
 use Rattle.batch_history.specs.Replies.{has_something, is_execution, reply_by}
 use Rattle.job_walk.specs.Cursors.{CursorState}
 use Rattle.seq_repository.specs.Kept.{Kept, rows_in}
@@ -37,7 +35,7 @@ invariant_of-self-2 g c =
     let catalogue = c.self.inside.catalogue in
     let due : reply_by g.row.LIMIT (rows_in kept) c.args.who Claim ≡ Ok (Work c.args.item.now) = ap (λ (r : Kept). reply_by g.row.LIMIT (rows_in r) c.args.who Claim) c.self.view_is ∙ c.requires.due in
     let walks = subst (λ (k : Kept). Walks k.catalogue (k.records.works ++ busy_work c.args.who c.args.at c.args.item.now ∷ []) (find (is_execution c.args.item.now.execution) k.records.executions) c.args.cursor.now) (sym c.self.view_is) c.requires.walks in
-    kept_work g.row.LIMIT c.self.inside.agenda.keys c.remove_if.new.agenda.keys (get nat_cmp c.self.inside.cursors) (get nat_cmp c.keep.new.cursors) kept _ c.put_row.new.records x (row_after TakeUp catalogue works c.args.at) c.in_ok-row.row c.in_ok-row.ready c.args.cursor.now handed
+    kept_work g.row.LIMIT c.self.inside.agenda.keys c.remove_if.new.agenda.keys c.self.inside.cursors c.keep.new.cursors kept _ c.put_row.new.records x (row_after TakeUp catalogue works c.args.at) c.in_ok-row.row c.in_ok-row.ready c.args.cursor.now handed
     c.self.invariant (omega (arith, c.requires.room, ap (λ (r : Kept). r.count) c.self.view_is))
     c.in_ok-row.ensures.own
     (c.in_ok-row.ensures.row catalogue works walks)
@@ -47,4 +45,4 @@ invariant_of-self-2 g c =
     record { goes = not c.in_ok-row.ready; put = c.add_work-added.new.agenda.keys; is_goes = refl; is_put = c.in_default.ensures.agenda; is_done = c.remove_if.ensures }
     (apart_claimed g.row.LIMIT (rows_in kept) c.args.who c.args.at c.args.item.now due c.self.invariant.apart)
     walks
-    (subst (λ (o : Option CursorState). KeepsWalk x c.in_ok-row.row o (get nat_cmp c.self.inside.cursors) (get nat_cmp c.keep.new.cursors)) c.take.ensures.value record { others = c.keep.ensures.others; own = c.keep.ensures.own })
+    (subst (λ (o : Option CursorState). KeepsWalk x c.in_ok-row.row o c.self.inside.cursors c.keep.new.cursors) c.take.ensures.value record { others = c.keep.ensures.others; own = c.keep.ensures.own })

@@ -1,0 +1,155 @@
+//! What is kept of the flows of a split, and which of them shows a work key.
+ghost use Rattle.std.specs.Prelude.{◌≡◌, ◌<◌, ◌≤◌, true, length, map, take, IfOk, slice_index_or, slice_set};
+ghost use Rattle.jsl_model.specs.Trees.{joined};
+ghost use Rattle.walk_rules.specs.declared.facts.Fact.{Fact as AFact};
+ghost use Rattle.jsl_model.specs.declared.element.SplitFlow.{SplitFlow};
+ghost use Rattle.walk_rules.specs.declared.work_key.WorkKey.{WorkKey as Key};
+ghost use Rattle.walk_rules.specs.Shown.{is_shown};
+ghost use Rattle.walk_rules.specs.Walk.{split_result};
+ghost use Rattle.job_walk.specs.declared.kept_list.KeptList.{KeptList as Kept};
+ghost use Rattle.job_walk.specs.KeptLists.{KeepsFlows, ShowsInFlow, kept_flow, value_kept, lists_in};
+
+use crate::kept_list::KeptList;
+use batch_ids::{OutOfMemory, T256};
+use jsl_model::{ElementIndex, SplitFlow};
+use std::alloc::Global;
+use walk_rules::{ElementResult, Value, WorkKey, has_key, split_result_of};
+
+/// How deep an element may stand.
+const MOST_LEVELS: u32 = 16;
+
+/// Whether a value shows this work key as ready or busy.
+fn shows(value: &Value, key: &WorkKey) -> bool
+    ensures { result ≡ is_shown value.now key.now }
+{
+    match value {
+        Value::Open { ready, busy } => has_key(ready.as_slice(), key)
+            || has_key(busy.as_slice(), key),
+        Value::Done { .. } => false,
+        Value::Ended { .. } => false,
+    }
+}
+
+/// The list with this number.
+fn list_at(lists: &[KeptList], number: usize) -> &KeptList
+    requires { number < length lists.now }
+    ensures { (d : Kept) → result.now ≡ slice_index_or lists.now number d }
+{
+    &lists[number]
+}
+
+/// How many lists are kept of the flows of a split before this place.
+pub(crate) fn lists_before(lists: &[KeptList], flows: &[SplitFlow], place: usize) -> usize
+    requires kept { (facts : Key → AFact) × KeepsFlows facts flows.now lists.now }
+    requires within { place ≤ length flows.now }
+    ensures { (facts : Key → AFact) → KeepsFlows facts flows.now lists.now
+        → result ≡ length (joined (map (λ flow. lists_in (kept_flow facts flow)) (take place flows.now))) }
+{
+    let mut start = 0;
+    for before in 0..place {
+        start += list_at(lists, start).size;
+    }
+    start
+}
+
+/// What each flow of a split comes to, where the one at the changed place comes to this.
+fn flow_values<'v>(
+    alloc: Global,
+    lists: &'v [KeptList],
+    flows: &[SplitFlow],
+    changed: usize,
+    comes_to: &'v Value,
+) -> Result<Vec<&'v Value>, OutOfMemory>
+    requires { (facts : Key → AFact) × KeepsFlows facts flows.now lists.now }
+    ensures { (facts : Key → AFact) → KeepsFlows facts flows.now lists.now → IfOk result (λ values.
+        map (λ value. value.now) values.items
+        ≡ slice_set (map (λ flow. value_kept (kept_flow facts flow)) flows.now) changed comes_to.now) }
+{
+    let mut values = Vec::with_capacity(alloc, flows.len())?;
+    let mut start = 0;
+    for place in 0..flows.len() {
+        let kept = list_at(lists, start);
+        let value = if place == changed {
+            comes_to
+        } else {
+            &kept.progress.value
+        };
+        values.push(value)?;
+        start += kept.size;
+    }
+    Ok(values)
+}
+
+/// What a split comes to by itself, where its flow at the changed place comes to this.
+pub(crate) fn split_after(
+    alloc: Global,
+    lists: &[KeptList],
+    flows: &[SplitFlow],
+    changed: usize,
+    comes_to: &Value,
+) -> Result<ElementResult, OutOfMemory>
+    requires { (facts : Key → AFact) × KeepsFlows facts flows.now lists.now }
+    ensures { (facts : Key → AFact) → KeepsFlows facts flows.now lists.now → IfOk result (λ made.
+        made ≡ split_result (slice_set (map (λ flow. value_kept (kept_flow facts flow)) flows.now)
+        changed comes_to.now)) }
+{
+    let values = flow_values(alloc, lists, flows, changed, comes_to)?;
+    split_result_of(alloc, values.as_slice())
+}
+
+/// The flow of a split inside which the job's index has an element; `None` where it has it in none.
+fn indexed_flow(index: &ElementIndex, split: &T256, id: &T256) -> Option<usize> {
+    let mut outer = index.outer_of(id)?;
+    for level in 0..MOST_LEVELS {
+        if outer.id == *split {
+            return Some(outer.flow);
+        }
+        outer = index.outer_of(&outer.id)?;
+    }
+    None
+}
+
+/// The place of the flow of a split that shows this work key, found by a search.
+fn search_place(lists: &[KeptList], flows: &[SplitFlow], key: &WorkKey) -> usize
+    requires { ShowsInFlow key.now flows.now lists.now }
+    ensures within { result < length flows.now }
+    ensures shows { (facts : Key → AFact) → KeepsFlows facts flows.now lists.now
+        → (f : SplitFlow) → f ≡ slice_index_or flows.now result f
+        → is_shown (value_kept (kept_flow facts f)) key.now ≡ true }
+{
+    let mut start = 0;
+    for place in 0..flows.len() {
+        let kept = list_at(lists, start);
+        if shows(&kept.progress.value, key) {
+            return place;
+        }
+        start += kept.size;
+    }
+    unreachable!()
+}
+
+/// The place of the flow of a split that shows this work key. Where it is the one that the index has,
+/// this looks at no other.
+pub(crate) fn place_that_shows(
+    index: &ElementIndex,
+    split: &T256,
+    lists: &[KeptList],
+    flows: &[SplitFlow],
+    key: &WorkKey,
+) -> usize
+    requires { ShowsInFlow key.now flows.now lists.now }
+    ensures within { result < length flows.now }
+    ensures shows { (facts : Key → AFact) → KeepsFlows facts flows.now lists.now
+        → (f : SplitFlow) → f ≡ slice_index_or flows.now result f
+        → is_shown (value_kept (kept_flow facts f)) key.now ≡ true }
+{
+    if let Some(place) = indexed_flow(index, split, &key.element) {
+        if place < flows.len() {
+            let start = lists_before(lists, flows, place);
+            if shows(&list_at(lists, start).progress.value, key) {
+                return place;
+            }
+        }
+    }
+    search_place(lists, flows, key)
+}
