@@ -18,6 +18,10 @@ use walk_rules::{ElementResult, Value, WorkKey, has_key, split_result_of};
 /// How deep an element may stand.
 const MOST_LEVELS: u32 = 16;
 
+/// Of so many flows the one that shows a work key is found by a look at each as fast as by the job's
+/// index, which is asked once for each level between.
+const FEW_FLOWS: usize = 8;
+
 /// Whether a value shows this work key as ready or busy.
 fn shows(value: &Value, key: &WorkKey) -> bool
     ensures { result ≡ is_shown value.now key.now }
@@ -97,8 +101,12 @@ pub(crate) fn split_after(
     split_result_of(alloc, values.as_slice())
 }
 
-/// The flow of a split inside which the job's index has an element; `None` where it has it in none.
-fn indexed_flow(index: &ElementIndex, split: &T256, id: &T256) -> Option<usize> {
+/// The flow of a split of so many flows inside which the job's index has an element; `None` where it
+/// has it in none, or where the flows are few.
+fn indexed_flow(index: &ElementIndex, split: &T256, many: usize, id: &T256) -> Option<usize> {
+    if many <= FEW_FLOWS {
+        return None;
+    }
     let mut outer = index.outer_of(id)?;
     for level in 0..MOST_LEVELS {
         if outer.id == *split {
@@ -128,8 +136,8 @@ fn search_place(lists: &[KeptList], flows: &[SplitFlow], key: &WorkKey) -> usize
     unreachable!()
 }
 
-/// The place of the flow of a split that shows this work key. Where it is the one that the index has,
-/// this looks at no other.
+/// The place of the flow of a split that shows this work key. Where it is the one of many that the index
+/// has, this looks at no other.
 pub(crate) fn place_that_shows(
     index: &ElementIndex,
     split: &T256,
@@ -143,7 +151,7 @@ pub(crate) fn place_that_shows(
         → (f : SplitFlow) → f ≡ slice_index_or flows.now result f
         → is_shown (value_kept (kept_flow facts f)) key.now ≡ true }
 {
-    if let Some(place) = indexed_flow(index, split, &key.element) {
+    if let Some(place) = indexed_flow(index, split, flows.len(), &key.element) {
         if place < flows.len() {
             let start = lists_before(lists, flows, place);
             if shows(&list_at(lists, start).progress.value, key) {
