@@ -1,9 +1,9 @@
 -- A lent value that is plain shows what the data of its text shows.
-use Rattle.std.proofs.Common.{◌≡◌, ℕ, ◌&&◌, ◌||◌, List, [], Bool, true, false, bytes_eq, cond, Option, Some, None, is_some, option_map, unwrap_or, IfSome, refl, sym, ap, ◌∙◌, true≢false, Ordering, Less, Equal, Greater, nat_cmp, is_eq}
+use Rattle.std.proofs.Common.{◌≡◌, ℕ, nat_le, ◌&&◌, ◌||◌, List, [], Bool, true, false, bytes_eq, cond, Option, Some, None, is_some, option_map, unwrap_or, IfSome, refl, sym, ap, ◌∙◌, true≢false, Ordering, Less, Equal, Greater, nat_cmp, is_eq}
 use Rattle.std.specs.List.{list_any}
 use Rattle.std.specs.Option.{option_and_then, option_or}
-use Rattle.std.specs.Ordering.{match_ordering, ordering_reverse, is_lt}
-use Rattle.std.specs.Cmp.Lexicographic.{slice_cmp, nat_list_cmp_total}
+use Rattle.std.specs.Ordering.{match_ordering, is_lt}
+use Rattle.std.specs.Cmp.Lexicographic.{slice_cmp}
 use Rattle.std.proofs.lemmas.Map.Text.{is_eq-slice_cmp}
 use Rattle.std.proofs.lemmas.Slice.Eq.{bytes_eq-Decides}
 use Rattle.json.specs.Json as json
@@ -13,7 +13,7 @@ use Rattle.serde_json.specs.Read.{of_json, of_members, number_of}
 use Rattle.serde_json.specs.Find.{get, get_member, as_u64, as_number}
 use Rattle.serde_json.proofs.Views.{get_member-put, get_member-put_other}
 use Rattle.json_members.specs.Members.{names_among, has_only, as_object_value}
-use Rattle.lent_json.specs.Lent.{lent_data, count_in, is_count, are_counts, is_text, is_text_above, are_texts_above, is_flat, are_flat, is_plain, keys_among}
+use Rattle.lent_json.specs.Lent.{lent_data, count_in, is_count, are_counts, is_text, is_text_above, are_texts_above, are_texts, members_count, are_few_texts, are_soon_sorted, is_flat, are_flat, is_plain, keys_among}
 
 both : (a b : Bool) → (a && b) ≡ true → (a ≡ true) × (b ≡ true)
 both true b h = (refl, h)
@@ -67,12 +67,22 @@ text-read (json.string text) h = refl
 text-read (json.array js) h = absurd (true≢false (sym h))
 text-read (json.object ms) h = absurd (true≢false (sym h))
 
-texts-read : (low : List ℕ) (ms : json.Members) (found : Members) → are_texts_above low ms ≡ true → is_some (of_members ms found) ≡ true
-texts-read low json.no_members found h = refl
-texts-read low (json.member name j ms) found h =
+texts-read : (ms : json.Members) (found : Members) → are_texts ms ≡ true → is_some (of_members ms found) ≡ true
+texts-read json.no_members found h = refl
+texts-read (json.member name j ms) found h =
+    let parts = both (is_text j) (are_texts ms) h in
+    some-and (of_json j) (λ d. of_members ms (put name d found)) (text-read j parts.0) (λ d. texts-read ms (put name d found) parts.1)
+
+rising-texts : (low : List ℕ) (ms : json.Members) → are_texts_above low ms ≡ true → are_texts ms ≡ true
+rising-texts low json.no_members h = refl
+rising-texts low (json.member name j ms) h =
     let parts = both (is_text_above low name j) (are_texts_above name ms) h in
     let text = both (is_text j) (is_lt (slice_cmp nat_cmp low name)) parts.0 in
-    some-and (of_json j) (λ d. of_members ms (put name d found)) (text-read j text.0) (λ d. texts-read name ms (put name d found) parts.1)
+    ap (λ b. b && are_texts ms) text.0 ∙ rising-texts name ms parts.1
+
+-- few texts, or texts under rising names, are texts
+pub inside-texts : (ms : json.Members) → are_soon_sorted ms ≡ true → are_texts ms ≡ true
+inside-texts ms h = either (are_few_texts ms) (are_texts_above [] ms) h (λ few. (both (nat_le (members_count ms) 16) (are_texts ms) few).1) (rising-texts [] ms)
 
 flat-read : (j : json.Json) → is_flat j ≡ true → is_some (of_json j) ≡ true
 flat-read json.null h = refl
@@ -82,7 +92,7 @@ flat-read (json.string text) h = refl
 flat-read (json.array js) h = absurd (true≢false (sym h))
 flat-read (json.object ms) h = (
     some-map (of_members ms no_members) object
-    (either (are_counts ms) (are_texts_above [] ms) h (counts-read ms no_members) (texts-read [] ms no_members))
+    (either (are_counts ms) (are_soon_sorted ms) h (counts-read ms no_members) (λ texts. texts-read ms no_members (inside-texts ms texts)))
     )
 
 members-read : (ms : json.Members) (found : Members) → are_flat ms ≡ true → is_some (of_members ms found) ≡ true
@@ -202,16 +212,15 @@ text-flat (json.string text) h = refl
 text-flat (json.array js) h = h
 text-flat (json.object ms) h = absurd (true≢false (sym h))
 
-texts-flat : (low : List ℕ) (ms : json.Members) → are_texts_above low ms ≡ true → are_flat ms ≡ true
-texts-flat low json.no_members h = refl
-texts-flat low (json.member name j ms) h =
-    let parts = both (is_text_above low name j) (are_texts_above name ms) h in
-    let text = both (is_text j) (is_lt (slice_cmp nat_cmp low name)) parts.0 in
-    ap (λ b. b && are_flat ms) (text-flat j text.0) ∙ texts-flat name ms parts.1
+texts-flat : (ms : json.Members) → are_texts ms ≡ true → are_flat ms ≡ true
+texts-flat json.no_members h = refl
+texts-flat (json.member name j ms) h =
+    let parts = both (is_text j) (are_texts ms) h in
+    ap (λ b. b && are_flat ms) (text-flat j parts.0) ∙ texts-flat ms parts.1
 
 -- an object among the members of a plain one is plain
 pub inside-open : (ms : json.Members) → is_flat (json.object ms) ≡ true → are_flat ms ≡ true
-inside-open ms h = either (are_counts ms) (are_texts_above [] ms) h (counts-flat ms) (texts-flat [] ms)
+inside-open ms h = either (are_counts ms) (are_soon_sorted ms) h (counts-flat ms) (λ texts. texts-flat ms (inside-texts ms texts))
 
 pub inside-object : (ms : json.Members) → is_flat (json.object ms) ≡ true → Some (lent_data (json.object ms)) ≡ as_object_value (lent_data (json.object ms))
 inside-object ms h =
@@ -350,65 +359,3 @@ inside-numbers k j ms h =
     let all = json.member k j ms in
     let flat = counts-flat all h in
     (members_of all, object-is all flat, counts-there k j ms (members_of all) h (members-are all flat), counts-numbered all no_members (members_of all) h refl (members-are all flat))
-
--- Texts under rising names
-
--- the data of members, in their order
-abbrev pub in_order : json.Members → Members
-in_order json.no_members = no_members
-in_order (json.member name j ms) = member name (lent_data j) (in_order ms)
-
-abbrev joined : Members → Members → Members
-joined no_members ms = ms
-joined (member k d found) ms = member k d (joined found ms)
-
-joined-none : (found : Members) → joined found no_members ≡ found
-joined-none no_members = refl
-joined-none (member k d found) = ap (member k d) (joined-none found)
-
-joined-more : (found : Members) (k : List ℕ) (d : Data) (ms : Members) → joined (joined found (member k d no_members)) ms ≡ joined found (member k d ms)
-joined-more no_members k d ms = refl
-joined-more (member l e found) k d ms = ap (member l e) (joined-more found k d ms)
-
--- whether each of these names is below another
-abbrev all_below : List ℕ → Members → Bool
-all_below k no_members = true
-all_below k (member l e ms) = is_lt (slice_cmp nat_cmp l k) && all_below k ms
-
-below-joined : (k : List ℕ) (found : Members) (l : List ℕ) (d : Data) → all_below k found ≡ true → is_lt (slice_cmp nat_cmp l k) ≡ true → all_below k (joined found (member l d no_members)) ≡ true
-below-joined k no_members l d h is = ap (λ b. b && true) is
-below-joined k (member m e found) l d h is =
-    let parts = both (is_lt (slice_cmp nat_cmp m k)) (all_below k found) h in
-    ap (λ b. b && all_below k (joined found (member l d no_members))) parts.0 ∙ below-joined k found l d parts.1 is
-
-less-is : (o : Ordering) → is_lt o ≡ true → o ≡ Less
-less-is Less h = refl
-less-is Equal h = absurd (true≢false (sym h))
-less-is Greater h = absurd (true≢false (sym h))
-
-below-below : (k l m : List ℕ) → is_lt (slice_cmp nat_cmp k l) ≡ true → is_lt (slice_cmp nat_cmp l m) ≡ true → is_lt (slice_cmp nat_cmp k m) ≡ true
-below-below k l m one two = ap is_lt (nat_list_cmp_total.trans k l m (less-is (slice_cmp nat_cmp k l) one) (less-is (slice_cmp nat_cmp l m) two))
-
-put-last : (k : List ℕ) (d : Data) (found : Members) → all_below k found ≡ true → put k d found ≡ joined found (member k d no_members)
-put-last k d no_members h = refl
-put-last k d (member l e ms) h =
-    let parts = both (is_lt (slice_cmp nat_cmp l k)) (all_below k ms) h in
-    let above : slice_cmp nat_cmp k l ≡ Greater = nat_list_cmp_total.antisymm k l ∙ ap ordering_reverse (less-is (slice_cmp nat_cmp l k) parts.0) in
-    ap (λ o. match_ordering o (member k d (member l e ms)) (member l d ms) (member l e (put k d ms))) above ∙ ap (member l e) (put-last k d ms parts.1)
-
-texts-in : (low : List ℕ) (ms : json.Members) (found : Members) → ((k : List ℕ) → is_lt (slice_cmp nat_cmp low k) ≡ true → all_below k found ≡ true) → are_texts_above low ms ≡ true
-    → of_members ms found ≡ Some (joined found (in_order ms))
-texts-in low json.no_members found below h = ap Some (sym (joined-none found))
-texts-in low (json.member name j ms) found below h =
-    let parts = both (is_text_above low name j) (are_texts_above name ms) h in
-    let text = both (is_text j) (is_lt (slice_cmp nat_cmp low name)) parts.0 in
-    let d = lent_data j in
-    let more = joined found (member name d no_members) in
-    ap (option_and_then (λ e. of_members ms (put name e found))) (flat-is j (text-flat j text.0))
-    ∙ ap (of_members ms) (put-last name d found (below name text.1))
-    ∙ texts-in name ms more (λ k is. below-joined k found name d (below k (below-below low name k text.1 is)) is) parts.1
-    ∙ ap Some (joined-more found name d (in_order ms))
-
--- an object of texts under rising names has them in their order
-pub inside-texts : (ms : json.Members) → are_texts_above [] ms ≡ true → lent_data (json.object ms) ≡ object (in_order ms)
-inside-texts ms h = ap (λ found. unwrap_or (option_map object found) null) (texts-in [] ms no_members (λ k is. refl) h)

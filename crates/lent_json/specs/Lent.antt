@@ -1,6 +1,6 @@
 -- JSON values in the order of their text, and which of them are looked into as they stand: those of which one member's number cannot
 -- be read, so that none of the text is, are not among them.
-use Rattle.std.specs.Prelude.{ℕ, ◌&&◌, ◌||◌, List, [], Bool, true, false, bytes_eq, is_some, Option, option_and_then, unwrap_or}
+use Rattle.std.specs.Prelude.{ℕ, suc, nat_le, ◌&&◌, ◌||◌, List, [], Bool, true, false, bytes_eq, is_some, Option, option_and_then, unwrap_or}
 use Rattle.std.specs.List.{list_any}
 use Rattle.std.specs.Ordering.{nat_cmp, is_lt}
 use Rattle.std.specs.Cmp.Lexicographic.{slice_cmp}
@@ -53,14 +53,32 @@ abbrev pub are_texts_above : List ℕ → json.Members → Bool
 are_texts_above low json.no_members = true
 are_texts_above low (json.member name j ms) = is_text_above low name j && are_texts_above name ms
 
--- whether it holds nothing, or is an object of such numbers, or one of texts under rising names that are not empty
+-- whether each of these members is a text
+abbrev pub are_texts : json.Members → Bool
+are_texts json.no_members = true
+are_texts (json.member name j ms) = is_text j && are_texts ms
+
+-- how many members these are
+abbrev pub members_count : json.Members → ℕ
+members_count json.no_members = 0
+members_count (json.member name j ms) = suc (members_count ms)
+
+-- whether these are texts, 16 at most
+abbrev pub are_few_texts : json.Members → Bool
+are_few_texts ms = nat_le (members_count ms) 16 && are_texts ms
+
+-- whether these are texts that are soon in the order of their names: few, or under rising names that are not empty
+abbrev pub are_soon_sorted : json.Members → Bool
+are_soon_sorted ms = are_few_texts ms || are_texts_above [] ms
+
+-- whether it holds nothing, or is an object of such numbers, or one of such texts
 abbrev pub is_flat : json.Json → Bool
 is_flat json.null = true
 is_flat (json.boolean b) = true
 is_flat (json.number text) = is_some (count_in text)
 is_flat (json.string text) = true
 is_flat (json.array js) = false
-is_flat (json.object ms) = are_counts ms || are_texts_above [] ms
+is_flat (json.object ms) = are_counts ms || are_soon_sorted ms
 
 abbrev pub are_flat : json.Members → Bool
 are_flat json.no_members = true

@@ -9,4 +9,5 @@ mod reading;
 
 pub use json::Scratch;
 pub use look::Look;
-pub use reading::read_plain;
+pub use plain::are_texts;
+pub use reading::{Plain, read_plain};

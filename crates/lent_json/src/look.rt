@@ -1,5 +1,7 @@
 ghost use Rattle.std.specs.Prelude.{◌≡◌, map, true, bytes_eq, IfSome, option_map};
 ghost use Rattle.std.specs.List.{list_all, list_any};
+ghost use Rattle.json.specs.Find.{get as lent_get, get_member};
+ghost use Rattle.json.specs.Value.{value_view, members_view};
 ghost use Rattle.serde_json.specs.Find.{get, as_str};
 ghost use Rattle.json_members.specs.Members.{as_count, as_object_value, has_only, text_at, number_at, optional_text, optional_number, optional_object};
 ghost use Rattle.lent_json.specs.Looks.{shown, is_open, is_inside};
@@ -23,7 +25,7 @@ impl<'v, 't> Look<'v, 't> {
     {
         match self {
             Look::Own(value) => Some(Look::Own(value.get(name)?)),
-            Look::Lent(value) => Some(Look::Lent(value.get(name)?)),
+            Look::Lent(value) => Some(Look::Lent(lent_member(value, name)?)),
         }
     }
 
@@ -139,5 +141,44 @@ fn keys_among(members: &[(&str, json::Value<'_>)], names: &[&str]) -> bool
 fn is_listed(name: &str, names: &[&str]) -> bool
     ensures { result ≡ list_any (λ listed. bytes_eq name.now listed.now) names.now }
 {
-    names.iter().any(|listed| name == *listed)
+    names.iter().any(|listed| is_name(name, *listed))
+}
+
+/// The last member of this name, where the value is an object that has one.
+fn lent_member<'v, 't>(value: &'v json::Value<'t>, name: &str) -> Option<&'v json::Value<'t>>
+    ensures { option_map (λ member. value_view member.now) result
+        ≡ lent_get name.now (value_view value.now) }
+{
+    match value {
+        json::Value::Object(members) => last_named(members.as_slice(), name),
+        _ => None,
+    }
+}
+
+fn last_named<'v, 't>(
+    members: &'v [(&'t str, json::Value<'t>)],
+    name: &str,
+) -> Option<&'v json::Value<'t>>
+    ensures { option_map (λ value. value_view value.now) result
+        ≡ get_member name.now (members_view members.now) }
+{
+    let mut left = members.len();
+    while left > 0 {
+        left -= 1;
+        let member = &members[left];
+        if is_name(member.0, name) {
+            return Some(&member.1);
+        }
+    }
+    None
+}
+
+/// Whether two names are the same. Most that differ do so in their length or their first byte.
+#[inline]
+fn is_name(name: &str, wanted: &str) -> bool
+    ensures { result ≡ bytes_eq name.now wanted.now }
+{
+    name.len() == wanted.len()
+        && name.as_bytes().first() == wanted.as_bytes().first()
+        && name == wanted
 }

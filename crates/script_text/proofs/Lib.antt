@@ -1,4 +1,5 @@
 pub mod Rising
 pub mod LentParameters
+pub mod Pairs
 pub mod Floats
 pub mod Texts

@@ -8,7 +8,7 @@ use crate::raw::{RawCommand, raw_command_of};
 use batch_history::{Call, Query};
 use batch_ids::{Moment, OutOfMemory};
 use json_members::read_value;
-use lent_json::{Look, Scratch, read_plain};
+use lent_json::{Look, Plain, Scratch, read_plain};
 use std::alloc::Global;
 
 /// What a line of a script is.
@@ -79,6 +79,10 @@ pub fn read_command(alloc: Global, line: &[u8]) -> Result<Command, OutOfMemory>
     }
 }
 
+/// The longest line, in bytes, that is read with memory that is kept. What a longer one takes goes
+/// with it, so that one long line leaves nothing behind.
+const MAX_KEPT_LINE: usize = 65_536;
+
 /// Reads the commands of lines, one after another, with memory that it keeps from line to line.
 #[derive(Drop)]
 pub struct CommandReader {
@@ -96,8 +100,8 @@ impl CommandReader {
     }
 
     /// The command that a line is, as [`read_command`] says. A line without a list, whose inner
-    /// objects are of whole numbers, or of texts under rising names that are not empty, is read
-    /// faster: it is looked into where it stands.
+    /// objects are of whole numbers, or of texts, 16 at most or under rising names that are not
+    /// empty, is read faster: it is looked into where it stands.
     ///
     /// # Errors
     ///
@@ -105,11 +109,23 @@ impl CommandReader {
     pub fn read(&mut self, line: &[u8]) -> Result<Command, OutOfMemory>
         ensures { IfOk result (λ command. command ≡ command_of line.now) }
     {
-        let lent = read_plain(self.alloc, line, &mut self.scratch)?;
-        match &lent {
-            Some(value) => command_of_value(self.alloc, Look::Lent(value)),
-            None => read_command(self.alloc, line),
+        if line.len() > MAX_KEPT_LINE {
+            let mut scratch = Scratch::new(self.alloc);
+            return read_line(self.alloc, line, &mut scratch);
         }
+        read_line(self.alloc, line, &mut self.scratch)
+    }
+}
+
+/// The command that a line is, read with this memory.
+fn read_line(alloc: Global, line: &[u8], scratch: &mut Scratch) -> Result<Command, OutOfMemory>
+    ensures { IfOk result (λ command. command ≡ command_of line.now) }
+{
+    let plain = read_plain(alloc, line, scratch)?;
+    match &plain {
+        Plain::Lent(value) => command_of_value(alloc, Look::Lent(value)),
+        Plain::Other => read_command(alloc, line),
+        Plain::NoJson => Ok(Command::BadLine),
     }
 }
 

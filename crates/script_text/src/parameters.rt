@@ -1,15 +1,14 @@
 // The parameters of a job execution: an object of texts.
-ghost use Rattle.std.specs.Prelude.{◌≡◌, true, Some, IfOk, option_map, is_some};
-ghost use Rattle.std.specs.List.{list_all};
+ghost use Rattle.std.specs.Prelude.{◌≡◌, ◌<◌, ◌≤◌, ℕ, List, true, Some, IfOk, IfErr, OnOk, length, option_map, is_some, slice_set};
+ghost use Rattle.std.specs.List.{list_all, insert};
 ghost use Rattle.std.specs.BTreeMap.{values};
 ghost use Rattle.json.specs.Value.{value_view, members_view as lent_members_view};
 ghost use Rattle.serde_json.specs.Find.{as_str};
 ghost use Rattle.serde_json.specs.View.{view, members_view};
-ghost use Rattle.batch_ids.specs.Parameters.{pairs_of};
+ghost use Rattle.batch_ids.specs.Parameters.{IsRising, pairs_of, with_pair};
 ghost use Rattle.lent_json.specs.Looks.{shown, is_open};
-ghost use Rattle.lent_json.specs.Lent.{is_text};
 ghost use Rattle.script_text.specs.Parameters.{parameters_at, parameters_within, parameters_data, has_texts, text_pairs};
-ghost use Rattle.script_text.specs.LentParameters.{has_lent_texts, lent_text_pairs};
+ghost use Rattle.script_text.specs.LentParameters.{has_lent_texts, put_pairs};
 ghost use Rattle.script_text.specs.RawCommands.{pairs_in};
 
 use batch_ids::{OutOfMemory, Parameters, Refusal};
@@ -17,6 +16,7 @@ use json_members::optional_object;
 use lent_json::Look;
 use serde_json::{Map, Value, put};
 use std::alloc::{AllocError, Global};
+use std::cmp::Ordering;
 
 /// The object of texts that the member `parameters` is, which may be left out; `None` where it is
 /// there and no such object.
@@ -76,21 +76,9 @@ fn has_lent_texts(value: &json::Value<'_>) -> bool
     ensures { result ≡ has_lent_texts (value_view value.now) }
 {
     match value {
-        json::Value::Object(members) => are_lent_texts(members.as_slice()),
+        json::Value::Object(members) => lent_json::are_texts(members.as_slice()),
         _ => false,
     }
-}
-
-fn are_lent_texts(members: &[(&str, json::Value<'_>)]) -> bool
-    ensures { result ≡ list_all (λ member. is_text (value_view member.1)) members.now }
-{
-    members.iter().all(|member| is_text(&member.1))
-}
-
-fn is_text(value: &json::Value<'_>) -> bool
-    ensures { result ≡ is_text (value_view value.now) }
-{
-    matches!(value, json::Value::String(_))
 }
 
 /// The parameters that an object of texts gives; `None` where a key, a value or their number is
@@ -139,21 +127,78 @@ fn text_pairs(
     Ok(pairs)
 }
 
-/// The same of members that are lent, in the order of their line.
+/// The same of members that are lent: each name once, with its last text, by rising names.
 fn lent_text_pairs(
     alloc: Global,
     members: &[(&str, json::Value<'_>)],
 ) -> Result<Vec<(String, String)>, OutOfMemory>
     ensures { IfOk result (λ pairs.
-        pairs_of pairs.items ≡ lent_text_pairs (lent_members_view members.now)) }
+        pairs_of pairs.items ≡ put_pairs (lent_members_view members.now)) }
 {
     let mut pairs = Vec::new(alloc);
     for member in members {
-        let key = String::from_str(alloc, member.0)?;
-        let value = String::from_str(alloc, member.1.as_str().unwrap_or(""))?;
-        pairs.push((key, value))?;
+        let text = member.1.as_str().unwrap_or("");
+        put_text(alloc, &mut pairs, member.0, text)?;
     }
     Ok(pairs)
+}
+
+/// Puts a text under its name, among pairs by rising names.
+fn put_text(
+    alloc: Global,
+    pairs: &mut Vec<(String, String)>,
+    name: &str,
+    text: &str,
+) -> Result<(), OutOfMemory>
+    requires { IsRising (pairs_of pairs.old.items) }
+    ensures { OnOk result (pairs_of pairs.new.items
+        ≡ with_pair (pairs_of pairs.old.items) (name.now, text.now)) }
+{
+    let pair = (
+        String::from_str(alloc, name)?,
+        String::from_str(alloc, text)?,
+    );
+    match place_of(pairs.as_slice(), name) {
+        Ok(at) => pairs[at] = pair,
+        Err(at) => pairs.insert(at, pair)?,
+    }
+    Ok(())
+}
+
+/// Where this name is among pairs by rising names, or where it would stand. One above all of them
+/// takes one comparison.
+fn place_of(pairs: &[(String, String)], name: &str) -> Result<usize, usize>
+    requires { IsRising (pairs_of pairs.now) }
+    ensures held { IfOk result (λ at. (at < length pairs.now)
+        × ((text : List ℕ) → with_pair (pairs_of pairs.now) (name.now, text)
+        ≡ slice_set (pairs_of pairs.now) at (name.now, text))) }
+    ensures absent { IfErr result (λ at. (at ≤ length pairs.now)
+        × ((text : List ℕ) → with_pair (pairs_of pairs.now) (name.now, text)
+        ≡ insert (pairs_of pairs.now) at (name.now, text))) }
+{
+    if is_above_all(name, pairs) {
+        return Err(pairs.len());
+    }
+    for (at, pair) in pairs.iter().enumerate() {
+        match pair.0.as_str().cmp(name) {
+            Ordering::Less => {}
+            Ordering::Equal => return Ok(at),
+            Ordering::Greater => return Err(at),
+        }
+    }
+    Err(pairs.len())
+}
+
+/// Whether a name is above those of all pairs, which stand by rising names.
+fn is_above_all(name: &str, pairs: &[(String, String)]) -> bool
+    requires { IsRising (pairs_of pairs.now) }
+    ensures { result ≡ true → (text : List ℕ) → with_pair (pairs_of pairs.now) (name.now, text)
+        ≡ insert (pairs_of pairs.now) (length pairs.now) (name.now, text) }
+{
+    match pairs.last() {
+        Some(last) => last.0.as_str() < name,
+        None => true,
+    }
 }
 
 /// Parameters as they are written: an object of texts, by rising keys.
