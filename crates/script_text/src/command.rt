@@ -110,11 +110,20 @@ impl CommandReader {
         ensures { IfOk result (λ command. command ≡ command_of line.now) }
     {
         if line.len() > MAX_KEPT_LINE {
-            let mut scratch = Scratch::new(self.alloc);
-            return read_line(self.alloc, line, &mut scratch);
+            return read_long_line(self.alloc, line);
         }
         read_line(self.alloc, line, &mut self.scratch)
     }
+}
+
+/// The command that a line is, read with memory of its own. It stands apart, since a function that
+/// has a `Scratch` among its own values clears it whenever it is called.
+#[inline(never)]
+fn read_long_line(alloc: Global, line: &[u8]) -> Result<Command, OutOfMemory>
+    ensures { IfOk result (λ command. command ≡ command_of line.now) }
+{
+    let mut scratch = Scratch::new(alloc);
+    read_line(alloc, line, &mut scratch)
 }
 
 /// The command that a line is, read with this memory.
