@@ -14,11 +14,7 @@ mod command_lines;
 #[cfg(test)]
 mod copies;
 #[cfg(test)]
-mod crowds;
-#[cfg(test)]
 mod devices;
-#[cfg(test)]
-mod element_indexes;
 #[cfg(test)]
 mod identifiers;
 #[cfg(test)]
