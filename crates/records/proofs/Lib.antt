@@ -11,4 +11,5 @@ pub mod Stepped
 pub mod Tallies
 pub mod Unfinished
 pub mod Slices
+pub mod Sets
 pub mod Slots

@@ -11,7 +11,7 @@ use Rattle.batch_history.specs.Replies.{is_execution, is_running_in, row_status}
 use Rattle.batch_history.specs.Rows.{executions_there}
 use Rattle.batch_history.specs.declared.rows.ExecutionRow.{ExecutionRow}
 use Rattle.records.specs.Belonging.{executions_of}
-use Rattle.records.specs.Indexes.{AreRunning, numbers_named, numbers_under, unfinished_executions, without_number}
+use Rattle.records.specs.Indexes.{AreRunning, numbers_running, numbers_under, unfinished_executions, without_number}
 use Rattle.records.specs.declared.running.RunningLists.{RunningLists}
 use Rattle.records.proofs.Lists.{row_added}
 
@@ -68,7 +68,7 @@ abbrev of_instance : ℕ → ExecutionRow → Bool
 of_instance i row = row.instance == i
 
 pub running_added : (lists after : RunningLists) (row : ExecutionRow) (rows : List ExecutionRow) → is_unfinished (row_status row) ≡ true → AreRunning (Some lists) rows
-    → ((q : List ℕ) → numbers_named after.by_name q ≡ cond (bytes_eq row.job q) (numbers_named lists.by_name q ++ row.execution ∷ []) (numbers_named lists.by_name q))
+    → ((q : List ℕ) → numbers_running after.by_name q ≡ cond (bytes_eq row.job q) (numbers_running lists.by_name q ++ row.execution ∷ []) (numbers_running lists.by_name q))
     → ((i : ℕ) → numbers_under after.by_instance i ≡ cond (row.instance == i) (numbers_under lists.by_instance i ++ row.execution ∷ []) (numbers_under lists.by_instance i))
     → AreRunning (Some after) (rows ++ row ∷ [])
 running_added lists after row rows live known named owned = (
@@ -163,7 +163,7 @@ less-one test x old new rows found same one was now =
 pub running_left : (lists after : RunningLists) (x : ℕ) (old new : ExecutionRow) (rows : List ExecutionRow) → find (is_execution x) rows ≡ Some old → old.job ≡ new.job
     → old.instance ≡ new.instance → new.execution ≡ old.execution → is_unfinished (row_status old) ≡ true → is_unfinished (row_status new) ≡ false
     → AreRunning (Some lists) rows
-    → ((q : List ℕ) → numbers_named after.by_name q ≡ cond (bytes_eq new.job q) (without_number x (numbers_named lists.by_name q)) (numbers_named lists.by_name q))
+    → ((q : List ℕ) → numbers_running after.by_name q ≡ cond (bytes_eq new.job q) (without_number x (numbers_running lists.by_name q)) (numbers_running lists.by_name q))
     → ((i : ℕ) → numbers_under after.by_instance i ≡ cond (new.instance == i) (without_number x (numbers_under lists.by_instance i)) (numbers_under lists.by_instance i))
     → AreRunning (Some after) (change_first (is_execution x) (λ gone. new) rows)
 running_left lists after x old new rows found job instance one was now known named owned = (

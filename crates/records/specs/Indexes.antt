@@ -8,6 +8,7 @@ use Rattle.batch_history.specs.Restarts.{works_of_step}
 use Rattle.batch_history.specs.declared.rows.ExecutionRow.{ExecutionRow}
 use Rattle.records.specs.declared.number_lists.NumberLists.{NumberLists}
 use Rattle.records.specs.declared.running.RunningLists.{RunningLists}
+use Rattle.records.specs.declared.running_names.RunningNames.{RunningNames}
 use Rattle.records.specs.declared.step_lists.StepLists.{StepLists}
 use Rattle.records.specs.Maps.{Maps, instance_numbers, execution_numbers, work_numbers, AreKeyed}
 use Rattle.records.specs.Belonging.{executions_of, works_of, works_of_instance}
@@ -19,6 +20,10 @@ numbers_under index q = unwrap_or (get nat_eq index.lists q) []
 -- the numbers under a name
 abbrev pub numbers_named : NameLists → List ℕ → List ℕ
 numbers_named index q = unwrap_or (get_by_text index.lists q) []
+
+-- the numbers of unfinished job executions under a name
+abbrev pub numbers_running : RunningNames → List ℕ → List ℕ
+numbers_running index q = unwrap_or (get_by_text index.lists q) []
 
 -- the numbers under a name of lists that may not be there
 abbrev pub numbers_if_there : Option NameLists → List ℕ → List ℕ
@@ -62,5 +67,5 @@ unfinished_executions i executions = execution_numbers (filter (is_running_in i)
 abbrev pub AreRunning : Option RunningLists → List ExecutionRow → Type 0
 AreRunning None executions = Unit {0}
 AreRunning (Some lists) executions =
-    ((q : List ℕ) → numbers_named lists.by_name q ≡ running_executions q executions)
+    ((q : List ℕ) → numbers_running lists.by_name q ≡ running_executions q executions)
     × ((i : ℕ) → numbers_under lists.by_instance i ≡ unfinished_executions i executions)

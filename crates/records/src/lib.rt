@@ -8,6 +8,7 @@ mod readers;
 mod records;
 mod row_list;
 mod running;
+mod running_names;
 mod step_lists;
 
 pub use name_lists::NameLists;

@@ -1,6 +1,5 @@
-ghost use Rattle.std.specs.Prelude.{◌≡◌, ℕ, ◌==◌, ◌≤◌, ◌++◌, ◌∷◌, [], List, bytes_eq, position, slice_get, ◌<◌, length, IfSome, OnOk, OnErr, if◌then◌else◌};
+ghost use Rattle.std.specs.Prelude.{◌≡◌, ℕ, ◌==◌, ◌≤◌, ◌++◌, ◌∷◌, [], List, bytes_eq, position, slice_get, IfSome, OnOk, OnErr, if◌then◌else◌};
 ghost use Rattle.records.specs.Indexes.{numbers_named, without_number};
-ghost use Rattle.records.specs.Maps.{AreRising};
 
 use batch_ids::{Listed, OutOfMemory};
 use indexmap::IndexMap;
@@ -74,27 +73,6 @@ impl NameLists {
         }
     }
 
-    /// Removes a number from those under this name, which rise. It takes no memory, and a binary
-    /// search.
-    pub(crate) fn remove_rising(&mut self, name: &str, number: u64)
-        ensures { (q : List ℕ) → AreRising (numbers_named self.old q) → numbers_named self.new q
-            ≡ (if bytes_eq name.now q then without_number number (numbers_named self.old q) else numbers_named self.old q) }
-    {
-        self.leave_out_rising(name, number);
-        if self.under(name).is_empty() {
-            self.forget(name);
-        }
-    }
-
-    fn leave_out_rising(&mut self, name: &str, number: u64)
-        ensures { (q : List ℕ) → AreRising (numbers_named self.old q) → numbers_named self.new q
-            ≡ (if bytes_eq name.now q then without_number number (numbers_named self.old q) else numbers_named self.old q) }
-    {
-        if let Some(known) = self.lists.get_mut(name) {
-            remove_rising_number(known, number);
-        }
-    }
-
     /// Lets the list under a name go, which is empty.
     fn forget(&mut self, name: &str)
         requires { numbers_named self.old name.now ≡ [] }
@@ -124,23 +102,6 @@ pub(crate) fn remove_number(numbers: &mut Listed<u64>, number: u64)
     if let Some(place) = place_of(numbers.as_slice(), number) {
         numbers.remove(place);
     }
-}
-
-/// Removes the number that is this one, of numbers that rise.
-fn remove_rising_number(numbers: &mut Listed<u64>, number: u64)
-    ensures { AreRising numbers.old → numbers.new ≡ without_number number numbers.old }
-{
-    if let Some(place) = rising_place_of(numbers.as_slice(), number) {
-        numbers.remove(place);
-    }
-}
-
-/// Where a number stands, of numbers that rise.
-fn rising_place_of(numbers: &[u64], number: u64) -> Option<usize>
-    ensures place { AreRising numbers.now → result ≡ position (λ n. n == number) numbers.now }
-    ensures within { IfSome result (λ place. place < length numbers.now) }
-{
-    numbers.binary_search(&number).ok()
 }
 
 /// Where a number stands first.

@@ -22,9 +22,7 @@ use crate::name_lists::NameLists;
 use crate::number_lists::{NumberLists, are_rising, numbers_through};
 use crate::readers::{ExecutionsOf, InstancesOf, Names, WorksOf};
 use crate::row_list::{RowList, RowsLeft};
-use crate::running::{
-    RunningLists, add_running, change_running, executions_numbered, forget_if, running_searched,
-};
+use crate::running::{RunningLists, add_running, change_running, forget_if, running_searched};
 use crate::step_lists::StepLists;
 use batch_history::{CheckpointRow, CountsByStatus, ExecutionRow, JobInstance, WorkRow};
 use batch_ids::{ExecutionId, InstanceId, OutOfMemory, Text, WorkId};
@@ -502,7 +500,7 @@ impl Records {
             ≡ running_executions name.now self.now.executions) }
     {
         match self.running.as_ref() {
-            Some(lists) => executions_numbered(alloc, lists.of_job(name)),
+            Some(lists) => lists.of_job(alloc, name),
             None => running_searched(alloc, &self.executions, name),
         }
     }

@@ -1,16 +1,16 @@
 //! The unfinished job executions of each job and of each job instance.
-ghost use Rattle.std.specs.Prelude.{◌≡◌, ◌==◌, ◌++◌, ◌∷◌, [], ℕ, true, false, Some, None, List, bytes_eq, find, IfOk, OnOk, if◌then◌else◌};
+ghost use Rattle.std.specs.Prelude.{◌≡◌, ◌==◌, ◌++◌, ◌∷◌, [], ℕ, true, false, Some, None, List, bytes_eq, find, IfOk, if◌then◌else◌};
+ghost use Rattle.std.specs.Bool.{OnTrue};
 ghost use Rattle.batch_ids.specs.Statuses.{is_unfinished};
 ghost use Rattle.batch_history.specs.Answers.{is_running_of, running_executions};
 ghost use Rattle.batch_history.specs.Lists.{change_first};
 ghost use Rattle.batch_history.specs.Replies.{is_execution, row_status};
 ghost use Rattle.batch_history.specs.declared.rows.ExecutionRow.{ExecutionRow as Row};
-ghost use Rattle.records.specs.Indexes.{AreRunning, numbers_named, numbers_under, without_number};
-ghost use Rattle.records.specs.Maps.{AreRising, execution_numbers};
+ghost use Rattle.records.specs.Indexes.{AreRunning, numbers_running, numbers_under, without_number};
 
-use crate::name_lists::NameLists;
 use crate::number_lists::NumberLists;
 use crate::row_list::RowList;
+use crate::running_names::RunningNames;
 use batch_history::ExecutionRow;
 use batch_ids::{ExecutionId, OutOfMemory};
 use std::alloc::Global;
@@ -18,7 +18,7 @@ use std::alloc::Global;
 /// The numbers of the unfinished job executions, by the name of their job and by their job instance.
 #[derive(Debug, Drop)]
 pub struct RunningLists {
-    by_name: NameLists,
+    by_name: RunningNames,
     by_instance: NumberLists,
 }
 
@@ -28,16 +28,16 @@ impl RunningLists {
         ensures { AreRunning (Some result) [] }
     {
         RunningLists {
-            by_name: NameLists::new(alloc),
+            by_name: RunningNames::new(alloc),
             by_instance: NumberLists::new(alloc),
         }
     }
 
     /// Those of a job.
-    pub(crate) fn of_job(&self, name: &str) -> &[u64]
-        ensures { result.now ≡ numbers_named self.now.by_name name.now }
+    pub(crate) fn of_job(&self, alloc: Global, name: &str) -> Result<Vec<ExecutionId>, OutOfMemory>
+        ensures { IfOk result (λ found. found.items ≡ numbers_running self.now.by_name name.now) }
     {
-        self.by_name.under(name)
+        self.by_name.executions(alloc, name)
     }
 
     /// Those of a job instance.
@@ -47,27 +47,27 @@ impl RunningLists {
         self.by_instance.under(i)
     }
 
-    /// Puts a job execution last.
-    fn push(&mut self, row: &ExecutionRow) -> Result<(), OutOfMemory>
-        ensures named { OnOk result ((q : List ℕ) → numbers_named self.new.by_name q
-            ≡ (if bytes_eq row.now.job q then numbers_named self.old.by_name q ++ row.now.execution ∷ [] else numbers_named self.old.by_name q)) }
-        ensures owned { OnOk result ((q : ℕ) → numbers_under self.new.by_instance q
+    /// Puts a job execution last, and tells whether it stands there.
+    fn push(&mut self, row: &ExecutionRow) -> bool
+        ensures named { OnTrue result ((q : List ℕ) → numbers_running self.new.by_name q
+            ≡ (if bytes_eq row.now.job q then numbers_running self.old.by_name q ++ row.now.execution ∷ [] else numbers_running self.old.by_name q)) }
+        ensures owned { OnTrue result ((q : ℕ) → numbers_under self.new.by_instance q
             ≡ (if row.now.instance == q then numbers_under self.old.by_instance q ++ row.now.execution ∷ [] else numbers_under self.old.by_instance q)) }
     {
         let x = row.execution.value();
-        self.by_name.push(row.job.as_str(), x)?;
-        self.by_instance.push(row.instance.value(), x)
+        self.by_name.push(row.job.as_str(), x)
+            && self.by_instance.push(row.instance.value(), x).is_ok()
     }
 
-    /// Removes a job execution. It takes no memory, and a binary search.
+    /// Removes a job execution. It takes no memory.
     fn remove(&mut self, row: &ExecutionRow)
-        ensures named { (q : List ℕ) → AreRising (numbers_named self.old.by_name q) → numbers_named self.new.by_name q
-            ≡ (if bytes_eq row.now.job q then without_number row.now.execution (numbers_named self.old.by_name q) else numbers_named self.old.by_name q) }
+        ensures named { (q : List ℕ) → numbers_running self.new.by_name q
+            ≡ (if bytes_eq row.now.job q then without_number row.now.execution (numbers_running self.old.by_name q) else numbers_running self.old.by_name q) }
         ensures owned { (q : ℕ) → numbers_under self.new.by_instance q
             ≡ (if row.now.instance == q then without_number row.now.execution (numbers_under self.old.by_instance q) else numbers_under self.old.by_instance q) }
     {
         let x = row.execution.value();
-        self.by_name.remove_rising(row.job.as_str(), x);
+        self.by_name.remove(row.job.as_str(), x);
         self.by_instance.leave_out(row.instance.value(), x);
     }
 }
@@ -83,7 +83,7 @@ pub(crate) fn add_running(running: &mut Option<RunningLists>, row: &ExecutionRow
         return;
     }
     let added = match running.as_mut() {
-        Some(lists) => lists.push(row).is_ok(),
+        Some(lists) => lists.push(row),
         None => true,
     };
     if !added {
@@ -102,7 +102,7 @@ pub(crate) fn change_running(
 )
     ensures { (rows : List Row) (old : Row) → find (is_execution row.now.execution) rows ≡ Some old
         → old.job ≡ row.now.job → old.instance ≡ row.now.instance → was_unfinished ≡ is_unfinished (row_status old)
-        → AreRising (execution_numbers rows) → AreRunning running.old rows → AreRunning running.new
+        → AreRunning running.old rows → AreRunning running.new
         (change_first (is_execution row.now.execution) (λ gone. row.now) rows) }
 {
     let is_unfinished = row.status().is_unfinished();
@@ -120,8 +120,7 @@ pub(crate) fn change_running(
 fn leave_out(running: &mut Option<RunningLists>, row: &ExecutionRow)
     ensures { (rows : List Row) (old : Row) → find (is_execution row.now.execution) rows ≡ Some old
         → old.job ≡ row.now.job → old.instance ≡ row.now.instance → is_unfinished (row_status old) ≡ true
-        → is_unfinished (row_status row.now) ≡ false
-        → AreRising (execution_numbers rows) → AreRunning running.old rows → AreRunning running.new
+        → is_unfinished (row_status row.now) ≡ false → AreRunning running.old rows → AreRunning running.new
         (change_first (is_execution row.now.execution) (λ gone. row.now) rows) }
 {
     if let Some(lists) = running.as_mut() {
@@ -136,20 +135,6 @@ pub(crate) fn forget_if(running: &mut Option<RunningLists>, goes: bool)
     if goes {
         *running = None;
     }
-}
-
-/// These numbers of job executions.
-pub(crate) fn executions_numbered(
-    alloc: Global,
-    numbers: &[u64],
-) -> Result<Vec<ExecutionId>, OutOfMemory>
-    ensures { IfOk result (λ found. found.items ≡ numbers.now) }
-{
-    let mut found = Vec::new(alloc);
-    for number in numbers {
-        found.push(ExecutionId::new(*number))?;
-    }
-    Ok(found)
 }
 
 /// The numbers of the unfinished job executions of a job among these rows.

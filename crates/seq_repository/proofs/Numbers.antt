@@ -9,6 +9,7 @@ use Rattle.std.proofs.lemmas.Bool.{eqb-true, eq-eqb, ne_eqb}
 use Rattle.std.proofs.lemmas.Bool.Decides.{nat_tests}
 use Rattle.batch_history.specs.Lists.{change_first}
 use Rattle.records.specs.Maps.{AreAbove, AreBelow, AreRising}
+use Rattle.records.proofs.Sets.{put_last}
 use Rattle.seq_repository.specs.Agendas.{put_number}
 
 cmp-less : (x y : ℕ) → x < y → nat_cmp x y ≡ Less
@@ -49,12 +50,6 @@ put-here false false x ks h = remove-none x ks h
 put-behind : (b : Bool) (n x : ℕ) (ks : List ℕ) → n < x → put_number b x (n ∷ ks) ≡ n ∷ put_number b x ks
 put-behind true n x ks lt = ap (λ o. match_ordering o (x ∷ n ∷ ks) (n ∷ ks) (n ∷ insert_key nat_cmp ks x)) (cmp-more x n lt)
 put-behind false n x ks lt = ap (λ o. cond (is_eq o) ks (n ∷ remove_key (λ y. is_eq (nat_cmp x y)) ks)) (cmp-more x n lt)
-
--- a number above all others
-pub put_last : (x : ℕ) (ks : List ℕ) → AreBelow x ks → insert_key nat_cmp ks x ≡ ks ++ x ∷ []
-put_last x [] h = refl
-put_last x (k ∷ ks) h =
-    put-behind true k x ks h.0 ∙ ap (λ (l : List ℕ). k ∷ l) (put_last x ks h.1)
 
 -- a number that was put is taken back
 pub taken_back : (x : ℕ) (ks : List ℕ) → list_any (λ y. is_eq (nat_cmp x y)) ks ≡ false → remove_key (λ y. is_eq (nat_cmp x y)) (insert_key nat_cmp ks x) ≡ ks

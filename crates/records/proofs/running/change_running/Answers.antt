@@ -6,15 +6,15 @@ use Rattle.records.proofs.Unfinished.{one_number, other_truth, running_kept, sam
 use Rattle.records.proofs.running.change_running.Goals as goal
 
 pub returns-then-is_unfinished-was_unfinished : goal.returns-then-is_unfinished-was_unfinished
-returns-then-is_unfinished-was_unfinished c = λ rows old found job instance was rising known.
+returns-then-is_unfinished-was_unfinished c = λ rows old found job instance was known.
     let row : ExecutionRow = c.args.row.now in
     let now : c.is_unfinished-is_unfinished.result ≡ is_unfinished (row_status row) = c.is_unfinished-is_unfinished.ensures ∙ ap is_unfinished c.status.ensures in
     running_kept c.args.running.now row.execution old row rows found job instance (one_number row.execution old rows found) (sym now ∙ (same_truth _ _ c.if-is_unfinished-was_unfinished.true ∙ was)) known
 
 pub returns-else-is_unfinished : goal.returns-else-is_unfinished
-returns-else-is_unfinished c = λ rows old found job instance was rising known.
+returns-else-is_unfinished c = λ rows old found job instance was known.
     let row : ExecutionRow = c.args.row.now in
     let now : c.is_unfinished-is_unfinished.result ≡ is_unfinished (row_status row) = c.is_unfinished-is_unfinished.ensures ∙ ap is_unfinished c.status.ensures in
     let over : is_unfinished (row_status row) ≡ false = sym now ∙ c.if-is_unfinished.false in
     let before : c.args.was_unfinished ≡ true = other_truth _ _ c.if-is_unfinished-was_unfinished.false c.if-is_unfinished.false in
-    c.leave_out.ensures rows old found job instance (sym was ∙ before) over rising known
+    c.leave_out.ensures rows old found job instance (sym was ∙ before) over known

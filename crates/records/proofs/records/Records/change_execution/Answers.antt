@@ -75,7 +75,7 @@ invariant_of-self c =
       subst (λ (l : List ExecutionRow). AreRunning c.change_running.new.running l) (sym placed)
           (subst (λ (n : ℕ). AreRunning c.change_running.new.running (change_first (is_execution n) (λ gone. c.args.row) rows)) numbered
           (c.change_running.ensures rows old (subst (λ (n : ℕ). find (is_execution n) rows ≡ Some old) (sym numbered) found) (ap (λ (r : ExecutionRow). r.job) (sym same) ∙ sym may.2.job) (ap (λ (r : ExecutionRow). r.instance) (sym same) ∙ sym may.2.instance)
-          (c.is_unfinished.ensures ∙ ap is_unfinished c.status-was.ensures) c.self.invariant.0.keyed.executions c.self.invariant.3)),
+          (c.is_unfinished.ensures ∙ ap is_unfinished c.status-was.ensures) c.self.invariant.3)),
     )
 
 pub returns : goal.returns
