@@ -1,6 +1,7 @@
 //! Tests that no script in a file can be. Of what lies below the repository: identifiers, jobs, graphs, members of JSON
-//! objects, transition elements and walks. Of the service: copies, a full log, lines at their bound, scripts that are cut
-//! off, readers and writers that fail, a list of events, built-in artifacts, and the words of a command line.
+//! objects, transition elements, indexes of elements and walks. Of the service: copies, a full log, lines at their bound,
+//! scripts that are cut off, readers and writers that fail, a list of events, built-in artifacts, threads that wait for one
+//! another, and the words of a command line.
 #![tactic(auto)]
 
 #[cfg(test)]
@@ -14,7 +15,11 @@ mod command_lines;
 #[cfg(test)]
 mod copies;
 #[cfg(test)]
+mod crowds;
+#[cfg(test)]
 mod devices;
+#[cfg(test)]
+mod element_indexes;
 #[cfg(test)]
 mod identifiers;
 #[cfg(test)]

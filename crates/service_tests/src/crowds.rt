@@ -1,0 +1,88 @@
+//! Threads that wait for one another at one operator, many times.
+ghost use Rattle.std.specs.Prelude.{◌≡◌};
+
+use crate::copies::catalogue;
+use batch_ids::Refusal;
+use batch_operator::{CopyCount, Operator};
+use jsl_model::Catalogue;
+use op_log::Reply;
+use seat_rules::{BookSeat, SeatTable, Site};
+use std::marker::Brand;
+use std::sync::Wait;
+use std::test::Fail;
+use std::thread;
+use std::thread::Threads;
+
+/// How often each thread claims work.
+const TURNS: u64 = 2_000;
+
+/// Claims work where there is none, and gives how often it was told so: each claim waits for the lock of the book.
+fn claim_in_vain<N: Site>(rt: &impl Wait, operator: &Operator<N>) -> Result<u64, Refusal> {
+    let mut session = operator.open_session(rt)?;
+    let mut told = 0u64;
+    for turn in 0..TURNS {
+        let reply = operator.claim(rt, &mut session, turn)?;
+        if matches!(reply, Reply::Nothing) {
+            told = told.saturating_add(1);
+        }
+        drop(reply);
+    }
+    Ok(told)
+}
+
+fn two_claim<N: Site + Send + Sync, R: Threads + Wait + Sync>(
+    rt: &R,
+    operator: &Operator<N>,
+) -> Result<u64, Refusal> {
+    let (one, other) = thread::join(
+        rt,
+        || claim_in_vain(rt, operator),
+        || claim_in_vain(rt, operator),
+    );
+    Ok(one?.saturating_add(other?))
+}
+
+fn four_claim<N: Site + Send + Sync, R: Threads + Wait + Sync>(
+    rt: &R,
+    operator: &Operator<N>,
+) -> Result<u64, Refusal> {
+    let (one, other) = thread::join(rt, || two_claim(rt, operator), || two_claim(rt, operator));
+    Ok(one?.saturating_add(other?))
+}
+
+fn eight_claim<N: Site + Send + Sync, R: Threads + Wait + Sync>(
+    rt: &R,
+    operator: &Operator<N>,
+) -> Result<u64, Refusal> {
+    let (one, other) = thread::join(rt, || four_claim(rt, operator), || four_claim(rt, operator));
+    Ok(one?.saturating_add(other?))
+}
+
+/// Makes the operator, and lends it to eight threads.
+fn run_crowd<N: Site + Send + Sync, R: Threads + Wait + AllocGlobal + Sync>(
+    rt: &R,
+    table: SeatTable,
+    seat: BookSeat,
+    catalogue: Catalogue,
+) -> Result<u64, Refusal>
+    requires table { table ≡ N.place }
+    requires seat { seat ≡ N.place.table }
+    requires catalogue { catalogue ≡ N.place.catalogue }
+{
+    let Some(copies) = CopyCount::new(1) else {
+        return Ok(0);
+    };
+    let operator = Operator::<N>::new(rt.alloc(), table, seat, catalogue, copies)?;
+    let told = eight_claim(rt, &operator);
+    operator.close();
+    told
+}
+
+#[test]
+fn each_of_eight_threads_gets_the_lock_each_time(rt: HostRuntime) -> Result<(), Fail> {
+    let catalogue = catalogue(rt.alloc())?;
+    let (table, seat) = SeatTable::new(rt.alloc(), &catalogue)?;
+    let told = run_crowd::<Brand, _>(&rt, table, seat, catalogue)?;
+    assert_eq!(rt; told, 8 * TURNS);
+    Ok(())
+}
