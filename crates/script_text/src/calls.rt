@@ -17,34 +17,18 @@ pub fn call_named<'v, 't>(word: &str, value: Look<'v, 't>) -> Option<RawCall<'v,
     requires { is_open value ≡ true }
     ensures { option_map call_in result ≡ call_named word.now (shown value.entry) }
 {
-    if word == "start" {
-        return start_of(value);
+    match word {
+        "start" => start_of(value),
+        "restart" => restart_of(value),
+        "stop" => stop_of(value),
+        "abandon" => abandon_of(value),
+        "claim" => claim_of(value),
+        "checkpoint" => checkpoint_of(value),
+        "finish" => finish_of(value),
+        "lose" => lose_of(value),
+        "purge" => purge_of(value),
+        _ => None,
     }
-    if word == "restart" {
-        return restart_of(value);
-    }
-    if word == "stop" {
-        return stop_of(value);
-    }
-    if word == "abandon" {
-        return abandon_of(value);
-    }
-    if word == "claim" {
-        return claim_of(value);
-    }
-    if word == "checkpoint" {
-        return checkpoint_of(value);
-    }
-    if word == "finish" {
-        return finish_of(value);
-    }
-    if word == "lose" {
-        return lose_of(value);
-    }
-    if word == "purge" {
-        return purge_of(value);
-    }
-    None
 }
 
 #[tactic(auto, unfolding(crate::specs::Calls::start_of))]

@@ -162,7 +162,6 @@ fn rising_counts(metrics: &Metrics) -> [(&'static str, u64); 8]
 }
 
 /// Writes the metrics of a step execution.
-#[tactic(auto, using(crate::proofs::Rising::metrics_rise))]
 fn tell_metrics(out: &mut Writer, metrics: &Metrics) -> Result<(), OutOfMemory>
     ensures { OnOk result (Adds (metrics_data metrics.now) out.old out.new) }
 {
@@ -188,7 +187,6 @@ fn rising_statuses(counts: &CountsByStatus) -> [(&'static str, u64); 7]
 impl Told for CountsByStatus {
     ghost told = { λ counts. counts_data (status_counts counts) };
 
-    #[tactic(auto, using(crate::proofs::Rising::statuses_rise))]
     fn tell(&self, out: &mut Writer) -> Result<(), OutOfMemory> {
         tell_counts(out, &rising_statuses(self))
     }
