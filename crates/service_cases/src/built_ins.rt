@@ -55,7 +55,9 @@ fn print_steps<N: Site, R: Wait + Print + AllocGlobal>(
     operator: &Operator<N>,
 ) -> Result<()> {
     let mut session = operator.open_session(rt)?;
-    let answer = operator.get_step_executions(rt, &mut session, ExecutionId::new(1))?;
+    let answer = operator.get_step_executions(rt, &mut session, ExecutionId::new(1));
+    drop(session);
+    let answer = answer?;
     let printed = print_answer(rt, &answer);
     drop(answer);
     printed

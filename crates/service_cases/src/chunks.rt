@@ -61,16 +61,18 @@ fn staged(
     place: Place,
     items: Vec<String>,
     written: &Arc<Written>,
-) -> Result<Staged> {
-    Ok(Staged {
+) -> Result<Box<Staged>> {
+    let written = Arc::clone(written)?;
+    let staged = Staged {
         alloc,
         place,
         items,
         at: 0,
         calls: 0,
-        written: Arc::clone(written)?,
+        written,
         tape: Tape::new(),
-    })
+    };
+    Ok(Box::new(alloc, staged)?)
 }
 
 /// Runs the chunk by one worker.
@@ -80,15 +82,17 @@ fn run_chunk(
     faults: Faults,
     written: &Arc<Written>,
 ) -> Result<std::result::Result<WorkerReport, Refusal>> {
-    let mut kit = Kit::new(alloc);
     let items = five_items(alloc, faults.long_mark)?;
     let reader = staged(alloc, faults.reader, items, written)?;
-    kit.add(alloc, "r", Box::new(alloc, reader)?)?;
+    let mut kit = Kit::new(alloc);
+    kit.add(alloc, "r", reader)?;
     let processor = staged(alloc, faults.processor, Vec::new(alloc), written)?;
-    kit.add(alloc, "p", Box::new(alloc, processor)?)?;
+    kit.add(alloc, "p", processor)?;
     let writer = staged(alloc, faults.writer, Vec::new(alloc), written)?;
-    kit.add(alloc, "w", Box::new(alloc, writer)?)?;
-    Ok(worker(alloc, port, &mut kit, &Open, 0, 3))
+    kit.add(alloc, "w", writer)?;
+    let reported = worker(alloc, port, &mut kit, &Open, 0, 3);
+    drop(kit);
+    Ok(reported)
 }
 
 /// Adds what a report counts.

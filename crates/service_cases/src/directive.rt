@@ -65,24 +65,35 @@ pub(crate) fn read_directive(alloc: Global, line: &[u8]) -> Result<Option<Direct
 
 fn directive_of(value: &Value) -> Option<Directive> {
     match text_at(value, "operator")? {
-        "meet" => Some(Directive::Meet {
-            one: number_at(value, "one")?,
-            other: number_at(value, "other")?,
-        }),
-        "stop_seen" => Some(Directive::StopSeen {
-            by: number_at(value, "by")?,
-            execution: ExecutionId::new(number_at(value, "execution")?),
-        }),
-        "operations_at_least" => Some(Directive::OperationsAtLeast {
-            by: number_at(value, "by")?,
-        }),
+        "meet" => meet_of(value),
         "open" => Some(Directive::Open),
-        "ask_by" => Some(Directive::AskBy {
-            by: number_at(value, "by")?,
-        }),
-        "publish" => Some(Directive::Publish {
-            copy: number_at(value, "copy")?,
-        }),
+        "publish" => publish_of(value),
+        name => directive_by(name, value, number_at(value, "by")?),
+    }
+}
+
+fn meet_of(value: &Value) -> Option<Directive> {
+    let one = number_at(value, "one")?;
+    let other = number_at(value, "other")?;
+    Some(Directive::Meet { one, other })
+}
+
+fn publish_of(value: &Value) -> Option<Directive> {
+    let copy = number_at(value, "copy")?;
+    Some(Directive::Publish { copy })
+}
+
+/// What an operator is asked by a line that names one session.
+fn directive_by(name: &str, value: &Value, by: u64) -> Option<Directive> {
+    match name {
+        "stop_seen" => stop_seen_of(value, by),
+        "operations_at_least" => Some(Directive::OperationsAtLeast { by }),
+        "ask_by" => Some(Directive::AskBy { by }),
         _ => None,
     }
+}
+
+fn stop_seen_of(value: &Value, by: u64) -> Option<Directive> {
+    let execution = ExecutionId::new(number_at(value, "execution")?);
+    Some(Directive::StopSeen { by, execution })
 }

@@ -142,11 +142,8 @@ fn two_start<N: Site + Send + Sync, R: Threads + Wait + AllocGlobal + Sync>(
     rt: &R,
     operator: &Operator<N>,
 ) -> Started {
-    let (of_one, of_other) = thread::join(
-        rt,
-        || start_jobs(rt, operator),
-        || start_jobs(rt, operator),
-    );
+    let each = || start_jobs(rt, operator);
+    let (of_one, of_other) = thread::join(rt, each, each);
     rising(of_one?, of_other?)
 }
 

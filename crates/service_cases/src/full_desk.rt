@@ -47,7 +47,7 @@ fn fill_desk<N: Site, R: Print + AllocGlobal>(
 {
     let mut one = desk.open(table)?;
     let mut other = desk.open(table)?;
-    print_starts(rt, desk, (&mut one, &mut other), table)?;
+    print_starts(rt, desk, &mut one, &mut other, table)?;
     print_counts(rt, desk, &mut one, table)
 }
 
@@ -55,14 +55,14 @@ fn fill_desk<N: Site, R: Print + AllocGlobal>(
 fn print_starts<N: Site, R: Print + AllocGlobal>(
     rt: &R,
     desk: &mut Desk<N, 2>,
-    sessions: (&mut Session<N>, &mut Session<N>),
+    one: &mut Session<N>,
+    other: &mut Session<N>,
     table: &SeatTable,
 ) -> Result<()>
     requires table { table.now ≡ N.place }
     requires alone { desk.old.hosted ≡ [] }
     ensures alone { desk.new.hosted ≡ [] }
 {
-    let (one, other) = sessions;
     let first = start(rt.alloc(), desk, one, table);
     let second = start(rt.alloc(), desk, other, table);
     let third = start(rt.alloc(), desk, one, table);

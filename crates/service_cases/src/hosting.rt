@@ -1,7 +1,7 @@
 // Operators of the cases.
 ghost use Rattle.std.specs.Prelude.{◌≡◌};
 
-use anyhow::{Result, bail};
+use anyhow::Result;
 use batch_ids::{Parameters, T256};
 use batch_operator::{CopyCount, Operator};
 use jsl_model::Catalogue;
@@ -20,10 +20,16 @@ pub(crate) fn operator_of<N: Site>(
     requires seat { seat ≡ N.place.table }
     requires catalogue { catalogue ≡ N.place.catalogue }
 {
-    let Some(copies) = CopyCount::new(1) else {
-        bail!("one copy is too many");
-    };
+    let copies = one_copy();
     Ok(Operator::<N>::new(alloc, table, seat, catalogue, copies)?)
+}
+
+/// One read copy of each kind.
+fn one_copy() -> CopyCount {
+    match CopyCount::new(1) {
+        Some(copies) => copies,
+        None => unreachable!(),
+    }
 }
 
 /// Starts the job of this name, by a session of its own.
@@ -32,8 +38,10 @@ pub(crate) fn start_job<N: Site>(
     operator: &Operator<N>,
     name: &str,
 ) -> Result<()> {
-    let mut session = operator.open_session(rt)?;
     let job = T256::new(rt.alloc(), name)?;
-    drop(operator.start(rt, &mut session, job, Parameters::none(), 0)?);
+    let mut session = operator.open_session(rt)?;
+    let started = operator.start(rt, &mut session, job, Parameters::none(), 0);
+    drop(session);
+    drop(started?);
     Ok(())
 }

@@ -25,6 +25,9 @@ const SPLIT: &[u8] =
 const PARTITIONS: &[u8] =
     b"{\"jobs\":[{\"id\":\"a\",\"elements\":[{\"kind\":\"step\",\"id\":\"s\",\"partitions\":5,\"batchlet\":{\"ref\":\"ok\"}}]}]}";
 
+/// How many workers a pool has.
+const WORKERS: u64 = 2;
+
 /// How often a worker looks whether another has begun.
 const LOOKS: u64 = 10_000_000;
 
@@ -110,28 +113,31 @@ fn work_together<N: Site + Send + Sync, R: Threads + Wait + AllocGlobal + Sync>(
     operator: &Operator<N>,
 ) -> Result<PoolReport> {
     let alloc = rt.alloc();
-    let mut one = Kit::new(alloc);
-    one.add(alloc, "ok", Box::new(alloc, Quiet { alloc })?)?;
-    let mut other = Kit::new(alloc);
-    other.add(alloc, "ok", Box::new(alloc, Quiet { alloc })?)?;
     let mut kits = Vec::new(alloc);
-    kits.push(one)?;
-    kits.push(other)?;
+    for _worker in 0..WORKERS {
+        let mut kit = Kit::new(alloc);
+        kit.add(alloc, "ok", Box::new(alloc, Quiet { alloc })?)?;
+        kits.push(kit)?;
+    }
     Ok(pool(rt, alloc, operator, kits, gate)?)
 }
 
 /// How many job executions are COMPLETED.
 fn completed<N: Site, R: Wait>(rt: &R, operator: &Operator<N>) -> Result<u64> {
     let mut session = operator.open_session(rt)?;
-    let answer = operator.status_counts(rt, &mut session)?;
-    let completed = match &answer {
-        Answer::StatusCounts(counts) => Some(counts.completed),
-        _ => None,
-    };
+    let answer = operator.status_counts(rt, &mut session);
+    drop(session);
+    let answer = answer?;
+    let completed = completed_in(&answer);
     drop(answer);
-    match completed {
-        Some(completed) => Ok(completed),
-        None => bail!("the counts are of another kind"),
+    completed
+}
+
+/// How many of the job executions that were counted are COMPLETED.
+fn completed_in(answer: &Answer) -> Result<u64> {
+    match answer {
+        Answer::StatusCounts(counts) => Ok(counts.completed),
+        _ => bail!("the counts are of another kind"),
     }
 }
 

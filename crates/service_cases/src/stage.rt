@@ -1,3 +1,5 @@
+ghost use Rattle.std.specs.Prelude.{◌≡◌};
+
 use crate::asking::{ask_query, make_call};
 use crate::directive::{Directive, read_directive};
 use crate::script::Ending;
@@ -6,9 +8,10 @@ use batch_ids::{ExecutionId, Moment, OutOfMemory, Refusal};
 use batch_operator::Operator;
 use op_log::{Answer, Call, Query, Reply};
 use script_text::{Command, answer_text, bad_line_text, read_command, reply_text};
-use seat_rules::Site;
+use seat_rules::{SeatTable, Site};
 use sessions::{Session, meet};
 use std::alloc::Global;
+use std::fmt::Display;
 use std::sync::Wait;
 
 /// What a call is answered.
@@ -129,24 +132,24 @@ impl<'a, N: Site> Stage<'a, N> {
     fn stop_seen(&mut self, by: u64, execution: ExecutionId) -> Result<String> {
         let session = session_of(&mut self.sessions, by)?;
         let seen = self.operator.stop_seen(session, execution);
-        Ok(format!(in self.alloc; "{{\"stop_seen\":{seen}}}\n")?)
+        reply_of(self.alloc, "stop_seen", seen)
     }
 
     fn operations_at_least(&mut self, by: u64) -> Result<String> {
         let session = session_of(&mut self.sessions, by)?;
         let count = self.operator.operations_at_least(session);
-        Ok(format!(in self.alloc; "{{\"operations_at_least\":{count}}}\n")?)
+        reply_of(self.alloc, "operations_at_least", count)
     }
 
     fn open_next(&mut self, rt: &impl Wait) -> Result<String> {
         let number = self.operator.open_session(rt)?.number();
         self.next = self.next.saturating_add(1);
-        Ok(format!(in self.alloc; "{{\"session\":{number}}}\n")?)
+        reply_of(self.alloc, "session", number)
     }
 
     fn ask_by(&mut self, by: u64) -> Result<String> {
         self.asker = by;
-        Ok(format!(in self.alloc; "{{\"asks\":{by}}}\n")?)
+        reply_of(self.alloc, "asks", by)
     }
 
     fn publish(&self, rt: &impl Wait, copy: u64) -> Result<String> {
@@ -155,17 +158,12 @@ impl<'a, N: Site> Stage<'a, N> {
             bail!("there is no copy {copy}");
         }
         self.operator.publish(rt, place)?;
-        Ok(format!(in self.alloc; "{{\"published\":true}}\n")?)
+        reply_of(self.alloc, "published", true)
     }
 
     fn meet(&mut self, one: u64, other: u64) -> Result<String> {
-        let (first, second) = two_of(&mut self.sessions, one.min(other), one.max(other))?;
-        if one < other {
-            meet(first, second, self.operator.table());
-        } else {
-            meet(second, first, self.operator.table());
-        }
-        Ok(format!(in self.alloc; "{{\"met\":true}}\n")?)
+        meet_of(&mut self.sessions, one, other, self.operator.table())?;
+        reply_of(self.alloc, "met", true)
     }
 
     /// What the session that made no call is shown, and how many sessions were opened that nobody asked for.
@@ -189,6 +187,29 @@ fn session_of<N: Site>(sessions: &mut [Session<N>], number: u64) -> Result<&mut 
     sessions
         .get_mut(place as usize)
         .ok_or_else(|| anyhow!("there is no session {number}"))
+}
+
+/// The reply to a directive, which has one member.
+fn reply_of(alloc: Global, name: &str, value: impl Display + Drop) -> Result<String> {
+    Ok(format!(in alloc; "{{\"{name}\":{value}}}\n")?)
+}
+
+/// Lets the sessions of two numbers meet.
+fn meet_of<N: Site>(
+    sessions: &mut [Session<N>],
+    one: u64,
+    other: u64,
+    table: &SeatTable,
+) -> Result<()>
+    requires table { table.now ≡ N.place }
+{
+    let (first, second) = two_of(sessions, one.min(other), one.max(other))?;
+    if one < other {
+        meet(first, second, table);
+    } else {
+        meet(second, first, table);
+    }
+    Ok(())
 }
 
 /// The sessions of two numbers, of which the first is the lesser.
