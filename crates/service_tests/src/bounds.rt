@@ -31,13 +31,19 @@ fn is_answered_behind(alloc: Global, length: usize, wanted: &str) -> Result<bool
     Ok(is_answered(alloc, script.as_str(), wanted))
 }
 
+/// Catalogue lines of so many bytes, and what is answered behind them.
+const CATALOGUE_LINES: [(usize, &str); 2] = [
+    (MOST_OF_A_LINE, "{\"names\":[]}\n"),
+    (MOST_OF_A_LINE + 1, "{\"fault\":\"NotACatalogue\"}\n"),
+];
+
 #[test]
 fn a_catalogue_line_has_at_most_16_777_216_bytes(rt: HostRuntime) -> Result<(), Fail> {
-    for (length, wanted) in [
-        (MOST_OF_A_LINE, "{\"names\":[]}\n"),
-        (MOST_OF_A_LINE + 1, "{\"fault\":\"NotACatalogue\"}\n"),
-    ] {
-        assert!(rt; is_answered_behind(rt.alloc(), length, wanted)?, "{length}");
+    for (length, wanted) in &CATALOGUE_LINES {
+        assert!(rt;
+            is_answered_behind(rt.alloc(), *length, wanted)?,
+            "{length}"
+        );
     }
     Ok(())
 }

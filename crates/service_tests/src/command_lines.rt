@@ -110,9 +110,9 @@ fn tells_write_fault<R: Threads + Wait + AllocGlobal + Sync>(rt: &R, words: &[&s
 
 #[test]
 fn a_failed_device_is_told_on_standard_error(rt: HostRuntime) {
-    for word in ["script", "run"] {
-        assert!(rt; tells_read_fault(&rt, &[word]), "{word}");
-        assert!(rt; tells_write_fault(&rt, &[word]), "{word}");
+    for word in &["script", "run"] {
+        assert!(rt; tells_read_fault(&rt, &[*word]), "{word}");
+        assert!(rt; tells_write_fault(&rt, &[*word]), "{word}");
     }
 }
 
@@ -139,19 +139,22 @@ fn help_goes_to_the_writer(rt: HostRuntime) {
     assert!(rt; writes(&rt, &["--version"], SCRIPT, 0, "batchctl 0.1.0\n"));
 }
 
+/// Command lines that are refused.
+const MISTAKES: [&[&str]; 9] = [
+    &[],
+    &["scrip"],
+    &["Script"],
+    &["script", "script"],
+    &["script", "--workers", "2"],
+    &["run", "--workers", "0"],
+    &["run", "--workers", "17"],
+    &["run", "--workers"],
+    &["run", "2"],
+];
+
 #[test]
 fn mistakes_go_to_standard_error(rt: HostRuntime) {
-    for words in [
-        [].as_slice(),
-        &["scrip"],
-        &["Script"],
-        &["script", "script"],
-        &["script", "--workers", "2"],
-        &["run", "--workers", "0"],
-        &["run", "--workers", "17"],
-        &["run", "--workers"],
-        &["run", "2"],
-    ] {
+    for words in &MISTAKES {
         assert!(rt; refuses(&rt, words));
     }
 }
@@ -168,18 +171,24 @@ fn refuses<R: Threads + Wait + AllocGlobal + Sync>(rt: &R, words: &[&str]) -> bo
     found == 2 && is_so
 }
 
+/// What becomes of the words, with the exit status and what is told.
+const REFUSED_WORDS: [(ErrorKind, u8, &str); 2] = [
+    (
+        ErrorKind::InvalidData,
+        2,
+        "batchctl: a word of the command line is not UTF-8\n",
+    ),
+    (ErrorKind::OutOfMemory, 5, "batchctl: out of memory\n"),
+];
+
 #[test]
 fn a_word_that_is_not_utf_8_refuses_the_command_line(rt: HostRuntime) {
-    for (kind, status, wanted) in [
-        (
-            ErrorKind::InvalidData,
-            2,
-            "batchctl: a word of the command line is not UTF-8\n",
-        ),
-        (ErrorKind::OutOfMemory, 5, "batchctl: out of memory\n"),
-    ] {
+    for (kind, status, wanted) in &REFUSED_WORDS {
         let mut faults = Vec::new(rt.alloc());
-        assert_eq!(rt; refuse_words(&Error::from(kind), &mut faults), status);
-        assert_eq!(rt; faults.as_slice(), wanted.as_bytes());
+        let found = refuse_words(&Error::from(*kind), &mut faults);
+        let is_told = faults.as_slice() == wanted.as_bytes();
+        drop(faults);
+        assert!(rt; found == *status, "{wanted}");
+        assert!(rt; is_told, "{wanted}");
     }
 }

@@ -16,7 +16,7 @@ pub(crate) fn catalogue(alloc: Global) -> Result<Catalogue, Fail> {
 }
 
 // A job that is started, handed out and finished, and then each other call, with all that it may hold.
-const CALLS: [&str; 10] = [
+pub(crate) const CALLS: [&str; 10] = [
     r#"{"do":"start","by":1,"at":0,"job":"a","parameters":{"to":"1"}}"#,
     r#"{"do":"claim","by":1,"at":0}"#,
     r#"{"do":"finish","by":1,"at":0,"work":1,"outcome":"COMPLETED"}"#,
@@ -29,33 +29,29 @@ const CALLS: [&str; 10] = [
     r#"{"do":"purge","by":1,"at":0,"instance":1}"#,
 ];
 
-pub(crate) fn calls(alloc: Global) -> Result<Vec<Call>, Fail> {
-    let mut calls = Vec::new(alloc);
-    for line in CALLS {
-        if let Command::Act { call, .. } = read_command(alloc, line.as_bytes())? {
-            calls.push(call)?;
-        }
+// The call that a line is.
+pub(crate) fn call_of(alloc: Global, line: &str) -> Result<Call, Fail> {
+    match read_command(alloc, line.as_bytes())? {
+        Command::Act { call, .. } => Ok(call),
+        _ => Err("a line that is no call".into()),
     }
-    Ok(calls)
 }
 
 #[test]
 fn calls_are_copied(rt: HostRuntime) -> Result<(), Fail> {
-    let calls = calls(rt.alloc())?;
-    assert_eq!(rt; calls.len(), CALLS.len());
-    assert!(rt; calls.iter().all(is_copied));
+    for line in &CALLS {
+        assert!(rt; is_copied(rt.alloc(), line)?, "{line}");
+    }
     Ok(())
 }
 
-fn is_copied(call: &Call) -> bool {
-    match call.try_clone() {
-        Ok(copy) => {
-            let is_same = copy == *call;
-            drop(copy);
-            is_same
-        }
-        Err(_) => false,
-    }
+fn is_copied(alloc: Global, line: &str) -> Result<bool, Fail> {
+    let call = call_of(alloc, line)?;
+    let copy = call.try_clone()?;
+    let is_same = copy == call;
+    drop(copy);
+    drop(call);
+    Ok(is_same)
 }
 
 // A copy of the catalogue.
@@ -66,26 +62,28 @@ fn copied(alloc: Global) -> Result<Catalogue, Fail> {
 
 // How many of the calls are entered by a log over this catalogue that has room for three.
 fn entries_of(alloc: Global, catalogue: Catalogue) -> Result<usize, Fail> {
-    let calls = calls(alloc)?;
     let mut book = Book::<3>::new(alloc, catalogue)?;
-    enter(&mut book, calls);
+    let entered = enter(alloc, &mut book);
     let len = book.len();
     drop(book);
+    entered?;
     Ok(len)
 }
 
-// Makes calls on a log.
-fn enter(book: &mut Book<3>, calls: Vec<Call>) {
-    for call in calls {
+// Makes the calls on a log.
+fn enter(alloc: Global, book: &mut Book<3>) -> Result<(), Fail> {
+    for line in &CALLS {
+        let call = call_of(alloc, line)?;
         drop(book.act(1, call, 0));
     }
+    Ok(())
 }
 
 // The copy has the job: it is started, handed out and finished, and the log is full then.
 #[test]
 fn a_catalogue_is_copied(rt: HostRuntime) -> Result<(), Fail> {
     let copy = copied(rt.alloc())?;
-    assert_eq!(rt; copy.len(), 1);
-    assert_eq!(rt; entries_of(rt.alloc(), copy)?, 3);
+    assert!(rt; copy.len() == 1);
+    assert!(rt; entries_of(rt.alloc(), copy)? == 3);
     Ok(())
 }

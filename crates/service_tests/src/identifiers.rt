@@ -5,13 +5,22 @@ use batch_ids::{
 use std::alloc::{AllocError, Global};
 use std::test::Fail;
 
+/// Whether this is a text of at most four bytes.
+fn is_of_four(alloc: Global, text: &str) -> Result<bool, Refusal> {
+    let of_four = Text::<4>::new(alloc, text)?;
+    Ok(of_four.as_str() == text)
+}
+
+fn is_empty_copied(alloc: Global) -> Result<bool, Refusal> {
+    let empty = T256::new(alloc, "")?;
+    Ok(empty.try_clone()? == T256::empty())
+}
+
 #[test]
-fn a_text_has_its_bound_in_bytes(rt: HostRuntime) -> Result<(), Fail> {
-    let alloc = rt.alloc();
-    assert_eq!(rt; Text::<4>::new(alloc, "éé")?.as_str(), "éé");
-    assert_eq!(rt; Text::<4>::new(alloc, "abcde"), Err(Refusal::TextTooLong));
-    assert_eq!(rt; T256::new(alloc, "")?.try_clone()?, T256::empty());
-    Ok(())
+fn a_text_has_its_bound_in_bytes(rt: HostRuntime) {
+    assert!(rt; is_of_four(rt.alloc(), "éé") == Ok(true));
+    assert!(rt; is_of_four(rt.alloc(), "abcde") == Err(Refusal::TextTooLong));
+    assert!(rt; is_empty_copied(rt.alloc()) == Ok(true));
 }
 
 // Each refusal, and what it prints as.
@@ -67,7 +76,7 @@ fn is_printed(alloc: Global, refusal: Refusal, name: &str) -> Result<bool, Alloc
 }
 
 /// The parameters of these keys with these values.
-fn parameters_of(alloc: Global, pairs: [(&str, &str); 3]) -> Result<Parameters, Fail> {
+fn parameters_of(alloc: Global, pairs: &[(&str, &str)]) -> Result<Parameters, Fail> {
     let mut given = Vec::new(alloc);
     for (key, value) in pairs {
         given.push((
@@ -88,9 +97,11 @@ fn is_last_kept(parameters: &Parameters) -> bool {
 
 #[test]
 fn the_last_value_of_a_key_counts(rt: HostRuntime) -> Result<(), Fail> {
-    let parameters = parameters_of(rt.alloc(), [("to", "1"), ("from", "2"), ("to", "3")])?;
+    let parameters = parameters_of(rt.alloc(), &[("to", "1"), ("from", "2"), ("to", "3")])?;
     assert!(rt; is_last_kept(&parameters));
-    assert!(rt; is_last_kept(&parameters.try_clone()?));
+    let copy = parameters.try_clone();
+    drop(parameters);
+    assert!(rt; is_last_kept(&copy?));
     Ok(())
 }
 
@@ -111,19 +122,16 @@ fn refused(
     Ok(Parameters::new(alloc, given).err())
 }
 
+// A number of parameters, and the bytes of a key and of a value: one of the three is too large.
+const TOO_LONG: [(u32, usize, usize); 3] = [(65, 1, 1), (1, 257, 1), (1, 1, 4097)];
+
 #[test]
 fn parameters_are_taken_up_to_their_bounds(rt: HostRuntime) -> Result<(), Fail> {
-    let too_long = Some(Refusal::TextTooLong);
-    let cases = [
-        (64, 256, 4096, None),
-        (65, 1, 1, too_long),
-        (1, 257, 1, too_long),
-        (1, 1, 4097, too_long),
-    ];
-    for (count, key, value, wanted) in cases {
-        assert_eq!(rt;
-            refused(rt.alloc(), count, key, value)?,
-            wanted,
+    assert!(rt; refused(rt.alloc(), 64, 256, 4096)?.is_none());
+    for (count, key, value) in &TOO_LONG {
+        let refusal = refused(rt.alloc(), *count, *key, *value)?;
+        assert!(rt;
+            refusal == Some(Refusal::TextTooLong),
             "{count} {key} {value}"
         );
     }
@@ -131,15 +139,14 @@ fn parameters_are_taken_up_to_their_bounds(rt: HostRuntime) -> Result<(), Fail> 
 }
 
 #[test]
-fn a_step_is_added_to_the_metrics(rt: HostRuntime) -> Result<(), Fail> {
+fn a_step_is_added_to_the_metrics(rt: HostRuntime) {
     let step = MetricStep::zero().with(Metric::FilterCount, 3);
     let mut metrics = Metrics::zero();
     metrics.add(&step);
     metrics.add(&step);
-    assert_eq!(rt; metrics.count(Metric::FilterCount), 6);
-    assert_eq!(rt; metrics.count(Metric::ReadCount), 0);
-    assert_eq!(rt; Metric::FilterCount.name(), "FILTER_COUNT");
-    Ok(())
+    assert!(rt; metrics.count(Metric::FilterCount) == 6);
+    assert!(rt; metrics.count(Metric::ReadCount) == 0);
+    assert!(rt; Metric::FilterCount.name() == "FILTER_COUNT");
 }
 
 // Each status, and what it prints as.
@@ -168,7 +175,7 @@ fn a_status_prints_as_its_name_and_is_read_from_it(rt: HostRuntime) -> Result<()
 
 #[test]
 fn nothing_else_is_read_as_a_status(rt: HostRuntime) {
-    for text in [
+    for text in &[
         "",
         "starting",
         "STARTED ",
@@ -186,22 +193,23 @@ fn is_outcome(alloc: Global, outcome: WorkOutcome, printed: &str) -> Result<bool
     Ok(is_printed && printed.parse::<WorkOutcome>() == Ok(outcome))
 }
 
+const OUTCOMES: [(WorkOutcome, &str); 3] = [
+    (WorkOutcome::Completed, "COMPLETED"),
+    (WorkOutcome::Failed, "FAILED"),
+    (WorkOutcome::Stopped, "STOPPED"),
+];
+
 #[test]
 fn an_outcome_prints_as_its_name_and_is_read_from_it(rt: HostRuntime) -> Result<(), Fail> {
-    let outcomes = [
-        (WorkOutcome::Completed, "COMPLETED"),
-        (WorkOutcome::Failed, "FAILED"),
-        (WorkOutcome::Stopped, "STOPPED"),
-    ];
-    for (outcome, printed) in outcomes {
-        assert!(rt; is_outcome(rt.alloc(), outcome, printed)?, "{printed}");
+    for (outcome, printed) in &OUTCOMES {
+        assert!(rt; is_outcome(rt.alloc(), *outcome, printed)?, "{printed}");
     }
     Ok(())
 }
 
 #[test]
 fn nothing_else_is_read_as_an_outcome(rt: HostRuntime) {
-    for text in ["", "failed", "STARTED", "ABANDONED", "STOPPED."] {
+    for text in &["", "failed", "STARTED", "ABANDONED", "STOPPED."] {
         assert!(rt; text.parse::<WorkOutcome>().is_err(), "{text}");
     }
 }
@@ -224,44 +232,42 @@ const METRICS: [(Metric, &str); 8] = [
 
 #[test]
 fn a_metric_prints_as_its_name_and_is_read_from_it(rt: HostRuntime) -> Result<(), Fail> {
-    for (metric, printed) in METRICS {
-        assert!(rt; is_metric(rt.alloc(), metric, printed)?, "{printed}");
+    for (metric, printed) in &METRICS {
+        assert!(rt; is_metric(rt.alloc(), *metric, printed)?, "{printed}");
     }
     Ok(())
 }
 
 #[test]
 fn nothing_else_is_read_as_a_metric(rt: HostRuntime) {
-    for text in ["", "read_count", "READ COUNT", "READ_COUNTS"] {
+    for text in &["", "read_count", "READ COUNT", "READ_COUNTS"] {
         assert!(rt; text.parse::<Metric>().is_err(), "{text}");
     }
 }
 
 #[test]
 fn what_is_no_name_says_so(rt: HostRuntime) -> Result<(), Fail> {
-    assert_eq!(rt;
-        UnknownName.to_string(rt.alloc())?.as_str(),
-        "not a printed name"
-    );
+    let text = UnknownName.to_string(rt.alloc())?;
+    assert!(rt; text.as_str() == "not a printed name");
     Ok(())
 }
 
 #[test]
 fn a_printed_name_keeps_to_its_width(rt: HostRuntime) -> Result<(), Fail> {
     let padded = format!(in rt.alloc(); "{:>8}|{:<8}|", BatchStatus::Failed, WorkOutcome::Failed)?;
-    assert_eq!(rt; padded.as_str(), "  FAILED|FAILED  |");
+    assert!(rt; padded.as_str() == "  FAILED|FAILED  |");
     Ok(())
 }
 
 #[test]
 fn counts_are_zero_by_default(rt: HostRuntime) {
-    assert_eq!(rt; Metrics::default(), Metrics::zero());
-    assert_eq!(rt; MetricStep::default(), MetricStep::zero());
+    assert!(rt; Metrics::default() == Metrics::zero());
+    assert!(rt; MetricStep::default() == MetricStep::zero());
 }
 
 #[test]
 fn parameters_are_walked_over_by_rising_keys(rt: HostRuntime) -> Result<(), Fail> {
-    let parameters = parameters_of(rt.alloc(), [("b", "1"), ("a", "2"), ("c", "3")])?;
+    let parameters = parameters_of(rt.alloc(), &[("b", "1"), ("a", "2"), ("c", "3")])?;
     let walked = walk_over(rt.alloc(), &parameters);
     drop(parameters);
     assert!(rt; walked?);
@@ -278,29 +284,35 @@ fn walk_over(alloc: Global, parameters: &Parameters) -> Result<bool, AllocError>
     Ok(walked.as_str() == "a2b1c3" && parameters.iter().len() == 3)
 }
 
+fn is_copied(text: &Option<T256>) -> Result<bool, AllocError> {
+    Ok(try_clone_option(text)? == *text)
+}
+
 #[test]
 fn a_text_that_is_left_out_is_copied(rt: HostRuntime) -> Result<(), Fail> {
+    assert!(rt; is_copied(&None)?);
     let held = Some(T256::new(rt.alloc(), "a")?);
-    assert_eq!(rt; try_clone_option(&held)?, held);
-    assert_eq!(rt; try_clone_option::<256>(&None)?, None);
+    let copied = is_copied(&held);
+    drop(held);
+    assert!(rt; copied?);
     Ok(())
 }
 
 #[test]
 fn refusals_are_numbered_1_to_16_and_18(rt: HostRuntime) {
     const NUMBERS: [u8; 17] = [1, 2, 3, 4, 5, 6, 7, 8, 9, 10, 11, 12, 13, 14, 15, 16, 18];
-    assert!(rt;
-        PRINTED
-            .iter()
-            .map(|(refusal, _)| refusal.number())
-            .eq(NUMBERS)
-    );
+    for ((refusal, _), number) in PRINTED.iter().zip(&NUMBERS) {
+        assert!(rt; refusal.number() == *number, "{number}");
+    }
 }
 
 #[test]
 fn an_execution_is_unfinished_while_it_is_under_way(rt: HostRuntime) {
-    for (status, printed) in STATUSES {
-        let expected = matches!(printed, "STARTING" | "STARTED" | "STOPPING");
-        assert_eq!(rt; status.is_unfinished(), expected, "{printed}");
+    for (status, printed) in &STATUSES {
+        let expected = matches!(
+            status,
+            BatchStatus::Starting | BatchStatus::Started | BatchStatus::Stopping
+        );
+        assert!(rt; status.is_unfinished() == expected, "{printed}");
     }
 }

@@ -6,55 +6,68 @@ use std::test::Fail;
 /// A job of one chunk with this item count and so many partitions: no catalogue in JSON gives an item
 /// count of 0, nor a step of 0 or more than 64 partitions.
 fn chunk(alloc: Global, item_count: u32, partitions: Option<u32>) -> Result<JobParts, AllocError> {
-    let task = TaskParts::Chunk {
-        reader: String::from_str(alloc, "r")?,
-        processor: None,
-        writer: String::from_str(alloc, "w")?,
-        item_count,
-    };
+    let id = String::from_str(alloc, "j")?;
     let step = StepParts {
         next: None,
         transitions: Listed::new(alloc),
         start_limit: 0,
         allow_start_if_complete: false,
         partitions,
-        task,
+        task: chunk_task(alloc, item_count)?,
     };
-    let id = String::from_str(alloc, "j")?;
     let mut elements = Listed::new(alloc);
     elements.push(ElementParts {
-        id: id.clone()?,
+        id,
         body: BodyParts::Step(step),
     })?;
     Ok(JobParts {
-        id,
+        id: String::from_str(alloc, "j")?,
         restartable: true,
         elements,
     })
 }
 
-#[test]
-fn a_chunk_has_an_item_count_from_1(rt: HostRuntime) -> Result<(), Fail> {
-    let alloc = rt.alloc();
-    assert_eq!(rt;
-        Job::check(alloc, chunk(alloc, 0, None)?).err(),
-        Some(JobFault::Empty)
-    );
-    assert!(rt; Job::check(alloc, chunk(alloc, 1, None)?).is_ok());
-    Ok(())
+fn chunk_task(alloc: Global, item_count: u32) -> Result<TaskParts, AllocError> {
+    let reader = String::from_str(alloc, "r")?;
+    let writer = String::from_str(alloc, "w")?;
+    Ok(TaskParts::Chunk {
+        reader,
+        processor: None,
+        writer,
+        item_count,
+    })
+}
+
+/// What is wrong with such a job, if anything is.
+fn fault_of(
+    alloc: Global,
+    item_count: u32,
+    partitions: Option<u32>,
+) -> Result<Option<JobFault>, AllocError> {
+    let parts = chunk(alloc, item_count, partitions)?;
+    Ok(Job::check(alloc, parts).err())
 }
 
 #[test]
+fn a_chunk_has_an_item_count_from_1(rt: HostRuntime) -> Result<(), Fail> {
+    assert!(rt; fault_of(rt.alloc(), 0, None)? == Some(JobFault::Empty));
+    assert!(rt; fault_of(rt.alloc(), 1, None)?.is_none());
+    Ok(())
+}
+
+/// Numbers of partitions, and what is wrong with them.
+const PARTITIONS: [(u32, Option<JobFault>); 4] = [
+    (0, Some(JobFault::Empty)),
+    (1, None),
+    (64, None),
+    (65, Some(JobFault::TooMany)),
+];
+
+#[test]
 fn a_step_has_1_to_64_partitions(rt: HostRuntime) -> Result<(), Fail> {
-    let alloc = rt.alloc();
-    for (partitions, wanted) in [
-        (0, Some(JobFault::Empty)),
-        (1, None),
-        (64, None),
-        (65, Some(JobFault::TooMany)),
-    ] {
-        let parts = chunk(alloc, 1, Some(partitions))?;
-        assert_eq!(rt; Job::check(alloc, parts).err(), wanted, "{partitions}");
+    for (partitions, wanted) in &PARTITIONS {
+        let fault = fault_of(rt.alloc(), 1, Some(*partitions))?;
+        assert!(rt; fault == *wanted, "{partitions}");
     }
     Ok(())
 }

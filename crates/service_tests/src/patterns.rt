@@ -4,25 +4,27 @@ use std::alloc::Global;
 use std::test::Fail;
 use transitions::{find_match, first_match, matches};
 
+/// Patterns and texts, and whether they match.
+const MATCHES: [(&str, &str, bool); 13] = [
+    ("a*?", "ab", true),
+    ("a*?", "a", false),
+    ("a*?", "", false),
+    ("*", "", true),
+    ("?", "é", true),
+    ("??", "é", false),
+    ("", "", true),
+    ("", "a", false),
+    ("*a*a", "aa", true),
+    ("*a*a", "a", false),
+    ("*a*a", "bananas", false),
+    ("*ab*abc", "abababc", true),
+    ("é*", "ecole", false),
+];
+
 #[test]
 fn patterns_match_by_pieces(rt: HostRuntime) {
-    let rows = [
-        ("a*?", "ab", true),
-        ("a*?", "a", false),
-        ("a*?", "", false),
-        ("*", "", true),
-        ("?", "é", true),
-        ("??", "é", false),
-        ("", "", true),
-        ("", "a", false),
-        ("*a*a", "aa", true),
-        ("*a*a", "a", false),
-        ("*a*a", "bananas", false),
-        ("*ab*abc", "abababc", true),
-        ("é*", "ecole", false),
-    ];
-    for (pattern, text, expected) in rows {
-        assert_eq!(rt; matches(pattern, text), expected, "{pattern} {text}");
+    for (pattern, text, expected) in &MATCHES {
+        assert!(rt; matches(pattern, text) == *expected, "{pattern} {text}");
     }
 }
 
@@ -30,8 +32,9 @@ fn patterns_match_by_pieces(rt: HostRuntime) {
 fn transitions_on(alloc: Global, patterns: &[&str]) -> Result<Listed<Transition>, Refusal> {
     let mut transitions = Listed::new(alloc);
     for pattern in patterns {
+        let on = T256::new(alloc, pattern)?;
         transitions.push(Transition {
-            on: T256::new(alloc, pattern)?,
+            on,
             then: Then::Fail { exit_status: None },
         })?;
     }

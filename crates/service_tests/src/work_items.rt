@@ -3,7 +3,7 @@ use batch_history::{WorkItem, WorkTask};
 use batch_ids::{ExecutionId, MetricStep, Moment, Refusal, T256, Text, WorkId, WorkOutcome};
 use built_in_artifacts::{BuiltIn, BuiltInArtifact};
 use job_threads::{Claimed, Kit, Onward, Port, Report, run_item};
-use std::alloc::Global;
+use std::alloc::{AllocError, Global};
 use std::test::Fail;
 
 /// Keeps the reports, and has no work.
@@ -76,29 +76,35 @@ impl Port for Memory {
 fn told(alloc: Global, reports: &[Report]) -> Result<String, Fail> {
     let mut told = String::new(alloc);
     for report in reports {
-        told = match report {
-            Report::Checkpoint { mark, step, .. } => format!(in alloc;
-                "{told}{}:{}-{}={} ",
-                mark.as_str(),
-                step.read_count,
-                step.filter_count,
-                step.write_count
-            )?,
-            Report::Finish {
-                outcome,
-                exit,
-                step,
-                ..
-            } => {
-                let exit = match exit {
-                    None => "-",
-                    Some(exit) => exit.as_str(),
-                };
-                format!(in alloc; "{told}{outcome} {exit} {}", step.rollback_count)?
-            }
-        };
+        tell(&mut told, report)?;
     }
     Ok(told)
+}
+
+/// Tells a report.
+fn tell(told: &mut String, report: &Report) -> Result<(), AllocError> {
+    match report {
+        Report::Checkpoint { mark, step, .. } => write!(
+            told,
+            "{}:{}-{}={} ",
+            mark.as_str(),
+            step.read_count,
+            step.filter_count,
+            step.write_count
+        ),
+        Report::Finish {
+            outcome,
+            exit,
+            step,
+            ..
+        } => {
+            let exit = match exit {
+                None => "-",
+                Some(exit) => exit.as_str(),
+            };
+            write!(told, "{outcome} {exit} {}", step.rollback_count)
+        }
+    }
 }
 
 /// What is reported of a task that runs with these artifacts.
@@ -149,26 +155,25 @@ fn chunk(alloc: Global, reader: &str, processor: &str, writer: &str) -> Result<W
     })
 }
 
+/// Names of artifacts, and what is reported of a batchlet and of a decision by each.
+const BATCHLETS: [(&str, &str); 5] = [
+    ("ok", "COMPLETED - 0"),
+    ("exit:T", "COMPLETED T 0"),
+    ("fail", "FAILED - 0"),
+    ("odd", "FAILED - 0"),
+    ("other", "FAILED - 0"),
+];
+
 #[test]
 fn batchlets_and_decisions(rt: HostRuntime) -> Result<(), Fail> {
     let alloc = rt.alloc();
-    for (name, wanted) in [
-        ("ok", "COMPLETED - 0"),
-        ("exit:T", "COMPLETED T 0"),
-        ("fail", "FAILED - 0"),
-        ("odd", "FAILED - 0"),
-        ("other", "FAILED - 0"),
-    ] {
+    for (name, wanted) in &BATCHLETS {
         let artifact = T256::new(alloc, name)?;
-        assert!(rt;
-            is_told(alloc, &[name], WorkTask::Batchlet { artifact }, wanted)?,
-            "{name}"
-        );
+        let batchlet = WorkTask::Batchlet { artifact };
+        assert!(rt; is_told(alloc, &[*name], batchlet, wanted)?, "{name}");
         let artifact = T256::new(alloc, name)?;
-        assert!(rt;
-            is_told(alloc, &[name], WorkTask::Decision { artifact }, wanted)?,
-            "{name}"
-        );
+        let decision = WorkTask::Decision { artifact };
+        assert!(rt; is_told(alloc, &[*name], decision, wanted)?, "{name}");
     }
     Ok(())
 }
@@ -179,29 +184,32 @@ fn is_told(alloc: Global, names: &[&str], task: WorkTask, wanted: &str) -> Resul
     Ok(told.as_str() == wanted)
 }
 
+/// Readers, processors and writers, and what is reported of a chunk of them.
+const CHUNKS: [(&str, &str, &str, &str); 11] = [
+    (
+        "count:5",
+        "odd",
+        "sink",
+        "2:2-1=1 4:2-1=1 5:1-0=1 COMPLETED - 0",
+    ),
+    ("count:4", "odd", "sink", "2:2-1=1 4:2-1=1 COMPLETED - 0"),
+    ("count:0", "ok", "sink", "COMPLETED - 0"),
+    ("count:5", "ok", "sink", "FAILED - 1"),
+    ("count:5", "odd", "count:5", "FAILED - 1"),
+    ("count:5", "odd", "fail", "FAILED - 0"),
+    ("sink", "odd", "sink", "FAILED - 1"),
+    ("odd", "odd", "sink", "FAILED - 0"),
+    ("other", "odd", "sink", "FAILED - 0"),
+    ("count:5", "other", "sink", "FAILED - 1"),
+    ("count:0", "other", "sink", "COMPLETED - 0"),
+];
+
 #[test]
 fn chunks(rt: HostRuntime) -> Result<(), Fail> {
     let alloc = rt.alloc();
-    for (reader, processor, writer, wanted) in [
-        (
-            "count:5",
-            "odd",
-            "sink",
-            "2:2-1=1 4:2-1=1 5:1-0=1 COMPLETED - 0",
-        ),
-        ("count:4", "odd", "sink", "2:2-1=1 4:2-1=1 COMPLETED - 0"),
-        ("count:0", "ok", "sink", "COMPLETED - 0"),
-        ("count:5", "ok", "sink", "FAILED - 1"),
-        ("count:5", "odd", "count:5", "FAILED - 1"),
-        ("count:5", "odd", "fail", "FAILED - 0"),
-        ("sink", "odd", "sink", "FAILED - 1"),
-        ("odd", "odd", "sink", "FAILED - 0"),
-        ("other", "odd", "sink", "FAILED - 0"),
-        ("count:5", "other", "sink", "FAILED - 1"),
-        ("count:0", "other", "sink", "COMPLETED - 0"),
-    ] {
+    for (reader, processor, writer, wanted) in &CHUNKS {
         let task = chunk(alloc, reader, processor, writer)?;
-        let is_so = is_told(alloc, &[reader, processor, writer], task, wanted)?;
+        let is_so = is_told(alloc, &[*reader, *processor, *writer], task, wanted)?;
         assert!(rt; is_so, "{reader} {processor} {writer}");
     }
     Ok(())
