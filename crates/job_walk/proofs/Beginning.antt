@@ -6,14 +6,19 @@ use Rattle.std.proofs.lemmas.List.{append_assoc, at_drop_more, drop_all, map-app
 use Rattle.std.proofs.lemmas.List.Elements.{All-head}
 use Rattle.std.proofs.lemmas.List.Folds.{list_any-append}
 use Rattle.jsl_model.specs.Jobs.{JobTree}
+use Rattle.jsl_model.specs.declared.element.Element.{Element, fold_out-Element}
+use Rattle.jsl_model.specs.declared.element.Step.{Step as ItsStep}
+use Rattle.jsl_model.specs.declared.element.Body.{fold-roll-Body}
+use Rattle.jsl_model.specs.declared.element.Body.TheVariants.{Step, Decision, rolls-Step, rolls-Decision}
+use Rattle.jsl_model.specs.declared.element.Body.TheOpen.{Step as OpenStep, Decision as OpenDecision}
 use Rattle.jsl_model.specs.Trees.{joined}
 use Rattle.walk_rules.specs.declared.facts.Fact.{Fact}
 use Rattle.walk_rules.specs.declared.facts.Known.{Known}
 use Rattle.walk_rules.specs.declared.work_key.WorkKey.{WorkKey}
 use Rattle.job_walk.specs.declared.plan.Plan.{Plan}
-use Rattle.job_walk.specs.Cursors.{known_keys, known_at_first, fact_at_first, resumed, value_in}
-use Rattle.walk_rules.specs.Keys.{key_of, numbers_to, is_same_key, has_key}
-use Rattle.job_walk.specs.Runnables.{Leaf, all_leaves, keys_of, all_keys}
+use Rattle.job_walk.specs.Cursors.{known_keys, known_at_first, fact_at_first, step_at_first, resumed, value_in}
+use Rattle.walk_rules.specs.Keys.{key_of, keys_of_step, numbers_to, is_same_key, has_key}
+use Rattle.job_walk.specs.Runnables.{Leaf, Inside, body_leaves, element_leaves, flow_leaves, leaves, leaves_at, leaves_in_body, all_leaves, keys_of, all_keys}
 use Rattle.walk_rules.specs.Walk.{fact_of, known_of, value_of}
 use Rattle.job_walk.proofs.Agreeing.{value-same}
 use Rattle.job_walk.proofs.Alls.{All-tail}
@@ -66,6 +71,26 @@ partition-next facts id n first before after was added =
     ∙ (ap (λ (ks : List Known). ks ++ known_of facts (key_of id n ∷ [])) was
     ∙ (append_assoc first (known_of facts (map (key_of id) (numbers_to n))) (known_of facts (key_of id n ∷ []))
     ∙ ap (λ (ks : List Known). first ++ ks) (sym (known-more facts id n))))
+
+-- a step's own
+pub step-known : (plan : Plan) (known : List Known) (e : Element) (step : ItsStep) → e.body ≡ Step step
+    → known_of (step_at_first plan known) (keys_of_step e.id step.partitions) ≡ flat_map (known_at_first plan known) (leaves e)
+step-known plan known e step is =
+    sym (ap (flat_map (known_at_first plan known))
+    (fold_out-Element Inside (List Leaf) (List Leaf) body_leaves element_leaves flow_leaves e
+    ∙ ap (leaves_at e.id)
+    (ap leaves_in_body is ∙ (ap leaves_in_body (sym (rolls-Step step)) ∙ fold-roll-Body Inside (List Leaf) (List Leaf) body_leaves element_leaves flow_leaves (OpenStep step))))
+    ∙ no-more (known_of (step_at_first plan known) (keys_of_step e.id step.partitions)))
+
+-- a decision's own
+pub decision-known : (plan : Plan) (known : List Known) (e : Element) (artifact : List ℕ) → e.body ≡ Decision artifact
+    → known_of (fact_of known) (key_of e.id 0 ∷ []) ≡ flat_map (known_at_first plan known) (leaves e)
+decision-known plan known e artifact is =
+    sym (ap (flat_map (known_at_first plan known))
+    (fold_out-Element Inside (List Leaf) (List Leaf) body_leaves element_leaves flow_leaves e
+    ∙ ap (leaves_at e.id)
+    (ap leaves_in_body is ∙ (ap leaves_in_body (sym (rolls-Decision artifact)) ∙ fold-roll-Body Inside (List Leaf) (List Leaf) body_leaves element_leaves flow_leaves (OpenDecision artifact))))
+    ∙ no-more (known_of (fact_of known) (key_of e.id 0 ∷ [])))
 
 -- ---- What facts say of it
 

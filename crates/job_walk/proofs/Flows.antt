@@ -1,6 +1,7 @@
 -- Flows: a list that begins at its first element, inside a flow or a flow of a split.
 use Rattle.std.proofs.Common.{◌≡◌, ℕ, zero, suc, ◌+◌, ◌<◌, ◌≤◌, true, Option, None, Some, List, [], ◌∷◌, ◌++◌, length, length-append, map, take, drop, get_or, refl, sym, ◌∙◌, ap, arith, subst, ◌⊎◌, inl, inr}
 use Rattle.std.proofs.lemmas.List.{append_assoc}
+use Rattle.std.specs.List.{slice_get}
 use Rattle.jsl_model.specs.Trees.{joined}
 use Rattle.jsl_model.specs.declared.element.Element.{Element, fold_out-Element}
 use Rattle.jsl_model.specs.declared.element.SplitFlow.{SplitFlow, out-SplitFlow, fold_out-SplitFlow}
@@ -32,6 +33,21 @@ first-is facts e = ap (λ (r : WalkedElement). r.id) (kept-row facts e ∙ walke
 pub first-same : (facts later : WorkKey → Fact) (es : List Element) → first_id (rows_in (states later es)) ≡ first_id (rows_in (states facts es))
 first-same facts later [] = refl
 first-same facts later (e ∷ es) = first-is later e ∙ sym (first-is facts e)
+
+pub no-first : (facts : WorkKey → Fact) (es : List Element) → None ≡ slice_get es 0 → first_id (rows_in (states facts es)) ≡ []
+no-first facts [] none = refl
+no-first facts (e ∷ es) none = cc
+
+pub its-first : (facts : WorkKey → Fact) (es : List Element) (e : Element) → Some e ≡ slice_get es 0 → first_id (rows_in (states facts es)) ≡ e.id
+its-first facts [] e some = cc
+its-first facts (x ∷ es) e some =
+    let same : x ≡ e = cc in
+    first-is facts x ∙ ap (λ (y : Element). y.id) same
+
+-- lists added from the first element on
+pub from-first : (facts : WorkKey → Fact) (es : List Element) (from : List ℕ) (before now : List KeptList) → first_id (rows_in (states facts es)) ≡ from
+    → now ≡ before ++ kept_of facts es from → now ≡ before ++ lists_in (tree_first (states facts es))
+from-first facts es from before now is added = added ∙ ap (λ f. before ++ kept_of facts es f) (sym is)
 
 -- ---- Where the list shows the work key
 

@@ -5,14 +5,16 @@ use Rattle.jsl_model.specs.Trees.{joined}
 use Rattle.jsl_model.specs.declared.element.Element.{Element, fold_out-Element}
 use Rattle.jsl_model.specs.declared.element.SplitFlow.{SplitFlow, out-SplitFlow, fold_out-SplitFlow}
 use Rattle.jsl_model.specs.declared.element.Body.{fold-roll-Body}
-use Rattle.jsl_model.specs.declared.element.Body.TheVariants.{Split, rolls-Split}
-use Rattle.jsl_model.specs.declared.element.Body.TheOpen.{Split as OpenSplit}
+use Rattle.jsl_model.specs.declared.element.Step.{Step as ItsStep}
+use Rattle.jsl_model.specs.declared.element.Body.TheVariants.{Step, Decision, Split, rolls-Step, rolls-Decision, rolls-Split}
+use Rattle.jsl_model.specs.declared.element.Body.TheOpen.{Step as OpenStep, Decision as OpenDecision, Split as OpenSplit}
 use Rattle.walk_rules.specs.declared.facts.Fact.{Fact}
 use Rattle.walk_rules.specs.declared.element_result.ElementResult.{ElementResult}
 use Rattle.job_walk.specs.declared.kept_list.KeptList.{KeptList}
 use Rattle.walk_rules.specs.declared.progress.Progress.{Progress}
 use Rattle.walk_rules.specs.declared.work_key.WorkKey.{WorkKey}
-use Rattle.walk_rules.specs.Walk.{split_result, element_result}
+use Rattle.walk_rules.specs.Keys.{key_of}
+use Rattle.walk_rules.specs.Walk.{runnable_result, step_result, split_result, element_result}
 use Rattle.job_walk.specs.KeptLists.{KeptElement, KeptBody, KeptTree, rows_in, insides, starts_from, head_of, tree_first, kept_of, value_kept, lists_in, body_kept, element_kept, flow_kept, kept_element, kept_body, kept_flow}
 use Rattle.walk_rules.specs.Standing.{rows_by, progress}
 use Rattle.job_walk.proofs.Reporting.{states, owns_in, rows-self}
@@ -65,13 +67,48 @@ added-count first now inner is =
     let b = length-append first inner in
     omega (arith, a, b)
 
+pub added-length : (first now inner : List KeptList) → now ≡ first ++ inner → length now ≡ length first + length inner
+added-length first now inner is = ap length is ∙ length-append first inner
+
 set-middle : (xs : List KeptList) (y v : KeptList) (zs : List KeptList) → set ((xs ++ y ∷ []) ++ zs) (length xs) v ≡ xs ++ v ∷ zs
 set-middle [] y v zs = refl
 set-middle (x ∷ xs) y v zs = ap (λ r. x ∷ r) (set-middle xs y v zs)
 
+get-middle : (xs : List KeptList) (y d : KeptList) (zs : List KeptList) → get_or (xs ++ y ∷ zs) (length xs) d ≡ y
+get-middle [] y d zs = refl
+get-middle (x ∷ xs) y d zs = get-middle xs y d zs
+
+-- what stands where a list was added is what is kept of it
+pub list-there : (before now : List KeptList) (w : KeptTree) (base : ℕ) (kept : KeptList) → base ≡ length before → now ≡ before ++ lists_in w
+    → kept ≡ get_or now base kept → kept ≡ w.head
+list-there before now w base kept at added is =
+    is ∙ (ap (λ ls. get_or ls base kept) added ∙ (ap (λ n. get_or (before ++ lists_in w) n kept) at ∙ get-middle before w.head kept w.inside))
+
 -- a flow of a split
 pub whole-parts : (facts : WorkKey → Fact) (f : SplitFlow) → kept_flow facts f ≡ tree_first (states facts (out-SplitFlow f).elements)
 whole-parts facts f = fold_out-SplitFlow KeptBody KeptElement KeptTree body_kept (element_kept facts) flow_kept f
+
+-- a step, which has no list inside it
+pub kept-step : (facts : WorkKey → Fact) (e : Element) (step : ItsStep) → e.body ≡ Step step
+    → ((kept_element facts e).row.own_result ≡ step_result facts e.id step.partitions) × ((kept_element facts e).inside ≡ [])
+kept-step facts e step is =
+    let parts = fold_out-Element KeptBody KeptElement KeptTree body_kept (element_kept facts) flow_kept e in
+    let body : kept_body facts e.body ≡ body_kept (OpenStep step) =
+    ap (kept_body facts) (is ∙ sym (rolls-Step step)) ∙ fold-roll-Body KeptBody KeptElement KeptTree body_kept (element_kept facts) flow_kept (OpenStep step) in (
+      ap (λ (s : KeptElement). s.row.own_result) parts ∙ ap (λ (h : KeptBody). element_result facts e.id h.part) body,
+      ap (λ (s : KeptElement). s.inside) parts ∙ ap (λ (h : KeptBody). h.inside) body,
+    )
+
+-- a decision
+pub kept-decision : (facts : WorkKey → Fact) (e : Element) (artifact : List ℕ) → e.body ≡ Decision artifact
+    → ((kept_element facts e).row.own_result ≡ runnable_result (key_of e.id 0) (facts (key_of e.id 0))) × ((kept_element facts e).inside ≡ [])
+kept-decision facts e artifact is =
+    let parts = fold_out-Element KeptBody KeptElement KeptTree body_kept (element_kept facts) flow_kept e in
+    let body : kept_body facts e.body ≡ body_kept (OpenDecision artifact) =
+    ap (kept_body facts) (is ∙ sym (rolls-Decision artifact)) ∙ fold-roll-Body KeptBody KeptElement KeptTree body_kept (element_kept facts) flow_kept (OpenDecision artifact) in (
+      ap (λ (s : KeptElement). s.row.own_result) parts ∙ ap (λ (h : KeptBody). element_result facts e.id h.part) body,
+      ap (λ (s : KeptElement). s.inside) parts ∙ ap (λ (h : KeptBody). h.inside) body,
+    )
 
 -- a split
 body-split : (facts : WorkKey → Fact) (flows : List SplitFlow) → kept_body facts (Split flows) ≡ body_kept (OpenSplit (map (kept_flow facts) flows))

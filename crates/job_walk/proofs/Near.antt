@@ -74,7 +74,7 @@ list-once-in id es k e lt is once =
 
 -- ---- A flow
 
-flow-leaves : (e : Element) (es : List Element) → e.body ≡ Flow es → leaves e ≡ all_leaves es
+pub flow-leaves : (e : Element) (es : List Element) → e.body ≡ Flow es → leaves e ≡ all_leaves es
 flow-leaves e es is =
     fold_out-Element Inside (List Leaf) (List Leaf) body_leaves element_leaves flow_leaves e
     ∙ ap (leaves_at e.id)
@@ -95,7 +95,7 @@ flow-keys key f =
     let part = flow-count key.element f in
     omega (arith, same, few, part)
 
-split-leaves : (e : Element) (flows : List SplitFlow) → e.body ≡ Split flows → leaves e ≡ joined (map leaves_of_flow flows)
+pub split-leaves : (e : Element) (flows : List SplitFlow) → e.body ≡ Split flows → leaves e ≡ joined (map leaves_of_flow flows)
 split-leaves e flows is =
     fold_out-Element Inside (List Leaf) (List Leaf) body_leaves element_leaves flow_leaves e
     ∙ ap (leaves_at e.id)

@@ -58,6 +58,10 @@ puts-list others inner change base head pre old new post named puts before after
 pub puts-none : (others : List ListChange) (base : ℕ) (lists : List KeptList) → Puts others others base lists lists
 puts-none others base lists before after here = refl
 
+-- nor where the lists are the same
+pub puts-same : (others : List ListChange) (base : ℕ) (old new : List KeptList) → new ≡ old → Puts others others base old new
+puts-same others base old new same before after here = ap (λ lists. put_all others ((before ++ lists) ++ after)) (sym same)
+
 -- what is put into the first lists leaves those behind them
 pub puts-first : (others changes : List ListChange) (base : ℕ) (old new same : List KeptList) → Puts others changes base old new
     → Puts others changes base (old ++ same) (new ++ same)

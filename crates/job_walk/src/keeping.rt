@@ -204,7 +204,9 @@ fn runnable_kept(
         made ≡ runnable_result (key_of id.now 0) (fact_of known.now (key_of id.now 0))) }
 {
     let fact = known_fact(index, known, id, 0)?;
-    Ok(result_by(alloc, id, &fact)?)
+    let made = result_by(alloc, id, &fact);
+    drop(fact);
+    made
 }
 
 /// What a step comes to by itself.
@@ -229,7 +231,7 @@ fn step_kept(
                 };
                 facts.push(one)?;
             }
-            Ok(partitioned_result(alloc, facts.as_slice())?)
+            partitioned_result(alloc, facts.as_slice())
         }
     }
 }

@@ -57,7 +57,9 @@ fn runnable_after(
         (fact_of (put_fact known.now key.now fact.now) (key_of id.now 0))) }
 {
     let after = fact_after(index, known, key, fact, id, 0)?;
-    Ok(result_by(alloc, id, &after)?)
+    let made = result_by(alloc, id, &after);
+    drop(after);
+    made
 }
 
 /// What a step comes to by itself, once this is learnt.
@@ -86,7 +88,7 @@ fn step_after(
                 };
                 after.push(one)?;
             }
-            Ok(partitioned_result(alloc, after.as_slice())?)
+            partitioned_result(alloc, after.as_slice())
         }
     }
 }
@@ -204,9 +206,9 @@ fn element_changes(
 {
     match &element.body {
         Body::Step(step) => {
-            Ok(step_after(alloc, index, known, key, fact, &element.id, step.partitions)?)
+            step_after(alloc, index, known, key, fact, &element.id, step.partitions)
         }
-        Body::Decision { .. } => Ok(runnable_after(alloc, index, known, key, fact, &element.id)?),
+        Body::Decision { .. } => runnable_after(alloc, index, known, key, fact, &element.id),
         Body::Flow(elements) => {
             let elements = elements.as_slice();
             let value = list_changes(
@@ -214,7 +216,7 @@ fn element_changes(
             )?;
             Ok(flow_result(value))
         }
-        Body::Split(flows) => Ok(split_changes(
+        Body::Split(flows) => split_changes(
             alloc,
             changes,
             base,
@@ -225,7 +227,7 @@ fn element_changes(
             known,
             key,
             fact,
-        )?),
+        ),
     }
 }
 

@@ -78,7 +78,7 @@ fn flow_values<'v>(
         } else {
             &kept.progress.value
         };
-        values.push(value)?;
+        values.push_reserved(value);
         start += kept.size;
     }
     Ok(values)

@@ -1,16 +1,17 @@
 use Rattle.std.proofs.Common.{true, ◌≡◌, ◌+◌, ◌++◌, ◌∷◌, [], length, map, get_or, set, drop, refl, sym, ◌∙◌, ap, subst, arith, Result, Ok, Err, IfOk, OnOk}
 use Rattle.jsl_model.specs.declared.element.SplitFlow.{SplitFlow, out-SplitFlow}
-use Rattle.jsl_model.specs.declared.element.Body.TheVariants.{Flow}
+use Rattle.jsl_model.specs.declared.element.Body.TheVariants.{Flow, Split}
 use Rattle.job_walk.specs.declared.kept_list.ListChange.{ListChange}
 use Rattle.walk_rules.specs.declared.progress.Progress.{Progress}
 use Rattle.walk_rules.specs.Standing.{progress, rows_by}
 use Rattle.job_walk.specs.KeptLists.{facts_after, first_shows, kept_element, kept_flow, Puts, rows_in, lists_in, tree_first, value_kept, KeepsFirst}
 use Rattle.walk_rules.specs.Shown.{shows}
-use Rattle.job_walk.proofs.KeptAtFirst.{kept-split, whole-parts}
+use Rattle.job_walk.proofs.KeptAtFirst.{kept-step, kept-decision, kept-split, whole-parts}
 use Rattle.walk_rules.specs.Walk.{fact_of, first_id, flow_result, split_result}
 use Rattle.jsl_model.specs.Trees.{joined}
 use Rattle.job_walk.proofs.Descent.{at-nowhere, way, entered, became, learnt-apart, drop-length}
 use Rattle.job_walk.proofs.Flows.{first-kept, flow-kept, flow-shows, flow-all, kept-flow, first-value, first-puts, flow-puts, split-once}
+use Rattle.job_walk.proofs.Putting.{puts-same}
 use Rattle.job_walk.proofs.SplitFlows.{split-keeps, split-shows, flow-there, at-flow, stands-alone, flows-values, flows-put}
 use Rattle.walk_rules.proofs.Places.{at-once}
 use Rattle.job_walk.proofs.Reporting.{states}
@@ -19,6 +20,10 @@ use Rattle.job_walk.proofs.learnt.+learning.Goals as goal
 
 come-ok : {E : Type 0} (result : Result Progress E) (come same : Progress) → result ≡ Ok come → IfOk result (λ made. made ≡ same) → come ≡ same
 come-ok {E = E} result come same is ok = subst (λ (r : Result Progress E). IfOk r (λ made. made ≡ same)) is ok
+
+if-ok : {A E : Type 0} {P : Type 0} → (result : Result A E) → P → OnOk result P
+if-ok (Ok a) p = p
+if-ok (Err e) p = tt
 
 -- ---- A list
 
@@ -206,10 +211,6 @@ pub split_changes-split_after-result-requires : goal.split_changes-split_after-r
 split_changes-split_after-result-requires t c =
     (fact_of c.args.known.now, split-keeps (fact_of c.args.known.now) c.args.element.now c.args.flows.now c.args.lists.now c.requires.split c.requires.kept)
 
-if-ok : {A E : Type 0} {P : Type 0} → (result : Result A E) → P → OnOk result P
-if-ok (Ok a) p = p
-if-ok (Err e) p = tt
-
 pub split_changes-returns-clause-comes : goal.split_changes-returns-clause-comes
 split_changes-returns-clause-comes t c =
     let facts = fact_of c.args.known.now in
@@ -264,3 +265,65 @@ split_changes-returns-clause-changes t c =
     if-ok c.split_after-result.result
     (subst (λ x. Puts others changes base x (kept_element later e).inside) (sym (kept-split facts e flows c.requires.split).1)
     (subst (λ x. Puts others changes base (joined (map (λ (g : SplitFlow). lists_in (kept_flow facts g)) flows)) x) (sym (kept-split later e flows c.requires.split).1) all))
+
+pub list_changes-bounds-lists-0 : goal.list_changes-bounds-lists-0
+list_changes-bounds-lists-0 t c =
+    let l = ap length c.requires.kept.2 in
+    omega (arith, l)
+
+pub list_changes-bounds-elements-place : goal.list_changes-bounds-elements-place
+list_changes-bounds-elements-place t c =
+    (way (fact_of c.args.known.now) c.args.elements.now c.args.lists.now c.index-lists-0.result c.in-Some.place c.requires.kept c.index-lists-0.is c.in-Some.is).within
+
+pub list_changes-walk_on-come-requires-clause-once : goal.list_changes-walk_on-come-requires-clause-once
+list_changes-walk_on-come-requires-clause-once t c = c.requires.once
+
+pub list_changes-walk_on-come-requires-clause-same : goal.list_changes-walk_on-come-requires-clause-same
+list_changes-walk_on-come-requires-clause-same t c =
+    ap length c.as_slice-2.ensures
+    ∙ (way (fact_of c.args.known.now) c.args.elements.now c.args.lists.now c.index-lists-0.result c.in-Some.place c.requires.kept c.index-lists-0.is c.in-Some.is).in_results
+
+-- ---- A step or a decision
+
+pub element_changes-returns-in-Step-clause-comes : goal.element_changes-returns-in-Step-clause-comes
+element_changes-returns-in-Step-clause-comes t c =
+    let later = facts_after c.args.known.now c.args.key.now c.args.fact.now in
+    subst (λ own. IfOk c.step_after.result (λ made. made ≡ own)) (sym (kept-step later c.args.element.now c.in-Step.step c.in-Step.is).0) c.step_after.ensures
+
+pub element_changes-returns-in-Step-clause-changes : goal.element_changes-returns-in-Step-clause-changes
+element_changes-returns-in-Step-clause-changes t c =
+    let facts = fact_of c.args.known.now in
+    let later = facts_after c.args.known.now c.args.key.now c.args.fact.now in
+    let e = c.args.element.now in
+    let same = (kept-step later e c.in-Step.step c.in-Step.is).1 ∙ sym (kept-step facts e c.in-Step.step c.in-Step.is).1 in
+    if-ok c.step_after.result (puts-same c.args.changes.now.items c.args.base (kept_element facts e).inside (kept_element later e).inside same)
+
+pub element_changes-returns-in-Decision-clause-comes : goal.element_changes-returns-in-Decision-clause-comes
+element_changes-returns-in-Decision-clause-comes t c =
+    let later = facts_after c.args.known.now c.args.key.now c.args.fact.now in
+    subst (λ own. IfOk c.runnable_after.result (λ made. made ≡ own)) (sym (kept-decision later c.args.element.now c.in-Decision.artifact c.in-Decision.is).0)
+    c.runnable_after.ensures
+
+pub element_changes-returns-in-Decision-clause-changes : goal.element_changes-returns-in-Decision-clause-changes
+element_changes-returns-in-Decision-clause-changes t c =
+    let facts = fact_of c.args.known.now in
+    let later = facts_after c.args.known.now c.args.key.now c.args.fact.now in
+    let e = c.args.element.now in
+    let same = (kept-decision later e c.in-Decision.artifact c.in-Decision.is).1 ∙ sym (kept-decision facts e c.in-Decision.artifact c.in-Decision.is).1 in
+    if-ok c.runnable_after.result (puts-same c.args.changes.now.items c.args.base (kept_element facts e).inside (kept_element later e).inside same)
+
+-- ---- A split in its element
+
+pub element_changes-returns-in-Split-clause-comes : goal.element_changes-returns-in-Split-clause-comes
+element_changes-returns-in-Split-clause-comes t c = c.split_changes.ensures.comes
+
+pub element_changes-returns-in-Split-clause-changes : goal.element_changes-returns-in-Split-clause-changes
+element_changes-returns-in-Split-clause-changes t c = c.split_changes.ensures.changes
+
+pub element_changes-split_changes-requires : goal.element_changes-split_changes-requires
+element_changes-split_changes-requires t c =
+    let is = c.in-Split.is ∙ ap Split (sym c.as_slice.ensures) in
+    (omega arith, (is, (c.requires.kept, (c.requires.shown, (c.requires.known, (c.requires.each, (c.requires.once, c.requires.numbered)))))))
+
+pub split_changes-bounds-flows-place : goal.split_changes-bounds-flows-place
+split_changes-bounds-flows-place t c = c.place_that_shows-place.ensures.within

@@ -23,16 +23,16 @@ list_changes-requires c =
       numbered = search rules;
     }
 
-pub returns : goal.returns
-returns c =
+pub returns-in-Ok : goal.returns-in-Ok
+returns-in-Ok c =
     let cursor : CursorState = record { job = c.self.inside.job; from = c.self.inside.from; facts = c.self.inside.known.items } in
     let key = c.args.key.now in
     let shown : is_shown (value_in cursor) key ≡ true = ap (λ (s : CursorState). is_shown (value_in s) key) c.self.view_is ∙ c.requires.shown in
     rw (← c.self.view_is) record {
-      same_key = c.in_ok-try_clone.ensures;
+      same_key = c.in_ok-own_key.ensures;
       same_fact = refl;
       known = shown-known cursor c.self.invariant.state key shown;
       once = keys-once c.self.inside.job.elements c.self.inside.known.items c.self.invariant.state.each (ids-once c.self.inside.job c.elements.ensures.checked);
-      value = learnt-value cursor c.self.inside.lists.items c.as_slice.result.now key c.args.fact c.elements.result.now c.as_slice-2.result.now c.in_ok-value.value c.self.invariant c.as_slice.ensures.value c.elements.ensures.same c.as_slice-2.ensures.value c.in_ok-value.ensures.value;
-      changes = learnt-lists cursor c.self.inside.lists.items c.as_slice.result.now key c.args.fact c.new-changes.result.items c.list_changes.new.changes.items c.elements.result.now c.as_slice-2.result.now c.self.invariant c.as_slice.ensures.value c.elements.ensures.same c.as_slice-2.ensures.value c.new-changes.ensures.items c.in_ok-value.ensures.changes;
+      value = learnt-value cursor c.self.inside.lists.items c.as_slice.result.now key c.args.fact c.elements.result.now c.as_slice-2.result.now c.in-Ok.value c.self.invariant c.as_slice.ensures.value c.elements.ensures.same c.as_slice-2.ensures.value c.in-Ok.ensures.value;
+      changes = learnt-lists cursor c.self.inside.lists.items c.as_slice.result.now key c.args.fact c.new-changes.result.items c.list_changes.new.changes.items c.elements.result.now c.as_slice-2.result.now c.self.invariant c.as_slice.ensures.value c.elements.ensures.same c.as_slice-2.ensures.value c.new-changes.ensures.items c.in-Ok.ensures.changes;
     }
