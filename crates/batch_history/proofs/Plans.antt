@@ -132,7 +132,7 @@ found-job catalogue past x m fits found =
     ap (job_of_origin catalogue) c.is ∙ ap (λ (k : Made). job_named catalogue k.job) c.same
 
 -- the plan by searches is that by what the fold has
-plan-searched : (catalogue : List JobTree) (past : List Entry) (x : ℕ) (m : Made) (from : List ℕ) → AllFit past → find (is_made x) (made past) ≡ Some m
+pub plan-searched : (catalogue : List JobTree) (past : List Entry) (x : ℕ) (m : Made) (from : List ℕ) → AllFit past → find (is_made x) (made past) ≡ Some m
     → plan_from catalogue past x from ≡ plan_by from (earlier_kept past x) (job_named catalogue m.job)
 plan-searched catalogue past x m from fits found =
     ap (λ (instance : ℕ → Option ℕ). plan_by from (filter (is_earlier_work instance x) (work_items past)) (job_of_origin catalogue (origin_of past x)))

@@ -1,8 +1,8 @@
 -- A walk that is resumed by a plan and by what is known of its work keys comes to what the walk of the job execution does.
 use mathlib.Core.Path.{fun_ext}
-use Rattle.std.proofs.Common.{◌≡◌, ℕ, ◌||◌, Bool, true, false, cond, Some, List, [], ◌∷◌, ◌++◌, find, refl, sym, ◌∙◌, ap}
+use Rattle.std.proofs.Common.{◌≡◌, ℕ, ◌||◌, Bool, true, false, cond, Option, Some, List, [], ◌∷◌, ◌++◌, find, refl, sym, ◌∙◌, ap}
 use Rattle.std.specs.List.{flat_map}
-use Rattle.std.specs.Option.{option_map}
+use Rattle.std.specs.Option.{option_and_then, option_map}
 use Rattle.jsl_model.specs.Jobs.{JobTree}
 use Rattle.job_walk.specs.Cursors.{fact_at_first, known_at_first, resumed, value_in}
 use Rattle.walk_rules.specs.Keys.{is_same_key, has_key}
@@ -30,18 +30,20 @@ known-or-rest facts (one ∷ keys) rest key =
       | false ↦ λ e. known-or-rest facts keys rest key ∙ sym (ap (λ b. cond (b || has_key keys key) (facts key) (fact_of rest key)) (same-sym key one ∙ e))
     ]) refl
 
-same-fact : (plan : Plan) (known : List Known) (key : WorkKey) (runs : Runnable) → fact_at_first plan known key runs ≡ runnable_fact plan key (fact_of known key) (Some runs)
-same-fact plan known key (RunsStep task) = refl
-same-fact plan known key (RunsDecision artifact) = refl
+same-fact : (plan : Plan) (known : List Known) (partitions : Option ℕ) (key : WorkKey) (runs : Runnable)
+    → fact_at_first plan known partitions key runs ≡ runnable_fact plan partitions key (fact_of known key) (Some runs)
+same-fact plan known partitions key (RunsStep task) = refl
+same-fact plan known partitions key (RunsDecision artifact) = refl
 
 same-facts : (plan : Plan) (known : List Known) (leaves : List Leaf) (key : WorkKey)
     → fact_of (flat_map (known_at_first plan known) leaves) key ≡ planned_facts plan leaves (fact_of known) key
 same-facts plan known [] key = refl
 same-facts plan known (leaf ∷ rest) key =
-    known-or-rest (λ one. fact_at_first plan known one leaf.runs) (keys_of leaf) (flat_map (known_at_first plan known) rest) key
-    ∙ (elim (has_key (keys_of leaf) key) as (λ b. cond b (fact_at_first plan known key leaf.runs) (fact_of (flat_map (known_at_first plan known) rest) key)
-    ≡ runnable_fact plan key (fact_of known key) (option_map (λ (l : Leaf). l.runs) (cond b (Some leaf) (find (λ (l : Leaf). has_key (keys_of l) key) rest)))) [
-      | true ↦ same-fact plan known key leaf.runs
+    known-or-rest (λ one. fact_at_first plan known leaf.partitions one leaf.runs) (keys_of leaf) (flat_map (known_at_first plan known) rest) key
+    ∙ (elim (has_key (keys_of leaf) key) as (λ b. cond b (fact_at_first plan known leaf.partitions key leaf.runs) (fact_of (flat_map (known_at_first plan known) rest) key)
+    ≡ runnable_fact plan (option_and_then (λ (l : Leaf). l.partitions) (cond b (Some leaf) (find (λ (l : Leaf). has_key (keys_of l) key) rest))) key (fact_of known key)
+    (option_map (λ (l : Leaf). l.runs) (cond b (Some leaf) (find (λ (l : Leaf). has_key (keys_of l) key) rest)))) [
+      | true ↦ same-fact plan known leaf.partitions key leaf.runs
       | false ↦ same-facts plan known rest key
     ])
 

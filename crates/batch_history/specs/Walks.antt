@@ -6,7 +6,7 @@ use Rattle.batch_history.specs.declared.rows.WorkRow.{WorkRow}
 use Rattle.batch_history.specs.declared.rows.WorkState.{WorkState}
 use Rattle.batch_history.specs.declared.rows.WorkState.TheVariants.{Busy, Over}
 use Rattle.std.specs.Str.{bytes_eq}
-use Rattle.job_walk.specs.Runnables.{Leaf, all_leaves, runnable_with}
+use Rattle.job_walk.specs.Runnables.{Leaf, all_leaves, partitions_with, runnable_with}
 use Rattle.walk_rules.specs.Keys.{is_same_key}
 use Rattle.job_walk.specs.Plans.{planned_fact}
 use Rattle.walk_rules.specs.Walk.{value_of}
@@ -40,15 +40,16 @@ fact_by_work (Some row) = fact_of_state row.state
 abbrev pub facts_by_work : ℕ → List WorkRow → WorkKey → Fact
 facts_by_work x works key = fact_by_work (find (is_work_of x key) works)
 
--- what is known of a work key of what is run, by the plan and by its work item; a decision is taken anew in each job execution
-abbrev pub runnable_fact : Plan → WorkKey → Fact → Option Runnable → Fact
-runnable_fact plan key worked (Some (RunsStep task)) = planned_fact plan key worked
-runnable_fact plan key worked (Some (RunsDecision artifact)) = worked
-runnable_fact plan key worked None = FactNothing
+-- what is known of a work key of what is run, in so many partitions, by the plan and by its work item; a decision is taken anew
+-- in each job execution
+abbrev pub runnable_fact : Plan → Option ℕ → WorkKey → Fact → Option Runnable → Fact
+runnable_fact plan partitions key worked (Some (RunsStep task)) = planned_fact plan partitions key worked
+runnable_fact plan partitions key worked (Some (RunsDecision artifact)) = worked
+runnable_fact plan partitions key worked None = FactNothing
 
 -- what is known of each work key of a job
 abbrev pub planned_facts : Plan → List Leaf → (WorkKey → Fact) → WorkKey → Fact
-planned_facts plan leaves worked key = runnable_fact plan key (worked key) (runnable_with leaves key)
+planned_facts plan leaves worked key = runnable_fact plan (partitions_with leaves key) key (worked key) (runnable_with leaves key)
 
 -- the id of the first element of a list
 abbrev pub first_element : List Element → List ℕ

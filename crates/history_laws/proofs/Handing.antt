@@ -4,10 +4,10 @@ use Rattle.jsl_model.specs.Jobs.{JobTree}
 use Rattle.batch_history.specs.declared.call.Entry.{Entry}
 use Rattle.batch_history.specs.declared.call.WorkItem.{WorkItem}
 use Rattle.batch_history.specs.declared.call.Reply.TheVariants.{Work}
-use Rattle.batch_history.proofs.Folds.{folded_rows, execution_row}
+use Rattle.batch_history.proofs.Folds.{folded_rows, execution_row, plan_kept}
 use Rattle.batch_history.specs.Executions.{Made}
 use Rattle.batch_history.specs.Legal.{IsLegal}
-use Rattle.batch_history.specs.Replies.{reply, runnable_of_job, has_something, work_task}
+use Rattle.batch_history.specs.Replies.{reply, partitions_of_job, runnable_of_job, has_something, work_task}
 use Rattle.batch_history.specs.Rows.{History, Rows}
 use Rattle.batch_history.specs.Walks.{job_named, facts_by_work, runnable_fact}
 use Rattle.batch_history.specs.declared.rows.ExecutionRow.{ExecutionRow}
@@ -21,8 +21,8 @@ use Rattle.batch_history.proofs.Kept.{IsUnknown}
 use Rattle.jsl_model.specs.Names.{is_among}
 use Rattle.jsl_model.specs.declared.element.Task.{Task}
 use Rattle.jsl_model.specs.declared.element.Task.TheVariants.{Batchlet as BatchletStep, Chunk as ChunkStep}
-use Rattle.job_walk.specs.Runnables.{all_leaves, runnable_with}
-use Rattle.job_walk.specs.Plans.{carried_exit, is_kept, unless_barred, step_fact}
+use Rattle.job_walk.specs.Runnables.{all_leaves, partitions_with, runnable_with}
+use Rattle.job_walk.specs.Plans.{bars_kept, carried_exit, is_kept, keeps_partition, unless_barred, step_fact}
 use Rattle.walk_rules.specs.declared.work_key.WorkKey.{WorkKey}
 use Rattle.walk_rules.specs.declared.facts.Fact.{Fact}
 use Rattle.walk_rules.specs.declared.facts.Fact.TheVariants.{Nothing as FactNothing, Busy as FactBusy, Over as FactOver, Carried as FactCarried, Barred as FactBarred}
@@ -34,6 +34,7 @@ use Rattle.batch_history.specs.declared.call.WorkTask.TheVariants.{Chunk}
 use Rattle.batch_history.proofs.Plans.{plan-law}
 use Rattle.history_laws.proofs.Beginnings.{all_of, answered-by-all, row-folded, row-there}
 use Rattle.history_laws.proofs.Claims.{IsHandedOf, handed-of, handed-runs}
+use Rattle.history_laws.proofs.Unkept.{keeps-none, unpartitioned-unkept}
 
 -- ---- What is handed out
 
@@ -41,6 +42,7 @@ use Rattle.history_laws.proofs.Claims.{IsHandedOf, handed-of, handed-runs}
 record IsOwner (h : History) (row : ExecutionRow) : Type 0 where
   found : row_in h row.execution ≡ Some row
   plan : row.plan ≡ plan_of h.catalogue (reverse h.log) row.execution
+  unkept : (key : WorkKey) → partitions_of_job (job_named h.catalogue row.job) key ≡ None → is_kept row.plan key ≡ false
 
 is-owner : (limit : ℕ) (h : History) → IsLegal limit h → (row : ExecutionRow) → find (has_something (all_of h)) (all_of h).executions ≡ Some row → IsOwner h row
 is-owner limit h legal row found =
@@ -51,9 +53,11 @@ is-owner limit h legal row found =
     let m : Made = from.one in
     let there : row_in h m.execution ≡ Some (execution_row h.catalogue past m) =
     row-folded limit h legal m.execution ∙ row-there h.catalogue past m.execution m from.found in
+    let plan : plan_of h.catalogue past m.execution ≡ plan_kept h.catalogue past m.execution = plan-law limit h.catalogue past m.execution m (past-due limit h legal) from.found in
     subst (IsOwner h) (sym from.is_row) (record {
       found = there;
-      plan = sym (plan-law limit h.catalogue past m.execution m (past-due limit h legal) from.found);
+      plan = sym plan;
+      unkept = λ key none. ap (λ (p : Plan). is_kept p key) (sym plan) ∙ unpartitioned-unkept limit h.catalogue past (past-due limit h legal) m from.found key none;
     })
 
 -- what a claim hands out, and of which job execution
@@ -117,20 +121,26 @@ not-barred (FactOver outcome exit) barred h = cc
 not-barred (FactCarried exit) barred h = cc
 not-barred FactBarred barred h = cc
 
-step-open : (carried : Option (List ℕ)) (kept : Bool) (worked : Fact) (barred : Bool) → step_fact carried kept worked barred ≡ FactNothing
+step-open : (carried : Option (List ℕ)) (all kept : Bool) (worked : Fact) (barred : Bool) → step_fact carried all kept worked barred ≡ FactNothing
     → (carried ≡ None) × (kept ≡ false) × (barred ≡ false)
-step-open (Some exit) kept worked barred h = cc
-step-open None true worked barred h = cc
-step-open None false worked barred h = (refl, refl, not-barred worked barred h)
+step-open (Some exit) all kept worked barred h = cc
+step-open None true kept worked barred h = cc
+step-open None false true worked barred h = cc
+step-open None false false worked barred h = (refl, refl, not-barred worked barred h)
 
 -- a work key of a step of which nothing is known: the step is neither carried nor barred, its partition is not kept
 unknown-open : (plan : Plan) (worked : WorkKey → Fact) (job : Option JobTree) (key : WorkKey) (task : Task) → IsUnknown plan worked job key
-    → runnable_of_job job key ≡ Some (RunsStep task) → IsOpen plan key
-unknown-open plan worked job key task u runs =
+    → runnable_of_job job key ≡ Some (RunsStep task) → (partitions_of_job job key ≡ None → is_kept plan key ≡ false) → IsOpen plan key
+unknown-open plan worked job key task u runs unkept =
+    let partitions : Option ℕ = partitions_with (all_leaves u.tree.elements) key in
     let here : runnable_with (all_leaves u.tree.elements) key ≡ Some (RunsStep task) = sym (ap (λ j. runnable_of_job j key) u.is) ∙ runs in
-    let parts = step-open (carried_exit plan.carried key.element) (is_kept plan key) (worked key) (is_among plan.barred key.element)
-    (sym (ap (runnable_fact plan key (worked key)) here) ∙ u.unknown) in
-    record { uncarried = parts.0; unkept = parts.1; unbarred = parts.2 }
+    let parts = step-open (carried_exit plan.carried key.element) (bars_kept plan key.element partitions) (keeps_partition plan partitions key) (worked key) (is_among plan.barred key.element)
+    (sym (ap (runnable_fact plan partitions key (worked key)) here) ∙ u.unknown) in
+    record {
+      uncarried = parts.0;
+      unkept = keeps-none plan partitions key parts.1 (λ none. unkept (ap (λ j. partitions_of_job j key) u.is ∙ none));
+      unbarred = parts.2;
+    }
 
 pub handed_open : (limit : ℕ) (h : History) → IsLegal limit h → (before : List Entry) (e : Entry) (after : List Entry) → h.log ≡ before ++ e ∷ after
     → (item : WorkItem) → e.reply ≡ Work item → IsOfOpenStep (beginning h before) item
@@ -141,7 +151,7 @@ handed_open limit h legal before e after cut item is =
     record {
       owner = row;
       found = owner-found then item out;
-      step = λ task runs. unknown-open row.plan (facts_by_work row.execution (all_of then).works) (job_named then.catalogue row.job) (item_key item) task out.by.unknown runs;
+      step = λ task runs. unknown-open row.plan (facts_by_work row.execution (all_of then).works) (job_named then.catalogue row.job) (item_key item) task out.by.unknown runs (out.owner.unkept (item_key item));
     }
 
 -- ---- Checkpoints

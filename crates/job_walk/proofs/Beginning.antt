@@ -1,6 +1,6 @@
 -- What is known at first, element by element.
-use Rattle.std.proofs.Common.{◌≡◌, ℕ, zero, suc, ◌+◌, ◌<◌, ◌≤◌, ◌||◌, true, false, cond, List, [], ◌∷◌, ◌++◌, length, map, drop, get_or, refl, sym, ◌∙◌, ap, arith}
-use Rattle.std.specs.List.{All, flat_map}
+use Rattle.std.proofs.Common.{◌≡◌, ℕ, zero, suc, ◌+◌, ◌-◌, ◌<◌, ◌≤◌, ◌||◌, true, false, cond, List, [], ◌∷◌, ◌++◌, length, map, drop, get_or, refl, sym, ◌∙◌, ap, arith}
+use Rattle.std.specs.List.{All, flat_map, range_with_len}
 use Rattle.std.proofs.lemmas.Grind.{flat_map-append}
 use Rattle.std.proofs.lemmas.List.{append_assoc, at_drop_more, drop_all, map-append}
 use Rattle.std.proofs.lemmas.List.Elements.{All-head}
@@ -35,7 +35,7 @@ pub first-keys : (plan : Plan) (known : List Known) (all : List Leaf) → known_
 first-keys plan known [] = refl
 first-keys plan known (leaf ∷ rest) =
     map-append (λ (one : Known). one.key) (known_at_first plan known leaf) (flat_map (known_at_first plan known) rest)
-    ∙ (ap (λ keys. keys ++ known_keys (flat_map (known_at_first plan known) rest)) (keys-known (λ key. fact_at_first plan known key leaf.runs) (keys_of leaf))
+    ∙ (ap (λ keys. keys ++ known_keys (flat_map (known_at_first plan known) rest)) (keys-known (λ key. fact_at_first plan known leaf.partitions key leaf.runs) (keys_of leaf))
     ∙ ap (λ keys. keys_of leaf ++ keys) (first-keys plan known rest))
 
 -- ---- One more
@@ -72,15 +72,21 @@ partition-next facts id n first before after was added =
     ∙ (append_assoc first (known_of facts (map (key_of id) (numbers_to n))) (known_of facts (key_of id n ∷ []))
     ∙ ap (λ (ks : List Known). first ++ ks) (sym (known-more facts id n))))
 
+-- the numbers from one on that is below the end begin with it
+pub numbers_ahead : (p n : ℕ) → p < n → range_with_len p (n - p) ≡ p ∷ range_with_len (p + 1) (n - (p + 1))
+numbers_ahead p n lt =
+    let one : n - p ≡ suc (n - (p + 1)) = omega (arith, lt) in
+    ap (range_with_len p) one
+
 -- a step's own
 pub step-known : (plan : Plan) (known : List Known) (e : Element) (step : ItsStep) → e.body ≡ Step step
-    → known_of (step_at_first plan known) (keys_of_step e.id step.partitions) ≡ flat_map (known_at_first plan known) (leaves e)
+    → known_of (step_at_first plan known step.partitions) (keys_of_step e.id step.partitions) ≡ flat_map (known_at_first plan known) (leaves e)
 step-known plan known e step is =
     sym (ap (flat_map (known_at_first plan known))
     (fold_out-Element Inside (List Leaf) (List Leaf) body_leaves element_leaves flow_leaves e
     ∙ ap (leaves_at e.id)
     (ap leaves_in_body is ∙ (ap leaves_in_body (sym (rolls-Step step)) ∙ fold-roll-Body Inside (List Leaf) (List Leaf) body_leaves element_leaves flow_leaves (OpenStep step))))
-    ∙ no-more (known_of (step_at_first plan known) (keys_of_step e.id step.partitions)))
+    ∙ no-more (known_of (step_at_first plan known step.partitions) (keys_of_step e.id step.partitions)))
 
 -- a decision's own
 pub decision-known : (plan : Plan) (known : List Known) (e : Element) (artifact : List ℕ) → e.body ≡ Decision artifact
@@ -107,14 +113,14 @@ found-key at_first facts (one ∷ keys) rest key h others =
 
 -- facts that say what is known at first of each work key of these
 abbrev SayAtFirst : Plan → List Known → (WorkKey → Fact) → Leaf → Type 0
-SayAtFirst plan known facts leaf = All (λ key. facts key ≡ fact_at_first plan known key leaf.runs) (keys_of leaf)
+SayAtFirst plan known facts leaf = All (λ key. facts key ≡ fact_at_first plan known leaf.partitions key leaf.runs) (keys_of leaf)
 
 -- of a work key that is among these, facts that say what is known at first of each say what is known of it
 found-first : (plan : Plan) (known : List Known) (facts : WorkKey → Fact) (all : List Leaf) → All (SayAtFirst plan known facts) all
     → (key : WorkKey) → has_key (all_keys all) key ≡ true → fact_of (flat_map (known_at_first plan known) all) key ≡ facts key
 found-first plan known facts [] h key among = cc
 found-first plan known facts (leaf ∷ rest) h key among =
-    found-key (λ key. fact_at_first plan known key leaf.runs) facts (keys_of leaf) (flat_map (known_at_first plan known) rest) key (All-head (SayAtFirst plan known facts) leaf rest h)
+    found-key (λ key. fact_at_first plan known leaf.partitions key leaf.runs) facts (keys_of leaf) (flat_map (known_at_first plan known) rest) key (All-head (SayAtFirst plan known facts) leaf rest h)
     (λ none. found-first plan known facts rest (All-tail (SayAtFirst plan known facts) leaf rest h) key
     (ap (λ b. b || has_key (all_keys rest) key) (sym none) ∙ (sym (list_any-append (is_same_key key) (keys_of leaf) (all_keys rest)) ∙ among)))
 
@@ -131,7 +137,7 @@ among-itself (key ∷ rest) (suc k) d lt =
 
 -- where facts say of each work key what is known of it at first, the walk comes to what the job comes to by these facts
 pub resumed-value : (job : JobTree) (plan : Plan) (known : List Known) (facts : WorkKey → Fact)
-    → All (λ leaf. All (λ key. facts key ≡ fact_at_first plan known key leaf.runs) (keys_of leaf)) (all_leaves job.elements)
+    → All (λ leaf. All (λ key. facts key ≡ fact_at_first plan known leaf.partitions key leaf.runs) (keys_of leaf)) (all_leaves job.elements)
     → value_in (resumed job plan known) ≡ value_of facts job.elements plan.from
 resumed-value job plan known facts h =
     let all : List Leaf = all_leaves job.elements in

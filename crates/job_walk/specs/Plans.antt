@@ -1,11 +1,12 @@
 -- What a plan says of the work keys of steps (Jakarta Batch 2.1, "Job Restart Processing").
-use Rattle.std.specs.Prelude.{ℕ, Bool, true, false, Option, Some, None, List, find}
+use Rattle.std.specs.Prelude.{ℕ, ◌&&◌, Bool, true, false, Option, Some, None, List, find}
+use Rattle.std.specs.List.{list_all}
 use Rattle.std.specs.Option.{option_map}
 use Rattle.std.specs.Str.{bytes_eq}
 use Rattle.batch_ids.specs.Statuses.{status_name}
 use Rattle.batch_ids.specs.declared.status.BatchStatus.TheVariants.{Completed}
 use Rattle.jsl_model.specs.Names.{is_among}
-use Rattle.walk_rules.specs.Keys.{has_key}
+use Rattle.walk_rules.specs.Keys.{has_key, keys_of_step}
 use Rattle.walk_rules.specs.declared.facts.Fact.{Fact}
 use Rattle.walk_rules.specs.declared.facts.Fact.TheVariants.{Nothing, Carried, Busy, Over, Barred}
 use Rattle.job_walk.specs.declared.plan.Plan.{Plan}
@@ -28,14 +29,29 @@ unless_barred (Over outcome exit) barred = Over outcome exit
 unless_barred (Carried exit) barred = Carried exit
 unless_barred Barred barred = Barred
 
--- a work key of a step: that its step is carried counts first, then that its partition is kept, which came to COMPLETED; then
--- what is known of it, and last the start limit of its step
-abbrev pub step_fact : Option (List ℕ) → Bool → Fact → Bool → Fact
-step_fact (Some exit) kept known barred = Carried exit
-step_fact None true known barred = Carried (status_name Completed)
-step_fact None false known barred = unless_barred known barred
+-- whether the partition of a work key is kept: a step that is not partitioned has none
+abbrev pub keeps_partition : Plan → Option ℕ → WorkKey → Bool
+keeps_partition plan None key = false
+keeps_partition plan (Some count) key = is_kept plan key
 
--- what is known of a work key of a step by a plan, where this is known of it already
-abbrev pub planned_fact : Plan → WorkKey → Fact → Fact
-planned_fact plan key known =
-    step_fact (carried_exit plan.carried key.element) (is_kept plan key) known (is_among plan.barred key.element)
+-- whether each work key of a step is of a partition that is kept: then nothing else counts that is known of it
+abbrev pub keeps_each : Plan → List ℕ → Option ℕ → Bool
+keeps_each plan id partitions = list_all (keeps_partition plan partitions) (keys_of_step id partitions)
+
+-- whether a step has reached its start limit, and nothing is known of it but that each of its partitions is kept
+abbrev pub bars_kept : Plan → List ℕ → Option ℕ → Bool
+bars_kept plan id partitions = is_among plan.barred id && keeps_each plan id partitions
+
+-- a work key of a step: that its step is carried counts first, then that the step is barred though each partition is kept, then
+-- that its partition is kept, which came to COMPLETED, then what is known of it, and last the start limit of its step
+abbrev pub step_fact : Option (List ℕ) → Bool → Bool → Fact → Bool → Fact
+step_fact (Some exit) all_barred kept known barred = Carried exit
+step_fact None true kept known barred = Barred
+step_fact None false true known barred = Carried (status_name Completed)
+step_fact None false false known barred = unless_barred known barred
+
+-- what is known of a work key of a step of so many partitions by a plan, where this is known of it already
+abbrev pub planned_fact : Plan → Option ℕ → WorkKey → Fact → Fact
+planned_fact plan partitions key known =
+    step_fact (carried_exit plan.carried key.element) (bars_kept plan key.element partitions) (keeps_partition plan partitions key)
+    known (is_among plan.barred key.element)

@@ -5,7 +5,7 @@ ghost use Rattle.std.specs.Option.{option_copied};
 ghost use Rattle.jsl_model.specs.Names.{is_among};
 ghost use Rattle.job_walk.specs.Cursors.{step_at_first, known_at_first};
 ghost use Rattle.walk_rules.specs.Keys.{key_of, keys_of_step};
-ghost use Rattle.job_walk.specs.Plans.{carried_exit, unless_barred};
+ghost use Rattle.job_walk.specs.Plans.{bars_kept, carried_exit, keeps_each, keeps_partition, unless_barred};
 ghost use Rattle.job_walk.specs.Runnables.{leaves, all_leaves};
 ghost use Rattle.walk_rules.specs.Walk.{fact_of, known_of};
 
@@ -57,19 +57,65 @@ fn unless_barred(known: Fact, barred: &[T256], id: &T256) -> Fact
     }
 }
 
+/// Whether the partition of a work key is kept: a step that isn't partitioned has none.
+fn keeps_partition(plan: &Plan, partitions: Option<u32>, key: &WorkKey) -> bool
+    ensures { result ≡ keeps_partition plan.now partitions key.now }
+{
+    match partitions {
+        None => false,
+        Some(_) => has_key(plan.kept.as_slice(), key),
+    }
+}
+
+/// Whether each partition of a step is kept.
+#[tactic(auto, using(crate::proofs::Beginning::numbers_ahead))]
+fn keeps_each(plan: &Plan, id: &T256, partitions: Option<u32>) -> Result<bool, OutOfMemory>
+    ensures { IfOk result (λ each. each ≡ keeps_each plan.now id.now partitions) }
+{
+    match partitions {
+        None => Ok(false),
+        Some(count) => {
+            for partition in 0..count {
+                let key = key_of(id, partition)?;
+                if !keeps_partition(plan, partitions, &key) {
+                    return Ok(false);
+                }
+            }
+            Ok(true)
+        }
+    }
+}
+
+/// Whether a step has reached its start limit, though each of its partitions is kept.
+fn bars_kept(plan: &Plan, id: &T256, partitions: Option<u32>) -> Result<bool, OutOfMemory>
+    ensures { IfOk result (λ bars. bars ≡ bars_kept plan.now id.now partitions) }
+{
+    if is_among(plan.barred.as_slice(), id) {
+        keeps_each(plan, id, partitions)
+    } else {
+        Ok(false)
+    }
+}
+
 /// What is known of a work key of a step by the plan, where this is known already.
 fn step_at_first(
     alloc: Global,
     plan: &Plan,
     known: &[Known],
+    partitions: Option<u32>,
+    is_barred: bool,
     key: &WorkKey,
 ) -> Result<Fact, OutOfMemory>
-    ensures { IfOk result (λ fact. fact ≡ step_at_first plan.now known.now key.now) }
+    requires { is_barred ≡ bars_kept plan.now key.now.element partitions }
+    ensures { IfOk result (λ fact. fact ≡ step_at_first plan.now known.now partitions key.now) }
 {
     if let Some(exit) = find_carried(plan.carried.as_slice(), &key.element) {
         return Ok(Fact::Carried(exit.try_clone()?));
     }
-    if has_key(plan.kept.as_slice(), key) {
+    if is_barred {
+        return Ok(Fact::Barred);
+    }
+    if keeps_partition(plan, partitions, key) {
         return Ok(Fact::Carried(name_of(alloc, BatchStatus::Completed)?));
     }
     let fact = fact_of(known, &key.element, key.partition)?;
@@ -82,14 +128,17 @@ fn add_partition(
     plan: &Plan,
     known: &[Known],
     id: &T256,
+    partitions: Option<u32>,
+    is_barred: bool,
     partition: u32,
 ) -> Result<(), OutOfMemory>
+    requires { is_barred ≡ bars_kept plan.now id.now partitions }
     ensures { OnOk result (facts.new.items ≡ facts.old.items
-        ++ known_of (step_at_first plan.now known.now) (key_of id.now partition ∷ [])) }
+        ++ known_of (step_at_first plan.now known.now partitions) (key_of id.now partition ∷ [])) }
 {
     let alloc = *facts.allocator();
     let key = key_of(id, partition)?;
-    let fact = step_at_first(alloc, plan, known, &key)?;
+    let fact = step_at_first(alloc, plan, known, partitions, is_barred, &key)?;
     facts.push(Known { key, fact })?;
     Ok(())
 }
@@ -103,13 +152,14 @@ fn add_step(
     partitions: Option<u32>,
 ) -> Result<(), OutOfMemory>
     ensures { OnOk result (facts.new.items ≡ facts.old.items
-        ++ known_of (step_at_first plan.now known.now) (keys_of_step id.now partitions)) }
+        ++ known_of (step_at_first plan.now known.now partitions) (keys_of_step id.now partitions)) }
 {
+    let is_barred = bars_kept(plan, id, partitions)?;
     match partitions {
-        None => add_partition(facts, plan, known, id, 0),
+        None => add_partition(facts, plan, known, id, partitions, is_barred, 0),
         Some(count) => {
             for partition in 0..count {
-                add_partition(facts, plan, known, id, partition)?;
+                add_partition(facts, plan, known, id, partitions, is_barred, partition)?;
             }
             Ok(())
         }

@@ -97,7 +97,8 @@ pub fn what_is_shown_is_a_step_or_decision()
 /// It does nothing: its contract is the law.
 pub fn what_is_known_at_first_decides_a_walk()
     ensures { (job : JobTree) (plan : Plan) (known : List Known) (facts : WorkKey → Fact)
-        → All (λ leaf. All (λ key. facts key ≡ fact_at_first plan known key leaf.runs)
+        → All (λ leaf. All (λ key.
+        facts key ≡ fact_at_first plan known leaf.partitions key leaf.runs)
         (keys_of leaf)) (all_leaves job.elements)
         → value_in (resumed job plan known) ≡ value_of facts job.elements plan.from }
 {}

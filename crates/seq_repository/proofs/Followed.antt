@@ -2,7 +2,7 @@
 use mathlib.Core.Path.{fun_ext}
 use Rattle.std.proofs.Common.{◌≡◌, ◌≢◌, ℕ, ◌==◌, ◌||◌, Bool, true, false, cond, None, Some, IfSome, is_some, Option, Ok, not, unwrap_or, filter, ◌&&◌, ◌<◌, List, [], ◌∷◌, ◌++◌, find, refl, sym, ◌∙◌, ap, subst, arith}
 use Rattle.std.specs.List.{flat_map, list_any}
-use Rattle.std.specs.Option.{option_map}
+use Rattle.std.specs.Option.{option_and_then, option_map}
 use Rattle.batch_history.specs.Lists.{change_first}
 use Rattle.batch_history.proofs.Finding.{found-passes}
 use Rattle.batch_history.specs.Replies.{claim_reply, first_ready, has_something, is_running_in, next_work_item, partition_named, partitions_of_job, reply_by, reply_to_claim, walk_in_rows}
@@ -39,8 +39,8 @@ use Rattle.walk_rules.proofs.SameKeys.{differing-keys, same-one, same-self, same
 use Rattle.job_walk.specs.Cursors.{CursorState, fact_at_first, known_at_first, known_keys, resumed, value_in, with_fact}
 use Rattle.walk_rules.specs.Shown.{ready_of, busy_of}
 use Rattle.walk_rules.specs.Keys.{is_same_key, has_key}
-use Rattle.job_walk.specs.Plans.{step_fact, carried_exit, is_kept}
-use Rattle.job_walk.specs.Runnables.{Leaf, all_leaves, keys_of, runnable_with}
+use Rattle.job_walk.specs.Plans.{bars_kept, carried_exit, keeps_partition, step_fact}
+use Rattle.job_walk.specs.Runnables.{Leaf, all_leaves, keys_of, partitions_with, runnable_with}
 use Rattle.walk_rules.specs.Walk.{fact_of, known_of, value_of}
 use Rattle.walk_rules.specs.declared.facts.Fact.{Fact}
 use Rattle.walk_rules.specs.declared.facts.Fact.TheVariants.{Nothing, Busy, Over}
@@ -66,18 +66,20 @@ known-or-rest facts (one ∷ keys) rest key =
       | false ↦ λ e. known-or-rest facts keys rest key ∙ sym (ap (λ b. cond (b || has_key keys key) (facts key) (fact_of rest key)) (same-sym key one ∙ e))
     ]) refl
 
-same-fact : (plan : Plan) (known : List Known) (key : WorkKey) (runs : Runnable) → fact_at_first plan known key runs ≡ runnable_fact plan key (fact_of known key) (Some runs)
-same-fact plan known key (RunsStep task) = refl
-same-fact plan known key (RunsDecision artifact) = refl
+same-fact : (plan : Plan) (known : List Known) (partitions : Option ℕ) (key : WorkKey) (runs : Runnable)
+    → fact_at_first plan known partitions key runs ≡ runnable_fact plan partitions key (fact_of known key) (Some runs)
+same-fact plan known partitions key (RunsStep task) = refl
+same-fact plan known partitions key (RunsDecision artifact) = refl
 
 same-facts : (plan : Plan) (known : List Known) (leaves : List Leaf) (key : WorkKey)
     → fact_of (flat_map (known_at_first plan known) leaves) key ≡ planned_facts plan leaves (fact_of known) key
 same-facts plan known [] key = refl
 same-facts plan known (leaf ∷ rest) key =
-    known-or-rest (λ one. fact_at_first plan known one leaf.runs) (keys_of leaf) (flat_map (known_at_first plan known) rest) key
-    ∙ (elim (has_key (keys_of leaf) key) as (λ b. cond b (fact_at_first plan known key leaf.runs) (fact_of (flat_map (known_at_first plan known) rest) key)
-    ≡ runnable_fact plan key (fact_of known key) (option_map (λ (l : Leaf). l.runs) (cond b (Some leaf) (find (λ (l : Leaf). has_key (keys_of l) key) rest)))) [
-      | true ↦ same-fact plan known key leaf.runs
+    known-or-rest (λ one. fact_at_first plan known leaf.partitions one leaf.runs) (keys_of leaf) (flat_map (known_at_first plan known) rest) key
+    ∙ (elim (has_key (keys_of leaf) key) as (λ b. cond b (fact_at_first plan known leaf.partitions key leaf.runs) (fact_of (flat_map (known_at_first plan known) rest) key)
+    ≡ runnable_fact plan (option_and_then (λ (l : Leaf). l.partitions) (cond b (Some leaf) (find (λ (l : Leaf). has_key (keys_of l) key) rest))) key (fact_of known key)
+    (option_map (λ (l : Leaf). l.runs) (cond b (Some leaf) (find (λ (l : Leaf). has_key (keys_of l) key) rest)))) [
+      | true ↦ same-fact plan known leaf.partitions key leaf.runs
       | false ↦ same-facts plan known rest key
     ])
 
@@ -213,18 +215,19 @@ apart_taken catalogue works row new first own apart =
 
 -- it reports of a busy work key, of which a work item ends
 
-step-told : (carried : Option (List ℕ)) (kept : Bool) (worked : Fact) (barred : Bool) (outcome : WorkOutcome) (exit : List ℕ) → step_fact carried kept worked barred ≡ Busy
-    → step_fact carried kept (Over outcome exit) barred ≡ Over outcome exit
-step-told (Some text) kept worked barred outcome exit h = cc
-step-told None true worked barred outcome exit h = cc
-step-told None false worked barred outcome exit h = refl
+step-told : (carried : Option (List ℕ)) (all kept : Bool) (worked : Fact) (barred : Bool) (outcome : WorkOutcome) (exit : List ℕ) → step_fact carried all kept worked barred ≡ Busy
+    → step_fact carried all kept (Over outcome exit) barred ≡ Over outcome exit
+step-told (Some text) all kept worked barred outcome exit h = cc
+step-told None true kept worked barred outcome exit h = cc
+step-told None false true worked barred outcome exit h = cc
+step-told None false false worked barred outcome exit h = refl
 
-runnable-told : (plan : Plan) (key : WorkKey) (worked : Fact) (runs : Option Runnable) (outcome : WorkOutcome) (exit : List ℕ) → runnable_fact plan key worked runs ≡ Busy
-    → runnable_fact plan key (Over outcome exit) runs ≡ Over outcome exit
-runnable-told plan key worked None outcome exit h = cc
-runnable-told plan key worked (Some (RunsStep task)) outcome exit h =
-    step-told (carried_exit plan.carried key.element) (is_kept plan key) worked (is_among plan.barred key.element) outcome exit h
-runnable-told plan key worked (Some (RunsDecision artifact)) outcome exit h = refl
+runnable-told : (plan : Plan) (partitions : Option ℕ) (key : WorkKey) (worked : Fact) (runs : Option Runnable) (outcome : WorkOutcome) (exit : List ℕ) → runnable_fact plan partitions key worked runs ≡ Busy
+    → runnable_fact plan partitions key (Over outcome exit) runs ≡ Over outcome exit
+runnable-told plan partitions key worked None outcome exit h = cc
+runnable-told plan partitions key worked (Some (RunsStep task)) outcome exit h =
+    step-told (carried_exit plan.carried key.element) (bars_kept plan key.element partitions) (keeps_partition plan partitions key) worked (is_among plan.barred key.element) outcome exit h
+runnable-told plan partitions key worked (Some (RunsDecision artifact)) outcome exit h = refl
 
 told-listed : (x : ℕ) (p : WorkRow → Bool) (works : List WorkRow) (c new : WorkRow) → find p works ≡ Some c → (c.execution == x) ≡ true → AllApart works
     → new.execution ≡ c.execution → work_key new ≡ work_key c
@@ -302,8 +305,8 @@ follows_reported catalogue works row cursor p c new outcome exit follows apart b
     let differ : DifferAt (work_key c) before after =
     λ i other. known-fact x later i ∙ (differs-listed x p works c new found own key i other ∙ sym (known-fact x works i)) in
     learnt catalogue works later row cursor (work_key c) (Over outcome exit) (busy-known catalogue works row cursor (work_key c) follows busy) differ
-    (ap (λ f. runnable_fact row.plan (work_key c) f (runnable_with leaves (work_key c))) told
-    ∙ runnable-told row.plan (work_key c) (before (work_key c)) (runnable_with leaves (work_key c)) outcome exit was)
+    (ap (λ f. runnable_fact row.plan (partitions_with leaves (work_key c)) (work_key c) f (runnable_with leaves (work_key c))) told
+    ∙ runnable-told row.plan (partitions_with leaves (work_key c)) (work_key c) (before (work_key c)) (runnable_with leaves (work_key c)) outcome exit was)
     follows
 
 each-put : (r : WorkRow) (p : WorkRow → Bool) (works : List WorkRow) (c new : WorkRow) → find p works ≡ Some c → new.execution ≡ c.execution → work_key new ≡ work_key c → Each (Apart r) works

@@ -236,3 +236,67 @@ fn partitions_of_a_step_are_found(rt: HostRuntime) -> Result<(), Fail> {
     assert!(rt; partitions_by(rt.alloc(), 3)?.is_none());
     Ok(())
 }
+
+/// The first partitions of a step, so many.
+fn first_partitions(alloc: Global, id: &str, count: u32) -> Result<Listed<WorkKey>, Fail> {
+    let mut partitions = Listed::new(alloc);
+    for partition in 0..count {
+        partitions.push(partition_of(alloc, id, partition)?)?;
+    }
+    Ok(partitions)
+}
+
+/// A walk that begins at a step, which may be barred, and whose first partitions are kept, so many.
+fn begun_with_kept(
+    alloc: Global,
+    text: &[u8],
+    id: &str,
+    count: u32,
+    is_barred: bool,
+) -> Result<Cursor, Fail> {
+    let mut barred = Listed::new(alloc);
+    if is_barred {
+        barred.push(T256::new(alloc, id)?)?;
+    }
+    let plan = Plan {
+        from: T256::new(alloc, id)?,
+        carried: Listed::new(alloc),
+        kept: first_partitions(alloc, id, count)?,
+        barred,
+    };
+    let cursor = walked(alloc, text, &plan);
+    drop(plan);
+    cursor
+}
+
+/// Whether a walk whose step `p` keeps so many of its partitions, and is barred, has failed.
+fn fails_barred(alloc: Global, count: u32) -> Result<bool, Fail> {
+    let cursor = begun_with_kept(alloc, PARTITIONED, "p", count, true)?;
+    let failed = has_failed(&cursor);
+    drop(cursor);
+    Ok(failed)
+}
+
+#[test]
+fn a_barred_step_fails_the_job_though_its_partitions_are_kept(rt: HostRuntime) -> Result<(), Fail> {
+    assert!(rt; fails_barred(rt.alloc(), 3)?);
+    assert!(rt; fails_barred(rt.alloc(), 2)?);
+    Ok(())
+}
+
+/// Whether the step `a` is ready where a plan keeps its work key, though it isn't partitioned.
+fn is_ready_though_kept(alloc: Global) -> Result<bool, Fail> {
+    let a = key_of(alloc, "a")?;
+    let cursor = begun_with_kept(alloc, CATALOGUE, "a", 1, false)?;
+    let ready = cursor.is_ready(&a);
+    drop(cursor);
+    Ok(ready)
+}
+
+#[test]
+fn a_kept_partition_of_a_step_that_is_not_partitioned_counts_for_nothing(
+    rt: HostRuntime,
+) -> Result<(), Fail> {
+    assert!(rt; is_ready_though_kept(rt.alloc())?);
+    Ok(())
+}

@@ -1,4 +1,4 @@
-use Rattle.std.proofs.Common.{◌≡◌, ◌++◌, map}
+use Rattle.std.proofs.Common.{◌≡◌, ◌++◌, Some, map}
 use Rattle.job_walk.specs.Cursors.{step_at_first}
 use Rattle.walk_rules.specs.Keys.{key_of, numbers_to}
 use Rattle.walk_rules.specs.Walk.{known_of}
@@ -6,4 +6,4 @@ use Rattle.job_walk.proofs.first_facts.add_step.Given as goal
 
 abbrev pub invariant-loop-partition : goal.invariant-loop-partition
 invariant-loop-partition l =
-    l.facts.items ≡ l.fn.facts.items ++ known_of (step_at_first l.plan l.known) (map (key_of l.id) (numbers_to l.partition))
+    l.facts.items ≡ l.fn.facts.items ++ known_of (step_at_first l.plan l.known (Some l.count)) (map (key_of l.id) (numbers_to l.partition))
