@@ -6,3 +6,6 @@ pub mod Unkept
 pub mod Laws
 pub mod Handing
 pub mod Restarts
+pub mod Rising
+pub mod Numbers
+pub mod Keeping

@@ -3,6 +3,7 @@
 //! rows, replies and answers. Each function does nothing; its contract is a law.
 
 mod law;
+mod partitions;
 
 pub use law::{
     chunks_go_on_from_their_checkpoints, ends_are_moments_of_operations,
@@ -13,3 +14,4 @@ pub use law::{
     purged_job_executions_are_finished, restarts_follow_the_most_recent_job_execution,
     what_is_handed_out_was_ready, work_belongs_to_unfinished_job_executions,
 };
+pub use partitions::partitions_are_kept_until_a_job_execution_is_done;

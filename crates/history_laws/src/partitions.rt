@@ -1,0 +1,27 @@
+ghost use Rattle.std.specs.Prelude.{ℕ, ◌≡◌, ◌↔◌, List, Some, true};
+ghost use Rattle.batch_history.specs.declared.rows.ExecutionRow.{ExecutionRow};
+ghost use Rattle.batch_history.specs.Legal.{IsLegal};
+ghost use Rattle.batch_history.specs.Rows.{History};
+ghost use Rattle.batch_history.specs.Walks.{job_named};
+ghost use Rattle.history_laws.specs.Laws.{row_in, works_of_instance_in};
+ghost use Rattle.history_laws.specs.Partitions.{works_of_step_in, is_kept_in, is_done_in, all_kept_in, IsKept, IsDone};
+
+/// A job execution keeps a partition of a step exactly where the newest work item of the partition in
+/// earlier job executions of its job instance is COMPLETED, and no job execution from that of the
+/// work item up to this one is done with the step. A job execution is done with a step exactly where
+/// it has a work item of the step, and keeps each partition or has a COMPLETED work item of it
+/// (Jakarta Batch 2.1, "Step Partitioning" and "Job Restart Processing"). Its plan keeps just these
+/// partitions.
+///
+/// It does nothing: its contract is the law, of every legal history.
+pub fn partitions_are_kept_until_a_job_execution_is_done()
+    ensures kept { (limit : ℕ) (h : History) → IsLegal limit h → (i n x p : ℕ) (step : List ℕ)
+        → (is_kept_in n (works_of_step_in h i step) x p ≡ true)
+        ↔ IsKept n (works_of_step_in h i step) x p }
+    ensures done { (limit : ℕ) (h : History) → IsLegal limit h → (i n y : ℕ) (step : List ℕ)
+        → (is_done_in n (works_of_step_in h i step) y ≡ true)
+        ↔ IsDone n (works_of_step_in h i step) y }
+    ensures plan { (h : History) (x : ℕ) (row : ExecutionRow) → row_in h x ≡ Some row
+        → row.plan.kept
+        ≡ all_kept_in (works_of_instance_in h row.instance) x (job_named h.catalogue row.job) }
+{}
