@@ -129,7 +129,7 @@ step-open None false true worked barred h = cc
 step-open None false false worked barred h = (refl, refl, not-barred worked barred h)
 
 -- a work key of a step of which nothing is known: the step is neither carried nor barred, its partition is not kept
-unknown-open : (plan : Plan) (worked : WorkKey → Fact) (job : Option JobTree) (key : WorkKey) (task : Task) → IsUnknown plan worked job key
+pub unknown-open : (plan : Plan) (worked : WorkKey → Fact) (job : Option JobTree) (key : WorkKey) (task : Task) → IsUnknown plan worked job key
     → runnable_of_job job key ≡ Some (RunsStep task) → (partitions_of_job job key ≡ None → is_kept plan key ≡ false) → IsOpen plan key
 unknown-open plan worked job key task u runs unkept =
     let partitions : Option ℕ = partitions_with (all_leaves u.tree.elements) key in

@@ -13,7 +13,7 @@ use Rattle.batch_history.specs.JobSteps.{JobStep, all_steps}
 use Rattle.batch_history.specs.Legal.{IsLegal}
 use Rattle.batch_history.specs.Lists.{is_at}
 use Rattle.batch_history.specs.Partitions.{completes_in, works_before, partitions_kept}
-use Rattle.batch_history.specs.Restarts.{is_same_number, is_earlier_work, works_of_step, kept_partitions, plan_by, beginning_of}
+use Rattle.batch_history.specs.Restarts.{is_same_number, is_earlier_work, works_of_step, plan_by, beginning_of}
 use Rattle.batch_history.specs.Rows.{History, row_of_origin}
 use Rattle.batch_history.specs.Walks.{job_named}
 use Rattle.batch_history.specs.Works.{work_items}
@@ -30,7 +30,7 @@ use Rattle.batch_history.proofs.Pasts.{AllFit}
 use Rattle.batch_history.proofs.Plans.{due-all-fit}
 use Rattle.batch_history.proofs.Told.{AllDue}
 use Rattle.history_laws.specs.Laws.{row_in, works_of_instance_in}
-use Rattle.history_laws.specs.Partitions.{works_of_step_in, is_kept_in, is_done_in, IsKept, IsDone, partitions_kept_in, keys_kept_in, all_kept_in}
+use Rattle.history_laws.specs.Partitions.{works_of_step_in, is_kept_in, is_done_in, IsKept, IsDone, partitions_kept_in, all_kept_in}
 use Rattle.history_laws.proofs.Numbers.{kept-forth, kept-back, done-is}
 use Rattle.history_laws.proofs.Rising.{AreRising, rising-filter, rising-instance, all-in-order}
 

@@ -78,7 +78,7 @@ finished_stays limit h legal before after cut x row found over =
 -- ---- The end
 
 -- what is not over has no end
-no-end : (limit : ℕ) (catalogue : List JobTree) (past : List Entry) (m : Made) → AllDue limit catalogue past → find (is_made m.execution) (made past) ≡ Some m
+pub no-end : (limit : ℕ) (catalogue : List JobTree) (past : List Entry) (m : Made) → AllDue limit catalogue past → find (is_made m.execution) (made past) ≡ Some m
     → is_finished (bare_of catalogue past m) ≡ false → is_some (end_of catalogue past m) ≡ false
 no-end limit catalogue past m due found unfinished =
     (elim (end_of catalogue past m) as (λ o. end_of catalogue past m ≡ o → is_some o ≡ false) [

@@ -9,3 +9,10 @@ pub mod Restarts
 pub mod Rising
 pub mod Numbers
 pub mod Keeping
+pub mod EachWork
+pub mod StepLeaves
+pub mod StepItems
+pub mod StepEnds
+pub mod StepShown
+pub mod StepMoments
+pub mod StepOutcomes

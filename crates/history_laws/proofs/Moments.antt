@@ -25,7 +25,7 @@ use Rattle.batch_history.proofs.Finished.{finished-step, on-it}
 
 -- ---- Abandonment
 
-not-running : (abandoned : Bool) (bare : BatchStatus) → (abandoned ≡ true → is_finished bare ≡ true) → is_unfinished (cond abandoned Abandoned bare) ≡ false → is_finished bare ≡ true
+pub not-running : (abandoned : Bool) (bare : BatchStatus) → (abandoned ≡ true → is_finished bare ≡ true) → is_unfinished (cond abandoned Abandoned bare) ≡ false → is_finished bare ≡ true
 not-running true bare before h = before refl
 not-running false bare before h = rw h refl
 

@@ -1,5 +1,5 @@
 -- Job executions by number: which of them are done with a partitioned step, and which of its partitions each one keeps.
-use Rattle.std.proofs.Common.{◌≡◌, ◌⊎◌, inl, inr, ℕ, ◌+◌, ◌==◌, ◌<◌, ◌≤◌, ◌&&◌, ◌||◌, Bool, true, false, not, cond, nat_lt, nat_le, Option, None, Some, List, [], ◌∷◌, ◌++◌, map, filter, reverse, refl, sym, ◌∙◌, ap, subst, arith}
+use Rattle.std.proofs.Common.{◌≡◌, ℕ, ◌==◌, ◌<◌, ◌≤◌, ◌&&◌, ◌||◌, Bool, true, false, not, cond, nat_lt, nat_le, None, Some, List, [], ◌∷◌, ◌++◌, map, filter, reverse, refl, sym, ◌∙◌, ap, subst, arith}
 use Rattle.std.specs.List.{list_any, list_all}
 use Rattle.std.proofs.lemmas.List.{map-append, reverse-append}
 use Rattle.std.proofs.lemmas.Bool.{eqb-true, eqb-false, eq-eqb, ltb-false, ltb-true, lt-ltb, ne_eqb, and_parts, or_parts, leb-true, le-leb}
@@ -8,7 +8,7 @@ use Rattle.batch_history.specs.Partitions.{each_once, executions_with, is_comple
 use Rattle.batch_history.specs.declared.rows.WorkRow.{WorkRow}
 use Rattle.batch_history.proofs.Finished.{on-it}
 use Rattle.batch_history.proofs.WorkLists.{Each, each-map, each-append}
-use Rattle.history_laws.specs.Partitions.{is_kept_in, is_done_in, IsKept, IsDone}
+use Rattle.history_laws.specs.Partitions.{is_kept_in, is_done_in, IsKept}
 use Rattle.history_laws.proofs.Rising.{AreRising, each-filter}
 
 -- ---- Falling numbers
@@ -61,9 +61,10 @@ below-other x y other le =
 
 falling-once : (xs : List ℕ) → AreDropping xs → AreFalling (each_once xs)
 falling-once [] h = tt
-falling-once (x ∷ xs) h =
-    (each-filter (λ y. y ≤ x) (λ y. y < x) (λ y. not (y == x)) (each_once xs) (λ y other le. below-other x y other le) (each-once (λ y. y ≤ x) xs h.0),
-    falling-filter (λ y. not (y == x)) (each_once xs) (falling-once xs h.1))
+falling-once (x ∷ xs) h = (
+  each-filter (λ y. y ≤ x) (λ y. y < x) (λ y. not (y == x)) (each_once xs) (λ y other le. below-other x y other le) (each-once (λ y. y ≤ x) xs h.0),
+  falling-filter (λ y. not (y == x)) (each_once xs) (falling-once xs h.1),
+)
 
 -- the job executions with rising work items, the newest first
 pub falling-executions : (works : List WorkRow) → AreRising works → AreFalling (executions_with works)
@@ -105,7 +106,7 @@ filter-within p q (x ∷ xs) h =
       | false ↦ filter-within p q xs h
     ]) ∙ sym (filter-one q x xs false off))
 
-filter-append : {X : Type 0} (p : X → Bool) (xs : List X) (x : X) → filter p (xs ++ x ∷ []) ≡ filter p xs ++ cond (p x) (x ∷ []) []
+pub filter-append : {X : Type 0} (p : X → Bool) (xs : List X) (x : X) → filter p (xs ++ x ∷ []) ≡ filter p xs ++ cond (p x) (x ∷ []) []
 filter-append p [] x = refl
 filter-append p (y ∷ ys) x =
     elim (p y) as (λ b. cond b (y ∷ filter p (ys ++ x ∷ [])) (filter p (ys ++ x ∷ [])) ≡ cond b (y ∷ filter p ys) (filter p ys) ++ cond (p x) (x ∷ []) []) [
@@ -157,7 +158,7 @@ before-both x y works lt =
     filter-within (λ (row : WorkRow). nat_lt row.execution x) (λ (row : WorkRow). nat_lt row.execution y) works
     (λ row on. lt-ltb row.execution x (let below = ltb-true row.execution y on in omega (arith, below, lt)))
 
-any-filter : {X : Type 0} (p q : X → Bool) (xs : List X) → ((x : X) → p x ≡ true → q x ≡ true) → list_any p (filter q xs) ≡ list_any p xs
+pub any-filter : {X : Type 0} (p q : X → Bool) (xs : List X) → ((x : X) → p x ≡ true → q x ≡ true) → list_any p (filter q xs) ≡ list_any p xs
 any-filter p q [] h = refl
 any-filter p q (x ∷ xs) h =
     on-it (q x)
@@ -354,7 +355,7 @@ any-append y [] x = refl
 any-append y (z ∷ zs) x =
     ap (λ b. z == y || b) (any-append y zs x)
     ∙ (elim (z == y) as (λ b. (b || (x == y || list_any (λ d. d == y) zs)) ≡ (x == y || (b || list_any (λ d. d == y) zs))) [
-      | true ↦ (elim (x == y) as (λ c. true ≡ (c || true)) [ | true ↦ refl | false ↦ refl ])
+      | true ↦ (elim (x == y) as (λ c. true ≡ (c || true)) [ true ↦ refl | false ↦ refl ])
       | false ↦ refl
     ])
 

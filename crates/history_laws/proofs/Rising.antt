@@ -1,6 +1,6 @@
 -- The work items of a job instance stand in order of their job executions: once a job instance has a later job execution, none is
 -- handed out for an earlier one.
-use Rattle.std.proofs.Common.{◌≡◌, ℕ, ◌+◌, ◌==◌, ◌<◌, ◌≤◌, Bool, true, false, cond, nat_lt, Option, None, Some, List, [], ◌∷◌, ◌++◌, length, find, filter, refl, sym, ◌∙◌, ap, subst, arith}
+use Rattle.std.proofs.Common.{◌≡◌, ℕ, ◌+◌, ◌<◌, ◌≤◌, Bool, true, false, cond, nat_lt, None, Some, List, [], ◌∷◌, ◌++◌, length, find, filter, refl, sym, ◌∙◌, ap, subst}
 use Rattle.std.proofs.lemmas.Bool.{eqb-true, eq-eqb, ltb-false, ltb-true}
 use Rattle.batch_ids.specs.Metrics.{zero_step}
 use Rattle.batch_ids.specs.declared.status.WorkOutcome.TheVariants.{Failed}
@@ -25,7 +25,7 @@ use Rattle.batch_history.proofs.Finished.{claim-unfinished, claimed-execution, o
 use Rattle.batch_history.proofs.Folds.{made, is_made, works_of, bare_of, folded_rows, instance_made, over, reported}
 use Rattle.batch_history.proofs.Kept.{IsHeld, IsKept, kept}
 use Rattle.batch_history.proofs.Singles.{earlier-over}
-use Rattle.batch_history.proofs.Told.{Due, AllDue, IsRowOf, row-of, made-more, made-number, ToldClaim, claim-told}
+use Rattle.batch_history.proofs.Told.{AllDue, IsRowOf, row-of, made-more, made-number, ToldClaim, claim-told}
 use Rattle.batch_history.proofs.WorkLists.{Each, each-map, each-both, each-append, each-change}
 
 -- ---- Lists of work items
@@ -71,11 +71,16 @@ in-order-change : (past : List Entry) (p : WorkRow → Bool) (f : WorkRow → Wo
 in-order-change past p f [] same h = tt
 in-order-change past p f (r ∷ rs) same h =
     elim (p r) as (λ b. AreInOrder past (cond b (f r ∷ rs) (r ∷ change_first p f rs))) [
-      | true ↦ (each-map (IsInOrder past r) (IsInOrder past (f r)) rs
-          (λ s o. subst (λ x. (m n : Made) → find (is_made x) (made past) ≡ Some m → find (is_made s.execution) (made past) ≡ Some n → m.instance ≡ n.instance → x ≤ s.execution) (sym (same r)) o) h.0, h.1)
-      | false ↦ (each-change (IsInOrder past r) p f rs
-          (λ s o. subst (λ x. (m n : Made) → find (is_made r.execution) (made past) ≡ Some m → find (is_made x) (made past) ≡ Some n → m.instance ≡ n.instance → r.execution ≤ x) (sym (same s)) o) h.0,
-          in-order-change past p f rs same h.1)
+      | true ↦ (
+        each-map (IsInOrder past r) (IsInOrder past (f r)) rs
+            (λ s o. subst (λ x. (m n : Made) → find (is_made x) (made past) ≡ Some m → find (is_made s.execution) (made past) ≡ Some n → m.instance ≡ n.instance → x ≤ s.execution) (sym (same r)) o) h.0,
+        h.1,
+      )
+      | false ↦ (
+        each-change (IsInOrder past r) p f rs
+            (λ s o. subst (λ x. (m n : Made) → find (is_made r.execution) (made past) ≡ Some m → find (is_made x) (made past) ≡ Some n → m.instance ≡ n.instance → r.execution ≤ x) (sym (same s)) o) h.0,
+        in-order-change past p f rs same h.1,
+      )
     ]
 
 abbrev entry : ℕ → ℕ → Call → Reply → Entry
@@ -92,9 +97,10 @@ order-on catalogue older e r s hr hs o m n fm fn same =
 all-order-on : (catalogue : List JobTree) (older : List Entry) (e : Entry) (rows : List WorkRow) → Each (IsHeld catalogue older) rows
     → AreInOrder older rows → AreInOrder (e ∷ older) rows
 all-order-on catalogue older e [] held h = tt
-all-order-on catalogue older e (r ∷ rs) held h =
-    (each-both (IsHeld catalogue older) (IsInOrder older r) (IsInOrder (e ∷ older) r) rs (λ s hs o. order-on catalogue older e r s held.0 hs o) held.1 h.0,
-    all-order-on catalogue older e rs held.1 h.1)
+all-order-on catalogue older e (r ∷ rs) held h = (
+  each-both (IsHeld catalogue older) (IsInOrder older r) (IsInOrder (e ∷ older) r) rs (λ s hs o. order-on catalogue older e r s held.0 hs o) held.1 h.0,
+  all-order-on catalogue older e rs held.1 h.1,
+)
 
 -- what is handed out is of the most recent job execution
 new-in-order : (limit : ℕ) (catalogue : List JobTree) (older : List Entry) (who at : ℕ) (item : WorkItem) → AllDue limit catalogue older
@@ -171,10 +177,11 @@ rising-instance catalogue past i (r ∷ rs) held h =
     let p : WorkRow → Bool = λ work. is_at i (instance_made (made past) work.execution) in
     (elim (p r) as (λ b. p r ≡ b → AreRising (cond b (r ∷ filter p rs) (filter p rs))) [
       | true ↦ λ on. (
-          each-filter (λ s. IsHeld catalogue past s × IsInOrder past r s) (λ s. r.execution ≤ s.execution) p rs
-          (λ s here both. both.1 held.0.one both.0.one held.0.found both.0.found
-          (made-of i past r.execution held.0.one held.0.found on ∙ sym (made-of i past s.execution both.0.one both.0.found here)))
-          (each-both (IsHeld catalogue past) (IsInOrder past r) (λ s. IsHeld catalogue past s × IsInOrder past r s) rs (λ s a b. (a, b)) held.1 h.0),
-          rising-instance catalogue past i rs held.1 h.1)
+        each-filter (λ s. IsHeld catalogue past s × IsInOrder past r s) (λ s. r.execution ≤ s.execution) p rs
+            (λ s here both. both.1 held.0.one both.0.one held.0.found both.0.found
+            (made-of i past r.execution held.0.one held.0.found on ∙ sym (made-of i past s.execution both.0.one both.0.found here)))
+            (each-both (IsHeld catalogue past) (IsInOrder past r) (λ s. IsHeld catalogue past s × IsInOrder past r s) rs (λ s a b. (a, b)) held.1 h.0),
+        rising-instance catalogue past i rs held.1 h.1,
+      )
       | false ↦ λ off. rising-instance catalogue past i rs held.1 h.1
     ]) refl

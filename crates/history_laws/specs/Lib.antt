@@ -1,2 +1,3 @@
 pub mod Laws
 pub mod Partitions
+pub mod StepExecutions

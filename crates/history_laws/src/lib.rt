@@ -14,4 +14,8 @@ pub use law::{
     purged_job_executions_are_finished, restarts_follow_the_most_recent_job_execution,
     what_is_handed_out_was_ready, work_belongs_to_unfinished_job_executions,
 };
-pub use partitions::partitions_are_kept_until_a_job_execution_is_done;
+pub use partitions::{
+    partitioned_steps_end_once_they_are_not_started,
+    partitioned_steps_have_the_outcome_of_the_walk,
+    partitions_are_kept_until_a_job_execution_is_done,
+};
