@@ -16,3 +16,4 @@ pub mod StepEnds
 pub mod StepShown
 pub mod StepMoments
 pub mod StepOutcomes
+pub mod StepAnswers

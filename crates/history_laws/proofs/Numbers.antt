@@ -94,7 +94,7 @@ filter-swap p q (x ∷ xs) =
     ]) refl
 
 -- what is dropped by the stronger test
-filter-within : {X : Type 0} (p q : X → Bool) (xs : List X) → ((x : X) → q x ≡ true → p x ≡ true) → filter q (filter p xs) ≡ filter q xs
+pub filter-within : {X : Type 0} (p q : X → Bool) (xs : List X) → ((x : X) → q x ≡ true → p x ≡ true) → filter q (filter p xs) ≡ filter q xs
 filter-within p q [] h = refl
 filter-within p q (x ∷ xs) h =
     on-it (q x)

@@ -90,3 +90,11 @@ pub record HasResult (h : History) (owner : ExecutionRow) (step : List ℕ) (n :
   pub result : result_in h owner step n ≡ Outcome outcome (outcome_name outcome)
   pub status : shown.status ≡ outcome_status outcome
   pub exit : shown.exit ≡ Some (outcome_name outcome)
+
+-- ---- The query
+
+-- these are the step executions of job execution x
+pub record AreStepsOf (h : History) (x : ℕ) (steps : List StepExecution) : Type 0 where
+  pub row : ExecutionRow
+  pub found : row_in h x ≡ Some row
+  pub same : steps ≡ steps_in h row

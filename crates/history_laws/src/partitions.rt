@@ -1,14 +1,17 @@
-ghost use Rattle.std.specs.Prelude.{ℕ, ◌≡◌, ◌≢◌, ◌<◌, ◌↔◌, List, None, Some, true};
+ghost use Rattle.std.specs.Prelude.{ℕ, ◌≡◌, ◌≢◌, ◌<◌, ◌↔◌, List, None, Some, Ok, true};
 ghost use Rattle.batch_ids.specs.declared.status.BatchStatus.TheVariants.{Started};
 ghost use Rattle.jsl_model.specs.Catalogues.{AreJobs};
+ghost use Rattle.batch_history.specs.declared.query.Answer.TheVariants.{StepExecutions as AreStepExecutions};
+ghost use Rattle.batch_history.specs.declared.query.Query.TheVariants.{StepExecutions};
 ghost use Rattle.batch_history.specs.declared.query.StepExecution.{StepExecution};
 ghost use Rattle.batch_history.specs.declared.rows.ExecutionRow.{ExecutionRow};
+ghost use Rattle.batch_history.specs.Answers.{answer};
 ghost use Rattle.batch_history.specs.Legal.{IsLegal};
 ghost use Rattle.batch_history.specs.Rows.{History};
 ghost use Rattle.batch_history.specs.Walks.{job_named};
 ghost use Rattle.history_laws.specs.Laws.{row_in, works_of_instance_in};
 ghost use Rattle.history_laws.specs.Partitions.{works_of_step_in, is_kept_in, is_done_in, all_kept_in, IsKept, IsDone};
-ghost use Rattle.history_laws.specs.StepExecutions.{step_in, IsPartitioned, StepEnds, IsThrough, HasResult};
+ghost use Rattle.history_laws.specs.StepExecutions.{step_in, IsPartitioned, StepEnds, AreStepsOf, IsThrough, HasResult};
 
 /// A job execution keeps a partition of a step exactly where the newest work item of the partition in
 /// earlier job executions of its job instance is COMPLETED, and no job execution from that of the
@@ -31,7 +34,8 @@ pub fn partitions_are_kept_until_a_job_execution_is_done()
 {}
 
 /// The step execution of a partitioned step has no end while it is STARTED. Its end is the moment of
-/// the first operation after which it is not STARTED (Jakarta Batch 2.1, "StepExecution").
+/// the first operation after which it is not STARTED (Jakarta Batch 2.1, "StepExecution"). These step
+/// executions are what the query is answered.
 ///
 /// It does nothing: its contract is the law, of every legal history over the jobs of a catalogue.
 pub fn partitioned_steps_end_once_they_are_not_started()
@@ -41,6 +45,9 @@ pub fn partitioned_steps_end_once_they_are_not_started()
     ensures ended { (limit : ℕ) (h : History) → IsLegal limit h → AreJobs h.catalogue
         → (x n : ℕ) (step : List ℕ) → IsPartitioned h x step n → (shown : StepExecution)
         → step_in h x step ≡ Some shown → shown.status ≢ Started → StepEnds h x step shown.end }
+    ensures answered { (limit : ℕ) (h : History) → IsLegal limit h
+        → (x : ℕ) (steps : List StepExecution)
+        → answer h (StepExecutions x) ≡ Ok (AreStepExecutions steps) → AreStepsOf h x steps }
 {}
 
 /// A partitioned step each of whose partitions is kept or over has the outcome that the walk of the
