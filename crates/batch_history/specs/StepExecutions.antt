@@ -7,7 +7,7 @@ use Rattle.std.specs.Str.{bytes_eq}
 use Rattle.batch_ids.specs.Metrics.{sum_of_metrics}
 use Rattle.batch_ids.specs.Statuses.{is_unfinished, outcome_status, status_name}
 use Rattle.batch_ids.specs.declared.status.BatchStatus.{BatchStatus}
-use Rattle.batch_ids.specs.declared.status.BatchStatus.TheVariants.{Started, Stopped, Failed, Completed}
+use Rattle.batch_ids.specs.declared.status.BatchStatus.TheVariants.{Starting, Started, Stopping, Stopped, Failed, Completed, Abandoned}
 use Rattle.walk_rules.specs.Keys.{key_of, numbers_to}
 use Rattle.job_walk.specs.Plans.{is_kept}
 use Rattle.job_walk.specs.declared.plan.Plan.{Plan}
@@ -79,7 +79,7 @@ abbrev pub is_stopped : WorkState → Bool
 is_stopped Busy = false
 is_stopped (Over outcome exit) = is_stopped_outcome outcome
 
--- whether a partition of a step is left: it is not kept, and has no work item
+-- a partition of a step is left while it is neither kept by the plan nor handed out
 abbrev pub is_left : Plan → List ℕ → List WorkRow → ℕ → Bool
 is_left plan step items p = not (is_kept plan (key_of step p)) && not (list_any (λ row. is_at p row.partition) items)
 
@@ -88,53 +88,58 @@ abbrev pub any_left : Plan → List ℕ → List WorkRow → Option ℕ → Bool
 any_left plan step items None = false
 any_left plan step items (Some n) = list_any (is_left plan step items) (numbers_to n)
 
--- whether the step execution goes on: a partition is busy, or one is left and the job execution is unfinished
-abbrev pub goes_on : Bool → Bool → List WorkRow → Bool
-goes_on unfinished left items = list_any (λ row. is_busy row.state) items || (left && unfinished)
-
--- the status once it does not go on: FAILED if a partition is, else STOPPED if one is or is left, else COMPLETED
-abbrev pub status_over : Bool → List WorkRow → BatchStatus
-status_over left items =
-    if list_any (λ row. is_failed row.state) items then Failed
-    else (if left || list_any (λ row. is_stopped row.state) items then Stopped else Completed)
-
+-- the status: STARTED while a partition is busy, or one is left and the job execution is unfinished; then FAILED if a partition
+-- is FAILED, else STOPPED if one is STOPPED or left, else COMPLETED
 abbrev pub status_of_partitions : Bool → Bool → List WorkRow → BatchStatus
-status_of_partitions unfinished left items = if goes_on unfinished left items then Started else status_over left items
+status_of_partitions unfinished left items =
+    if list_any (λ row. is_busy row.state) items || (left && unfinished) then Started
+    else (if list_any (λ row. is_failed row.state) items then Failed
+    else (if left || list_any (λ row. is_stopped row.state) items then Stopped else Completed))
 
--- the exit status, once it does not go on: the status's name, whatever exit status a partition was given
-abbrev pub exit_of_partitions : Bool → Bool → List WorkRow → Option (List ℕ)
-exit_of_partitions unfinished left items =
-    if goes_on unfinished left items then None else Some (status_name (status_over left items))
+-- what a step execution has once it is not STARTED: nothing before
+abbrev pub once_over : {X : Type 0} → BatchStatus → Option X → Option X
+once_over Started shown = None
+once_over Starting shown = shown
+once_over Stopping shown = shown
+once_over Stopped shown = shown
+once_over Failed shown = shown
+once_over Completed shown = shown
+once_over Abandoned shown = shown
 
--- whether a work item ended by no later operation than another
+-- whether one operation is no later than another: work items that did not end come before all others
 abbrev pub ended_by : Option ℕ → Option ℕ → Bool
 ended_by None later = true
 ended_by (Some m) None = false
 ended_by (Some m) (Some n) = nat_le m n
 
--- the work item that ended last
+-- the work item that the latest operation ended
 abbrev pub last_ended : List WorkRow → Option WorkRow
 last_ended items = find (λ row. list_all (λ other. ended_by other.ended row.ended) items) items
 
--- the end, once it does not go on: that of the partition that ended last, or that of the job execution where one is left
-abbrev pub end_of_partitions : Bool → Bool → List WorkRow → Option ℕ → Option ℕ
-end_of_partitions unfinished left items end =
-    if goes_on unfinished left items then None
-    else (if left then end else option_and_then (λ row. row.end) (last_ended items))
+-- the end: that of the work item that ended last, or that of the job execution if a partition is left
+abbrev pub end_of_partitions : Bool → List WorkRow → Option ℕ → Option ℕ
+end_of_partitions left items end = if left then end else option_and_then (λ row. row.end) (last_ended items)
 
--- the step execution that partitions of a step are, the first of which was handed out as this work item
-abbrev pub shown_partitions : ExecutionRow → Bool → List WorkRow → WorkRow → StepExecution
-shown_partitions owner left items first =
+-- the step execution of these work items of a partitioned step: it has this status, and once it is not STARTED this end, and the
+-- status's name as the exit status, whatever exit status a partition was given; it has the number and the start of the first
+-- work item, and the sums of all metrics
+abbrev pub step_of_partitions : BatchStatus → Option ℕ → List WorkRow → WorkRow → StepExecution
+step_of_partitions status end items first =
     record {
       work = first.work;
       execution = first.execution;
       step = first.element;
-      status = status_of_partitions (is_unfinished (row_status owner)) left items;
+      status = status;
       start = first.start;
-      end = end_of_partitions (is_unfinished (row_status owner)) left items owner.end;
-      exit = exit_of_partitions (is_unfinished (row_status owner)) left items;
+      end = once_over status end;
+      exit = once_over status (Some (status_name status));
       metrics = sum_of_metrics (map (λ row. row.metrics) items);
     }
+
+-- the same in a job execution, where a partition is left or none is
+abbrev pub shown_partitions : ExecutionRow → Bool → List WorkRow → WorkRow → StepExecution
+shown_partitions owner left items first =
+    step_of_partitions (status_of_partitions (is_unfinished (row_status owner)) left items) (end_of_partitions left items owner.end) items first
 
 -- ---- Of a job execution
 
@@ -160,8 +165,8 @@ if_step Batchlet step = step
 if_step Chunk step = step
 if_step Decision step = None
 
--- the step execution of a work item of a job execution of this job, by the work items of that: a partitioned step's stands
--- where its first one does
+-- the step execution that begins with a work item of a job execution of this job, by all its work items: each one of a step
+-- that is not partitioned begins one, and the first one of a partitioned step
 abbrev pub step_by_partition : Option JobTree → ExecutionRow → List WorkRow → WorkRow → Option ℕ → Option StepExecution
 step_by_partition job owner works row None = Some (shown_step row)
 step_by_partition job owner works row (Some p) =

@@ -16,7 +16,7 @@ use Rattle.batch_history.specs.Lists.{change_first}
 use Rattle.batch_history.specs.Moments.{first_moment}
 use Rattle.batch_history.specs.Rows.{IsAsBefore}
 use Rattle.batch_history.specs.Statuses.{is_finished}
-use Rattle.batch_history.specs.StepExecutions.{is_busy, any_left, goes_on, ended_by, last_ended, end_of_partitions}
+use Rattle.batch_history.specs.StepExecutions.{is_busy, any_left, ended_by, last_ended, end_of_partitions}
 use Rattle.batch_history.specs.Walks.{job_named}
 use Rattle.batch_history.specs.Works.{is_work}
 use Rattle.batch_history.specs.declared.call.Entry.{Entry}
@@ -35,13 +35,17 @@ use Rattle.history_laws.proofs.EachWork.{IsEndedBy, each-ended}
 use Rattle.history_laws.proofs.Laws.{no-end}
 use Rattle.history_laws.proofs.Moments.{abandoned-finished, not-running}
 use Rattle.history_laws.proofs.Rising.{each-filter}
-use Rattle.history_laws.proofs.StepItems.{is_item, items, leaves_some, is_running, is_going, Change, none, handed, counted, ended, step-change, any-found, found-changed}
+use Rattle.history_laws.proofs.StepItems.{is_item, items, leaves_some, is_running, goes_on, is_going, Change, none, handed, counted, ended, step-change, any-found, found-changed}
 use Rattle.history_laws.proofs.StepLeaves.{IsPartitionedOf, find-some, some-of}
+
+-- the end of partitions, once they do not go on
+abbrev pub end_by : Bool → Bool → List WorkRow → Option ℕ → Option ℕ
+end_by unfinished left rows end = cond (goes_on unfinished left rows) None (end_of_partitions left rows end)
 
 -- the end of the step
 abbrev pub step_end : List JobTree → List Entry → Made → List ℕ → ℕ → Option ℕ
 step_end catalogue past m step n =
-    end_of_partitions (is_running catalogue past m) (leaves_some catalogue past m.execution step n) (items past m.execution step) (end_of catalogue past m)
+    end_by (is_running catalogue past m) (leaves_some catalogue past m.execution step n) (items past m.execution step) (end_of catalogue past m)
 
 abbrev any_busy : List WorkRow → Bool
 any_busy rows = list_any (λ row. is_busy row.state) rows
@@ -65,7 +69,7 @@ left-waits true unfinished is h = h
 left-waits false unfinished is h = cc
 
 end-over : (unfinished left : Bool) (rows : List WorkRow) (end : Option ℕ) → goes_on unfinished left rows ≡ false
-    → end_of_partitions unfinished left rows end ≡ cond left end (option_and_then (λ (row : WorkRow). row.end) (last_ended rows))
+    → end_by unfinished left rows end ≡ cond left end (option_and_then (λ (row : WorkRow). row.end) (last_ended rows))
 end-over unfinished left rows end off = ap (λ b. cond b None (cond left end (option_and_then (λ (row : WorkRow). row.end) (last_ended rows)))) off
 
 -- ---- The job execution

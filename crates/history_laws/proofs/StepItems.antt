@@ -24,7 +24,7 @@ use Rattle.batch_history.specs.Lists.{change_first, is_at}
 use Rattle.batch_history.specs.Replies.{row_status, has_something, has_something_by, walk_in_rows, runnable_of_job, partitions_of_job, partition_named}
 use Rattle.batch_history.specs.Rows.{Rows}
 use Rattle.batch_history.specs.Statuses.{is_finished}
-use Rattle.batch_history.specs.StepExecutions.{is_busy, is_left, any_left, goes_on}
+use Rattle.batch_history.specs.StepExecutions.{is_busy, is_left, any_left}
 use Rattle.batch_history.specs.Walks.{job_named, facts_by_work}
 use Rattle.batch_history.specs.Works.{is_work, busy_work, work_key, item_key}
 use Rattle.batch_history.specs.declared.call.Call.{Call}
@@ -158,6 +158,10 @@ leaves_some catalogue past x step n = any_left (plan_kept catalogue past x) step
 
 abbrev pub is_running : List JobTree → List Entry → Made → Bool
 is_running catalogue past m = is_unfinished (row_status (execution_row catalogue past m))
+
+-- whether a partition is busy, or one is left and the job execution is unfinished
+abbrev pub goes_on : Bool → Bool → List WorkRow → Bool
+goes_on unfinished left rows = list_any (λ row. is_busy row.state) rows || (left && unfinished)
 
 -- whether the step goes on
 abbrev pub is_going : List JobTree → List Entry → Made → List ℕ → ℕ → Bool

@@ -3,6 +3,8 @@ use Rattle.std.proofs.Common.{◌≡◌, ◌≢◌, ◌||◌, ℕ, Bool, true, f
 use Rattle.std.specs.List.{list_any}
 use Rattle.std.specs.Option.{option_and_then}
 use Rattle.std.proofs.lemmas.List.{append_assoc, reverse-append, reverse-reverse}
+use Rattle.batch_ids.specs.Statuses.{status_name}
+use Rattle.batch_ids.specs.declared.status.BatchStatus.{BatchStatus}
 use Rattle.batch_ids.specs.declared.status.BatchStatus.TheVariants.{Started, Stopped, Failed, Completed}
 use Rattle.jsl_model.specs.Catalogues.{AreJobs}
 use Rattle.jsl_model.specs.Jobs.{JobTree}
@@ -10,7 +12,7 @@ use Rattle.jsl_model.specs.declared.element.Task.{Task}
 use Rattle.batch_history.specs.Executions.{Made}
 use Rattle.batch_history.specs.Legal.{IsLegal}
 use Rattle.batch_history.specs.Rows.{History}
-use Rattle.batch_history.specs.StepExecutions.{goes_on, is_failed, is_stopped, status_of_partitions, status_over, end_of_partitions, exit_of_partitions, last_ended, shown_partitions}
+use Rattle.batch_history.specs.StepExecutions.{end_of_partitions, is_failed, is_stopped, last_ended, once_over, shown_partitions, status_of_partitions}
 use Rattle.batch_history.specs.Walks.{job_named}
 use Rattle.batch_history.specs.declared.call.Entry.{Entry}
 use Rattle.batch_history.specs.declared.query.StepExecution.{StepExecution}
@@ -24,10 +26,49 @@ use Rattle.batch_history.proofs.Told.{made-more}
 use Rattle.history_laws.specs.Laws.{beginning, row_in}
 use Rattle.history_laws.specs.StepExecutions.{steps_in, step_among, step_in, IsPartitioned, StepEnds}
 use Rattle.history_laws.proofs.Beginnings.{row-folded, IsRowAt, row-at}
-use Rattle.history_laws.proofs.StepEnds.{step_end, StepEndedPast, step-ended, has_some}
-use Rattle.history_laws.proofs.StepItems.{items, leaves_some, is_running, is_going}
+use Rattle.history_laws.proofs.StepEnds.{step_end, StepEndedPast, step-ended, has_some, end_by}
+use Rattle.history_laws.proofs.StepItems.{items, leaves_some, is_running, is_going, goes_on}
 use Rattle.history_laws.proofs.StepLeaves.{IsPartitionedOf}
 use Rattle.history_laws.proofs.StepShown.{IsShown, shown-by, shown_of, step-shown}
+
+-- ---- Once it does not go on
+
+-- the status of partitions that do not go on
+abbrev pub status_over : Bool → List WorkRow → BatchStatus
+status_over left rows =
+    cond (list_any (λ row. is_failed row.state) rows) Failed (cond (left || list_any (λ row. is_stopped row.state) rows) Stopped Completed)
+
+-- their exit status
+abbrev pub exit_by : Bool → Bool → List WorkRow → Option (List ℕ)
+exit_by unfinished left rows = cond (goes_on unfinished left rows) None (Some (status_name (status_over left rows)))
+
+over-shown : {X : Type 0} (left : Bool) (rows : List WorkRow) (shown : Option X) → once_over (status_over left rows) shown ≡ shown
+over-shown left rows shown =
+    elim (list_any (λ (row : WorkRow). is_failed row.state) rows) as (λ b. once_over (cond b Failed (cond (left || list_any (λ (row : WorkRow). is_stopped row.state) rows) Stopped Completed)) shown ≡ shown) [
+      | true ↦ refl
+      | false ↦ elim (left || list_any (λ (row : WorkRow). is_stopped row.state) rows) as (λ b. once_over (cond b Stopped Completed) shown ≡ shown) [
+        | true ↦ refl
+        | false ↦ refl
+      ]
+    ]
+
+end-shown : (unfinished left : Bool) (rows : List WorkRow) (end : Option ℕ)
+    → once_over (status_of_partitions unfinished left rows) (end_of_partitions left rows end) ≡ end_by unfinished left rows end
+end-shown unfinished left rows end =
+    on-it (goes_on unfinished left rows)
+    (λ on. ap (λ b. once_over (cond b Started (status_over left rows)) (end_of_partitions left rows end)) on
+    ∙ sym (ap (λ b. cond b None (end_of_partitions left rows end)) on))
+    (λ off. ap (λ b. once_over (cond b Started (status_over left rows)) (end_of_partitions left rows end)) off
+    ∙ (over-shown left rows (end_of_partitions left rows end) ∙ sym (ap (λ b. cond b None (end_of_partitions left rows end)) off)))
+
+exit-shown : (unfinished left : Bool) (rows : List WorkRow)
+    → once_over (status_of_partitions unfinished left rows) (Some (status_name (status_of_partitions unfinished left rows))) ≡ exit_by unfinished left rows
+exit-shown unfinished left rows =
+    on-it (goes_on unfinished left rows)
+    (λ on. ap (λ b. once_over (cond b Started (status_over left rows)) (Some (status_name (cond b Started (status_over left rows))))) on
+    ∙ sym (ap (λ b. cond b None (Some (status_name (status_over left rows)))) on))
+    (λ off. ap (λ b. once_over (cond b Started (status_over left rows)) (Some (status_name (cond b Started (status_over left rows))))) off
+    ∙ (over-shown left rows (Some (status_name (status_over left rows))) ∙ sym (ap (λ b. cond b None (Some (status_name (status_over left rows)))) off)))
 
 -- ---- What is shown
 
@@ -36,7 +77,7 @@ pub record Shows (catalogue : List JobTree) (past : List Entry) (m : Made) (step
   pub some : has_some (items past m.execution step) ≡ true
   pub status : shown.status ≡ status_of_partitions (is_running catalogue past m) (leaves_some catalogue past m.execution step n) (items past m.execution step)
   pub end : shown.end ≡ step_end catalogue past m step n
-  pub exit : shown.exit ≡ exit_of_partitions (is_running catalogue past m) (leaves_some catalogue past m.execution step n) (items past m.execution step)
+  pub exit : shown.exit ≡ exit_by (is_running catalogue past m) (leaves_some catalogue past m.execution step n) (items past m.execution step)
 
 shows-by : (catalogue : List JobTree) (past : List Entry) (m : Made) (step : List ℕ) (n : ℕ) (rows : List WorkRow) (shown : StepExecution)
     → items past m.execution step ≡ rows → shown_of catalogue past m step n rows ≡ Some shown → Shows catalogue past m step n shown
@@ -48,9 +89,11 @@ shows-by catalogue past m step n (first ∷ rest) shown is h =
       status = sym (ap (λ (s : StepExecution). s.status) same)
           ∙ ap (status_of_partitions (is_running catalogue past m) (leaves_some catalogue past m.execution step n)) (sym is);
       end = sym (ap (λ (s : StepExecution). s.end) same)
-          ∙ ap (λ l. end_of_partitions (is_running catalogue past m) (leaves_some catalogue past m.execution step n) l (end_of catalogue past m)) (sym is);
+          ∙ (end-shown (is_running catalogue past m) (leaves_some catalogue past m.execution step n) (first ∷ rest) (end_of catalogue past m)
+          ∙ ap (λ l. end_by (is_running catalogue past m) (leaves_some catalogue past m.execution step n) l (end_of catalogue past m)) (sym is));
       exit = sym (ap (λ (s : StepExecution). s.exit) same)
-          ∙ ap (exit_of_partitions (is_running catalogue past m) (leaves_some catalogue past m.execution step n)) (sym is);
+          ∙ (exit-shown (is_running catalogue past m) (leaves_some catalogue past m.execution step n) (first ∷ rest)
+          ∙ ap (exit_by (is_running catalogue past m) (leaves_some catalogue past m.execution step n)) (sym is));
     }
 
 pub shows : (limit : ℕ) (h : History) → IsLegal limit h → (m : Made) (step : List ℕ) (n : ℕ) (task : Task)
@@ -93,7 +136,7 @@ other-over : (unfinished left : Bool) (rows : List WorkRow) → status_of_partit
 other-over unfinished left rows h =
     on-it (goes_on unfinished left rows) (λ on. absurd (h (going-started unfinished left rows on))) (λ off. off)
 
-end-going : (unfinished left : Bool) (rows : List WorkRow) (end : Option ℕ) → goes_on unfinished left rows ≡ true → end_of_partitions unfinished left rows end ≡ None
+end-going : (unfinished left : Bool) (rows : List WorkRow) (end : Option ℕ) → goes_on unfinished left rows ≡ true → end_by unfinished left rows end ≡ None
 end-going unfinished left rows end on = ap (λ b. cond b None (cond left end (option_and_then (λ (row : WorkRow). row.end) (last_ended rows)))) on
 
 -- ---- The laws

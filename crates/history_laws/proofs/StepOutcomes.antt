@@ -31,7 +31,7 @@ use Rattle.batch_history.specs.Executions.{Made}
 use Rattle.batch_history.specs.Legal.{IsLegal}
 use Rattle.batch_history.specs.Lists.{is_at}
 use Rattle.batch_history.specs.Rows.{History}
-use Rattle.batch_history.specs.StepExecutions.{goes_on, is_busy, is_failed, is_left, is_stopped, status_over}
+use Rattle.batch_history.specs.StepExecutions.{is_busy, is_failed, is_left, is_stopped}
 use Rattle.batch_history.specs.Walks.{fact_by_work, fact_of_state, facts_by_work, is_work_of, job_named, planned_facts, runnable_fact}
 use Rattle.batch_history.specs.Works.{work_key}
 use Rattle.batch_history.specs.declared.call.Entry.{Entry}
@@ -53,9 +53,9 @@ use Rattle.history_laws.specs.Laws.{works_in}
 use Rattle.history_laws.specs.StepExecutions.{facts_of_job, result_in, step_in, HasResult, IsPartitioned, IsThrough}
 use Rattle.history_laws.proofs.Rising.{each-filter}
 use Rattle.history_laws.proofs.StepEnds.{has_some}
-use Rattle.history_laws.proofs.StepItems.{any-found, any-number, each-item, found-within, is_item, items, IsItem, is_running, leaves_some, none-of-each}
+use Rattle.history_laws.proofs.StepItems.{any-found, any-number, each-item, found-within, is_item, items, IsItem, is_running, leaves_some, none-of-each, goes_on}
 use Rattle.history_laws.proofs.StepLeaves.{IsPartitionedOf, partition-there}
-use Rattle.history_laws.proofs.StepMoments.{Shows, shows}
+use Rattle.history_laws.proofs.StepMoments.{Shows, shows, status_over}
 use Rattle.history_laws.proofs.StepShown.{IsShown, shown-by}
 
 -- ---- Lists

@@ -1,14 +1,15 @@
 //! The step executions of a job execution (Jakarta Batch 2.1, "StepExecution").
-ghost use Rattle.std.specs.Prelude.{◌≡◌, map, filter_map, IfOk};
+ghost use Rattle.std.specs.Prelude.{◌≡◌, ◌||◌, ◌&&◌, map, filter_map, IfOk, if◌then◌else◌};
 ghost use Rattle.std.specs.List.{list_any, list_all};
 ghost use Rattle.std.specs.Option.{option_and_then, option_copied};
 ghost use Rattle.batch_ids.specs.Metrics.{most_after, sum_of_metrics};
+ghost use Rattle.batch_ids.specs.declared.status.BatchStatus.TheVariants.{Stopped, Failed, Completed};
 ghost use Rattle.job_walk.specs.Plans.{is_kept};
 ghost use Rattle.walk_rules.specs.Keys.{key_of};
 ghost use Rattle.batch_history.specs.Lists.{is_at};
 ghost use Rattle.batch_history.specs.Replies.{partitions_of_job, row_status};
 ghost use Rattle.batch_history.specs.Rows.{Rows};
-ghost use Rattle.batch_history.specs.StepExecutions.{is_busy, is_failed, is_stopped, is_left, any_left, goes_on, status_over, ended_by, last_ended, same_step, is_first, shown_partitions, partitions_shown, step_by_partition, step_execution, step_executions};
+ghost use Rattle.batch_history.specs.StepExecutions.{is_busy, is_failed, is_stopped, is_left, any_left, ended_by, last_ended, same_step, is_first, shown_partitions, partitions_shown, step_by_partition, step_execution, step_executions};
 ghost use Rattle.batch_history.specs.Walks.{job_named};
 ghost use Rattle.batch_history.specs.Works.{work_key};
 ghost use Rattle.records.specs.Left.{works_of};
@@ -95,7 +96,8 @@ fn has_busy(items: &[&WorkRow]) -> bool
 /// Whether the step execution goes on: a partition is busy, or one is left and the job execution is
 /// unfinished.
 fn goes_on(unfinished: bool, left: bool, items: &[&WorkRow]) -> bool
-    ensures { result ≡ goes_on unfinished left (map (λ row. row.now) items.now) }
+    ensures { result ≡ (list_any (λ row. is_busy row.state) (map (λ row. row.now) items.now)
+        || (left && unfinished)) }
 {
     has_busy(items) || (left && unfinished)
 }
@@ -146,7 +148,9 @@ fn has_stopped(items: &[&WorkRow]) -> bool
 
 /// The status of partitions that do not go on.
 fn status_over(left: bool, items: &[&WorkRow]) -> BatchStatus
-    ensures { result ≡ status_over left (map (λ row. row.now) items.now) }
+    ensures { result ≡ (if list_any (λ row. is_failed row.state) (map (λ row. row.now) items.now)
+        then Failed else if left || list_any (λ row. is_stopped row.state)
+        (map (λ row. row.now) items.now) then Stopped else Completed) }
 {
     if has_failed(items) {
         BatchStatus::Failed
