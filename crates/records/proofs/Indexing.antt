@@ -230,3 +230,16 @@ instance_removed maps names names-after executions works executions-after works-
           ∙ (sym (numbers-if w_of (gone q) (works_of q maps.works))
           ∙ ap (λ (rows : List WorkRow). work_numbers rows) (sym (index.left_out w_of owner gone q maps.works))))));
     }
+
+-- An index with the same numbers
+
+pub same_numbers : (maps : Maps) (names : List ℕ → List ℕ) (executions works : ℕ → List ℕ) (names_now : List ℕ → List ℕ)
+    (executions_now works_now : ℕ → List ℕ) → AreIndexed maps names executions works
+    → ((q : List ℕ) → names_now q ≡ names q) → ((i : ℕ) → executions_now i ≡ executions i) → ((x : ℕ) → works_now x ≡ works x) → AreIndexed maps names_now executions_now works_now
+same_numbers maps names executions works names_now executions_now works_now h named owned worked =
+    record {
+      keyed = h.keyed;
+      instances_by_name = λ q. named q ∙ h.instances_by_name q;
+      executions_by_instance = λ i. owned i ∙ h.executions_by_instance i;
+      works_by_execution = λ x. worked x ∙ h.works_by_execution x;
+    }

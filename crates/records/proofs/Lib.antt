@@ -5,8 +5,10 @@ pub mod Leaving
 pub mod Listing
 pub mod Indexed
 pub mod Indexing
+pub mod Gathered
 pub mod Lists
 pub mod Newest
+pub mod Outcomes
 pub mod Stepped
 pub mod Tallies
 pub mod Unfinished

@@ -342,7 +342,7 @@ marks_absent rows p none =
 
 -- Where a job instance has no checkpoint, none goes with it
 
-pub empty_list : (rows : List CheckpointRow) → (length rows == 0) ≡ true → rows ≡ []
+pub empty_list : {X : Type 0} (rows : List X) → (length rows == 0) ≡ true → rows ≡ []
 empty_list [] none = refl
 empty_list (row ∷ rest) none =
     let e : length (row ∷ rest) ≡ 0 = eqb-true (length (row ∷ rest)) 0 none in

@@ -1,7 +1,8 @@
 -- The last of rising numbers is above each of the others.
-use Rattle.std.proofs.Common.{◌≡◌, ℕ, suc, ◌==◌, ◌<◌, ◌-◌, ◌||◌, Bool, true, false, cond, nat_lt, Option, None, Some, List, [], ◌∷◌, filter, slice_get, length, refl, sym, ◌∙◌, ap, subst, arith}
+use Rattle.std.proofs.Common.{◌≡◌, ℕ, suc, ◌==◌, ◌<◌, ◌-◌, ◌||◌, Bool, true, false, cond, nat_lt, Option, None, Some, List, [], ◌∷◌, filter, slice_get, length, refl, sym, ◌∙◌, ap, subst, arith, get_or}
 use Rattle.std.specs.List.{last_or, list_any}
 use Rattle.std.proofs.lemmas.Bool.{ltb-true, lt-ltb}
+use Rattle.std.proofs.lemmas.Option.{slice_get-get_or}
 use Rattle.std.proofs.Math.Bool.{or-false}
 use Rattle.batch_history.specs.declared.rows.ExecutionRow.{ExecutionRow}
 use Rattle.records.specs.Belonging.{executions_of}
@@ -57,3 +58,13 @@ pub newest_above : (i x n : ℕ) (rows : List ExecutionRow) → AreRising (execu
 newest_above i x n rows rising is =
     let own = executions_of i rows in
     sym (any-numbered x own ∙ any-above (execution_numbers own) x n (rising-filtered (λ row. row.instance == i) rows rising) (last_there (execution_numbers own) n is))
+
+none-newest : (ns : List ℕ) → slice_get ns (length ns - 1) ≡ None → ns ≡ []
+none-newest [] is = refl
+none-newest (n ∷ ns) is =
+    let last = slice_get-get_or (n ∷ ns) (length (n ∷ ns) - 1) n (omega arith) in
+    absurd (let no : Some (get_or (n ∷ ns) (length (n ∷ ns) - 1) n) ≡ None = sym last ∙ is in cc)
+
+pub none_above : (x : ℕ) (rows : List ExecutionRow) → slice_get (execution_numbers rows) (length (execution_numbers rows) - 1) ≡ None
+    → list_any (λ row. nat_lt x row.execution) rows ≡ false
+none_above x rows is = any-numbered x rows ∙ ap (list_any (λ n. nat_lt x n)) (none-newest (execution_numbers rows) is)

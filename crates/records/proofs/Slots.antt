@@ -348,6 +348,10 @@ module _ {T : Type 0} (num : T → ℕ) where
       → r ≡ position (is_at n) slots
   searched_in n xs slots r same are is = is (subst (λ (l : List (Slot T)). AreRising (slot_numbers l)) (sym same) are.rising) ∙ ap (position (is_at n)) same
 
+  pub within : (n k : ℕ) (slots : List (Slot T)) → Some k ≡ position (is_at n) slots → k < length slots
+  within n k [] is = absurd (let no : Some k ≡ None = is in cc)
+  within n k (slot ∷ rest) is = (position-Some (is_at n) (slot ∷ rest) k slot (sym is)).0
+
   pub unplaced : (n : ℕ) (slots : List (Slot T)) → AreSlots num slots → None ≡ position (is_at n) slots → None ≡ find (is_numbered n) (rows_in slots)
   unplaced n slots are at =
       ap row_of (sym (numbered.absent (λ (slot : Slot T). slot.number) (is_at n) slots (sym at))) ∙ found n slots are.rising are.own

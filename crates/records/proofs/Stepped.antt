@@ -1,7 +1,8 @@
 -- The index of the work items of each step of each job instance, through each change of the rows.
-use Rattle.std.proofs.Common.{◌≡◌, ℕ, ◌==◌, ◌&&◌, ◌||◌, Bool, true, false, not, cond, find, Option, None, Some, bytes_eq, List, [], ◌∷◌, ◌++◌, map, filter, unwrap_or, IfSome, slice_get, length, ◌-◌, suc, refl, sym, ◌∙◌, ap, subst, arith}
+use Rattle.std.proofs.Common.{◌≡◌, ℕ, ◌==◌, ◌&&◌, ◌||◌, Bool, true, false, not, cond, find, Option, None, Some, bytes_eq, List, [], ◌∷◌, ◌++◌, map, filter, unwrap_or, IfSome, slice_get, length, ◌-◌, suc, refl, sym, ◌∙◌, ap, subst, arith, Result, Ok, Err}
 use Rattle.std.specs.List.{last_or}
 use Rattle.std.specs.Option.{option_map}
+use Rattle.std.specs.Result.{OnOk, OnErr}
 use Rattle.std.proofs.lemmas.Bool.{and_parts, eqb-true, eq-eqb, ne_eqb}
 use Rattle.batch_history.specs.Lists.{change_first, is_at}
 use Rattle.batch_history.specs.Replies.{is_execution}
@@ -357,3 +358,19 @@ one_more before after row rows h more q =
     more q
     ∙ (ap (λ (ns : List ℕ). cond (bytes_eq row.element q) (ns ++ row.work ∷ []) ns) (h q)
     ∙ sym (row_added (λ (row : WorkRow). row.work) (λ row. bytes_eq row.element q) row rows))
+
+-- ---- Looking up the steps of one more job instance
+
+pub looked_up : {E : Type 0} (maps : Maps) (before after : ℕ → List ℕ → List ℕ) (had has : ℕ → Bool) (i : ℕ) (own : List ℕ → List ℕ) (r : Result (Unit {0}) E) → AreStepped maps before had
+    → AreStepsOf i maps own → OnOk r ((j : ℕ) → has j ≡ ((i == j) || had j)) → OnOk r ((j : ℕ) (q : List ℕ) → after j q ≡ cond (i == j) (own q) (before j q))
+    → OnErr r ((j : ℕ) → has j ≡ had j) → OnErr r ((j : ℕ) (q : List ℕ) → after j q ≡ before j q) → AreStepped maps after has
+looked_up maps before after had has i own (Ok done) h is more put same kept = λ j there q.
+    (elim (i == j) as (λ b. i == j ≡ b → after j q ≡ work_numbers (works_of_step q (works_of_instance j maps.executions maps.works))) [
+      | true ↦ λ here.
+          put j q
+          ∙ (ap (λ b. cond b (own q) (before j q)) here
+          ∙ (is q ∙ ap (λ (n : ℕ). work_numbers (works_of_step q (works_of_instance n maps.executions maps.works))) (eqb-true i j here)))
+      | false ↦ λ off.
+          put j q ∙ (ap (λ b. cond b (own q) (before j q)) off ∙ h j (sym (more j ∙ ap (λ b. b || had j) off) ∙ there) q)
+    ]) refl
+looked_up maps before after had has i own (Err refused) h is more put same kept = λ j there q. kept j q ∙ h j (sym (same j) ∙ there) q

@@ -517,7 +517,6 @@ impl Records {
     }
 
     /// The same by a look at each job execution of the job instance.
-    #[tactic(auto, using(crate::proofs::Unfinished::open_among_own))]
     fn finds_unfinished(&self, i: InstanceId) -> bool
         ensures { result ≡ list_any (is_running_in i) self.now.executions }
     {

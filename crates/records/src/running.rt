@@ -74,7 +74,6 @@ impl RunningLists {
 
 /// Looks up a job execution that is added, if it is unfinished. Where memory for it is refused, none is
 /// looked up from then on.
-#[tactic(auto, using(crate::proofs::Unfinished::running_added, crate::proofs::Unfinished::finished_added))]
 pub(crate) fn add_running(running: &mut Option<RunningLists>, row: &ExecutionRow)
     ensures { (rows : List Row) → AreRunning running.old rows
         → AreRunning running.new (rows ++ row.now ∷ []) }
@@ -87,14 +86,13 @@ pub(crate) fn add_running(running: &mut Option<RunningLists>, row: &ExecutionRow
         None => true,
     };
     if !added {
-        *running = None;
+        forget(running);
     }
 }
 
 /// Looks up a job execution no more that is changed to this row, if it is finished now and was not
 /// before. None is looked up from then on where it is unfinished now and was finished before, which no
 /// operation does.
-#[tactic(auto, using(crate::proofs::Unfinished::running_kept))]
 pub(crate) fn change_running(
     running: &mut Option<RunningLists>,
     was_unfinished: bool,
@@ -110,7 +108,7 @@ pub(crate) fn change_running(
         return;
     }
     if is_unfinished {
-        *running = None;
+        forget(running);
     } else {
         leave_out(running, row);
     }
@@ -133,8 +131,15 @@ pub(crate) fn forget_if(running: &mut Option<RunningLists>, goes: bool)
     ensures { running.new ≡ (if goes then None else running.old) }
 {
     if goes {
-        *running = None;
+        forget(running);
     }
+}
+
+/// Looks up no job execution from now on.
+fn forget(running: &mut Option<RunningLists>)
+    ensures { running.new ≡ None }
+{
+    drop(running.take());
 }
 
 /// The numbers of the unfinished job executions of a job among these rows.

@@ -6,7 +6,7 @@ use Rattle.std.specs.BTreeMap.{is_at}
 use Rattle.std.specs.Ordering.{nat_cmp}
 use Rattle.batch_history.specs.declared.rows.CheckpointRow.{CheckpointRow}
 use Rattle.batch_history.specs.Checkpoints.{InstanceStep, is_same_step}
-use Rattle.records.specs.Listed.{AreOf, rows_listed}
+use Rattle.records.specs.Listed.{AreListed, AreOf, rows_listed}
 use Rattle.records.specs.Maps.{mark_at, AreApart}
 use Rattle.records.specs.Placed.{with_mark}
 use Rattle.records.proofs.Marks.{apart_with}
@@ -103,3 +103,10 @@ returns-clause-set c =
 
 pub returns-clause-apart : goal.returns-clause-apart
 returns-clause-apart c = apart_of listed _ (invariant_of-self-2 c)
+
+pub invariant_of-self-in_err-push : goal.invariant_of-self-in_err-push
+invariant_of-self-in_err-push c = subst (λ m. AreListed listed m.entries) (sym c.get_mut.follows.holds-at-none) c.self.invariant
+
+pub invariant_of-self-in_err-insert : goal.invariant_of-self-in_err-insert
+invariant_of-self-in_err-insert c =
+    subst (AreListed listed) (sym (c.in_err-insert.ensures.err ∙ ap (λ m. m.entries) c.get_mut.follows.holds-at-none)) c.self.invariant

@@ -1,10 +1,10 @@
-use Rattle.std.proofs.Common.{◌≡◌, ◌++◌, ◌∷◌, [], List, length, sym, ◌∙◌, ap, subst, arith}
+use Rattle.std.proofs.Common.{◌≡◌, ◌++◌, ◌∷◌, [], List, length, sym, ◌∙◌, ap, subst, arith, refl}
 use Rattle.batch_history.specs.declared.rows.JobInstance.{JobInstance}
 use Rattle.batch_history.specs.declared.rows.ExecutionRow.{ExecutionRow}
 use Rattle.records.specs.Belonging.{works_of}
 use Rattle.records.specs.Indexes.{AreIndexed, AreRunning, numbers_named, numbers_under, AreStepped, has_steps, numbers_of_step}
 use Rattle.records.specs.Maps.{Maps, AreBelow, instance_numbers, execution_numbers}
-use Rattle.records.proofs.Indexing.{instance_added, execution_added, name_below}
+use Rattle.records.proofs.Indexing.{instance_added, execution_added, name_below, same_numbers}
 use Rattle.batch_history.specs.Answers.{counts_of, total, with_one_more}
 use Rattle.batch_history.specs.Replies.{row_status}
 use Rattle.records.proofs.Stepped as stepped
@@ -44,3 +44,44 @@ invariant_of-self-2 c =
           ∙ (sym (counts_added c.args.first c.self.inside.executions.rows) ∙ ap counts_of (sym first_added)))),
       subst (λ (l : List ExecutionRow). AreRunning c.add_running.new.running l) (sym first_added) (c.add_running.ensures c.self.inside.executions.rows c.self.invariant.3),
     )
+
+pub push_reserved-requires-clause-above : goal.push_reserved-requires-clause-above
+push_reserved-requires-clause-above c =
+    let below = subst (λ (m : Maps). AreBelow c.args.first.execution (execution_numbers m.executions)) (sym c.self.view_is) c.requires.first in
+    subst (λ (l : List ExecutionRow). AreBelow c.args.first.execution (execution_numbers l)) (sym c.index_instance.ensures.executions) below
+
+pub push_reserved-requires-2-clause-above : goal.push_reserved-requires-2-clause-above
+push_reserved-requires-2-clause-above c =
+    let below = subst (λ (m : Maps). AreBelow c.args.instance.instance (instance_numbers m.instances)) (sym c.self.view_is) c.requires.instance in
+    subst (λ (l : List JobInstance). AreBelow c.args.instance.instance (instance_numbers l)) (sym c.index_instance.ensures.instances) below
+
+pub returns-clause-added : goal.returns-clause-added
+returns-clause-added c =
+    let first_added = c.push_reserved.ensures ∙ ap (λ (l : List ExecutionRow). l ++ c.args.first ∷ []) c.index_instance.ensures.executions in
+    let added = c.push_reserved-2.ensures ∙ ap (λ (l : List JobInstance). l ++ c.args.instance ∷ []) c.index_instance.ensures.instances in
+    (λ k. record { instances = added k; executions = first_added k; works = c.self.inside.works.rows; checkpoints = c.self.inside.checkpoints })
+    ∙ ap (λ (m : Maps). record m { instances = m.instances ++ c.args.instance ∷ []; executions = m.executions ++ c.args.first ∷ [] }) c.self.view_is
+
+pub invariant_of-self : goal.invariant_of-self
+invariant_of-self c =
+    let kept = c.in-Err.ensures in (
+      subst (λ (l : List JobInstance). AreIndexed record { instances = l; executions = c.index_instance.new.executions.rows; works = c.self.inside.works.rows; checkpoints = c.self.inside.checkpoints }
+          (numbers_named c.index_instance.new.by_name) (numbers_under c.index_instance.new.by_instance) (numbers_under c.self.inside.works_by_execution)) (sym kept.instances)
+          (subst (λ (l : List ExecutionRow). AreIndexed record { instances = c.self.inside.instances.rows; executions = l; works = c.self.inside.works.rows; checkpoints = c.self.inside.checkpoints }
+          (numbers_named c.index_instance.new.by_name) (numbers_under c.index_instance.new.by_instance) (numbers_under c.self.inside.works_by_execution)) (sym kept.executions)
+          (same_numbers _ _ _ _ _ _ _ c.self.invariant.0 kept.unnamed kept.unowned (λ x. refl))),
+      subst (λ (l : List ExecutionRow). AreStepped record { instances = c.self.inside.instances.rows; executions = l; works = c.self.inside.works.rows; checkpoints = c.self.inside.checkpoints } (numbers_of_step c.self.inside.works_by_step) (has_steps c.self.inside.works_by_step)) (sym kept.executions) c.self.invariant.1,
+      c.self.invariant.2 ∙ ap counts_of (sym kept.executions),
+      subst (AreRunning c.self.inside.running) (sym kept.executions) c.self.invariant.3,
+    )
+
+pub returns-in-Err-clause-unchanged : goal.returns-in-Err-clause-unchanged
+returns-in-Err-clause-unchanged c =
+    let kept = c.in-Err.ensures in
+    (λ k. record { instances = kept.instances k; executions = kept.executions k; works = c.self.inside.works.rows; checkpoints = c.self.inside.checkpoints }) ∙ c.self.view_is
+
+pub push_reserved-requires-clause-room : goal.push_reserved-requires-clause-room
+push_reserved-requires-clause-room c = c.in-Ok.ensures.execution_room
+
+pub push_reserved-requires-2-clause-room : goal.push_reserved-requires-2-clause-room
+push_reserved-requires-2-clause-room c = c.in-Ok.ensures.instance_room

@@ -1,4 +1,4 @@
-use Rattle.std.proofs.Common.{◌≡◌, ◌==◌, ℕ, List, [], Some, None, true, false, refl, not, filter, cond, find, option_copied, bytes_eq, sym, ◌∙◌, ap, subst}
+use Rattle.std.proofs.Common.{◌≡◌, ◌==◌, ℕ, List, [], Some, None, true, false, refl, not, filter, cond, find, option_copied, bytes_eq, sym, ◌∙◌, ap, subst, is_some}
 use Rattle.std.specs.List.{list_any}
 use Rattle.batch_history.specs.Answers.{counts_of}
 use Rattle.batch_history.specs.Rows.{instances_there, executions_there, works_there}
@@ -84,3 +84,12 @@ returns c =
     let whole : without_instance i inside ≡ record { instances = c.remove-4.new.self.rows; executions = c.remove_all.new.self.rows; works = c.remove_works.new.works.rows; checkpoints = c.remove_instance.new.self } =
     λ k. record { instances = sym instances-left k; executions = sym executions-left k; works = sym works-left k; checkpoints = sym c.remove_instance.ensures k } in
     sym whole ∙ ap (without_instance c.args.i) c.self.view_is
+
+pub unreachable-requires : goal.unreachable-requires
+unreachable-requires c =
+    let rows : List JobInstance = c.self.inside.instances.rows in
+    let none : find (is_instance c.args.i) rows ≡ None =
+    ap (λ n. find (is_instance n) rows) (sym c.value.ensures) ∙ (sym c.get.ensures.row ∙ ap option_copied c.in_default.is) in
+    let there = subst (λ (m : Maps). is_some (find (is_instance c.args.i) m.instances) ≡ true) (sym c.self.view_is) c.requires in
+    let no : false ≡ true = ap is_some (sym none) ∙ there in
+    cc

@@ -1,7 +1,7 @@
-use Rattle.std.proofs.Common.{◌==◌, ◌<◌, ◌^◌, find, length, sym, ◌∙◌, ap, subst, arith}
+use Rattle.std.proofs.Common.{◌==◌, ◌<◌, ◌^◌, find, length, sym, ◌∙◌, ap, subst, arith, ℕ}
 use Rattle.std.specs.Option.{option_copied}
 use Rattle.records.specs.Slots.{Rows}
-use Rattle.records.proofs.Slots.{searched_in, unplaced, placed, rows_few}
+use Rattle.records.proofs.Slots.{searched_in, unplaced, placed, rows_few, within}
 use Rattle.records.proofs.row_list.RowList.get.Goals as goal
 
 pub returns-in_err-place-clause-row : goal.returns-in_err-place-clause-row
@@ -27,3 +27,9 @@ pub returns-clause-few : goal.returns-clause-few
 returns-clause-few g c =
     let few = rows_few g.T.Numbered.number c.self.inside.slots.items in
     subst (λ (v : Rows g.row.T.Denot). length v.rows < 2 ^ 63) c.self.view_is (omega (arith, few, c.as_slice.ensures.len, ap length c.as_slice.ensures.value, c.self.inside.slots.small))
+
+pub index-requires : goal.index-requires
+index-requires g c =
+    let at = searched_in g.T.Numbered.number c.args.number _ c.self.inside.slots.items _ c.as_slice.ensures.value c.self.invariant c.slot_place.ensures in
+    subst (λ (n : ℕ). c.in_ok-place.place < n) (sym (ap length c.as_slice.ensures.value) ∙ c.as_slice.ensures.len)
+    (within g.T.Numbered.number c.args.number c.in_ok-place.place c.self.inside.slots.items (sym c.in_ok-place.was ∙ at))
