@@ -6,6 +6,7 @@ use Rattle.std.proofs.lemmas.Bool.{eqb-true, eq-eqb, ltb-true}
 use Rattle.batch_ids.specs.Metrics.{zero_step}
 use Rattle.batch_ids.specs.declared.status.WorkOutcome.TheVariants.{Failed}
 use Rattle.jsl_model.specs.Jobs.{JobTree}
+use Rattle.batch_history.specs.Walks.{known_elements}
 use Rattle.batch_history.specs.declared.call.Call.{Call}
 use Rattle.batch_history.specs.declared.call.Call.TheVariants.{Start, Restart, Stop, Abandon, Claim, Checkpoint, Finish, Lose, Purge}
 use Rattle.batch_history.specs.declared.call.Reply.{Reply}
@@ -14,7 +15,7 @@ use Rattle.batch_history.specs.declared.call.Entry.{Entry}
 use Rattle.batch_history.specs.declared.rows.ExecutionRow.{ExecutionRow}
 use Rattle.batch_history.specs.declared.rows.WorkRow.{WorkRow}
 use Rattle.batch_history.specs.Executions.{Made}
-use Rattle.batch_history.specs.Lists.{change_first, is_at}
+use Rattle.batch_history.specs.Lists.{change_first, is_at, Each}
 use Rattle.batch_history.specs.Operations.{taken_up_by}
 use Rattle.batch_history.specs.Replies.{first_ready, walk_in_rows, has_something}
 use Rattle.batch_history.specs.Restarts.{is_same_number, is_earlier_work}
@@ -22,13 +23,13 @@ use Rattle.batch_history.specs.Rows.{Rows, IsAsBefore}
 use Rattle.batch_history.specs.Statuses.{is_finished}
 use Rattle.batch_history.specs.Works.{is_work, busy_work, execution_of_work}
 use Rattle.batch_history.proofs.Finished.{owner-unfinished, claim-unfinished, claimed-execution, on-it, finished-step, made-after}
-use Rattle.batch_history.proofs.Folds.{made, is_made, works_of, bare_of, folded_rows, execution_row, instance_made, reported, over}
+use Rattle.batch_history.proofs.Folds.{made, is_made, works_of, bare_of, folded_rows, execution_row, instance_made}
 use Rattle.batch_history.proofs.Kept.{IsHeld, IsKept, kept}
-use Rattle.batch_history.proofs.Knowing.{known_elements}
+use Rattle.batch_history.specs.NextRows.{reported, over}
 use Rattle.batch_history.proofs.Singles.{earlier-over}
 use Rattle.batch_history.proofs.Stepping.{known-same, known-reported}
 use Rattle.batch_history.proofs.Told.{AllDue, IsRowOf, row-of, made-more, made-number, ToldClaim, claim-told, ToldReport, checkpoint-told, finish-told, loss-told}
-use Rattle.batch_history.proofs.WorkLists.{Each, each-map, each-found}
+use Rattle.batch_history.proofs.WorkLists.{each-map, each-found}
 
 -- ---- Filters
 

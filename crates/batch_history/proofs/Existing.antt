@@ -13,13 +13,14 @@ use Rattle.batch_ids.specs.declared.status.BatchStatus.TheVariants.{Starting, St
 use Rattle.walk_rules.specs.declared.facts.Value.{Value}
 use Rattle.walk_rules.specs.declared.work_key.WorkKey.{WorkKey}
 use Rattle.jsl_model.specs.Jobs.{JobTree}
+use Rattle.batch_history.specs.Lists.{Each}
 use Rattle.batch_history.specs.declared.call.Reply.{Reply}
 use Rattle.batch_history.specs.declared.call.Reply.TheVariants.{Work}
 use Rattle.batch_history.specs.declared.rows.ExecutionRow.{ExecutionRow}
 use Rattle.batch_history.specs.declared.rows.JobInstance.{JobInstance}
 use Rattle.batch_history.specs.declared.rows.WorkRow.{WorkRow}
 use Rattle.batch_history.proofs.Leaving.{on-or-off, never, any-left, any-there, any-whole, SeesLeft, find-seen, find-left, unless_out, AreKeyed, find-numbered, found-itself}
-use Rattle.batch_history.proofs.WorkLists.{Each, each-both, each-found}
+use Rattle.batch_history.proofs.WorkLists.{each-both, each-found}
 use Rattle.batch_history.specs.Checkpoints.{InstanceStep}
 use Rattle.batch_history.specs.Replies.{row_status, walk_in_rows, has_something, has_something_by, first_ready, is_later_than, is_running_in, restart_refusal, refusal_by_status, is_restartable, work_task, runnable_of_job, partitions_of_job, partition_named, claim_reply, stop_requested_of, is_stop_requested}
 use Rattle.batch_history.specs.Rows.{Rows, is_execution, instance_in, is_gone, executions_there, works_there, checkpoint_there, existing}

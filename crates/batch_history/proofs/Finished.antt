@@ -22,8 +22,8 @@ use Rattle.batch_history.specs.Operations.{taken_up, taken_up_by, stop_request}
 use Rattle.batch_history.specs.Replies.{row_status, first_ready, walk_in_rows, has_something_by, has_something, claim_reply}
 use Rattle.batch_history.specs.Rows.{Rows, IsAsBefore}
 use Rattle.batch_history.specs.Statuses.{batch_status, is_finished}
-use Rattle.batch_history.specs.Walks.{facts_by_work, job_named, walk_of}
-use Rattle.batch_history.proofs.Knowing.{known_elements, facts-same}
+use Rattle.batch_history.specs.Walks.{facts_by_work, job_named, walk_of, known_elements}
+use Rattle.batch_history.proofs.Knowing.{facts-same}
 use Rattle.walk_rules.specs.declared.work_key.WorkKey.{WorkKey}
 use Rattle.batch_history.specs.Works.{work_key, is_work, execution_of_operation, execution_of_work}
 use Rattle.batch_history.proofs.Stepping.{known-same, begun-by, named-by, ended-by, same_row, same_status, settled, earliest-false, taken-touched, asked-touched, planned-by}

@@ -5,6 +5,7 @@ use Rattle.batch_history.specs.Checkpoints.{InstanceStep, instance_step_by, is_s
 use Rattle.batch_history.specs.Executions.{Made}
 use Rattle.batch_history.specs.Lists.{change_first, is_at}
 use Rattle.batch_history.specs.Moments.{first_moment}
+use Rattle.batch_history.specs.NextRows.{instances_after, works_after}
 use Rattle.batch_history.specs.Operations.{taken_up, stop_request, abandonment}
 use Rattle.batch_history.specs.Rows.{Rows, execution_row_with}
 use Rattle.batch_history.specs.Statuses.{batch_status, is_finished}
@@ -30,18 +31,6 @@ use Rattle.batch_ids.specs.declared.status.WorkOutcome.TheVariants.{Failed}
 use Rattle.walk_rules.specs.declared.facts.Value.{Value}
 use Rattle.job_walk.specs.declared.plan.Plan.{Plan}
 use Rattle.jsl_model.specs.Jobs.{JobTree}
-
--- the job instances after a call, this number being the next
-abbrev pub instances_after : ℕ → Call → List JobInstance → List JobInstance
-instances_after n (Start job parameters) rows = rows ++ record { instance = n; job = job } ∷ []
-instances_after n (Restart y parameters) rows = rows
-instances_after n (Stop y) rows = rows
-instances_after n (Abandon y) rows = rows
-instances_after n Claim rows = rows
-instances_after n (Checkpoint w mark step) rows = rows
-instances_after n (Finish w outcome exit step) rows = rows
-instances_after n (Lose w) rows = rows
-instances_after n (Purge i) rows = rows
 
 -- the job instances of a past
 abbrev pub instances_of : List Entry → List JobInstance
@@ -84,38 +73,6 @@ makes count x (Checkpoint w mark step) = false
 makes count x (Finish w outcome exit step) = false
 makes count x (Lose w) = false
 makes count x (Purge i) = false
-
--- a work item with these counts added to its metrics
-abbrev pub reported : MetricStep → WorkRow → WorkRow
-reported step row = record row { metrics = added row.metrics step }
-
--- a work item that is over, by the operation of this number
-abbrev pub over_as : WorkOutcome → List ℕ → MetricStep → ℕ → ℕ → WorkRow → WorkRow
-over_as outcome exit step at n row = record (reported step row) { state = Over outcome exit; end = Some at; ended = Some n }
-
-abbrev pub over : WorkOutcome → Option (List ℕ) → MetricStep → ℕ → ℕ → WorkRow → WorkRow
-over outcome exit step at n = over_as outcome (exit_or_name outcome exit) step at n
-
-abbrev pub with_handed_out : ℕ → ℕ → Reply → List WorkRow → List WorkRow
-with_handed_out who at (Work item) rows = rows ++ busy_work who at item ∷ []
-with_handed_out who at (Execution x) rows = rows
-with_handed_out who at (Closed x) rows = rows
-with_handed_out who at Nothing rows = rows
-with_handed_out who at Done rows = rows
-with_handed_out who at Go rows = rows
-with_handed_out who at StopAsked rows = rows
-
--- the work items after operation n
-abbrev pub works_after : ℕ → ℕ → ℕ → Call → Reply → List WorkRow → List WorkRow
-works_after n who at (Start job parameters) reply rows = rows
-works_after n who at (Restart y parameters) reply rows = rows
-works_after n who at (Stop y) reply rows = rows
-works_after n who at (Abandon y) reply rows = rows
-works_after n who at Claim reply rows = with_handed_out who at reply rows
-works_after n who at (Checkpoint w mark step) reply rows = change_first (is_work w) (reported step) rows
-works_after n who at (Finish w outcome exit step) reply rows = change_first (is_work w) (over outcome exit step at n) rows
-works_after n who at (Lose w) reply rows = change_first (is_work w) (over Failed None zero_step at n) rows
-works_after n who at (Purge i) reply rows = rows
 
 -- the work items of a past
 abbrev pub works_of : List Entry → List WorkRow

@@ -27,14 +27,14 @@ use Rattle.batch_history.specs.declared.rows.WorkRow.{WorkRow}
 use Rattle.batch_history.proofs.Existing.{AreWhole, IsLeft, IsClaimed, not-true, is_left, is_work_left, execution-left, work-left, owner-left, instance-of, facts-left, walk-left, claimed-left}
 use Rattle.batch_history.proofs.Finding.{found-passes}
 use Rattle.batch_history.proofs.Finished.{claimed-execution}
-use Rattle.batch_history.proofs.Folds.{folded_rows, instances_after, works_after, with_handed_out, reported, over}
+use Rattle.batch_history.proofs.Folds.{folded_rows}
 use Rattle.batch_history.proofs.Leaving.{on-or-off, never, unless_out, find-numbered, filter-added, filter-changed, change-alike, filter-alike, filter-both}
 use Rattle.batch_history.proofs.Purged.{all-whole}
-use Rattle.batch_history.proofs.Steps.{last_after, executions_after, refreshed, effect_on, refreshed_at, refreshed_by, fresh_row, again_row, place_in, rows_with, rows_after}
+use Rattle.batch_history.specs.NextRows.{instances_after, works_after, with_handed_out, reported, over, last_after, executions_after, refreshed, effect_on, refreshed_at, refreshed_by, fresh_row, again_row, place_in, rows_with, rows_after}
 use Rattle.batch_history.proofs.Told.{AllDue, AllDueThere, Due, ToldStop, ToldAbandonment, ToldClaim, ToldReport, ToldRestart, stop-told, abandonment-told, claim-told, checkpoint-told, finish-told, loss-told, restart-told}
-use Rattle.batch_history.proofs.WorkLists.{Each, each-map, found-before}
+use Rattle.batch_history.proofs.WorkLists.{each-map, found-before}
 use Rattle.batch_history.specs.Checkpoints.{InstanceStep, instance_step_by, is_same_step, checkpoint_by_report, checkpoint_after, checkpoint_after_report}
-use Rattle.batch_history.specs.Lists.{change_first, is_at}
+use Rattle.batch_history.specs.Lists.{change_first, is_at, Each}
 use Rattle.batch_history.specs.Operations.{Report, effects, taken_up_by, purged_by}
 use Rattle.batch_history.specs.Purges.{is_purged}
 use Rattle.batch_history.specs.Replies.{reply_by, is_nothing, first_ready, has_something, walk_in_rows, restart_plan, works_of_instance}

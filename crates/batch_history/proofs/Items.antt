@@ -8,13 +8,14 @@ use Rattle.batch_ids.specs.declared.metric_step.MetricStep.{MetricStep}
 use Rattle.batch_ids.specs.declared.status.WorkOutcome.{WorkOutcome}
 use Rattle.batch_ids.specs.declared.status.WorkOutcome.TheVariants.{Failed}
 use Rattle.job_walk.proofs.Following.{find-map}
+use Rattle.batch_history.specs.NextRows.{works_after, reported, over}
 use Rattle.batch_history.specs.declared.call.Call.{Call}
 use Rattle.batch_history.specs.declared.call.Call.TheVariants.{Start, Restart, Stop, Abandon, Claim, Checkpoint, Finish, Lose, Purge}
 use Rattle.batch_history.specs.declared.call.Reply.{Reply}
 use Rattle.batch_history.specs.declared.call.Reply.TheVariants.{Execution as IsExecution, Work, Closed, Nothing, Done, Go, StopAsked}
 use Rattle.batch_history.specs.declared.call.Entry.{Entry}
 use Rattle.batch_history.specs.declared.rows.WorkRow.{WorkRow}
-use Rattle.batch_history.proofs.Folds.{made, works_of, works_after, reported, over}
+use Rattle.batch_history.proofs.Folds.{made, works_of}
 use Rattle.batch_history.specs.Lists.{change_first}
 use Rattle.batch_history.specs.Operations.{taken_up_by, hands_out_work}
 use Rattle.batch_history.specs.Works.{is_work, busy_work, work_item_count, item_handed_out, items_handed_out, ending_entry, ending_operation, with_counts, metrics_of, Progress, progress_by, progress_of, with_progress_of, work_items}

@@ -18,6 +18,7 @@ use Rattle.walk_rules.specs.declared.facts.Fact.TheVariants.{Nothing as FactNoth
 use Rattle.job_walk.specs.declared.plan.Plan.{Plan}
 use Rattle.walk_rules.specs.declared.facts.Value.{Value}
 use Rattle.walk_rules.specs.declared.facts.Value.TheVariants.{Open, Done as IsDone, Ended}
+use Rattle.batch_history.specs.NextRows.{reported, over}
 use Rattle.batch_history.specs.declared.call.Call.{Call}
 use Rattle.batch_history.specs.declared.call.Call.TheVariants.{Start, Restart, Stop, Abandon, Claim, Checkpoint, Finish, Lose, Purge}
 use Rattle.batch_history.specs.declared.call.Reply.{Reply}
@@ -25,21 +26,21 @@ use Rattle.batch_history.specs.declared.call.Reply.TheVariants.{Work, Closed}
 use Rattle.batch_history.specs.declared.call.Entry.{Entry}
 use Rattle.batch_history.specs.declared.rows.WorkRow.{WorkRow}
 use Rattle.batch_history.specs.declared.rows.WorkState.TheVariants.{Busy}
-use Rattle.batch_history.proofs.Folds.{made, is_made, reported, over, works_of, start_of, value_after, plan_kept, folded_rows, execution_row, makes}
+use Rattle.batch_history.proofs.Folds.{made, is_made, works_of, start_of, value_after, plan_kept, folded_rows, execution_row, makes}
 use Rattle.batch_history.specs.Executions.{Made}
-use Rattle.batch_history.specs.Lists.{is_at, change_first}
+use Rattle.batch_history.specs.Lists.{is_at, change_first, Each}
 use Rattle.batch_history.specs.Moments.{first_moment}
 use Rattle.batch_history.specs.Operations.{taken_up}
 use Rattle.batch_history.specs.Replies.{partition_named, partitions_of_job, first_ready, walk_in_rows, has_something, claim_reply, next_work_item}
 use Rattle.batch_history.specs.Rows.{Rows}
 use Rattle.batch_history.specs.Walks.{job_named, planned_facts, walk_of, walk_value, facts_by_work, fact_of_state}
 use Rattle.batch_history.proofs.Knowing.{facts-same}
-use Rattle.batch_history.specs.Works.{is_work, busy_work, work_key}
+use Rattle.batch_history.specs.Works.{is_work, busy_work, work_key, Apart, AllApart}
 use Rattle.batch_history.proofs.Stepping.{known-append, known-change, known-reported, begun-by, planned-by}
 use Rattle.batch_history.proofs.Planned.{planned-differ, planned-nothing, planned-busy, planned-reported}
 use Rattle.batch_history.proofs.Runs.{walk-runs, key-named}
 use Rattle.batch_history.proofs.Sights.{Sight, ready_sight, busy_sight, no_sight, seen, GoesOn, Learns, walk-goes, claim-here, claim-away, report-away, DifferAt, is_known, known-unready, idle-unseen}
-use Rattle.batch_history.proofs.WorkLists.{Each, each-map, each-append, each-found, each-change, each-report, Apart, AllApart, apart-append, apart-change, unknown-away, new-differs, new-fact, over-differs, over-fact}
+use Rattle.batch_history.proofs.WorkLists.{each-map, each-append, each-found, each-change, each-report, apart-append, apart-change, unknown-away, new-differs, new-fact, over-differs, over-fact}
 use Rattle.batch_history.proofs.Told.{Due, AllDue, IsRowOf, row-of, made-once, made-more, made-number, ToldClaim, claim-told, ToldReport, finish-told, loss-told}
 
 -- ---- The walk of a job execution

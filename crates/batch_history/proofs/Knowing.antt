@@ -7,15 +7,9 @@ use Rattle.walk_rules.specs.Walk.{fact_of}
 use Rattle.walk_rules.specs.declared.work_key.WorkKey.{WorkKey}
 use Rattle.walk_rules.specs.declared.facts.Known.{Known}
 use Rattle.job_walk.specs.declared.plan.Plan.{Plan}
-use Rattle.batch_history.specs.Walks.{fact_of_state, is_work_of, fact_by_work, facts_by_work, walk_of, walk_value, job_named}
+use Rattle.batch_history.specs.Walks.{fact_of_state, is_work_of, fact_by_work, facts_by_work, known_elements, walk_of, walk_value, job_named}
 use Rattle.batch_history.specs.Works.{work_key}
 use Rattle.batch_history.specs.declared.rows.WorkRow.{WorkRow}
-
--- what is known of the work keys of a job execution, by its work items
-abbrev pub known_elements : ℕ → List WorkRow → List Known
-known_elements x [] = []
-known_elements x (row ∷ rest) =
-    cond (row.execution == x) (record { key = work_key row; fact = fact_of_state row.state } ∷ known_elements x rest) (known_elements x rest)
 
 -- the list tells what the work item of a work key tells
 pub known-fact : (x : ℕ) (works : List WorkRow) (key : WorkKey) → facts_by_work x works key ≡ fact_of (known_elements x works) key

@@ -3,8 +3,8 @@ use Rattle.std.proofs.Common.{◌≡◌, ℕ, ◌+◌, ◌==◌, ◌<◌, ◌≤
 use Rattle.std.specs.List.{list_any}
 use Rattle.std.proofs.lemmas.Bool.{eqb-true, eq-eqb, ne_eqb}
 use Rattle.std.proofs.lemmas.List.Elements.{filter-append}
-use Rattle.batch_history.proofs.WorkLists.{Each, each-map, each-both}
-use Rattle.batch_history.specs.Lists.{change_first}
+use Rattle.batch_history.proofs.WorkLists.{each-map, each-both}
+use Rattle.batch_history.specs.Lists.{change_first, Each}
 
 pub on-or-off : {P : Type 0} (b : Bool) → (b ≡ true → P) → (b ≡ false → P) → P
 on-or-off true on off = on refl

@@ -11,7 +11,7 @@ use Rattle.batch_history.proofs.Legal.{cut-before}
 use Rattle.batch_history.proofs.Pasts.{whole-past}
 use Rattle.batch_history.proofs.Purged.{all-whole}
 use Rattle.batch_history.proofs.Stepping.{numbered, rows-step}
-use Rattle.batch_history.proofs.Steps.{rows_after, rows_with}
+use Rattle.batch_history.specs.NextRows.{rows_after, rows_with}
 use Rattle.batch_history.proofs.Told.{AllDue, AllDueThere, DueThere, found-least}
 use Rattle.batch_history.specs.Legal.{grown, IsLegal}
 use Rattle.batch_history.specs.Purges.{is_purged}

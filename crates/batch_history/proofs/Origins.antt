@@ -6,12 +6,13 @@ use Rattle.std.proofs.lemmas.List.{append-nil}
 use Rattle.std.proofs.lemmas.List.Folds.{find-append}
 use Rattle.std.proofs.lemmas.Bool.{eqb-true, ne_eqb}
 use Rattle.batch_ids.specs.Parameters.{Pair}
+use Rattle.batch_history.specs.NextRows.{instances_after}
 use Rattle.batch_history.specs.declared.call.Call.{Call}
 use Rattle.batch_history.specs.declared.call.Call.TheVariants.{Start, Restart, Stop, Abandon, Claim, Checkpoint, Finish, Lose, Purge}
 use Rattle.batch_history.specs.declared.call.Reply.{Reply}
 use Rattle.batch_history.specs.declared.call.Entry.{Entry}
 use Rattle.batch_history.specs.declared.rows.JobInstance.{JobInstance}
-use Rattle.batch_history.proofs.Folds.{made, made_after, remade, is_made, makes, instances_of, instances_after, instance_made}
+use Rattle.batch_history.proofs.Folds.{made, made_after, remade, is_made, makes, instances_of, instance_made}
 use Rattle.batch_history.specs.Executions.{Made, Origin, instance_begun_by, job_instances, job_execution_count, job_instance_count, makes_job_execution, restarted_origin, made_as, origin_by_call, origin_of, instance_of_execution}
 use Rattle.batch_history.specs.Operations.{makes_execution, makes_instance}
 use Rattle.batch_history.proofs.Stepping.{remade-number, AreNumbered, numbered}

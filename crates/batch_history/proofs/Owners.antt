@@ -4,6 +4,8 @@ use Rattle.std.proofs.lemmas.Bool.{eqb-true, eq-eqb, ne_eqb}
 use Rattle.batch_ids.specs.Parameters.{Pair}
 use Rattle.batch_ids.specs.declared.refusal.Refusal.TheVariants.{JobStartException}
 use Rattle.jsl_model.specs.Jobs.{JobTree}
+use Rattle.batch_history.specs.Lists.{Each}
+use Rattle.batch_history.specs.NextRows.{instances_after}
 use Rattle.batch_history.specs.declared.call.Call.{Call}
 use Rattle.batch_history.specs.declared.call.Call.TheVariants.{Start, Restart, Stop, Abandon, Claim, Checkpoint, Finish, Lose, Purge}
 use Rattle.batch_history.specs.declared.call.Reply.{Reply}
@@ -11,13 +13,13 @@ use Rattle.batch_history.specs.declared.call.Reply.TheVariants.{Execution as IsE
 use Rattle.batch_history.specs.declared.call.Entry.{Entry}
 use Rattle.batch_history.specs.declared.rows.ExecutionRow.{ExecutionRow}
 use Rattle.batch_history.specs.declared.rows.JobInstance.{JobInstance}
-use Rattle.batch_history.proofs.Folds.{made, is_made, remade, instances_of, instances_after, folded_rows}
+use Rattle.batch_history.proofs.Folds.{made, is_made, remade, instances_of, folded_rows}
 use Rattle.batch_history.specs.Executions.{Made}
 use Rattle.batch_history.specs.Replies.{accepted, is_execution}
 use Rattle.batch_history.specs.Rows.{Rows}
 use Rattle.batch_history.specs.Walks.{job_named}
 use Rattle.batch_history.proofs.Finding.{found-passes}
-use Rattle.batch_history.proofs.WorkLists.{Each, each-map, each-append, each-found, found-before}
+use Rattle.batch_history.proofs.WorkLists.{each-map, each-append, each-found, found-before}
 use Rattle.batch_history.proofs.Told.{Due, AllDue, IsRowOf, row-of, ToldRestart, restart-told}
 
 abbrev is_instance : ℕ → JobInstance → Bool

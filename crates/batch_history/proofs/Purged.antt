@@ -10,6 +10,7 @@ use Rattle.batch_ids.specs.declared.status.BatchStatus.{BatchStatus}
 use Rattle.batch_ids.specs.declared.status.BatchStatus.TheVariants.{Abandoned}
 use Rattle.job_walk.proofs.Following.{find-map}
 use Rattle.jsl_model.specs.Jobs.{JobTree}
+use Rattle.batch_history.specs.NextRows.{instances_after}
 use Rattle.batch_history.specs.declared.call.Call.{Call}
 use Rattle.batch_history.specs.declared.call.Call.TheVariants.{Start, Restart, Stop, Abandon, Claim, Checkpoint, Finish, Lose, Purge}
 use Rattle.batch_history.specs.declared.call.Entry.{Entry}
@@ -21,7 +22,7 @@ use Rattle.batch_history.proofs.Bridge.{purge-there, purge-idle}
 use Rattle.batch_history.proofs.Existing.{AreWhole, IsLeft, is_left, not-true, execution-left}
 use Rattle.batch_history.proofs.Finding.{any-none}
 use Rattle.batch_history.proofs.Finished.{finished-step, finished-status}
-use Rattle.batch_history.proofs.Folds.{made, makes, is_made, remade, instances_of, instances_after, works_of, abandoned_of, bare_of, folded_rows, execution_row}
+use Rattle.batch_history.proofs.Folds.{made, makes, is_made, remade, instances_of, works_of, abandoned_of, bare_of, folded_rows, execution_row}
 use Rattle.batch_history.proofs.Items.{AreRows, handed-numbered, works-law}
 use Rattle.batch_history.proofs.Kept.{IsHeld, kept}
 use Rattle.batch_history.proofs.Leaving.{on-or-off, never, AreKeyed, found-itself}
@@ -30,9 +31,9 @@ use Rattle.batch_history.proofs.Plans.{due-all-fit}
 use Rattle.batch_history.proofs.Singles.{Restarted, restarted-one, found-last, makes-number}
 use Rattle.batch_history.proofs.Stepping.{AreNumbered, numbered, named-by}
 use Rattle.batch_history.proofs.Told.{AllDue, AllDueThere, Due, DueThere, ToldRestart, restart-told, made-once, made-before}
-use Rattle.batch_history.proofs.WorkLists.{Each, each-map}
+use Rattle.batch_history.proofs.WorkLists.{each-map}
 use Rattle.batch_history.specs.Executions.{Made}
-use Rattle.batch_history.specs.Lists.{is_at}
+use Rattle.batch_history.specs.Lists.{is_at, Each}
 use Rattle.batch_history.specs.Operations.{abandonment, purged_by}
 use Rattle.batch_history.specs.Purges.{is_purged}
 use Rattle.batch_history.specs.Replies.{row_status, is_execution, is_instance_there, is_running_in}

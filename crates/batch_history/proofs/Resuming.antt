@@ -15,9 +15,9 @@ use Rattle.job_walk.specs.declared.runnable.Runnable.{Runnable}
 use Rattle.job_walk.specs.declared.runnable.Runnable.TheVariants.{Step as RunsStep, Decision as RunsDecision}
 use Rattle.walk_rules.specs.declared.work_key.WorkKey.{WorkKey}
 use Rattle.walk_rules.proofs.SameKeys.{same-one, same-sym}
-use Rattle.batch_history.specs.Walks.{runnable_fact, planned_facts, facts_by_work, walk_of, walk_value, job_named}
+use Rattle.batch_history.specs.Walks.{runnable_fact, planned_facts, facts_by_work, walk_of, walk_value, job_named, known_elements}
 use Rattle.batch_history.specs.declared.rows.WorkRow.{WorkRow}
-use Rattle.batch_history.proofs.Knowing.{known_elements, known-facts}
+use Rattle.batch_history.proofs.Knowing.{known-facts}
 
 -- what is known of a work key by facts of these work keys, and then by others
 known-or-rest : (facts : WorkKey → Fact) (keys : List WorkKey) (rest : List Known) (key : WorkKey)

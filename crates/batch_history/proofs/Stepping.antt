@@ -23,8 +23,8 @@ use Rattle.batch_history.specs.declared.call.Reply.TheVariants.{Execution as IsE
 use Rattle.batch_history.specs.declared.call.Entry.{Entry}
 use Rattle.batch_history.specs.declared.rows.ExecutionRow.{ExecutionRow}
 use Rattle.batch_history.specs.declared.rows.WorkRow.{WorkRow}
-use Rattle.batch_history.proofs.Folds.{made, remade, is_made, makes, instances_of, works_of, works_after, with_handed_out as handed_out, reported, over, start_of, was_named, stop_of, abandoned_of, updated_of, end_of, value_after, bare_of, place_of, instance_made, folded_checkpoint, execution_row, folded_rows, plan_made, plan_kept, plan_again, last_of}
-use Rattle.batch_history.proofs.Steps.{refreshed_by, refreshed_at, fresh_row, again_row, place_in, rows_with, last_after, executions_after}
+use Rattle.batch_history.proofs.Folds.{made, remade, is_made, makes, instances_of, works_of, start_of, was_named, stop_of, abandoned_of, updated_of, end_of, value_after, bare_of, place_of, instance_made, folded_checkpoint, execution_row, folded_rows, plan_made, plan_kept, plan_again, last_of}
+use Rattle.batch_history.specs.NextRows.{works_after, with_handed_out as handed_out, reported, over, refreshed_by, refreshed_at, fresh_row, again_row, place_in, rows_with, last_after, executions_after}
 use Rattle.batch_history.specs.Checkpoints.{InstanceStep, instance_step_by, is_same_step, checkpoint_after}
 use Rattle.batch_history.specs.Executions.{Made}
 use Rattle.batch_history.specs.Lists.{change_first, is_at}
@@ -34,8 +34,8 @@ use Rattle.batch_history.specs.Replies.{instance_in, is_execution}
 use Rattle.batch_history.specs.Restarts.{first_plan, plan_by, restart_point}
 use Rattle.batch_history.specs.Rows.{Rows, execution_row_with}
 use Rattle.batch_history.specs.Statuses.{batch_status, is_finished}
-use Rattle.batch_history.specs.Walks.{facts_by_work, fact_of_state, walk_of, walk_value, job_named}
-use Rattle.batch_history.proofs.Knowing.{known_elements, facts-same}
+use Rattle.batch_history.specs.Walks.{facts_by_work, fact_of_state, walk_of, walk_value, job_named, known_elements}
+use Rattle.batch_history.proofs.Knowing.{facts-same}
 use Rattle.batch_history.specs.Works.{execution_of_operation, is_work, work_key, busy_work}
 
 -- What an operation that is not on an execution leaves of it

@@ -8,23 +8,19 @@ use Rattle.walk_rules.specs.declared.facts.Known.{Known}
 use Rattle.walk_rules.proofs.SameKeys.{same-self, differing-keys}
 use Rattle.walk_rules.specs.Keys.{is_same_key}
 use Rattle.walk_rules.specs.declared.work_key.WorkKey.{WorkKey}
-use Rattle.batch_history.specs.Works.{work_key}
+use Rattle.batch_history.specs.Works.{Apart, AllApart, work_key}
 use Rattle.walk_rules.specs.Walk.{fact_of}
 use Rattle.batch_history.specs.declared.rows.WorkRow.{WorkRow}
 use Rattle.batch_history.specs.declared.rows.WorkState.{WorkState}
 use Rattle.batch_history.specs.declared.rows.WorkState.TheVariants.{Busy, Over}
-use Rattle.batch_history.proofs.Folds.{over}
-use Rattle.batch_history.specs.Lists.{change_first}
-use Rattle.batch_history.specs.Walks.{fact_of_state, facts_by_work}
-use Rattle.batch_history.proofs.Knowing.{known_elements, known-fact}
+use Rattle.batch_history.specs.NextRows.{over}
+use Rattle.batch_history.specs.Lists.{Each, change_first}
+use Rattle.batch_history.specs.Walks.{fact_of_state, facts_by_work, known_elements}
+use Rattle.batch_history.proofs.Knowing.{known-fact}
 use Rattle.batch_history.proofs.Planned.{is_over}
 use Rattle.batch_history.proofs.Sights.{DifferAt}
 
 -- ---- Each of a list
-
-abbrev pub Each : {X : Type 0} → (X → Type 0) → List X → Type 0
-Each P [] = Unit {0}
-Each P (x ∷ xs) = P x × Each P xs
 
 pub each-map : {X : Type 0} (P Q : X → Type 0) (xs : List X) → ((x : X) → P x → Q x) → Each P xs → Each Q xs
 each-map P Q [] f h = tt
@@ -65,13 +61,6 @@ each-change P p f (x ∷ xs) g h =
     ]
 
 -- ---- No work key of a job execution has two work items
-
-abbrev pub Apart : WorkRow → WorkRow → Type 0
-Apart r s = s.execution ≡ r.execution → work_key s ≢ work_key r
-
-abbrev pub AllApart : List WorkRow → Type 0
-AllApart [] = Unit {0}
-AllApart (r ∷ rs) = Each (Apart r) rs × AllApart rs
 
 pub apart-append : (rows : List WorkRow) (new : WorkRow) → AllApart rows → Each (λ r. Apart r new) rows → AllApart (rows ++ new ∷ [])
 apart-append [] new h e = (tt, tt)

@@ -10,3 +10,8 @@ change_first p f (r ∷ rest) = if p r then f r ∷ rest else r ∷ change_first
 abbrev pub is_at : ℕ → Option ℕ → Bool
 is_at x None = false
 is_at x (Some y) = y == x
+
+-- P holds of each of a list
+abbrev pub Each : {X : Type 0} → (X → Type 0) → List X → Type 0
+Each P [] = Unit {0}
+Each P (x ∷ xs) = P x × Each P xs

@@ -1,7 +1,7 @@
 -- What is known of the steps and decisions of a job execution, and what its walk comes to (Jakarta Batch 2.1, "Job
 -- Specification Language").
 use Rattle.std.specs.Option.{option_map}
-use Rattle.std.specs.Prelude.{ℕ, ◌==◌, ◌&&◌, Bool, true, false, Option, Some, None, List, [], ◌∷◌, find}
+use Rattle.std.specs.Prelude.{ℕ, ◌==◌, ◌&&◌, Bool, true, false, Option, Some, None, List, [], ◌∷◌, find, if◌then◌else◌}
 use Rattle.batch_history.specs.declared.rows.WorkRow.{WorkRow}
 use Rattle.batch_history.specs.declared.rows.WorkState.{WorkState}
 use Rattle.batch_history.specs.declared.rows.WorkState.TheVariants.{Busy, Over}
@@ -14,6 +14,7 @@ use Rattle.walk_rules.specs.declared.work_key.WorkKey.{WorkKey}
 use Rattle.batch_history.specs.Works.{work_key}
 use Rattle.walk_rules.specs.declared.facts.Fact.{Fact}
 use Rattle.walk_rules.specs.declared.facts.Fact.TheVariants.{Nothing as FactNothing, Busy as FactBusy, Over as FactOver}
+use Rattle.walk_rules.specs.declared.facts.Known.{Known}
 use Rattle.walk_rules.specs.declared.facts.Value.{Value}
 use Rattle.walk_rules.specs.declared.facts.Value.TheVariants.{Done as IsDone}
 use Rattle.job_walk.specs.declared.plan.Plan.{Plan}
@@ -39,6 +40,12 @@ fact_by_work (Some row) = fact_of_state row.state
 -- what is known of each work key of job execution x by its work items
 abbrev pub facts_by_work : ℕ → List WorkRow → WorkKey → Fact
 facts_by_work x works key = fact_by_work (find (is_work_of x key) works)
+
+-- what is known of the work keys of job execution x, in the order of its work items
+abbrev pub known_elements : ℕ → List WorkRow → List Known
+known_elements x [] = []
+known_elements x (row ∷ rest) =
+    if row.execution == x then record { key = work_key row; fact = fact_of_state row.state } ∷ known_elements x rest else known_elements x rest
 
 -- what is known of a work key of what is run, in so many partitions, by the plan and by its work item; a decision is taken anew
 -- in each job execution

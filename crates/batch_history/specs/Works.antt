@@ -1,7 +1,8 @@
 -- Work items, of which step executions are made (Jakarta Batch 2.1, "StepExecution"): work item w is what the w-th reply of
 -- work hands out, and it is busy until a Finish or a Lose names it.
 use Rattle.std.specs.Option.{option_map}
-use Rattle.std.specs.Prelude.{ℕ, ◌+◌, ◌==◌, Bool, Option, Some, None, unwrap_or, List, [], ◌∷◌, ◌++◌, length, find, map, count_by, if◌then◌else◌}
+use Rattle.std.specs.Prelude.{ℕ, ◌≡◌, ◌≢◌, ◌+◌, ◌==◌, Bool, Option, Some, None, unwrap_or, List, [], ◌∷◌, ◌++◌, length, find, map, count_by, if◌then◌else◌}
+use Rattle.batch_history.specs.Lists.{Each}
 use Rattle.batch_history.specs.Operations.{claim_effects, Ending, Report, effects, taken_up, ends_work, counts_reported, hands_out_work}
 use Rattle.batch_history.specs.declared.call.Call.{Call}
 use Rattle.batch_history.specs.declared.call.Entry.{Entry}
@@ -29,6 +30,15 @@ work_key row = record { element = row.element; partition = unwrap_or row.partiti
 -- the same of a work item as it is handed out
 abbrev pub item_key : WorkItem → WorkKey
 item_key item = record { element = item.element; partition = unwrap_or item.partition 0 }
+
+-- two work items of one job execution have two work keys
+abbrev pub Apart : WorkRow → WorkRow → Type 0
+Apart r s = s.execution ≡ r.execution → work_key s ≢ work_key r
+
+-- no work key of a job execution has two of these work items
+abbrev pub AllApart : List WorkRow → Type 0
+AllApart [] = Unit {0}
+AllApart (r ∷ rs) = Each (Apart r) rs × AllApart rs
 
 -- whether it is the work item of this number
 abbrev pub is_work : ℕ → WorkRow → Bool

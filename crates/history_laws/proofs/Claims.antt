@@ -5,7 +5,7 @@ use Rattle.jsl_model.specs.Jobs.{JobTree}
 use Rattle.walk_rules.specs.declared.facts.Fact.{Fact}
 use Rattle.walk_rules.specs.declared.work_key.WorkKey.{WorkKey}
 use Rattle.batch_history.specs.Executions.{Made}
-use Rattle.batch_history.specs.Lists.{change_first}
+use Rattle.batch_history.specs.Lists.{change_first, Each}
 use Rattle.batch_history.specs.Replies.{first_ready, walk_in_rows, runnable_of_job, partitions_of_job, partition_named, claim_reply, next_work_item, has_something}
 use Rattle.batch_history.specs.Rows.{Rows}
 use Rattle.batch_history.specs.Walks.{job_named, facts_by_work}
@@ -22,7 +22,7 @@ use Rattle.batch_history.proofs.Folds.{made, is_made, works_of, folded_rows}
 use Rattle.batch_history.proofs.Kept.{IsUnknown, ready-unknown}
 use Rattle.batch_history.proofs.Runs.{key-named}
 use Rattle.batch_history.proofs.Told.{Due, AllDue, IsRowOf, row-of, made-more, ToldClaim, claim-told}
-use Rattle.batch_history.proofs.WorkLists.{Each, each-map, each-append, each-change}
+use Rattle.batch_history.proofs.WorkLists.{each-map, each-append, each-change}
 use Rattle.batch_history.specs.Works.{item_key}
 
 -- ---- What a claim hands out

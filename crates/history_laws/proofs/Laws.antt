@@ -14,7 +14,7 @@ use Rattle.batch_history.specs.Replies.{row_status, is_execution, runnable_of_jo
 use Rattle.batch_history.specs.Rows.{History, IsAsBefore}
 use Rattle.batch_history.specs.Statuses.{is_finished}
 use Rattle.batch_history.specs.Walks.{job_named}
-use Rattle.batch_history.specs.Works.{is_work, work_key}
+use Rattle.batch_history.specs.Works.{is_work, work_key, Apart, AllApart}
 use Rattle.batch_history.specs.declared.rows.ExecutionRow.{ExecutionRow}
 use Rattle.batch_history.specs.declared.rows.WorkRow.{WorkRow}
 use Rattle.batch_history.specs.declared.rows.JobInstance.{JobInstance}
@@ -24,7 +24,7 @@ use Rattle.batch_history.proofs.Legality.{past-due, past-due-there}
 use Rattle.batch_history.proofs.Purged.{purged-over}
 use Rattle.batch_history.specs.Purges.{is_purged}
 use Rattle.batch_history.proofs.Origins.{instances-law}
-use Rattle.batch_history.proofs.WorkLists.{each-found, Apart, AllApart}
+use Rattle.batch_history.proofs.WorkLists.{each-found}
 use Rattle.batch_history.proofs.Told.{AllDue, made-number, made-more}
 use Rattle.batch_history.proofs.Kept.{IsHeld, IsKept, kept}
 use Rattle.batch_history.proofs.Finished.{on-it, busy-unfinished, finished-status, finished-stays, made-after}

@@ -12,7 +12,7 @@ use Rattle.batch_history.specs.Legal.{grown, IsLegal}
 use Rattle.batch_history.specs.Operations.{purged_by}
 use Rattle.batch_history.specs.Rows.{History, Rows, rows}
 use Rattle.batch_history.proofs.Legality.{rows_grown}
-use Rattle.batch_history.proofs.Steps.{rows_after}
+use Rattle.batch_history.specs.NextRows.{rows_after}
 use Rattle.history_laws.specs.Laws.{instances_in, instances_but, names_of, names_in, with_name}
 
 unheld-more : (held : List ℕ → Bool) (names : List (List ℕ)) (y : List ℕ)

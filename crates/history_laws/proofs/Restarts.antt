@@ -11,7 +11,7 @@ use Rattle.jsl_model.specs.Jobs.{JobTree}
 use Rattle.job_walk.proofs.Following.{find-map}
 use Rattle.batch_history.specs.declared.call.Call.TheVariants.{Restart}
 use Rattle.batch_history.specs.declared.call.Entry.{Entry}
-use Rattle.batch_history.proofs.Folds.{made, is_made, abandoned_of, bare_of, folded_rows, execution_row, plan_kept, works_after}
+use Rattle.batch_history.proofs.Folds.{made, is_made, abandoned_of, bare_of, folded_rows, execution_row, plan_kept}
 use Rattle.batch_history.specs.Executions.{Made, Origin, origin_of}
 use Rattle.batch_history.specs.Legal.{grown, IsLegal}
 use Rattle.batch_history.specs.Replies.{row_status, is_execution, reply, reply_by, is_later_than, accepted, unless, reply_to_restart, restart_refusal, restart_plan}
@@ -36,7 +36,7 @@ use Rattle.batch_history.specs.declared.call.Reply.{Reply}
 use Rattle.batch_history.specs.declared.call.Reply.TheVariants.{Execution as IsExecution}
 use Rattle.batch_history.proofs.Legal.{entered-is, legal-beginning}
 use Rattle.batch_history.proofs.Origins.{find-past}
-use Rattle.batch_history.proofs.Steps.{fresh_row, again_row, executions_after}
+use Rattle.batch_history.specs.NextRows.{works_after, fresh_row, again_row, executions_after}
 use Rattle.history_laws.proofs.Beginnings.{all_of, answered-by-all, row-folded, row-there, IsRowAt, row-at}
 
 -- ---- The job execution that a restart names

@@ -1,11 +1,9 @@
 -- The rows of a job repository: four finite maps.
-use Rattle.std.specs.Prelude.{ℕ, ◌≡◌, ◌≢◌, ◌<◌, ◌==◌, ◌&&◌, Bool, true, false, Option, Some, None, IfSome, List, [], ◌∷◌, map, find}
+use Rattle.std.specs.Prelude.{ℕ, ◌≡◌, ◌≢◌, ◌<◌, ◌==◌, ◌&&◌, Bool, Option, Some, None, List, [], ◌∷◌, map, find}
 use Rattle.std.specs.Option.{option_map}
 use Rattle.batch_history.specs.declared.rows.JobInstance.{JobInstance}
 use Rattle.batch_history.specs.declared.rows.ExecutionRow.{ExecutionRow}
 use Rattle.batch_history.specs.declared.rows.WorkRow.{WorkRow}
-use Rattle.batch_history.specs.declared.rows.WorkState.{WorkState}
-use Rattle.batch_history.specs.declared.rows.WorkState.TheVariants.{Busy, Over}
 use Rattle.batch_history.specs.declared.rows.CheckpointRow.{CheckpointRow}
 use Rattle.batch_history.specs.Checkpoints.{InstanceStep}
 use Rattle.batch_history.specs.Replies.{is_execution}
@@ -82,35 +80,17 @@ pub record SetsCheckpoint (before after : Maps) (p : InstanceStep) (mark : Optio
   pub executions : after.executions ≡ before.executions
   pub works : after.works ≡ before.works
 
--- a changed row is still that of its job execution: what a start or a restart gave it stays, and so do a stop, an
--- abandonment, a start and an end, once they are there
+-- a changed row keeps what the indexes of job executions go by: its number, its job instance and its job
 pub record KeepsExecution (before after : ExecutionRow) : Type 0 where
   pub execution : after.execution ≡ before.execution
   pub instance : after.instance ≡ before.instance
   pub job : after.job ≡ before.job
-  pub parameters : after.parameters ≡ before.parameters
-  pub create : after.create ≡ before.create
-  pub plan : after.plan ≡ before.plan
-  pub stop : before.stop ≡ true → after.stop ≡ true
-  pub abandoned : before.abandoned ≡ true → after.abandoned ≡ true
-  pub start : IfSome before.start (λ t. after.start ≡ Some t)
-  pub end : IfSome before.end (λ t. after.end ≡ Some t)
 
--- whether a work item is over
-abbrev pub is_over : WorkState → Bool
-is_over Busy = false
-is_over (Over outcome exit) = true
-
--- a changed row is still that of its work item: what its claim gave it stays, and so does its end, once it is over
+-- a changed row keeps what the indexes of work items go by: its number, its job execution and its step or decision
 pub record KeepsWork (before after : WorkRow) : Type 0 where
   pub work : after.work ≡ before.work
   pub execution : after.execution ≡ before.execution
   pub element : after.element ≡ before.element
-  pub partition : after.partition ≡ before.partition
-  pub kind : after.kind ≡ before.kind
-  pub claimer : after.claimer ≡ before.claimer
-  pub start : after.start ≡ before.start
-  pub over : is_over before.state ≡ true → (after.state ≡ before.state) × (after.end ≡ before.end) × (after.ended ≡ before.ended)
 
 -- a row may stand in place of that of job execution x, which is there
 abbrev pub MayReplaceExecution : List ExecutionRow → ℕ → ExecutionRow → Type 0

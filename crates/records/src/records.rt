@@ -210,20 +210,17 @@ impl Records {
     /// # Errors
     ///
     /// `OutOfMemory` where memory is refused.
-    pub fn works_of_instance(
-        &self,
-        alloc: Global,
-        i: InstanceId,
-    ) -> Result<Vec<&WorkRow>, OutOfMemory>
+    pub fn works_of_instance(&self, i: InstanceId) -> Result<Vec<&WorkRow>, OutOfMemory>
         ensures { IfOk result (λ found. map (λ row. row.now) found.items
             ≡ works_of_instance i self.now.executions self.now.works) }
     {
+        let alloc = self.works.alloc();
         let executions = &self.executions_by_instance;
         let numbers = numbers_through(alloc, executions, &self.works_by_execution, i.value())?;
         if are_rising(numbers.as_slice()) {
-            self.works_numbered(alloc, numbers.as_slice())
+            self.works_numbered(numbers.as_slice())
         } else {
-            self.works_searched(alloc, i)
+            self.works_searched(i)
         }
     }
 
@@ -240,11 +237,11 @@ impl Records {
     /// # Errors
     ///
     /// `OutOfMemory` where memory is refused.
-    pub fn steps_made(&self, alloc: Global, i: InstanceId) -> Result<NameLists, OutOfMemory>
+    pub fn steps_made(&self, i: InstanceId) -> Result<NameLists, OutOfMemory>
         ensures { IfOk result (λ names. AreStepsOf i self.now (numbers_named names)) }
     {
-        let works = self.works_of_instance(alloc, i)?;
-        steps_among(alloc, works.as_slice())
+        let works = self.works_of_instance(i)?;
+        steps_among(self.works.alloc(), works.as_slice())
     }
 
     /// The numbers of the work items of a step by these lists.
@@ -262,17 +259,12 @@ impl Records {
     /// # Errors
     ///
     /// `OutOfMemory` where memory is refused.
-    pub fn works_of_step(
-        &self,
-        alloc: Global,
-        steps: &NameLists,
-        step: &str,
-    ) -> Result<Vec<&WorkRow>, OutOfMemory>
+    pub fn works_of_step(&self, steps: &NameLists, step: &str) -> Result<Vec<&WorkRow>, OutOfMemory>
         ensures { (i : ℕ) → AreStepsOf i self.now (numbers_named steps.now)
             → IfOk result (λ found. map (λ row. row.now) found.items
             ≡ works_of_step step.now (works_of_instance i self.now.executions self.now.works)) }
     {
-        self.works_numbered(alloc, self.step_numbers(steps, step))
+        self.works_numbered(self.step_numbers(steps, step))
     }
 
     /// The newest work item of a step by these lists of its job instance, if there is one, by a binary
@@ -304,8 +296,7 @@ impl Records {
         if self.works_by_step.of(i.value()).is_some() {
             return Ok(());
         }
-        let alloc = self.works.alloc();
-        let names = self.steps_made(alloc, i)?;
+        let names = self.steps_made(i)?;
         self.works_by_step.put(i.value(), names)
     }
 
@@ -317,11 +308,11 @@ impl Records {
     }
 
     /// The work items of these numbers.
-    fn works_numbered(&self, alloc: Global, numbers: &[u64]) -> Result<Vec<&WorkRow>, OutOfMemory>
+    fn works_numbered(&self, numbers: &[u64]) -> Result<Vec<&WorkRow>, OutOfMemory>
         ensures { IfOk result (λ found. map (λ row. row.now) found.items
             ≡ works_numbered numbers.now self.now.works) }
     {
-        let mut found = Vec::new(alloc);
+        let mut found = Vec::new(self.works.alloc());
         for number in numbers {
             if let Some(row) = self.work(WorkId::new(*number)) {
                 found.push(row)?;
@@ -331,11 +322,11 @@ impl Records {
     }
 
     /// The work items of this job instance, by a look at each work item.
-    fn works_searched(&self, alloc: Global, i: InstanceId) -> Result<Vec<&WorkRow>, OutOfMemory>
+    fn works_searched(&self, i: InstanceId) -> Result<Vec<&WorkRow>, OutOfMemory>
         ensures { IfOk result (λ found. map (λ row. row.now) found.items
             ≡ works_of_instance i self.now.executions self.now.works) }
     {
-        let mut found = Vec::new(alloc);
+        let mut found = Vec::new(self.works.alloc());
         for row in self.works.rows() {
             if is_work_of_instance(&self.executions, i, row) {
                 found.push(row)?;
@@ -459,8 +450,8 @@ impl Records {
         Ok(())
     }
 
-    /// Changes the row of a job execution, which keeps what its start or restart gave it. It takes no
-    /// memory.
+    /// Changes the row of a job execution, which keeps what the indexes go by: its number, its job
+    /// instance and its job. It takes no memory.
     pub fn change_execution(&mut self, x: ExecutionId, row: ExecutionRow)
         requires { MayReplaceExecution self.old.executions x row }
         ensures { self.new ≡ record self.old {
@@ -478,7 +469,8 @@ impl Records {
         self.executions.put(x.value(), row);
     }
 
-    /// Changes the row of a work item, which keeps what its claim gave it. It takes no memory.
+    /// Changes the row of a work item, which keeps what the indexes go by: its number, its job execution
+    /// and its step or decision. It takes no memory.
     pub fn change_work(&mut self, w: WorkId, row: WorkRow)
         requires { MayReplaceWork self.old.works w row }
         ensures { self.new ≡ record self.old {
@@ -495,13 +487,13 @@ impl Records {
     /// # Errors
     ///
     /// `OutOfMemory` where memory is refused.
-    pub fn running_of(&self, alloc: Global, name: &str) -> Result<Vec<ExecutionId>, OutOfMemory>
+    pub fn running_of(&self, name: &str) -> Result<Vec<ExecutionId>, OutOfMemory>
         ensures { IfOk result (λ found. found.items
             ≡ running_executions name.now self.now.executions) }
     {
         match self.running.as_ref() {
-            Some(lists) => lists.of_job(alloc, name),
-            None => running_searched(alloc, &self.executions, name),
+            Some(lists) => lists.of_job(name),
+            None => running_searched(&self.executions, name),
         }
     }
 

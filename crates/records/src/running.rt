@@ -34,10 +34,10 @@ impl RunningLists {
     }
 
     /// Those of a job.
-    pub(crate) fn of_job(&self, alloc: Global, name: &str) -> Result<Vec<ExecutionId>, OutOfMemory>
+    pub(crate) fn of_job(&self, name: &str) -> Result<Vec<ExecutionId>, OutOfMemory>
         ensures { IfOk result (λ found. found.items ≡ numbers_running self.now.by_name name.now) }
     {
-        self.by_name.executions(alloc, name)
+        self.by_name.executions(name)
     }
 
     /// Those of a job instance.
@@ -144,13 +144,12 @@ fn forget(running: &mut Option<RunningLists>)
 
 /// The numbers of the unfinished job executions of a job among these rows.
 pub(crate) fn running_searched(
-    alloc: Global,
     rows: &RowList<ExecutionRow>,
     name: &str,
 ) -> Result<Vec<ExecutionId>, OutOfMemory>
     ensures { IfOk result (λ found. found.items ≡ running_executions name.now rows.now.rows) }
 {
-    let mut found = Vec::new(alloc);
+    let mut found = Vec::new(rows.alloc());
     for row in rows.rows() {
         if is_running_of(name, row) {
             found.push(row.execution)?;

@@ -135,16 +135,12 @@ impl RunningNames {
     }
 
     /// The job executions with the numbers under this name.
-    pub(crate) fn executions(
-        &self,
-        alloc: Global,
-        name: &str,
-    ) -> Result<Vec<ExecutionId>, OutOfMemory>
+    pub(crate) fn executions(&self, name: &str) -> Result<Vec<ExecutionId>, OutOfMemory>
         ensures { IfOk result (λ found. found.items ≡ numbers_running self.now name.now) }
     {
         match self.lists.get(name) {
-            Some(numbers) => numbers.executions(alloc),
-            None => Ok(Vec::new(alloc)),
+            Some(numbers) => numbers.executions(self.alloc),
+            None => Ok(Vec::new(self.alloc)),
         }
     }
 

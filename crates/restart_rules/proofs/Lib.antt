@@ -1,4 +1,7 @@
 pub mod Beginning
 pub mod Deciding
+pub mod Histories
 pub mod Keeping
+pub mod Placing
 pub mod Reading
+pub mod Replying

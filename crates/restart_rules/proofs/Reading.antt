@@ -5,12 +5,11 @@ use Rattle.jsl_model.specs.Jobs.{JobTree}
 use Rattle.walk_rules.specs.declared.facts.Known.{Known}
 use Rattle.batch_history.specs.Replies.{is_later_than}
 use Rattle.batch_history.specs.Rows.{existing}
-use Rattle.batch_history.specs.Walks.{fact_of_state}
+use Rattle.batch_history.specs.Walks.{fact_of_state, known_elements}
 use Rattle.batch_history.specs.Works.{work_key}
 use Rattle.batch_history.specs.declared.rows.ExecutionRow.{ExecutionRow}
 use Rattle.batch_history.specs.declared.rows.LastNumbers.{LastNumbers}
 use Rattle.batch_history.specs.declared.rows.WorkRow.{WorkRow}
-use Rattle.batch_history.proofs.Knowing.{known_elements}
 use Rattle.records.specs.Left.{executions_of, works_of}
 use Rattle.records.specs.Maps.{Maps}
 use Rattle.records.specs.Without.{without_instance}

@@ -2,12 +2,14 @@
 //! restarted, and what the next job execution goes by.
 #![tactic(auto)]
 
+mod law;
 mod partitions;
 mod plan;
 mod restart;
 mod steps;
 mod walks;
 
+pub use law::restarts_are_due_what_the_history_says;
 pub use plan::first_plan;
 pub use restart::{may_restart, restart_plan};
 pub use walks::{known_of, state_fact, walk_of, walk_value};

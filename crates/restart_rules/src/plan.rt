@@ -64,9 +64,7 @@ fn works_of_step<'a>(earlier: &Earlier<'a>, id: &T256) -> Result<Vec<&'a WorkRow
     ensures { IfOk result (λ works. map (λ row. row.now) works.items
         ≡ works_of_step id.now (earlier_works earlier.now)) }
 {
-    earlier
-        .records
-        .works_of_step(earlier.alloc, earlier.steps, id.as_str())
+    earlier.records.works_of_step(earlier.steps, id.as_str())
 }
 
 /// The exit status with which a step is carried that is not partitioned.
@@ -303,7 +301,7 @@ fn take_over_unsorted(
         ≡ plan_by plan.old.from
         (works_of_instance instance records.now.executions records.now.works) (Some job)) }
 {
-    let steps = records.steps_made(alloc, instance)?;
+    let steps = records.steps_made(instance)?;
     let earlier = Earlier {
         alloc,
         records,

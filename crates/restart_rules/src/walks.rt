@@ -1,7 +1,6 @@
 //! The walks of job executions, by their plans and by what their work items tell.
 ghost use Rattle.std.specs.Prelude.{◌≡◌, ◌++◌, List, true, Some, IfOk, OnOk};
-ghost use Rattle.batch_history.proofs.Knowing.{known_elements};
-ghost use Rattle.batch_history.specs.Walks.{fact_of_state, job_named, walk_value};
+ghost use Rattle.batch_history.specs.Walks.{fact_of_state, job_named, walk_value, known_elements};
 ghost use Rattle.batch_history.specs.Works.{work_key};
 ghost use Rattle.batch_history.specs.declared.rows.WorkRow.{WorkRow as Work};
 ghost use Rattle.job_walk.specs.Cursors.{begins_in};

@@ -6,11 +6,11 @@ use Rattle.std.specs.Option.{option_map}
 use Rattle.std.specs.Ordering.{nat_cmp}
 use Rattle.std.proofs.lemmas.Bool.{eqb-true, eq-eqb, ne_eqb}
 use Rattle.batch_history.proofs.Finding.{found-passes}
-use Rattle.batch_history.proofs.Knowing.{known_elements, facts-same}
+use Rattle.batch_history.proofs.Knowing.{facts-same}
 use Rattle.batch_history.specs.Lists.{change_first}
 use Rattle.batch_history.specs.Replies.{has_something_by, is_running_in, row_status}
 use Rattle.batch_history.specs.Rows.{is_execution, instance_in, is_gone, executions_there, works_there}
-use Rattle.batch_history.specs.Walks.{fact_of_state, job_named, walk_of, walk_value}
+use Rattle.batch_history.specs.Walks.{fact_of_state, job_named, walk_of, walk_value, known_elements}
 use Rattle.batch_history.specs.Works.{work_key}
 use Rattle.batch_history.specs.declared.rows.ExecutionRow.{ExecutionRow}
 use Rattle.batch_history.specs.declared.rows.WorkRow.{WorkRow}
@@ -20,9 +20,9 @@ use Rattle.batch_ids.specs.declared.status.BatchStatus.TheVariants.{Starting, St
 use Rattle.walk_rules.specs.declared.facts.Known.{Known}
 use Rattle.walk_rules.specs.declared.facts.Value.{Value}
 use Rattle.jsl_model.specs.Jobs.{JobTree}
-use Rattle.records.specs.Maps.{AreAbove, AreBelow, AreRising, MayReplaceExecution, execution_numbers}
+use Rattle.records.specs.Maps.{AreAbove, AreBelow, AreRising, execution_numbers}
 use Rattle.seq_repository.specs.Agendas.{agenda_of, is_ready_row, put_number, without_number}
-use Rattle.seq_repository.specs.Changes.{put_row}
+use Rattle.seq_repository.specs.Changes.{put_row, ReplacesExecution}
 use Rattle.seq_repository.specs.Searches.{has_ready}
 use Rattle.seq_repository.proofs.Numbers.{put_changed, put_absent, put_pushed, least_found, none_found, gone_absent, first_passes}
 
@@ -80,7 +80,7 @@ others_same x works = λ y off. refl
 -- A job execution that changes
 
 agenda-put : (catalogue : List JobTree) (before after : List WorkRow) (rows : List ExecutionRow) (x : ℕ) (new : Option ExecutionRow)
-    → AreRising (execution_numbers rows) → KeepsOthers x before after → IfSome new (λ row. MayReplaceExecution rows x row)
+    → AreRising (execution_numbers rows) → KeepsOthers x before after → IfSome new (λ row. ReplacesExecution rows x row)
     → (new ≡ None → find (is_execution x) rows ≡ None)
     → put_number (is_ready_row catalogue after new) x (agenda_of catalogue before rows) ≡ agenda_of catalogue after (put_row x new rows)
 agenda-put catalogue before after rows x None rising others own absent =
@@ -101,7 +101,7 @@ put-steps false x numbers = refl
 -- the agenda after an operation on a job execution: its number is put, where there is something to do, or goes
 pub agenda_changed : (catalogue : List JobTree) (before after : List WorkRow) (rows : List ExecutionRow) (x : ℕ) (f : ExecutionRow → ExecutionRow) (new : Option ExecutionRow) (ready goes : Bool)
     (old put done : List ℕ) → AreRising (execution_numbers rows) → old ≡ agenda_of catalogue before rows → KeepsOthers x before after
-    → IfSome new (λ row. MayReplaceExecution rows x row) → new ≡ option_map f (find (is_execution x) rows) → ready ≡ is_ready_row catalogue after new → goes ≡ not ready
+    → IfSome new (λ row. ReplacesExecution rows x row) → new ≡ option_map f (find (is_execution x) rows) → ready ≡ is_ready_row catalogue after new → goes ≡ not ready
     → put ≡ cond ready (insert_key nat_cmp old x) old → done ≡ cond goes (without_number x put) put
     → done ≡ agenda_of catalogue after (put_row x new rows)
 agenda_changed catalogue before after rows x f new ready goes old put done rising is others own made is_ready is_goes is_put is_done =

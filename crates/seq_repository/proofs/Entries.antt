@@ -15,8 +15,7 @@ use Rattle.batch_history.specs.declared.rows.CheckpointRow.{CheckpointRow}
 use Rattle.batch_history.specs.declared.rows.ExecutionRow.{ExecutionRow}
 use Rattle.batch_history.specs.declared.rows.JobInstance.{JobInstance}
 use Rattle.batch_history.specs.declared.rows.WorkRow.{WorkRow}
-use Rattle.batch_history.proofs.Folds.{reported, over, over_as}
-use Rattle.batch_history.proofs.Steps.{fresh_row, again_row, refreshed_by, place_in, rows_after}
+use Rattle.batch_history.specs.NextRows.{reported, over, over_as, fresh_row, again_row, refreshed_by, place_in, rows_after}
 use Rattle.batch_history.specs.Checkpoints.{InstanceStep, instance_step_by, is_same_step, checkpoint_left}
 use Rattle.batch_history.specs.Lists.{change_first, is_at}
 use Rattle.batch_history.specs.Replies.{instance_in, is_execution, restart_plan}
@@ -29,7 +28,7 @@ use Rattle.restart_rules.specs.Restarting.{rows_over}
 use Rattle.seq_repository.specs.Kept.{Kept, rows_in}
 use Rattle.batch_history.specs.declared.rows.LastNumbers.{LastNumbers}
 use Rattle.batch_history.proofs.Finding.{found-passes}
-use Rattle.records.specs.Maps.{Maps, mark_at, is_over, MayReplaceWork}
+use Rattle.records.specs.Maps.{Maps, mark_at, MayReplaceWork}
 use Rattle.seq_repository.specs.declared.rows.Change.{Change}
 use Rattle.seq_repository.specs.declared.rows.Change.TheVariants.{StopRequest, Abandonment, Claim as TakeUp, Report}
 use Rattle.seq_repository.specs.Changes.{row_after, put_row, place_at, SetsMark, LeavesMark}
@@ -221,29 +220,19 @@ reported-own w step rows row new found made = (
     work = ap (λ (r : WorkRow). r.work) made;
     execution = ap (λ (r : WorkRow). r.execution) made;
     element = ap (λ (r : WorkRow). r.element) made;
-    partition = ap (λ (r : WorkRow). r.partition) made;
-    kind = ap (λ (r : WorkRow). r.kind) made;
-    claimer = ap (λ (r : WorkRow). r.claimer) made;
-    start = ap (λ (r : WorkRow). r.start) made;
-    over = λ over. (ap (λ (r : WorkRow). r.state) made, ap (λ (r : WorkRow). r.end) made, ap (λ (r : WorkRow). r.ended) made);
   },
 )
 
 -- a work item that ends may stand in its place
 pub over-own : (w : ℕ) (outcome : WorkOutcome) (exit : List ℕ) (step : MetricStep) (at n : ℕ) (rows : List WorkRow) (row new : WorkRow) → find (is_work w) rows ≡ Some row
-    → is_over row.state ≡ false → new ≡ over_as outcome exit step at n row → MayReplaceWork rows w new
-over-own w outcome exit step at n rows row new found busy made = (
+    → new ≡ over_as outcome exit step at n row → MayReplaceWork rows w new
+over-own w outcome exit step at n rows row new found made = (
   row,
   found,
   record {
     work = ap (λ (r : WorkRow). r.work) made;
     execution = ap (λ (r : WorkRow). r.execution) made;
     element = ap (λ (r : WorkRow). r.element) made;
-    partition = ap (λ (r : WorkRow). r.partition) made;
-    kind = ap (λ (r : WorkRow). r.kind) made;
-    claimer = ap (λ (r : WorkRow). r.claimer) made;
-    start = ap (λ (r : WorkRow). r.start) made;
-    over = λ over. cc;
   },
 )
 

@@ -3,7 +3,7 @@ use mathlib.Core.Path.{fun_ext}
 use Rattle.std.proofs.Common.{◌≡◌, ◌≢◌, ℕ, ◌==◌, ◌||◌, Bool, true, false, cond, None, Some, IfSome, is_some, Option, Ok, not, unwrap_or, filter, ◌&&◌, ◌<◌, List, [], ◌∷◌, ◌++◌, find, refl, sym, ◌∙◌, ap, subst, arith}
 use Rattle.std.specs.List.{flat_map, list_any}
 use Rattle.std.specs.Option.{option_and_then, option_map}
-use Rattle.batch_history.specs.Lists.{change_first}
+use Rattle.batch_history.specs.Lists.{change_first, Each}
 use Rattle.batch_history.proofs.Finding.{found-passes}
 use Rattle.batch_history.specs.Replies.{claim_reply, first_ready, has_something, is_running_in, next_work_item, partition_named, partitions_of_job, reply_by, reply_to_claim, walk_in_rows}
 use Rattle.batch_history.specs.Rows.{Rows, executions_there, instance_in, is_execution, is_gone, works_there}
@@ -12,21 +12,21 @@ use Rattle.batch_history.proofs.Runs.{key-named}
 use Rattle.batch_history.specs.declared.call.Call.TheVariants.{Claim}
 use Rattle.batch_history.specs.declared.call.Reply.TheVariants.{Work}
 use Rattle.batch_history.specs.declared.call.WorkItem.{WorkItem}
-use Rattle.records.specs.Maps.{AreRising, MayReplaceExecution, execution_numbers}
-use Rattle.seq_repository.specs.Changes.{put_row}
+use Rattle.records.specs.Maps.{AreRising, execution_numbers}
+use Rattle.seq_repository.specs.Changes.{put_row, ReplacesExecution}
 use Rattle.reply_rules.specs.Standings.{is_open}
 use Rattle.seq_repository.proofs.Agendas.{KeepsOthers, either-false, known-there, above-passed}
 use Rattle.std.specs.Ordering.{nat_cmp, is_eq}
 use Rattle.std.proofs.lemmas.Bool.Decides.{nat_tests}
-use Rattle.batch_history.specs.Walks.{fact_of_state, facts_by_work, job_named, planned_facts, runnable_fact, walk_of, walk_value}
-use Rattle.batch_history.specs.Works.{busy_work, item_key, work_key}
+use Rattle.batch_history.specs.Walks.{fact_of_state, facts_by_work, job_named, planned_facts, runnable_fact, walk_of, walk_value, known_elements}
+use Rattle.batch_history.specs.Works.{busy_work, item_key, work_key, AllApart, Apart}
 use Rattle.batch_history.specs.declared.rows.ExecutionRow.{ExecutionRow}
 use Rattle.batch_history.specs.declared.rows.WorkRow.{WorkRow}
 use Rattle.batch_history.proofs.Kept.{facts_of, IsUnknown, ready-unknown, unknown-unworked, shown-busy}
-use Rattle.batch_history.proofs.Knowing.{known_elements, facts-same, known-fact, known-facts}
+use Rattle.batch_history.proofs.Knowing.{facts-same, known-fact, known-facts}
 use Rattle.batch_history.proofs.Planned.{planned-busy, planned-differ}
 use Rattle.batch_history.proofs.Sights.{DifferAt, at-or-not, seen, busy_sight}
-use Rattle.batch_history.proofs.WorkLists.{AllApart, Apart, Each, apart-append, each-found, each-map, found-before, new-differs, new-fact, unknown-away}
+use Rattle.batch_history.proofs.WorkLists.{apart-append, each-found, each-map, found-before, new-differs, new-fact, unknown-away}
 use Rattle.batch_history.specs.declared.rows.WorkState.TheVariants.{Busy as IsBusy, Over as IsOver}
 use Rattle.batch_ids.specs.declared.status.WorkOutcome.{WorkOutcome}
 use Rattle.std.proofs.lemmas.Bool.{eqb-true, eq-eqb, ne_eqb}
@@ -389,32 +389,32 @@ put-listed x new old (row ∷ rest) found same =
     ]) refl found
 
 -- the row of another number
-pub found-beside : (x q : ℕ) (new : Option ExecutionRow) (rows : List ExecutionRow) → (q == x) ≡ false → IfSome new (λ row. MayReplaceExecution rows x row)
+pub found-beside : (x q : ℕ) (new : Option ExecutionRow) (rows : List ExecutionRow) → (q == x) ≡ false → IfSome new (λ row. ReplacesExecution rows x row)
     → find (is_execution q) (put_row x new rows) ≡ find (is_execution q) rows
 found-beside x q None rows off own = refl
 found-beside x q (Some new) rows off own = beside-listed x q new own.0 rows off own.1 own.2.execution
 
 -- the row that was put
-pub found_put : (x : ℕ) (new : ExecutionRow) (rows : List ExecutionRow) → MayReplaceExecution rows x new → find (is_execution x) (put_row x (Some new) rows) ≡ Some new
+pub found_put : (x : ℕ) (new : ExecutionRow) (rows : List ExecutionRow) → ReplacesExecution rows x new → find (is_execution x) (put_row x (Some new) rows) ≡ Some new
 found_put x new rows own = put-listed x new own.0 rows own.1 own.2.execution
 
 own-followed : (catalogue : List JobTree) (after : List WorkRow) (rows : List ExecutionRow) (x : ℕ) (new : Option ExecutionRow) (row : ExecutionRow) (cursor : Option CursorState) (c : CursorState)
-    → IfSome new (λ row. MayReplaceExecution rows x row) → Walks catalogue after (find (is_execution x) rows) cursor → cursor ≡ Some c → new ≡ Some row → is_open row ≡ true
+    → IfSome new (λ row. ReplacesExecution rows x row) → Walks catalogue after (find (is_execution x) rows) cursor → cursor ≡ Some c → new ≡ Some row → is_open row ≡ true
     → IsFollowed catalogue after (put_row x new rows) x c
 own-followed catalogue after rows x new row cursor c own may is_cursor is_new still =
-    let mine : MayReplaceExecution rows x row = subst (λ o. IfSome o (λ row. MayReplaceExecution rows x row)) is_new own in
+    let mine : ReplacesExecution rows x row = subst (λ o. IfSome o (λ row. ReplacesExecution rows x row)) is_new own in
     let follows : Follows catalogue after mine.0 c =
     subst (λ (o : Option ExecutionRow). Walks catalogue after o (Some c)) mine.1 (subst (Walks catalogue after (find (is_execution x) rows)) is_cursor may) in
     record {
       row = row;
       found = ap (λ o. find (is_execution x) (put_row x o rows)) is_new ∙ found_put x row rows mine;
       unfinished = still;
-      follows = follows_row catalogue after mine.0 row c mine.2.execution mine.2.job mine.2.plan follows;
+      follows = follows_row catalogue after mine.0 row c mine.2.execution mine.2.job mine.3 follows;
     }
 
 -- the cursors after an operation on job execution x: those of others, and its own, if it is unfinished still
 pub followed_put : (catalogue : List JobTree) (before after : List WorkRow) (rows : List ExecutionRow) (x : ℕ) (new : Option ExecutionRow) (cursor : Option CursorState)
-    (old kept : ℕ → Option CursorState) → AreFollowed catalogue before rows old → KeepsOthers x before after → IfSome new (λ row. MayReplaceExecution rows x row)
+    (old kept : ℕ → Option CursorState) → AreFollowed catalogue before rows old → KeepsOthers x before after → IfSome new (λ row. ReplacesExecution rows x row)
     → Walks catalogue after (find (is_execution x) rows) cursor
     → ((q : ℕ) → is_eq (nat_cmp x q) ≡ false → kept q ≡ old q) → IfSome (kept x) (IsKeptOf new cursor)
     → AreFollowed catalogue after (put_row x new rows) kept

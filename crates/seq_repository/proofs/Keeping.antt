@@ -6,8 +6,7 @@ use Rattle.std.specs.List.{list_any}
 use Rattle.std.specs.Option.{option_and_then, option_map}
 use Rattle.std.specs.Ordering.{nat_cmp, is_eq}
 use Rattle.job_walk.specs.Cursors.{CursorState}
-use Rattle.batch_history.proofs.WorkLists.{AllApart}
-use Rattle.batch_history.specs.Works.{is_work, work_key}
+use Rattle.batch_history.specs.Works.{is_work, work_key, AllApart}
 use Rattle.seq_repository.specs.Following.{AreFollowed, AreOfUnfinished, IsSlotOf, Walks, kept_at}
 use Rattle.seq_repository.specs.declared.cursors.Slot.{Slot}
 use Rattle.seq_repository.proofs.Slots.{cursor_left, slots_put, slots_pushed, slots_same, slots_without}
@@ -21,11 +20,11 @@ use Rattle.batch_history.specs.Rows.{instance_in, is_execution, is_gone}
 use Rattle.batch_history.specs.declared.rows.ExecutionRow.{ExecutionRow}
 use Rattle.batch_history.specs.declared.rows.JobInstance.{JobInstance}
 use Rattle.batch_history.specs.declared.rows.WorkRow.{WorkRow}
-use Rattle.records.specs.Maps.{Maps, AreBelow, AreRising, MayReplaceExecution, execution_numbers}
+use Rattle.records.specs.Maps.{Maps, AreBelow, AreRising, execution_numbers}
 use Rattle.records.specs.Without.{without_instance}
 use Rattle.restart_rules.specs.Placed.{is_placed}
 use Rattle.seq_repository.specs.Agendas.{agenda_of, is_ready_row, without_number}
-use Rattle.seq_repository.specs.Changes.{put_row, row_after}
+use Rattle.seq_repository.specs.Changes.{put_row, row_after, ReplacesExecution}
 use Rattle.seq_repository.specs.Reports.{IsReport, works_with}
 use Rattle.seq_repository.specs.declared.after.After.{After}
 use Rattle.seq_repository.specs.declared.rows.Change.TheVariants.{Report}
@@ -51,7 +50,7 @@ pub record KeepsWalk (x : ℕ) (row : Option ExecutionRow) (cursor : Option Curs
   pub others : (q : ℕ) → is_eq (nat_cmp x q) ≡ false → get nat_cmp kept q ≡ get nat_cmp old q
   pub own : IfSome (get nat_cmp kept x) (IsSlotOf row cursor)
 
-rising-put : (x : ℕ) (new : Option ExecutionRow) (rows : List ExecutionRow) → IfSome new (λ row. MayReplaceExecution rows x row) → AreRising (execution_numbers rows)
+rising-put : (x : ℕ) (new : Option ExecutionRow) (rows : List ExecutionRow) → IfSome new (λ row. ReplacesExecution rows x row) → AreRising (execution_numbers rows)
     → AreRising (execution_numbers (put_row x new rows))
 rising-put x None rows own rising = rising
 rising-put x (Some row) rows own rising =
@@ -60,7 +59,7 @@ rising-put x (Some row) rows own rising =
 -- the rows and the agenda after an operation on job execution x
 kept-put : (limit : ℕ) (old done : List ℕ) (walks left : BTreeMap ℕ Slot) (kept after : Kept) (x : ℕ) (f : ExecutionRow → ExecutionRow) (new : Option ExecutionRow) (ready : Bool) (cursor : Option CursorState)
     → IsKept limit old walks kept → IsSound limit after → after.catalogue ≡ kept.catalogue → after.records.executions ≡ put_row x new kept.records.executions
-    → KeepsOthers x kept.records.works after.records.works → IfSome new (λ row. MayReplaceExecution kept.records.executions x row)
+    → KeepsOthers x kept.records.works after.records.works → IfSome new (λ row. ReplacesExecution kept.records.executions x row)
     → new ≡ option_map f (find (is_execution x) kept.records.executions) → ready ≡ is_ready_row kept.catalogue after.records.works new → Puts ready x old done
     → AllApart after.records.works → Walks kept.catalogue after.records.works (find (is_execution x) kept.records.executions) cursor → KeepsWalk x new cursor walks left
     → IsKept limit done left after
@@ -82,7 +81,7 @@ kept-put limit old done walks left kept after x f new ready cursor k sound same 
     }
 
 pub kept_change : (limit : ℕ) (old done : List ℕ) (walks left : BTreeMap ℕ Slot) (kept : Kept) (m : Maps) (x : ℕ) (f : ExecutionRow → ExecutionRow) (new : Option ExecutionRow) (ready : Bool) (cursor : Option CursorState)
-    → IsKept limit old walks kept → kept.count < limit → IfSome new (λ row. MayReplaceExecution kept.records.executions x row)
+    → IsKept limit old walks kept → kept.count < limit → IfSome new (λ row. ReplacesExecution kept.records.executions x row)
     → new ≡ option_map f (find (is_execution x) kept.records.executions) → ready ≡ is_ready_row kept.catalogue kept.records.works new
     → m ≡ record kept.records { executions = put_row x new kept.records.executions } → Puts ready x old done
     → Walks kept.catalogue kept.records.works (find (is_execution x) kept.records.executions) cursor → KeepsWalk x new cursor walks left
@@ -95,7 +94,7 @@ kept_change limit old done walks left kept m x f new ready cursor k room own mad
     (subst AllApart same k.apart) (subst (λ works. Walks kept.catalogue works (find (is_execution x) kept.records.executions) cursor) same walked) stays
 
 pub kept_work : (limit : ℕ) (old done : List ℕ) (walks left : BTreeMap ℕ Slot) (kept : Kept) (m1 m2 : Maps) (x : ℕ) (f : ExecutionRow → ExecutionRow) (new : Option ExecutionRow) (ready : Bool) (cursor : Option CursorState) (work : WorkRow)
-    → IsKept limit old walks kept → kept.count < limit → IfSome new (λ row. MayReplaceExecution kept.records.executions x row)
+    → IsKept limit old walks kept → kept.count < limit → IfSome new (λ row. ReplacesExecution kept.records.executions x row)
     → new ≡ option_map f (find (is_execution x) kept.records.executions) → ready ≡ is_ready_row kept.catalogue (kept.records.works ++ work ∷ []) new
     → work.work ≡ kept.last.work + 1 → work.execution ≡ x → work.metrics ≡ zero_metrics
     → m1 ≡ record kept.records { works = kept.records.works ++ work ∷ [] } → m2 ≡ record m1 { executions = put_row x new m1.executions } → Puts ready x old done
@@ -112,7 +111,7 @@ kept_work limit old done walks left kept m1 m2 x f new ready cursor work k room 
     (subst AllApart same apart) (subst (λ works. Walks kept.catalogue works (find (is_execution x) kept.records.executions) cursor) same walked) stays
 
 kept-report : (limit : ℕ) (old done : List ℕ) (walks left : BTreeMap ℕ Slot) (kept : Kept) (m1 m2 m3 : Maps) (p : WorkRow → Bool) (x : ℕ) (f : ExecutionRow → ExecutionRow) (row work : WorkRow) (new : Option ExecutionRow) (ready : Bool) (cursor : Option CursorState) (step : MetricStep)
-    → IsKept limit old walks kept → kept.count < limit → IfSome new (λ row. MayReplaceExecution kept.records.executions x row)
+    → IsKept limit old walks kept → kept.count < limit → IfSome new (λ row. ReplacesExecution kept.records.executions x row)
     → new ≡ option_map f (find (is_execution x) kept.records.executions) → ready ≡ is_ready_row kept.catalogue (change_first p (λ gone. work) kept.records.works) new
     → find p kept.records.works ≡ Some row → row.execution ≡ x → work.execution ≡ row.execution → work_key work ≡ work_key row
     → work.work ≡ row.work → work.metrics ≡ added row.metrics step → IsStep step

@@ -2,10 +2,9 @@
 use Rattle.std.proofs.Common.{◌≡◌, ℕ, ◌==◌, Bool, true, false, cond, Some, find, List, [], ◌∷◌, refl, sym, ◌∙◌, ap}
 use Rattle.batch_ids.specs.declared.metric_step.MetricStep.{MetricStep}
 use Rattle.batch_history.specs.declared.rows.WorkRow.{WorkRow}
-use Rattle.batch_history.proofs.Folds.{reported}
+use Rattle.batch_history.specs.NextRows.{reported}
 use Rattle.batch_history.specs.Lists.{change_first}
-use Rattle.batch_history.specs.Walks.{fact_of_state}
-use Rattle.batch_history.proofs.Knowing.{known_elements}
+use Rattle.batch_history.specs.Walks.{fact_of_state, known_elements}
 use Rattle.batch_history.specs.Works.{work_key}
 use Rattle.seq_repository.proofs.Entries.{change-found}
 use Rattle.walk_rules.specs.declared.facts.Known.{Known}

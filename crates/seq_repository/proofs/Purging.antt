@@ -1,7 +1,7 @@
 -- What a purge leaves, and what it asks for.
 use Rattle.std.proofs.Common.{◌≡◌, ℕ, ◌+◌, true, false, cond, is_some, Result, Ok, Err, List, find, refl, sym, ◌∙◌, ap}
 use Rattle.std.specs.List.{list_any}
-use Rattle.batch_history.proofs.Steps.{rows_after}
+use Rattle.batch_history.specs.NextRows.{rows_after}
 use Rattle.batch_history.specs.Replies.{accepted, is_running_in, reply_by}
 use Rattle.batch_history.specs.Rows.{Rows}
 use Rattle.batch_history.specs.declared.call.Call.TheVariants.{Purge}

@@ -6,7 +6,7 @@ use Rattle.batch_history.specs.Answers.{is_running_of, record_of, records_of, ru
 use Rattle.batch_history.specs.Lists.{change_first}
 use Rattle.batch_history.specs.declared.rows.ExecutionRow.{ExecutionRow}
 use Rattle.batch_history.specs.declared.rows.WorkRow.{WorkRow}
-use Rattle.batch_history.proofs.Knowing.{known_elements}
+use Rattle.batch_history.specs.Walks.{known_elements}
 use Rattle.records.specs.Left.{executions_of, works_of}
 use Rattle.restart_rules.proofs.Reading.{known_by, known_read}
 

@@ -11,9 +11,6 @@ use Rattle.batch_history.specs.declared.call.Entry.{Entry}
 use Rattle.batch_history.specs.declared.call.WorkItem.{WorkItem}
 use Rattle.batch_history.specs.declared.rows.ExecutionRow.{ExecutionRow}
 use Rattle.batch_history.specs.declared.rows.WorkRow.{WorkRow}
-use Rattle.batch_history.specs.declared.rows.WorkState.{WorkState}
-use Rattle.batch_history.specs.declared.rows.WorkState.TheVariants.{Busy, Over}
-use Rattle.records.specs.Maps.{is_over}
 use Rattle.batch_history.specs.Due.{IsDue}
 use Rattle.batch_history.specs.Walks.{job_named}
 use Rattle.batch_history.specs.Replies.{reply_by, accepted, is_execution, reply_to_claim, claim_reply, reply_to_checkpoint, reply_to_finish, first_ready, walk_in_rows, has_something, is_nothing, report_refusal, reply_to_end, reply_to_loss, loss_refusal, reply_to_restart, stop_requested_of, unless}
@@ -49,17 +46,6 @@ pub finished_there : (limit : ℕ) (r : Rows) (who : ℕ) (outcome : WorkOutcome
 finished_there limit r who outcome None given e = cc
 finished_there limit r who outcome (Some row) given e = refl
 
--- what is finished is not over yet
-refused-over : (limit : ℕ) (r : Rows) (who : ℕ) (outcome : WorkOutcome) (row : WorkRow) (state : WorkState) (given : Reply)
-    → unless (report_refusal who row.claimer state) (reply_to_end limit r.count (stop_requested_of r row.execution) row.kind outcome) ≡ Ok given → is_over state ≡ false
-refused-over limit r who outcome row Busy given e = refl
-refused-over limit r who outcome row (Over ended exit) given e = cc
-
-pub finished_busy : (limit : ℕ) (r : Rows) (who : ℕ) (outcome : WorkOutcome) (found : Option WorkRow) (given : Reply) → reply_to_finish limit r who outcome found ≡ Ok given
-    → IfSome found (λ row. is_over row.state ≡ false)
-finished_busy limit r who outcome None given e = tt
-finished_busy limit r who outcome (Some row) given e = refused-over limit r who outcome row row.state given e
-
 -- there is room for what is accepted
 pub accepted_room : (limit : ℕ) (kept : Kept) (who : ℕ) (call : Call) (given : Reply) → reply_by limit (rows_in kept) who call ≡ Ok given → is_nothing given ≡ false
     → kept.count < limit
@@ -87,18 +73,10 @@ restarted-some : (limit : ℕ) (r : Rows) (found : Option ExecutionRow) (given :
 restarted-some limit r None given e = cc
 restarted-some limit r (Some row) given e = refl
 
--- what is lost, is there and is not over yet
+-- what is lost, is there
 pub lost_there : (limit count : ℕ) (found : Option WorkRow) (given : Reply) → reply_to_loss limit count found ≡ Ok given → is_some found ≡ true
 lost_there limit count None given e = cc
 lost_there limit count (Some row) given e = refl
-
-lost-over : (state : WorkState) (reply : Result Reply Refusal) (given : Reply) → unless (loss_refusal state) reply ≡ Ok given → is_over state ≡ false
-lost-over Busy reply given e = refl
-lost-over (Over ended exit) reply given e = cc
-
-pub lost_busy : (limit count : ℕ) (found : Option WorkRow) (given : Reply) → reply_to_loss limit count found ≡ Ok given → IfSome found (λ row. is_over row.state ≡ false)
-lost_busy limit count None given e = tt
-lost_busy limit count (Some row) given e = lost-over row.state _ given e
 
 -- what is restarted, is there
 pub restarted_there : (limit : ℕ) (r : Rows) (who y : ℕ) (parameters : List Pair) (given : Reply) → reply_by limit r who (Restart y parameters) ≡ Ok given

@@ -3,8 +3,7 @@ use Rattle.std.proofs.Common.{◌≡◌, false, ℕ, ◌+◌, Option, Some, IfSo
 use Rattle.std.specs.Option.{option_map}
 use Rattle.batch_ids.specs.declared.metric_step.MetricStep.{MetricStep}
 use Rattle.batch_ids.specs.declared.status.WorkOutcome.{WorkOutcome}
-use Rattle.batch_history.proofs.Folds.{over, over_as, reported}
-use Rattle.batch_history.proofs.Steps.{rows_after}
+use Rattle.batch_history.specs.NextRows.{over, over_as, reported, rows_after}
 use Rattle.batch_history.specs.Lists.{change_first}
 use Rattle.batch_history.specs.Replies.{is_execution}
 use Rattle.batch_history.specs.Works.{is_work, work_key}
@@ -15,9 +14,9 @@ use Rattle.batch_history.specs.declared.rows.LastNumbers.{LastNumbers}
 use Rattle.batch_history.specs.declared.rows.WorkRow.{WorkRow}
 use Rattle.job_walk.specs.Cursors.{CursorState}
 use Rattle.jsl_model.specs.Jobs.{JobTree}
-use Rattle.records.specs.Maps.{Maps, MayReplaceExecution, is_over}
+use Rattle.records.specs.Maps.{Maps}
 use Rattle.restart_rules.specs.Restarting.{rows_over}
-use Rattle.seq_repository.specs.Changes.{LeavesMark, SetsMark, place_at, put_row, row_after}
+use Rattle.seq_repository.specs.Changes.{LeavesMark, SetsMark, place_at, put_row, row_after, ReplacesExecution}
 use Rattle.seq_repository.specs.Agendas.{is_ready_row}
 use Rattle.seq_repository.specs.Following.{Walks}
 use Rattle.seq_repository.specs.Kept.{Kept}
@@ -41,7 +40,7 @@ after-by kept w at work after cursor r f made =
 -- what is known of the job execution of a work item after a report, by its walk then
 pub record IsAfter (rows : List ExecutionRow) (at : ℕ) (work : WorkRow) (after : After) (cursor : Option CursorState) : Type 0 where
   pub place : after.step ≡ work_key work
-  pub own : IfSome after.row (λ new. MayReplaceExecution rows work.execution new)
+  pub own : IfSome after.row (λ new. ReplacesExecution rows work.execution new)
   pub new : (catalogue : List JobTree) (works : List WorkRow) → Walks catalogue works (find (is_execution work.execution) rows) cursor
       → after.row ≡ option_map (row_after Report catalogue works at) (find (is_execution work.execution) rows)
   pub ready : (catalogue : List JobTree) (works : List WorkRow) → Walks catalogue works (find (is_execution work.execution) rows) cursor
@@ -49,12 +48,12 @@ pub record IsAfter (rows : List ExecutionRow) (at : ℕ) (work : WorkRow) (after
 
 -- a work item that is over
 pub is_end : (kept : Kept) (w at : ℕ) (outcome : WorkOutcome) (exit : List ℕ) (step : MetricStep) (row work : WorkRow) (after : After) (cursor : Option CursorState)
-    → find (is_work w) kept.records.works ≡ Some row → is_over row.state ≡ false → work ≡ over_as outcome exit step at (kept.count + 1) row → IsStep step
+    → find (is_work w) kept.records.works ≡ Some row → work ≡ over_as outcome exit step at (kept.count + 1) row → IsStep step
     → IfSome (find (is_work w) kept.records.works) (λ (r : WorkRow). (counts : MetricStep) (end n : ℕ)
     → Walks kept.catalogue (change_first (is_work w) (over_as outcome exit counts end n) kept.records.works) (find (is_execution r.execution) kept.records.executions) cursor)
     → IsAfter kept.records.executions at work after cursor
     → IsReport kept w at work after cursor
-is_end kept w at outcome exit step row work after cursor found busy made small walked is =
+is_end kept w at outcome exit step row work after cursor found made small walked is =
     let before : List WorkRow = kept.records.works in
     let f : WorkRow → WorkRow = over_as outcome exit step at (kept.count + 1) in
     let of : work.execution ≡ row.execution = ap (λ (r : WorkRow). r.execution) made in
@@ -69,7 +68,7 @@ is_end kept w at outcome exit step row work after cursor found busy made small w
     record {
       row = row;
       found = found;
-      may = over-own w outcome exit step at (kept.count + 1) before row work found busy made;
+      may = over-own w outcome exit step at (kept.count + 1) before row work found made;
       execution = of;
       key = ap work_key made;
       number = ap (λ (r : WorkRow). r.work) made;

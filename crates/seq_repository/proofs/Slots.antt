@@ -10,9 +10,8 @@ use Rattle.batch_history.specs.Replies.{is_running_in}
 use Rattle.batch_history.specs.Rows.{executions_there, is_execution}
 use Rattle.batch_history.specs.declared.rows.ExecutionRow.{ExecutionRow}
 use Rattle.job_walk.specs.Cursors.{CursorState}
-use Rattle.records.specs.Maps.{MayReplaceExecution}
 use Rattle.reply_rules.specs.Standings.{is_open}
-use Rattle.seq_repository.specs.Changes.{put_row}
+use Rattle.seq_repository.specs.Changes.{put_row, ReplacesExecution}
 use Rattle.seq_repository.specs.Following.{AreOfUnfinished, IsKeptOf, IsSlotOf}
 use Rattle.seq_repository.specs.declared.cursors.Slot.{Slot}
 use Rattle.seq_repository.proofs.Followed.{cmp-own, found-beside, found_put, found-there, open-elsewhere}
@@ -27,16 +26,16 @@ cursor_left row cursor (Some slot) own =
       | Some kept ↦ λ same. (sym same, own.1)
     ]) own.0
 
-own-there : (rows : List ExecutionRow) (x : ℕ) (new : Option ExecutionRow) (cursor : Option CursorState) (slot : Option Slot) → IfSome new (λ row. MayReplaceExecution rows x row)
+own-there : (rows : List ExecutionRow) (x : ℕ) (new : Option ExecutionRow) (cursor : Option CursorState) (slot : Option Slot) → IfSome new (λ row. ReplacesExecution rows x row)
     → IfSome slot (IsSlotOf new cursor) → IsSome slot → (row : ExecutionRow) × (find (is_execution x) (put_row x new rows) ≡ Some row) × (is_open row ≡ true)
 own-there rows x new cursor None may own there = cc
 own-there rows x new cursor (Some slot) may own there =
     let row : ExecutionRow = own.1.0 in
-    let mine : MayReplaceExecution rows x row = subst (λ o. IfSome o (λ r. MayReplaceExecution rows x r)) own.1.1 may in
+    let mine : ReplacesExecution rows x row = subst (λ o. IfSome o (λ r. ReplacesExecution rows x r)) own.1.1 may in
     (row, ap (λ o. find (is_execution x) (put_row x o rows)) own.1.1 ∙ found_put x row rows mine, own.1.2)
 
 -- after an operation on job execution x
-pub slots_put : (x : ℕ) (new : Option ExecutionRow) (cursor : Option CursorState) (rows : List ExecutionRow) (old left : BTreeMap ℕ Slot) → IfSome new (λ row. MayReplaceExecution rows x row)
+pub slots_put : (x : ℕ) (new : Option ExecutionRow) (cursor : Option CursorState) (rows : List ExecutionRow) (old left : BTreeMap ℕ Slot) → IfSome new (λ row. ReplacesExecution rows x row)
     → ((q : ℕ) → is_eq (nat_cmp x q) ≡ false → get nat_cmp left q ≡ get nat_cmp old q) → IfSome (get nat_cmp left x) (IsSlotOf new cursor) → AreOfUnfinished rows old
     → AreOfUnfinished (put_row x new rows) left
 slots_put x new cursor rows old left may beside here slots = λ q there.

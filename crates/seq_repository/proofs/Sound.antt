@@ -7,25 +7,26 @@ use Rattle.batch_history.specs.Rows.{instance_in, is_execution, is_gone}
 use Rattle.batch_history.specs.declared.rows.ExecutionRow.{ExecutionRow}
 use Rattle.batch_history.specs.declared.rows.JobInstance.{JobInstance}
 use Rattle.batch_history.specs.declared.rows.WorkRow.{WorkRow}
-use Rattle.records.specs.Maps.{Maps, AreBelow, MayReplaceExecution, execution_numbers}
+use Rattle.records.specs.Maps.{Maps, AreBelow, execution_numbers}
 use Rattle.records.specs.Without.{without_instance}
 use Rattle.restart_rules.specs.Placed.{is_placed}
-use Rattle.seq_repository.specs.Changes.{put_row}
+use Rattle.seq_repository.specs.Changes.{put_row, ReplacesExecution}
 use Rattle.seq_repository.specs.Kept.{Kept, IsSound}
 use Rattle.seq_repository.specs.Metered.{IsStep}
 use Rattle.seq_repository.proofs.Below.{below_changed, below_filtered, below_pushed}
 use Rattle.seq_repository.proofs.Entries.{maps-changed}
-use Rattle.seq_repository.proofs.Placing.{placed_filtered, placed_put, placed_pushed}
+use Rattle.restart_rules.proofs.Placing.{placed_filtered, placed_pushed}
+use Rattle.seq_repository.proofs.Placing.{placed_put}
 use Rattle.seq_repository.proofs.Metering.{within_filtered, within_more, within_pushed, within_put}
 
 -- a changed row keeps its number
-below_put : (x : ℕ) (new : Option ExecutionRow) (rows : List ExecutionRow) (bound : ℕ) → IfSome new (λ row. MayReplaceExecution rows x row)
+below_put : (x : ℕ) (new : Option ExecutionRow) (rows : List ExecutionRow) (bound : ℕ) → IfSome new (λ row. ReplacesExecution rows x row)
     → AreBelow bound (execution_numbers rows) → AreBelow bound (execution_numbers (put_row x new rows))
 below_put x None rows bound own h = h
 below_put x (Some row) rows bound own h = below_changed (λ (r : ExecutionRow). r.execution) (is_execution x) rows own.0 row bound own.1 own.2.execution h
 
 pub sound_change : (limit : ℕ) (kept : Kept) (m : Maps) (x : ℕ) (new : Option ExecutionRow) → IsSound limit kept → kept.count < limit
-    → IfSome new (λ row. MayReplaceExecution kept.records.executions x row)
+    → IfSome new (λ row. ReplacesExecution kept.records.executions x row)
     → m ≡ record kept.records { executions = put_row x new kept.records.executions } → IsSound limit (record kept { count = kept.count + 1; records = m })
 sound_change limit kept m x new s room own is =
     subst (λ (maps : Maps). IsSound limit (record kept { count = kept.count + 1; records = maps })) (sym is)
@@ -87,7 +88,7 @@ sound_restart limit kept m row s x room placed is =
     }
 
 pub sound_work : (limit : ℕ) (kept : Kept) (m1 m2 : Maps) (x : ℕ) (new : Option ExecutionRow) (work : WorkRow) → IsSound limit kept → kept.count < limit
-    → IfSome new (λ row. MayReplaceExecution kept.records.executions x row) → work.work ≡ kept.last.work + 1
+    → IfSome new (λ row. ReplacesExecution kept.records.executions x row) → work.work ≡ kept.last.work + 1
     → work.metrics ≡ zero_metrics → m1 ≡ record kept.records { works = kept.records.works ++ work ∷ [] } → m2 ≡ record m1 { executions = put_row x new m1.executions }
     → IsSound limit (record kept { count = kept.count + 1; last = record { instance = kept.last.instance; execution = kept.last.execution; work = kept.last.work + 1 }; records = m2 })
 sound_work limit kept m1 m2 x new work s room own next zero e1 e2 =
@@ -110,7 +111,7 @@ sound_work limit kept m1 m2 x new work s room own next zero e1 e2 =
     }
 
 pub sound_report : (limit : ℕ) (kept : Kept) (m1 m2 m3 : Maps) (p : WorkRow → Bool) (x : ℕ) (row work : WorkRow) (new : Option ExecutionRow) (step : MetricStep)
-    → IsSound limit kept → kept.count < limit → IfSome new (λ row. MayReplaceExecution kept.records.executions x row) → find p kept.records.works ≡ Some row
+    → IsSound limit kept → kept.count < limit → IfSome new (λ row. ReplacesExecution kept.records.executions x row) → find p kept.records.works ≡ Some row
     → work.work ≡ row.work → work.metrics ≡ added row.metrics step → IsStep step
     → m1 ≡ record kept.records { checkpoints = m1.checkpoints } → m2 ≡ record m1 { works = change_first p (λ old. work) m1.works }
     → m3 ≡ record m2 { executions = put_row x new m2.executions }

@@ -3,7 +3,7 @@ use Rattle.std.proofs.Common.{◌≡◌, ℕ, true, false, cond, Result, Ok, Err
 use Rattle.batch_ids.specs.declared.refusal.Refusal.{Refusal}
 use Rattle.batch_history.proofs.Legal.{legal_grown}
 use Rattle.batch_history.proofs.Legality.{rows_grown}
-use Rattle.batch_history.proofs.Steps.{rows_after}
+use Rattle.batch_history.specs.NextRows.{rows_after}
 use Rattle.batch_history.specs.Due.{IsDue}
 use Rattle.batch_history.specs.Replies.{is_nothing, reply, reply_by}
 use Rattle.batch_history.specs.Rows.{History, Rows}

@@ -4,12 +4,10 @@ use Rattle.std.specs.Option.{option_map}
 use Rattle.batch_ids.specs.declared.metric_step.MetricStep.{MetricStep}
 use Rattle.batch_ids.specs.declared.status.BatchStatus.{BatchStatus}
 use Rattle.batch_ids.specs.declared.status.WorkOutcome.{WorkOutcome}
-use Rattle.batch_history.proofs.Folds.{over_as}
-use Rattle.batch_history.proofs.WorkLists.{AllApart}
+use Rattle.batch_history.specs.NextRows.{over_as, refreshed}
 use Rattle.batch_history.specs.Lists.{change_first}
-use Rattle.batch_history.specs.Works.{busy_work, is_work, item_key, work_key}
+use Rattle.batch_history.specs.Works.{busy_work, is_work, item_key, work_key, AllApart}
 use Rattle.batch_history.specs.declared.call.WorkItem.{WorkItem}
-use Rattle.batch_history.proofs.Steps.{refreshed}
 use Rattle.batch_history.specs.Replies.{first_ready, has_something_by, row_status}
 use Rattle.batch_history.specs.Rows.{is_execution}
 use Rattle.batch_history.specs.Walks.{walk_value}

@@ -1,18 +1,18 @@
 -- What an operation does to the job execution that it is on.
-use Rattle.std.specs.Prelude.{ℕ, ◌≡◌, true, false, Option, None, Some, List}
+use Rattle.std.specs.Prelude.{ℕ, ◌≡◌, true, false, Option, None, Some, List, find}
 use Rattle.std.specs.Option.{option_map}
 use Rattle.batch_ids.specs.declared.status.WorkOutcome.{WorkOutcome}
 use Rattle.batch_ids.specs.declared.status.WorkOutcome.TheVariants.{Completed, Failed, Stopped}
 use Rattle.jsl_model.specs.Jobs.{JobTree}
 use Rattle.batch_history.specs.declared.rows.ExecutionRow.{ExecutionRow}
 use Rattle.batch_history.specs.declared.rows.WorkRow.{WorkRow}
-use Rattle.batch_history.proofs.Steps.{Effect, refreshed}
+use Rattle.batch_history.specs.NextRows.{Effect, refreshed}
 use Rattle.batch_history.specs.Checkpoints.{InstanceStep}
 use Rattle.batch_history.specs.Lists.{change_first}
 use Rattle.batch_history.specs.Replies.{is_execution}
 use Rattle.batch_history.specs.Walks.{walk_value}
 use Rattle.walk_rules.specs.declared.work_key.WorkKey.{WorkKey}
-use Rattle.records.specs.Maps.{Maps, SetsCheckpoint}
+use Rattle.records.specs.Maps.{Maps, KeepsExecution, SetsCheckpoint}
 use Rattle.seq_repository.specs.declared.rows.Change.{Change}
 use Rattle.seq_repository.specs.declared.rows.Change.TheVariants.{StopRequest, Abandonment, Claim as TakeUp, Report}
 
@@ -32,6 +32,12 @@ row_after change catalogue works at row =
 abbrev pub put_row : ℕ → Option ExecutionRow → List ExecutionRow → List ExecutionRow
 put_row x None rows = rows
 put_row x (Some row) rows = change_first (is_execution x) (λ old. row) rows
+
+-- a row may stand in place of that of job execution x, which is there: it keeps what the indexes go by, and its plan, by which
+-- its walk goes
+abbrev pub ReplacesExecution : List ExecutionRow → ℕ → ExecutionRow → Type 0
+ReplacesExecution rows x row =
+    (before : ExecutionRow) × (find (is_execution x) rows ≡ Some before) × KeepsExecution before row × (row.plan ≡ before.plan)
 
 -- the step of the job instance of this job execution, if there is one
 abbrev pub place_at : Option ExecutionRow → WorkKey → Option InstanceStep

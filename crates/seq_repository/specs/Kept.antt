@@ -3,7 +3,7 @@ use Rattle.std.specs.Prelude.{ℕ, ◌≡◌, ◌≤◌, ◌+◌, List}
 use Rattle.std.specs.BTreeMap.{BTreeMap}
 use Rattle.batch_ids.specs.Metrics.{most_after}
 use Rattle.jsl_model.specs.Jobs.{JobTree}
-use Rattle.batch_history.proofs.WorkLists.{AllApart}
+use Rattle.batch_history.specs.Works.{AllApart}
 use Rattle.batch_history.specs.Legal.{IsLegal, grown}
 use Rattle.batch_history.specs.Rows.{History, Rows, rows}
 use Rattle.batch_history.specs.declared.call.Entry.{Entry}

@@ -8,9 +8,9 @@ use Rattle.batch_history.specs.Replies.{is_execution}
 use Rattle.batch_history.specs.Works.{is_work, work_key}
 use Rattle.batch_history.specs.declared.rows.WorkRow.{WorkRow}
 use Rattle.job_walk.specs.Cursors.{CursorState}
-use Rattle.records.specs.Maps.{MayReplaceExecution, MayReplaceWork}
+use Rattle.records.specs.Maps.{MayReplaceWork}
 use Rattle.seq_repository.specs.Agendas.{is_ready_row}
-use Rattle.seq_repository.specs.Changes.{row_after}
+use Rattle.seq_repository.specs.Changes.{row_after, ReplacesExecution}
 use Rattle.seq_repository.specs.Following.{Walks}
 use Rattle.seq_repository.specs.Kept.{Kept}
 use Rattle.seq_repository.specs.Metered.{IsStep}
@@ -34,7 +34,7 @@ pub record IsReport (kept : Kept) (w at : ℕ) (work : WorkRow) (after : After) 
   pub counts : work.metrics ≡ added row.metrics step
   pub small : IsStep step
   pub place : after.step ≡ work_key row
-  pub own : IfSome after.row (λ new. MayReplaceExecution kept.records.executions work.execution new)
+  pub own : IfSome after.row (λ new. ReplacesExecution kept.records.executions work.execution new)
   pub new : after.row ≡ option_map (row_after Report kept.catalogue (works_with w work kept.records.works) at) (find (is_execution work.execution) kept.records.executions)
   pub ready : after.ready ≡ is_ready_row kept.catalogue (works_with w work kept.records.works) after.row
   pub walks : Walks kept.catalogue (works_with w work kept.records.works) (find (is_execution work.execution) kept.records.executions) cursor

@@ -5,9 +5,8 @@ ghost use Rattle.batch_history.specs.Replies.{is_execution};
 ghost use Rattle.batch_history.specs.Works.{work_key};
 ghost use Rattle.batch_history.specs.declared.rows.WorkRow.{WorkRow as Work};
 ghost use Rattle.jsl_model.specs.Jobs.{JobTree as Tree};
-ghost use Rattle.records.specs.Maps.{MayReplaceExecution};
 ghost use Rattle.seq_repository.specs.Agendas.{is_ready_row};
-ghost use Rattle.seq_repository.specs.Changes.{row_after};
+ghost use Rattle.seq_repository.specs.Changes.{row_after, ReplacesExecution};
 ghost use Rattle.seq_repository.specs.Following.{Walks};
 ghost use Rattle.seq_repository.specs.declared.rows.Change.TheVariants.{Report};
 
@@ -43,7 +42,7 @@ pub(crate) fn after_report(
         → IfOk result (λ after. after.row ≡ option_map (row_after Report catalogue works at)
         (find (is_execution work.now.execution) records.now.executions)) }
     ensures own { IfOk result (λ after. IfSome after.row
-        (λ row. MayReplaceExecution records.now.executions work.now.execution row)) }
+        (λ row. ReplacesExecution records.now.executions work.now.execution row)) }
     ensures ready { (catalogue : List Tree) (works : List Work)
         → Walks catalogue works (find (is_execution work.now.execution) records.now.executions) cursor.now
         → IfOk result (λ after. after.ready ≡ is_ready_row catalogue works after.row) }

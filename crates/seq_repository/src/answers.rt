@@ -148,7 +148,7 @@ fn running(alloc: Global, rows: &Records, job: &T256) -> Result<Answer, Refusal>
     if !is_known(rows, job) {
         return Err(Refusal::NoSuchJobException);
     }
-    let running = rows.running_of(alloc, job.as_str())?;
+    let running = rows.running_of(job.as_str())?;
     Ok(Answer::RunningExecutions(Listed::from_vec(running)))
 }
 

@@ -3,12 +3,11 @@ ghost use Rattle.std.specs.Prelude.{ℕ, ◌≡◌, ◌++◌, ◌∷◌, [], tru
 ghost use Rattle.std.specs.BTreeMap.{get, keys};
 ghost use Rattle.std.specs.Ordering.{nat_cmp, is_eq};
 ghost use Rattle.batch_ids.specs.declared.metric_step.MetricStep.{MetricStep as Counts};
-ghost use Rattle.batch_history.proofs.Folds.{over_as};
-ghost use Rattle.batch_history.proofs.Knowing.{known_elements};
-ghost use Rattle.batch_history.proofs.WorkLists.{AllApart};
+ghost use Rattle.batch_history.specs.NextRows.{over_as};
+ghost use Rattle.batch_history.specs.Walks.{known_elements};
 ghost use Rattle.batch_history.specs.Lists.{change_first};
 ghost use Rattle.batch_history.specs.Replies.{is_execution};
-ghost use Rattle.batch_history.specs.Works.{is_work, busy_work};
+ghost use Rattle.batch_history.specs.Works.{is_work, busy_work, AllApart};
 ghost use Rattle.batch_history.specs.declared.rows.ExecutionRow.{ExecutionRow};
 ghost use Rattle.batch_history.specs.declared.rows.WorkRow.{WorkRow as Work};
 ghost use Rattle.jsl_model.specs.Jobs.{JobTree};

@@ -7,16 +7,15 @@ ghost use Rattle.batch_history.specs.Lists.{change_first};
 ghost use Rattle.batch_history.specs.Replies.{is_execution, is_running_in, reply_by, is_nothing};
 ghost use Rattle.batch_history.specs.Walks.{job_named};
 ghost use Rattle.batch_ids.specs.declared.metric_step.MetricStep.{MetricStep as Counts};
-ghost use Rattle.batch_history.proofs.Folds.{over, over_as, reported};
+ghost use Rattle.batch_history.specs.NextRows.{over, over_as, reported, rows_after};
 ghost use Rattle.batch_history.specs.Works.{busy_work, exit_or_name, is_work};
 ghost use Rattle.seq_repository.specs.Reports.{IsReport};
-ghost use Rattle.batch_history.proofs.Steps.{rows_after};
 ghost use Rattle.seq_repository.specs.Kept.{rows_in};
-ghost use Rattle.records.specs.Maps.{MayReplaceExecution, is_instance, is_over};
+ghost use Rattle.records.specs.Maps.{is_instance};
 ghost use Rattle.seq_repository.specs.Agendas.{is_ready_row};
 ghost use Rattle.seq_repository.specs.Following.{IsFollowed, Walks};
 ghost use Rattle.jsl_model.specs.Jobs.{JobTree as Tree};
-ghost use Rattle.seq_repository.specs.Changes.{put_row, place_at, row_after, LeavesMark};
+ghost use Rattle.seq_repository.specs.Changes.{ReplacesExecution, put_row, place_at, row_after, LeavesMark};
 
 use crate::after::{After, after_report};
 use crate::repository::Repository;
@@ -34,7 +33,7 @@ use std::alloc::Global;
 
 /// Puts a row in place of that of its job execution.
 fn put_row(records: &mut Records, x: ExecutionId, new: Option<ExecutionRow>)
-    requires { IfSome new (λ row. MayReplaceExecution records.old.executions x row) }
+    requires { IfSome new (λ row. ReplacesExecution records.old.executions x row) }
     ensures { records.new ≡ record records.old { executions = put_row x new records.old.executions } }
 {
     match new {
@@ -75,7 +74,7 @@ pub(crate) fn execution_after(
         → IfOk result (λ new. new.0 ≡ option_map (row_after change catalogue works at)
         (find (is_execution x) records.now.executions)) }
     ensures own { IfOk result (λ new. IfSome new.0
-        (λ row. MayReplaceExecution records.now.executions x row)) }
+        (λ row. ReplacesExecution records.now.executions x row)) }
     ensures ready { (catalogue : List Tree) (works : List Work)
         → Walks catalogue works (find (is_execution x) records.now.executions) cursor.now
         → IfOk result (λ new. new.1 ≡ is_ready_row catalogue works new.0) }
@@ -470,8 +469,6 @@ impl<const LIMIT: u64> Repository<LIMIT> {
     ) -> Result<(), OutOfMemory>
         requires room { self.old.count < LIMIT }
         requires held { is_some (find (is_work w) self.old.records.works) ≡ true }
-        requires busy { IfSome (find (is_work w) self.old.records.works)
-            (λ row. is_over row.state ≡ false) }
         ensures rows { OnOk result (rows_in self.new ≡ rows_after (rows_in self.old) record {
           who = 0;
           call = Call.Finish w outcome exit.now step.now;
@@ -502,8 +499,6 @@ impl<const LIMIT: u64> Repository<LIMIT> {
     ) -> Result<(), OutOfMemory>
         requires room { self.old.count < LIMIT }
         requires held { is_some (find (is_work w) self.old.records.works) ≡ true }
-        requires busy { IfSome (find (is_work w) self.old.records.works)
-            (λ row. is_over row.state ≡ false) }
         requires kept { IfSome (find (is_work w) self.old.records.works) (λ row. IfSome kept
             (IsFollowed self.old.catalogue self.old.records.works self.old.records.executions
             row.execution)) }
@@ -546,8 +541,6 @@ impl<const LIMIT: u64> Repository<LIMIT> {
     ) -> Result<(), OutOfMemory>
         requires room { self.old.count < LIMIT }
         requires held { is_some (find (is_work w) self.old.records.works) ≡ true }
-        requires busy { IfSome (find (is_work w) self.old.records.works)
-            (λ row. is_over row.state ≡ false) }
         requires walks { IfSome (find (is_work w) self.old.records.works) (λ row.
             (counts : Counts) (end number : ℕ) → Walks self.old.catalogue (change_first (is_work w)
             (over_as outcome exit counts end number) self.old.records.works)
@@ -617,8 +610,6 @@ impl<const LIMIT: u64> Repository<LIMIT> {
     fn enter_loss(&mut self, at: Moment, w: WorkId) -> Result<(), OutOfMemory>
         requires room { self.old.count < LIMIT }
         requires held { is_some (find (is_work w) self.old.records.works) ≡ true }
-        requires busy { IfSome (find (is_work w) self.old.records.works)
-            (λ row. is_over row.state ≡ false) }
         ensures rows { OnOk result (rows_in self.new ≡ rows_after (rows_in self.old) record {
           who = 0;
           call = Call.Lose w;
@@ -667,7 +658,7 @@ impl<const LIMIT: u64> Repository<LIMIT> {
     }
 
     /// Enters a call with the reply that it is due.
-    #[tactic(auto, using(crate::proofs::Replying::started_there, crate::proofs::Replying::restarted_there, crate::proofs::Replying::lost_there, crate::proofs::Replying::lost_busy, crate::proofs::Replying::checkpointed_there, crate::proofs::Replying::finished_there, crate::proofs::Replying::finished_busy, crate::proofs::Entries::stop_rows, crate::proofs::Entries::abandon_rows))]
+    #[tactic(auto, using(crate::proofs::Replying::started_there, crate::proofs::Replying::restarted_there, crate::proofs::Replying::lost_there, crate::proofs::Replying::checkpointed_there, crate::proofs::Replying::finished_there, crate::proofs::Entries::stop_rows, crate::proofs::Entries::abandon_rows))]
     pub(crate) fn enter_call(
         &mut self,
         who: u64,

@@ -2,8 +2,7 @@ ghost use Rattle.std.specs.Prelude.{◌≡◌, IfOk};
 ghost use Rattle.batch_ids.specs.Metrics.{added};
 ghost use Rattle.batch_ids.specs.Metrics.{IsWithin, most_after};
 ghost use Rattle.seq_repository.specs.Metered.{IsStep};
-ghost use Rattle.batch_history.proofs.Folds.{reported, over_as};
-ghost use Rattle.batch_history.proofs.Steps.{fresh_row, renewed, refreshed};
+ghost use Rattle.batch_history.specs.NextRows.{reported, over_as, fresh_row, renewed, refreshed};
 ghost use Rattle.batch_history.specs.Works.{busy_work};
 ghost use Rattle.seq_repository.specs.Changes.{effect_of};
 

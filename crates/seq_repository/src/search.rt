@@ -1,11 +1,10 @@
 ghost use Rattle.std.specs.Prelude.{ℕ, ◌≡◌, Some, true, IfOk, IfSome, find};
 ghost use Rattle.std.specs.Option.{option_map};
 ghost use Rattle.batch_ids.specs.declared.metric_step.MetricStep.{MetricStep as Step};
-ghost use Rattle.batch_history.proofs.Folds.{over_as};
+ghost use Rattle.batch_history.specs.NextRows.{over_as};
 ghost use Rattle.batch_history.specs.Lists.{change_first};
 ghost use Rattle.batch_history.specs.Replies.{first_ready, is_execution};
-ghost use Rattle.batch_history.specs.Walks.{walk_value};
-ghost use Rattle.batch_history.proofs.Knowing.{known_elements};
+ghost use Rattle.batch_history.specs.Walks.{walk_value, known_elements};
 ghost use Rattle.batch_history.specs.Works.{is_work};
 ghost use Rattle.records.specs.Maps.{execution_numbers, AreRising};
 ghost use Rattle.restart_rules.specs.Placed.{ArePlaced, is_placed};

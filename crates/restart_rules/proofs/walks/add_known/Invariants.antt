@@ -1,5 +1,5 @@
 use Rattle.std.proofs.Common.{◌≡◌, ◌++◌, map}
-use Rattle.batch_history.proofs.Knowing.{known_elements}
+use Rattle.batch_history.specs.Walks.{known_elements}
 use Rattle.records.specs.Left.{works_left}
 use Rattle.restart_rules.proofs.Reading.{known_by}
 use Rattle.restart_rules.proofs.walks.add_known.Given as goal

@@ -3,7 +3,7 @@ use Rattle.batch_history.specs.Replies.{is_execution}
 use Rattle.seq_repository.proofs.Agendas.{none_due}
 use Rattle.seq_repository.proofs.Entries.{found-execution}
 use Rattle.seq_repository.proofs.Numbers.{empty_list}
-use Rattle.seq_repository.proofs.Placing.{placed_found}
+use Rattle.restart_rules.proofs.Placing.{placed_found}
 use Rattle.seq_repository.proofs.search.find_claimable.Goals as goal
 
 pub next_key-requires : goal.next_key-requires

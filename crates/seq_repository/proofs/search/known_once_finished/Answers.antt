@@ -1,5 +1,5 @@
 use Rattle.std.proofs.Common.{◌≡◌, ◌++◌, List, refl, ◌∙◌, ap, map}
-use Rattle.batch_history.proofs.Folds.{over_as}
+use Rattle.batch_history.specs.NextRows.{over_as}
 use Rattle.batch_history.specs.Lists.{change_first}
 use Rattle.batch_history.specs.Works.{is_work}
 use Rattle.batch_history.specs.declared.rows.WorkRow.{WorkRow}

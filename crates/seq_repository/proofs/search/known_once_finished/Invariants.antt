@@ -1,8 +1,8 @@
 use Rattle.std.proofs.Common.{ℕ, ◌≡◌, ◌++◌, map, cond}
 use Rattle.batch_ids.specs.declared.metric_step.MetricStep.{MetricStep}
-use Rattle.batch_history.proofs.Folds.{over_as}
+use Rattle.batch_history.specs.NextRows.{over_as}
 use Rattle.batch_history.specs.Lists.{change_first}
-use Rattle.batch_history.proofs.Knowing.{known_elements}
+use Rattle.batch_history.specs.Walks.{known_elements}
 use Rattle.batch_history.specs.Works.{is_work}
 use Rattle.records.specs.Left.{works_left}
 use Rattle.restart_rules.proofs.Reading.{known_by}

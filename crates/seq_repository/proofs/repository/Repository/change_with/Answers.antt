@@ -1,4 +1,4 @@
-use Rattle.seq_repository.proofs.Placing.{placed_at}
+use Rattle.restart_rules.proofs.Placing.{placed_at}
 use Rattle.seq_repository.proofs.repository.Repository.change_with.Goals as goal
 
 pub current-requires-clause-placed : goal.current-requires-clause-placed

@@ -1,6 +1,6 @@
 use Rattle.std.proofs.Common.{◌≡◌, sym, find, Option, Some, IfSome, subst, arith}
 use Rattle.batch_history.specs.declared.rows.WorkRow.{WorkRow}
-use Rattle.batch_history.proofs.Folds.{reported}
+use Rattle.batch_history.specs.NextRows.{reported}
 use Rattle.batch_history.specs.Replies.{is_execution}
 use Rattle.batch_history.specs.Works.{is_work}
 use Rattle.seq_repository.specs.Following.{Walks}

@@ -1,5 +1,5 @@
 use Rattle.std.proofs.Common.{◌≡◌, OnOk, subst}
-use Rattle.batch_history.proofs.Steps.{rows_after}
+use Rattle.batch_history.specs.NextRows.{rows_after}
 use Rattle.batch_history.specs.declared.call.Call.TheVariants.{Finish}
 use Rattle.batch_history.specs.declared.call.Reply.TheVariants.{Done}
 use Rattle.seq_repository.specs.Kept.{Kept, rows_in}

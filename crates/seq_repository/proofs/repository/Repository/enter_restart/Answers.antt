@@ -1,8 +1,8 @@
 use Rattle.std.proofs.Common.{◌≡◌, ◌+◌, true, sym, ◌∙◌, ap, arith}
-use Rattle.batch_history.proofs.Steps.{fresh_row}
+use Rattle.batch_history.specs.NextRows.{fresh_row}
 use Rattle.batch_history.specs.Replies.{is_execution, row_status}
 use Rattle.restart_rules.specs.Placed.{is_placed}
-use Rattle.seq_repository.proofs.Placing.{placed_found}
+use Rattle.restart_rules.proofs.Placing.{placed_found}
 use Rattle.batch_history.specs.declared.rows.ExecutionRow.{ExecutionRow}
 use Rattle.batch_history.specs.declared.rows.LastNumbers.{LastNumbers}
 use Rattle.batch_history.specs.declared.call.Reply.TheVariants.{Done}

@@ -1,5 +1,5 @@
 use Rattle.std.proofs.Common.{◌≡◌, ℕ, ◌+◌, true, Some, List, sym, ◌∙◌, ap, arith}
-use Rattle.batch_history.proofs.Steps.{fresh_row}
+use Rattle.batch_history.specs.NextRows.{fresh_row}
 use Rattle.batch_history.specs.Replies.{row_status}
 use Rattle.batch_history.specs.Restarts.{first_plan}
 use Rattle.batch_history.specs.Walks.{job_named}

@@ -1,4 +1,4 @@
-use Rattle.seq_repository.proofs.Placing.{placed_at}
+use Rattle.restart_rules.proofs.Placing.{placed_at}
 use Rattle.seq_repository.proofs.repository.Repository.finish_with.Goals as goal
 
 pub finished-requires-clause-placed : goal.finished-requires-clause-placed

@@ -1,5 +1,5 @@
 use Rattle.std.proofs.Common.{◌≡◌, ℕ, Option, Some, IfSome, find, not, refl, sym, ap, subst, arith}
-use Rattle.batch_history.proofs.Folds.{reported}
+use Rattle.batch_history.specs.NextRows.{reported}
 use Rattle.batch_history.specs.Works.{is_work}
 use Rattle.batch_history.specs.declared.rows.WorkRow.{WorkRow}
 use Rattle.job_walk.specs.Cursors.{CursorState}

@@ -1,5 +1,5 @@
 use Rattle.std.proofs.Common.{arith}
-use Rattle.seq_repository.proofs.Placing.{placed_at}
+use Rattle.restart_rules.proofs.Placing.{placed_at}
 use Rattle.seq_repository.proofs.repository.Repository.reply.Goals as goal
 
 pub reply_to_restart-requires : goal.reply_to_restart-requires

@@ -4,7 +4,7 @@ use Rattle.seq_repository.specs.Kept.{Kept, rows_in}
 use Rattle.batch_history.specs.declared.call.Call.TheVariants.{Claim}
 use Rattle.batch_history.specs.declared.call.Reply.TheVariants.{Work}
 use Rattle.seq_repository.proofs.Followed.{claimed_first}
-use Rattle.seq_repository.proofs.Placing.{placed_at}
+use Rattle.restart_rules.proofs.Placing.{placed_at}
 use Rattle.seq_repository.specs.Following.{IsFollowed}
 use Rattle.seq_repository.proofs.repository.Repository.work_with.Goals as goal
 

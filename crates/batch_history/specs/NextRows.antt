@@ -1,6 +1,5 @@
--- A device of proofs: how one operation changes the rows.
+-- How one operation changes the rows: what is made, what of a job execution and of a work item is anew, and what is removed.
 use Rattle.std.specs.Prelude.{ℕ, ◌+◌, ◌==◌, ◌||◌, Bool, false, Option, Some, None, List, [], ◌∷◌, ◌++◌, find}
-use Rattle.batch_history.proofs.Folds.{instances_after, works_after}
 use Rattle.batch_history.specs.Checkpoints.{InstanceStep, instance_step_by, is_same_step, checkpoint_after}
 use Rattle.batch_history.specs.Lists.{change_first, is_at}
 use Rattle.batch_history.specs.Moments.{first_moment}
@@ -10,20 +9,76 @@ use Rattle.batch_history.specs.Restarts.{first_plan}
 use Rattle.batch_history.specs.Rows.{Rows, existing}
 use Rattle.batch_history.specs.Statuses.{batch_status, exit_status, is_finished}
 use Rattle.batch_history.specs.Walks.{job_named, walk_value}
-use Rattle.batch_history.specs.Works.{is_work, execution_of_operation}
+use Rattle.batch_history.specs.Works.{is_work, busy_work, exit_or_name, execution_of_operation}
 use Rattle.batch_history.specs.declared.call.Call.{Call}
 use Rattle.batch_history.specs.declared.call.Call.TheVariants.{Start, Restart, Stop, Abandon, Claim, Checkpoint, Finish, Lose, Purge}
 use Rattle.batch_history.specs.declared.call.Entry.{Entry}
 use Rattle.batch_history.specs.declared.call.Reply.{Reply}
 use Rattle.batch_history.specs.declared.call.Reply.TheVariants.{Execution, Work, Closed, Nothing, Done, Go, StopAsked}
 use Rattle.batch_history.specs.declared.rows.ExecutionRow.{ExecutionRow}
+use Rattle.batch_history.specs.declared.rows.JobInstance.{JobInstance}
 use Rattle.batch_history.specs.declared.rows.LastNumbers.{LastNumbers}
 use Rattle.batch_history.specs.declared.rows.WorkRow.{WorkRow}
+use Rattle.batch_history.specs.declared.rows.WorkState.TheVariants.{Over}
+use Rattle.batch_ids.specs.Metrics.{added, zero_step}
 use Rattle.batch_ids.specs.Parameters.{Pair}
+use Rattle.batch_ids.specs.declared.metric_step.MetricStep.{MetricStep}
 use Rattle.batch_ids.specs.declared.status.BatchStatus.TheVariants.{Starting}
+use Rattle.batch_ids.specs.declared.status.WorkOutcome.{WorkOutcome}
+use Rattle.batch_ids.specs.declared.status.WorkOutcome.TheVariants.{Failed}
 use Rattle.walk_rules.specs.declared.facts.Value.{Value}
 use Rattle.job_walk.specs.declared.plan.Plan.{Plan}
 use Rattle.jsl_model.specs.Jobs.{JobTree}
+
+-- ---- Job instances and work items
+
+-- the job instances after a call, this number being the next
+abbrev pub instances_after : ℕ → Call → List JobInstance → List JobInstance
+instances_after n (Start job parameters) rows = rows ++ record { instance = n; job = job } ∷ []
+instances_after n (Restart y parameters) rows = rows
+instances_after n (Stop y) rows = rows
+instances_after n (Abandon y) rows = rows
+instances_after n Claim rows = rows
+instances_after n (Checkpoint w mark step) rows = rows
+instances_after n (Finish w outcome exit step) rows = rows
+instances_after n (Lose w) rows = rows
+instances_after n (Purge i) rows = rows
+
+-- a work item with these counts added to its metrics
+abbrev pub reported : MetricStep → WorkRow → WorkRow
+reported step row = record row { metrics = added row.metrics step }
+
+-- a work item that is over, by the operation of this number
+abbrev pub over_as : WorkOutcome → List ℕ → MetricStep → ℕ → ℕ → WorkRow → WorkRow
+over_as outcome exit step at n row = record (reported step row) { state = Over outcome exit; end = Some at; ended = Some n }
+
+-- the same with the exit status that was given, else the name of the outcome
+abbrev pub over : WorkOutcome → Option (List ℕ) → MetricStep → ℕ → ℕ → WorkRow → WorkRow
+over outcome exit step at n = over_as outcome (exit_or_name outcome exit) step at n
+
+-- the work items with the one that a reply hands out to a session
+abbrev pub with_handed_out : ℕ → ℕ → Reply → List WorkRow → List WorkRow
+with_handed_out who at (Work item) rows = rows ++ busy_work who at item ∷ []
+with_handed_out who at (Execution x) rows = rows
+with_handed_out who at (Closed x) rows = rows
+with_handed_out who at Nothing rows = rows
+with_handed_out who at Done rows = rows
+with_handed_out who at Go rows = rows
+with_handed_out who at StopAsked rows = rows
+
+-- the work items after operation n
+abbrev pub works_after : ℕ → ℕ → ℕ → Call → Reply → List WorkRow → List WorkRow
+works_after n who at (Start job parameters) reply rows = rows
+works_after n who at (Restart y parameters) reply rows = rows
+works_after n who at (Stop y) reply rows = rows
+works_after n who at (Abandon y) reply rows = rows
+works_after n who at Claim reply rows = with_handed_out who at reply rows
+works_after n who at (Checkpoint w mark step) reply rows = change_first (is_work w) (reported step) rows
+works_after n who at (Finish w outcome exit step) reply rows = change_first (is_work w) (over outcome exit step at n) rows
+works_after n who at (Lose w) reply rows = change_first (is_work w) (over Failed None zero_step at n) rows
+works_after n who at (Purge i) reply rows = rows
+
+-- ---- Job executions
 
 -- the row of a job execution that was just made
 abbrev pub fresh_row : ℕ → ℕ → ℕ → List ℕ → List Pair → Plan → ExecutionRow
@@ -74,6 +129,7 @@ pub record Effect : Type 0 where
   pub gives_up : Bool
   pub takes : Bool
 
+-- what a call with this reply does to job execution x
 abbrev pub effect_on : ℕ → Call → Reply → Effect
 effect_on x call reply = record { asks = is_at x (stop_request call); gives_up = is_at x (abandonment call); takes = is_at x (taken_up call reply) }
 
@@ -87,6 +143,7 @@ abbrev pub refreshed_by : List JobTree → List WorkRow → ℕ → Call → Rep
 refreshed_by catalogue works at call reply row =
     refreshed (effect_on row.execution call reply) (walk_value catalogue works row.execution row.job row.plan) at row
 
+-- the job executions with the one that an operation is on, if it is on one, as it is after it
 abbrev pub refreshed_at : List JobTree → List WorkRow → ℕ → Call → Reply → Option ℕ → List ExecutionRow → List ExecutionRow
 refreshed_at catalogue works at call reply None rows = rows
 refreshed_at catalogue works at call reply (Some x) rows = change_first (is_execution x) (refreshed_by catalogue works at call reply) rows
@@ -111,7 +168,7 @@ executions_after r works at (Purge i) reply = r.executions
 abbrev pub place_in : Rows → ℕ → Option InstanceStep
 place_in r w = instance_step_by (instance_in r.executions) (find (is_work w) r.works)
 
--- the last numbers after an operation
+-- the last numbers after a claim with this reply
 abbrev pub last_after_claim : Reply → LastNumbers → LastNumbers
 last_after_claim (Work item) last = record last { work = last.work + 1 }
 last_after_claim (Execution x) last = last
@@ -121,6 +178,7 @@ last_after_claim Done last = last
 last_after_claim Go last = last
 last_after_claim StopAsked last = last
 
+-- the last numbers after a call with this reply
 abbrev pub last_after : Call → Reply → LastNumbers → LastNumbers
 last_after (Start job parameters) reply last = record last { instance = last.instance + 1; execution = last.execution + 1 }
 last_after (Restart y parameters) reply last = record last { execution = last.execution + 1 }
