@@ -14,6 +14,8 @@ use Rattle.job_walk.specs.declared.runnable.Runnable.{Runnable}
 use Rattle.job_walk.specs.declared.runnable.Runnable.TheVariants.{Step as RunsStep}
 use Rattle.walk_rules.specs.declared.facts.Fact.{Fact}
 use Rattle.walk_rules.specs.declared.work_key.WorkKey.{WorkKey}
+use Rattle.batch_history.specs.Lists.{Each}
+use Rattle.batch_history.specs.NextRows.{over, reported}
 use Rattle.batch_history.specs.Executions.{Made}
 use Rattle.batch_history.specs.Replies.{has_something, runnable_of_job, partitions_of_job, work_task}
 use Rattle.batch_history.specs.Rows.{Rows}
@@ -30,11 +32,11 @@ use Rattle.batch_history.specs.declared.call.WorkKind.TheVariants.{Batchlet, Chu
 use Rattle.batch_history.specs.declared.call.WorkTask.{WorkTask}
 use Rattle.batch_history.specs.declared.rows.ExecutionRow.{ExecutionRow}
 use Rattle.batch_history.specs.declared.rows.WorkRow.{WorkRow}
-use Rattle.batch_history.proofs.Folds.{made, is_made, works_of, plan_kept, folded_rows, over, reported}
+use Rattle.batch_history.proofs.Folds.{made, is_made, works_of, plan_kept, folded_rows}
 use Rattle.batch_history.proofs.Kept.{IsUnknown}
 use Rattle.batch_history.proofs.Stepping.{planned-by}
 use Rattle.batch_history.proofs.Told.{AllDue, IsRowOf, row-of, made-more, made-once, ToldClaim, claim-told}
-use Rattle.batch_history.proofs.WorkLists.{Each, each-map, each-append, each-change}
+use Rattle.batch_history.proofs.WorkLists.{each-map, each-append, each-change}
 use Rattle.history_laws.specs.Laws.{IsOpen}
 use Rattle.history_laws.proofs.Claims.{IsHandedOf, handed-of}
 use Rattle.history_laws.proofs.Handing.{unknown-open}

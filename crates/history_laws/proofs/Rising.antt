@@ -5,8 +5,9 @@ use Rattle.std.proofs.lemmas.Bool.{eqb-true, eq-eqb, ltb-false, ltb-true}
 use Rattle.batch_ids.specs.Metrics.{zero_step}
 use Rattle.batch_ids.specs.declared.status.WorkOutcome.TheVariants.{Failed}
 use Rattle.jsl_model.specs.Jobs.{JobTree}
+use Rattle.batch_history.specs.NextRows.{over, reported}
 use Rattle.batch_history.specs.Executions.{Made}
-use Rattle.batch_history.specs.Lists.{change_first, is_at}
+use Rattle.batch_history.specs.Lists.{change_first, is_at, Each}
 use Rattle.batch_history.specs.Operations.{taken_up_by}
 use Rattle.batch_history.specs.Replies.{first_ready, walk_in_rows, has_something}
 use Rattle.batch_history.specs.Rows.{Rows}
@@ -22,11 +23,11 @@ use Rattle.batch_history.specs.declared.rows.ExecutionRow.{ExecutionRow}
 use Rattle.batch_history.specs.declared.rows.WorkRow.{WorkRow}
 use Rattle.batch_history.proofs.Earlier.{instance-found}
 use Rattle.batch_history.proofs.Finished.{claim-unfinished, claimed-execution, on-it}
-use Rattle.batch_history.proofs.Folds.{made, is_made, works_of, bare_of, folded_rows, instance_made, over, reported}
+use Rattle.batch_history.proofs.Folds.{made, is_made, works_of, bare_of, folded_rows, instance_made}
 use Rattle.batch_history.proofs.Kept.{IsHeld, IsKept, kept}
 use Rattle.batch_history.proofs.Singles.{earlier-over}
 use Rattle.batch_history.proofs.Told.{AllDue, IsRowOf, row-of, made-more, made-number, ToldClaim, claim-told}
-use Rattle.batch_history.proofs.WorkLists.{Each, each-map, each-both, each-append, each-change}
+use Rattle.batch_history.proofs.WorkLists.{each-map, each-both, each-append, each-change}
 
 -- ---- Lists of work items
 

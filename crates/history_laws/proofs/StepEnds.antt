@@ -11,8 +11,9 @@ use Rattle.batch_ids.specs.declared.status.WorkOutcome.{WorkOutcome}
 use Rattle.jsl_model.specs.Jobs.{JobTree}
 use Rattle.jsl_model.specs.declared.element.Task.{Task}
 use Rattle.job_walk.specs.declared.plan.Plan.{Plan}
+use Rattle.batch_history.specs.NextRows.{over, reported}
 use Rattle.batch_history.specs.Executions.{Made}
-use Rattle.batch_history.specs.Lists.{change_first}
+use Rattle.batch_history.specs.Lists.{change_first, Each}
 use Rattle.batch_history.specs.Moments.{first_moment}
 use Rattle.batch_history.specs.Rows.{IsAsBefore}
 use Rattle.batch_history.specs.Statuses.{is_finished}
@@ -26,11 +27,11 @@ use Rattle.batch_history.specs.declared.rows.WorkState.{WorkState}
 use Rattle.batch_history.specs.declared.rows.WorkState.TheVariants.{Busy}
 use Rattle.batch_history.proofs.Finding.{found-passes}
 use Rattle.batch_history.proofs.Finished.{on-it, finished-step, made-after}
-use Rattle.batch_history.proofs.Folds.{made, makes, is_made, works_of, start_of, abandoned_of, end_of, bare_of, plan_kept, execution_row, over, reported}
+use Rattle.batch_history.proofs.Folds.{made, makes, is_made, works_of, start_of, abandoned_of, end_of, bare_of, plan_kept, execution_row}
 use Rattle.batch_history.proofs.Kept.{IsHeld, kept}
 use Rattle.batch_history.proofs.Stepping.{planned-by, ended-by}
 use Rattle.batch_history.proofs.Told.{AllDue, made-before, made-more, made-once}
-use Rattle.batch_history.proofs.WorkLists.{Each, each-map, each-found}
+use Rattle.batch_history.proofs.WorkLists.{each-map, each-found}
 use Rattle.history_laws.proofs.EachWork.{IsEndedBy, each-ended}
 use Rattle.history_laws.proofs.Laws.{no-end}
 use Rattle.history_laws.proofs.Moments.{abandoned-finished, not-running}

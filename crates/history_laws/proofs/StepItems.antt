@@ -19,8 +19,9 @@ use Rattle.job_walk.specs.Plans.{is_kept}
 use Rattle.walk_rules.specs.Keys.{key_of}
 use Rattle.walk_rules.specs.declared.facts.Value.{Value}
 use Rattle.walk_rules.specs.declared.work_key.WorkKey.{WorkKey}
+use Rattle.batch_history.specs.NextRows.{over, reported}
 use Rattle.batch_history.specs.Executions.{Made}
-use Rattle.batch_history.specs.Lists.{change_first, is_at}
+use Rattle.batch_history.specs.Lists.{change_first, is_at, Each}
 use Rattle.batch_history.specs.Replies.{row_status, has_something, has_something_by, walk_in_rows, runnable_of_job, partitions_of_job, partition_named}
 use Rattle.batch_history.specs.Rows.{Rows}
 use Rattle.batch_history.specs.Statuses.{is_finished}
@@ -38,10 +39,10 @@ use Rattle.batch_history.specs.declared.rows.WorkRow.{WorkRow}
 use Rattle.batch_history.specs.declared.rows.WorkState.TheVariants.{Busy}
 use Rattle.batch_history.proofs.Finding.{found-passes}
 use Rattle.batch_history.proofs.Finished.{on-it, owner-unfinished}
-use Rattle.batch_history.proofs.Folds.{made, is_made, works_of, plan_kept, bare_of, folded_rows, execution_row, over, reported}
+use Rattle.batch_history.proofs.Folds.{made, is_made, works_of, plan_kept, bare_of, folded_rows, execution_row}
 use Rattle.batch_history.proofs.Kept.{kept, IsUnknown, unknown-unworked}
 use Rattle.batch_history.proofs.Told.{AllDue, IsRowOf, row-of, ToldClaim, claim-told, ToldReport, checkpoint-told, finish-told, loss-told}
-use Rattle.batch_history.proofs.WorkLists.{Each, each-both, unknown-away}
+use Rattle.batch_history.proofs.WorkLists.{each-both, unknown-away}
 use Rattle.history_laws.specs.Laws.{IsOpen}
 use Rattle.history_laws.proofs.Claims.{IsHandedOf, handed-of, IsPlaced, all-placed}
 use Rattle.history_laws.proofs.EachWork.{entry, IsOfStep, IsStepWork, each-step-work, partition-open}

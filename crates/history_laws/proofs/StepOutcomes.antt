@@ -29,11 +29,11 @@ use Rattle.job_walk.specs.declared.runnable.Runnable.{Runnable}
 use Rattle.job_walk.specs.declared.runnable.Runnable.TheVariants.{Step as RunsStep}
 use Rattle.batch_history.specs.Executions.{Made}
 use Rattle.batch_history.specs.Legal.{IsLegal}
-use Rattle.batch_history.specs.Lists.{is_at}
+use Rattle.batch_history.specs.Lists.{is_at, Each}
 use Rattle.batch_history.specs.Rows.{History}
 use Rattle.batch_history.specs.StepExecutions.{is_busy, is_failed, is_left, is_stopped}
 use Rattle.batch_history.specs.Walks.{fact_by_work, fact_of_state, facts_by_work, is_work_of, job_named, planned_facts, runnable_fact}
-use Rattle.batch_history.specs.Works.{work_key}
+use Rattle.batch_history.specs.Works.{work_key, Apart, AllApart}
 use Rattle.batch_history.specs.declared.call.Entry.{Entry}
 use Rattle.batch_history.specs.declared.query.StepExecution.{StepExecution}
 use Rattle.batch_history.specs.declared.rows.ExecutionRow.{ExecutionRow}
@@ -48,7 +48,7 @@ use Rattle.batch_history.proofs.Kept.{kept}
 use Rattle.batch_history.proofs.Legality.{past-due}
 use Rattle.batch_history.proofs.Plans.{due-all-fit}
 use Rattle.batch_history.proofs.Told.{AllDue}
-use Rattle.batch_history.proofs.WorkLists.{Each, each-both, each-found, Apart, AllApart}
+use Rattle.batch_history.proofs.WorkLists.{each-both, each-found}
 use Rattle.history_laws.specs.Laws.{works_in}
 use Rattle.history_laws.specs.StepExecutions.{facts_of_job, result_in, step_in, HasResult, IsPartitioned, IsThrough}
 use Rattle.history_laws.proofs.Rising.{each-filter}

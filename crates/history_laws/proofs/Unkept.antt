@@ -12,7 +12,7 @@ use Rattle.job_walk.specs.Plans.{is_kept, keeps_partition}
 use Rattle.job_walk.specs.declared.plan.Plan.{Plan}
 use Rattle.batch_history.specs.Executions.{Made}
 use Rattle.batch_history.specs.JobSteps.{JobStep, all_steps}
-use Rattle.batch_history.specs.Lists.{is_at}
+use Rattle.batch_history.specs.Lists.{is_at, Each}
 use Rattle.batch_history.specs.Partitions.{done_executions, is_completed_after, is_kept_after, is_of_partition, partitions_kept}
 use Rattle.batch_history.specs.Replies.{partition_named, partitions_of_job}
 use Rattle.batch_history.specs.Restarts.{beginning_of, is_earlier_work, is_same_number, kept_partitions, plan_by, plan_of, works_of_step}
@@ -26,7 +26,7 @@ use Rattle.batch_history.proofs.Folds.{made, is_made, instance_made, instances_o
 use Rattle.batch_history.proofs.Owners.{InstanceOf, instances-kept}
 use Rattle.batch_history.proofs.Plans.{due-all-fit, plan-searched}
 use Rattle.batch_history.proofs.Told.{AllDue}
-use Rattle.batch_history.proofs.WorkLists.{Each, each-found}
+use Rattle.batch_history.proofs.WorkLists.{each-found}
 use Rattle.history_laws.proofs.Claims.{IsPlaced, AllPlaced, all-placed}
 
 or-none : (a b : Bool) → (a || b) ≡ false → (a ≡ false) × (b ≡ false)
