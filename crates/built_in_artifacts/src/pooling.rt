@@ -33,7 +33,7 @@ pub fn pool_with_built_ins<N: Site + Send + Sync, R: Threads + Wait + Sync, G: G
         for name in names {
             let built_in = BuiltIn::of(alloc, name)?.unwrap_or(BuiltIn::Fail);
             let artifact = Box::new(alloc, BuiltInArtifact::new(alloc, built_in))?;
-            kit.add(alloc, name, artifact)?;
+            kit.add(name, artifact)?;
         }
         kits.push(kit)?;
     }

@@ -13,7 +13,7 @@ use Rattle.job_threads.specs.Groups.{Done, report_of, reports_of}
 use Rattle.job_threads.specs.Items.{RunsChunk, RunsItem, RunsOnce, roles_of}
 use Rattle.job_threads.specs.Kits.{begun_roles, work_of}
 use Rattle.job_threads.specs.Meaning.{Known, place_of}
-use Rattle.job_threads.specs.Ports.{finishes, is_finish}
+use Rattle.job_threads.specs.Ports.{Stops, finishes, is_finish}
 
 finishes-append : (xs ys : List Report) → finishes (xs ++ ys) ≡ finishes xs + finishes ys
 finishes-append xs ys = sum_by-append (λ y. cond (is_finish y) 1 0) xs ys
@@ -28,7 +28,7 @@ one-more before after report is grew =
     let one : finishes (report ∷ []) ≡ 1 = ap (λ b. 0 + cond b 1 0) is in
     omega (arith, ap finishes grew, finishes-append before (report ∷ []), one)
 
-chunk-none : (p : Option ℕ) (roles : Option Roles) (n work execution at : ℕ) (checkpoint : Option (List ℕ)) (e : Ending) (a b : List Known) (r0 r1 : List Report) (stops : List ℕ)
+chunk-none : (p : Option ℕ) (roles : Option Roles) (n work execution at : ℕ) (checkpoint : Option (List ℕ)) (e : Ending) (a b : List Known) (r0 r1 : List Report) (stops : Stops)
     → RunsChunk p roles n work execution at checkpoint (Ok e) a b r0 r1 stops → finishes r1 ≡ finishes r0
 chunk-none p None n work execution at checkpoint e a b r0 r1 stops h = ap finishes h.2
 chunk-none p (Some roles) n work execution at checkpoint e a b r0 r1 stops h =
@@ -39,7 +39,7 @@ once-one p None work at outcome a b r0 r1 h = one-more r0 r1 _ refl h.1
 once-one p (Some i) work at outcome a b r0 r1 (inl h) = one-more r0 r1 _ refl h.1
 once-one p (Some i) work at outcome a b r0 r1 (inr h) = one-more r0 r1 _ refl h.1
 
-pub item_finishes : (item : WorkItem) (at : ℕ) (task : WorkTask) (outcome : WorkOutcome) (a b : List Known) (r0 r1 : List Report) (stops : List ℕ)
+pub item_finishes : (item : WorkItem) (at : ℕ) (task : WorkTask) (outcome : WorkOutcome) (a b : List Known) (r0 r1 : List Report) (stops : Stops)
     → RunsItem item at task (Ok outcome) a b r0 r1 stops → finishes r1 ≡ finishes r0 + 1
 item_finishes item at (Batchlet artifact) outcome a b r0 r1 stops h = once-one item.partition (place_of artifact a) item.work at outcome a b r0 r1 h
 item_finishes item at (Decision artifact) outcome a b r0 r1 stops h = once-one item.partition (place_of artifact a) item.work at outcome a b r0 r1 h

@@ -8,3 +8,4 @@ pub mod Ended
 pub mod Begun
 pub mod Finishing
 pub mod Replied
+pub mod Totals

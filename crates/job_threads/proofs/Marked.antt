@@ -1,8 +1,6 @@
 -- The reader is asked for its mark, and the group is reported.
-use Rattle.std.proofs.Common.{◌≡◌, ℕ, ◌<◌, ◌≤◌, ◌++◌, List, [], ◌∷◌, sym, ap, ◌∙◌, arith, Result, Ok, Err, String, string_bytes}
+use Rattle.std.proofs.Common.{◌≡◌, ℕ, ◌++◌, List, [], ◌∷◌, ap, ◌∙◌, Ok, String, string_bytes}
 use Rattle.std.specs.declared.alloc.Global.{Global}
-use Rattle.batch_ids.specs.declared.refusal.Refusal.{Refusal}
-use Rattle.batch_ids.specs.declared.refusal.Refusal.TheVariants.{TextTooLong, OutOfMemory}
 use Rattle.job_threads.specs.declared.report.Report.{Report}
 use Rattle.job_threads.specs.declared.report.Report.TheVariants.{Checkpoint}
 use Rattle.batch_ids.specs.declared.metric_step.MetricStep.{MetricStep}
@@ -14,17 +12,6 @@ use Rattle.job_threads.proofs.Turns.{put-same}
 
 pub mark-told : (r : ℕ) (m : String Global) (a b : List Known) → Turned r (Marking (Ok m)) a b → (b ≡ a) × (string_bytes m ≡ (means_at r a).mark)
 mark-told r m a b t = (t.2 ∙ (ap (λ (n : Meaning). put_at r n a) t.1.1 ∙ put-same r a), t.1.0)
-
-abbrev pub failed : Refusal → Result (List ℕ) Refusal
-failed r = Err r
-
-differ : failed TextTooLong ≡ failed OutOfMemory → ⊥
-differ e = cc
-
-pub text-too-long : (n : ℕ) (r : Refusal) → (n ≤ 65536 → failed r ≡ failed OutOfMemory) → r ≡ TextTooLong → 65536 < n
-text-too-long n r h is =
-    let no : n ≤ 65536 → ⊥ = λ le. differ (ap failed (sym is) ∙ h le) in
-    omega arith
 
 pub holds-eq : (a b : List Known) → b ≡ a → HoldsSame a b
 holds-eq a b e i = ap (λ (ks : List Known). (means_at i ks).holds) e

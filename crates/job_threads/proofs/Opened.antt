@@ -10,7 +10,8 @@ use Rattle.job_threads.specs.declared.chunk.Ending.TheVariants.{Completed, Stopp
 use Rattle.job_threads.specs.Meaning.{Coming, Meaning, Known, means_at, put_at}
 use Rattle.job_threads.specs.Calls.{Turned, Opening, opened}
 use Rattle.job_threads.specs.Groups.{kept, unless_empty, grown, written, Done, groups, reports_of, mark_after}
-use Rattle.job_threads.specs.Kits.{Calm, HoldsSame, FaultAt, OpenFaultAt, OpenFaultIn, OpenFaultOf, work_of, to_read}
+use Rattle.job_threads.specs.Kits.{Calm, HoldsSame, NoneFaulted, FaultAt, FaultOf, OpenFaultAt, OpenFaultIn, OpenFaultOf, work_of, to_read}
+use Rattle.job_threads.specs.Ports.{Stops}
 use Rattle.job_threads.specs.Chunks.{HoldsThese, HoldsNext, RunsGroups, EndsBy}
 use Rattle.job_threads.specs.Items.{OpensRoles}
 use Rattle.job_threads.proofs.Turns.{keep, put-there, calm-put, calm-trans, holds-trans, fault-at, fault-of, work-same, grown-none}
@@ -76,7 +77,7 @@ open-first roles at e a b lt t =
     let f = subst P (sym t.2) (omega (arith, ap (λ (n : Meaning). n.open_faults) (put-there roles.reader t.0 a lt)), keep (λ (n : Meaning). n.holds) roles.reader t.0 a t.1.holds) in
     (inl f.0, f.1)
 
-pub chunk-unopened : (roles : Roles) (n work execution at : ℕ) (items : List Coming) (a b : List Known) (r : List Report) (stops : List ℕ) → OpenFaultOf roles a b → HoldsSame a b → RunsGroups roles n work execution at items (Ok Unopened) a b r r stops
+pub chunk-unopened : (roles : Roles) (n work execution at : ℕ) (items : List Coming) (a b : List Known) (r : List Report) (stops : Stops) → OpenFaultOf roles a b → HoldsSame a b → RunsGroups roles n work execution at items (Ok Unopened) a b r r stops
 chunk-unopened roles n work execution at items a b r stops f holds =
     ([], items, refl, sym (append-nil r), (refl, f, holds roles.writer ∙ sym (grown-none (means_at roles.writer a).holds)))
 
@@ -104,16 +105,27 @@ open-fault-from roles a b c calm (inl f) = inl (omega (arith, calm.open_faults r
 open-fault-from roles a b c calm (inr (inl f)) = inr (inl (open-fault-in roles.processor a b c calm f))
 open-fault-from roles a b c calm (inr (inr f)) = inr (inr (omega (arith, calm.open_faults roles.writer)))
 
-ends-from : (roles : Roles) (n execution : ℕ) (result : Result Ending Refusal) (ds : List Done) (to : List Coming) (a b c : List Known) (stops : List ℕ) → Calm a b → HoldsSame a b → EndsBy roles n execution result ds to b c stops → EndsBy roles n execution result ds to a c stops
-ends-from roles n execution (Ok Completed) ds to a b c stops calm holds (x, y, z) = (x, y, these-from roles ds a b c calm holds z)
-ends-from roles n execution (Ok Stopped) ds to a b c stops calm holds (x, y) = (x, these-from roles ds a b c calm holds y)
-ends-from roles n execution (Ok Failed) ds to a b c stops calm holds (inl x) = inl (fault-of roles a b c calm x.0, these-from roles ds a b c calm holds x.1)
-ends-from roles n execution (Ok Failed) ds to a b c stops calm holds (inr x) = inr (x.0, x.1, next-from roles n ds to x.0 x.1 a b c calm holds x.2, by-from roles.reader x.0 a b c calm x.3)
-ends-from roles n execution (Ok Unopened) ds to a b c stops calm holds (x, y, z) = (x, open-fault-from roles a b c calm y, these-from roles ds a b c calm holds z)
-ends-from roles n execution (Err e) ds to a b c stops calm holds (inl x) = inl (these-from roles ds a b c calm holds x)
-ends-from roles n execution (Err e) ds to a b c stops calm holds (inr x) = inr (x.0, x.1, next-from roles n ds to x.0 x.1 a b c calm holds x.2)
+unfaulted : (a b c : List Known) → Calm a b → NoneFaulted b c → NoneFaulted a c
+unfaulted a b c calm none i = ((none i).0 ∙ calm.faults i, (none i).1 ∙ calm.open_faults i)
 
-pub chunk-opened : (roles : Roles) (n work execution at : ℕ) (checkpoint : Option (List ℕ)) (result : Result Ending Refusal) (a b c : List Known) (r0 r1 : List Report) (stops : List ℕ) → OpensRoles checkpoint roles (Ok tt) a b → RunsGroups roles n work execution at (means_at roles.reader b).left result b c r0 r1 stops → RunsGroups roles n work execution at (to_read checkpoint roles a) result a c r0 r1 stops
+abbrev failed : Roles → ℕ → List Done → List Coming → List Known → List Known → Type 0
+failed roles n ds to a b =
+    (FaultOf roles a b × HoldsThese roles ds a b)
+    ⊎ ((g : List Coming) × (rest : List Coming) × HoldsNext roles n ds to a b g rest × (FaultAt roles.reader a b ⊎ (65536 < length (mark_after g))))
+
+failed-from : (roles : Roles) (n : ℕ) (ds : List Done) (to : List Coming) (a b c : List Known) → Calm a b → HoldsSame a b → failed roles n ds to b c → failed roles n ds to a c
+failed-from roles n ds to a b c calm holds (inl x) = inl (fault-of roles a b c calm x.0, these-from roles ds a b c calm holds x.1)
+failed-from roles n ds to a b c calm holds (inr x) = inr (x.0, x.1, next-from roles n ds to x.0 x.1 a b c calm holds x.2, by-from roles.reader x.0 a b c calm x.3)
+
+ends-from : (roles : Roles) (n execution : ℕ) (result : Result Ending Refusal) (ds : List Done) (to : List Coming) (a b c : List Known) (stops : Stops) → Calm a b → HoldsSame a b → EndsBy roles n execution result ds to b c stops → EndsBy roles n execution result ds to a c stops
+ends-from roles n execution (Ok Completed) ds to a b c stops calm holds h = (h.0, h.1, h.2, unfaulted a b c calm h.3, these-from roles ds a b c calm holds h.4)
+ends-from roles n execution (Ok Stopped) ds to a b c stops calm holds h = (h.0, h.1, unfaulted a b c calm h.2, these-from roles ds a b c calm holds h.3)
+ends-from roles n execution (Ok Failed) ds to a b c stops calm holds h = (h.0, h.1, failed-from roles n ds to a b c calm holds h.2)
+ends-from roles n execution (Ok Unopened) ds to a b c stops calm holds (x, y, z) = (x, open-fault-from roles a b c calm y, these-from roles ds a b c calm holds z)
+ends-from roles n execution (Err e) ds to a b c stops calm holds (go, inl x) = (go, inl (these-from roles ds a b c calm holds x))
+ends-from roles n execution (Err e) ds to a b c stops calm holds (go, inr x) = (go, inr (x.0, x.1, next-from roles n ds to x.0 x.1 a b c calm holds x.2))
+
+pub chunk-opened : (roles : Roles) (n work execution at : ℕ) (checkpoint : Option (List ℕ)) (result : Result Ending Refusal) (a b c : List Known) (r0 r1 : List Report) (stops : Stops) → OpensRoles checkpoint roles (Ok tt) a b → RunsGroups roles n work execution at (means_at roles.reader b).left result b c r0 r1 stops → RunsGroups roles n work execution at (to_read checkpoint roles a) result a c r0 r1 stops
 chunk-opened roles n work execution at checkpoint result a b c r0 r1 stops o g =
     let P : List Coming → Type 0 = λ xs. RunsGroups roles n work execution at xs result a c r0 r1 stops in
     subst P o.2 (g.0, g.1, g.2, g.3 ∙ ap (λ (f : List ℕ → Option (List ℕ)). r0 ++ reports_of f work at g.0) (work-same roles.processor a b o.0), ends-from roles n execution result g.0 g.1 a b c stops o.0 o.1 g.4)

@@ -26,7 +26,7 @@ use Rattle.sessions.specs.Answered.{entered, operation}
 use Rattle.job_threads.specs.declared.report.Onward.{Onward}
 use Rattle.job_threads.specs.declared.report.Report.{Report}
 use Rattle.job_threads.specs.declared.report.Report.TheVariants.{Checkpoint as Reported, Finish as Finished}
-use Rattle.job_threads.specs.Ports.{accepted as told_by, IsKept, onward_of, report_by, report_of_entry, reports_in}
+use Rattle.job_threads.specs.Ports.{StaySeen, onward_of, report_by, report_of_entry, reports_in}
 
 -- ---- An accepted report is entered
 
@@ -121,13 +121,12 @@ other_reports catalogue before after call at result none replied =
     ap (λ (s : SessionView). reports_in s.mine) replied.session ∙ none-more before.mine before.number call at result none
 
 -- nor what was refused
-pub refused_reports : {A : Type 0} (catalogue : List JobTree) (before after : SessionView) (call : Call) (at : ℕ) (refusal : Refusal) (report : A → Report) (told : Result A Refusal) (why : Refusal)
-    → told ≡ Err why → IsReplied catalogue before after call at (Err refusal) → reports_in after.mine ≡ reports_in before.mine ++ told_by report told
-refused_reports catalogue before after call at refusal report told why is replied =
-    ap (λ (s : SessionView). reports_in s.mine) replied.session
-    ∙ (sym (append-nil (reports_in before.mine)) ∙ ap (λ r. reports_in before.mine ++ told_by report r) (sym is))
+pub refused_reports : (catalogue : List JobTree) (before after : SessionView) (call : Call) (at : ℕ) (refusal : Refusal)
+    → IsReplied catalogue before after call at (Err refusal) → reports_in after.mine ≡ reports_in before.mine ++ []
+refused_reports catalogue before after call at refusal replied =
+    ap (λ (s : SessionView). reports_in s.mine) replied.session ∙ sym (append-nil (reports_in before.mine))
 
 -- the stops stay
-pub replied_stops : (catalogue : List JobTree) (before after : SessionView) (call : Call) (at : ℕ) (result : Result Reply Refusal) → IsReplied catalogue before after call at result → IsKept before.stops after.stops
+pub replied_stops : (catalogue : List JobTree) (before after : SessionView) (call : Call) (at : ℕ) (result : Result Reply Refusal) → IsReplied catalogue before after call at result → StaySeen before.stops after.stops
 replied_stops catalogue before after call at result replied x seen =
     subst (λ (stops : List ℕ). Contains stops x) (sym (ap (λ (s : SessionView). s.stops) replied.session)) seen

@@ -1,5 +1,5 @@
 -- All groups.
-use Rattle.std.proofs.Common.{◌≡◌, ℕ, ◌<◌, ◌++◌, ◌⊎◌, List, [], ◌∷◌, length, length-append, append_assoc, append-nil, refl, sym, ap, ◌∙◌, subst, arith, Option, Some, None, Ok, Err, inl, inr}
+use Rattle.std.proofs.Common.{◌≡◌, ℕ, ◌<◌, ◌++◌, ◌⊎◌, List, [], ◌∷◌, true, false, length, length-append, append_assoc, append-nil, refl, sym, ap, ◌∙◌, subst, arith, Option, Some, None, Ok, Err, inl, inr}
 use Rattle.std.proofs.lemmas.List.{map-append}
 use Rattle.std.specs.List.{Contains}
 use Rattle.batch_ids.specs.declared.refusal.Refusal.{Refusal}
@@ -11,7 +11,8 @@ use Rattle.job_threads.specs.declared.chunk.Step.TheVariants.{More, Stop, End, F
 use Rattle.job_threads.specs.declared.chunk.Ending.TheVariants.{Completed, Stopped, Failed}
 use Rattle.job_threads.specs.Meaning.{Coming, Known, means_at}
 use Rattle.job_threads.specs.Groups.{FirstGroups, IsGroup, kept, unless_empty, grown, written, Done, done, groups, report_of, reports_of, mark_after, AllGo}
-use Rattle.job_threads.specs.Kits.{Calm, FaultAt, work_of}
+use Rattle.job_threads.specs.Kits.{Calm, NoneFaulted, FaultAt, work_of}
+use Rattle.job_threads.specs.Ports.{Stops, HasLooked}
 use Rattle.job_threads.specs.Chunks.{GroupDone, GroupLost, StepsTo, HoldsThese, HoldsNext, RunsGroups, Went, Going}
 use Rattle.job_threads.proofs.Turns.{calm-refl, calm-trans, fault-at, fault-of, work-same, grown-none}
 
@@ -67,20 +68,24 @@ going-less roles n work at b c r1 r2 step =
 pub going-calm : (roles : Roles) (n work at : ℕ) (a b : List Known) (r0 r1 : List Report) → Going roles n work at a b r0 r1 → Calm a b
 going-calm roles n work at a b r0 r1 so = so.2.calm
 
-pub ends-seen : (roles : Roles) (n work execution at : ℕ) (a b : List Known) (r0 r1 : List Report) (stops : List ℕ) → Going roles n work at a b r0 r1 → Contains stops execution → RunsGroups roles n work execution at (means_at roles.reader a).left (Ok Stopped) a b r0 r1 stops
-ends-seen roles n work execution at a b r0 r1 stops so seen = (so.0, so.1, so.2.cut, so.2.reports, (inr seen, so.2.holds))
+pub none-faulted : (a b : List Known) → Calm a b → NoneFaulted a b
+none-faulted a b calm i = (calm.faults i, calm.open_faults i)
 
-pub ends-stop : (roles : Roles) (n work execution at : ℕ) (a b c : List Known) (r0 r1 r2 : List Report) (stops : List ℕ) → Going roles n work at a b r0 r1 → StepsTo roles n work at (Ok Stop) b c r1 r2 → RunsGroups roles n work execution at (means_at roles.reader a).left (Ok Stopped) a c r0 r2 stops
+pub ends-seen : (roles : Roles) (n work execution at : ℕ) (a b : List Known) (r0 r1 : List Report) (was stops : Stops) → Going roles n work at a b r0 r1 → HasLooked execution true was stops → RunsGroups roles n work execution at (means_at roles.reader a).left (Ok Stopped) a b r0 r1 stops
+ends-seen roles n work execution at a b r0 r1 was stops so look =
+    (so.0, so.1, so.2.cut, so.2.reports, (inr (look.2 refl, look.1, so.3), so.2.left, none-faulted a b so.2.calm, so.2.holds))
+
+pub ends-stop : (roles : Roles) (n work execution at : ℕ) (a b c : List Known) (r0 r1 r2 : List Report) (stops : Stops) → Going roles n work at a b r0 r1 → StepsTo roles n work at (Ok Stop) b c r1 r2 → RunsGroups roles n work execution at (means_at roles.reader a).left (Ok Stopped) a c r0 r2 stops
 ends-stop roles n work execution at a b c r0 r1 r2 stops so step =
     let w = went-on roles n work at a b c r0 r1 r2 so.0 so.1 step.0 step.1 StopAsked so.2 step.2 in
-    (so.0 ++ done step.0 StopAsked ∷ [], step.1, w.cut, w.reports, (inl (so.0, step.0, refl), w.holds))
+    (so.0 ++ done step.0 StopAsked ∷ [], step.1, w.cut, w.reports, (inl (so.0, step.0, refl, so.3), w.left, none-faulted a c w.calm, w.holds))
 
-pub ends-end : (roles : Roles) (n work execution at : ℕ) (a b c : List Known) (r0 r1 r2 : List Report) (stops : List ℕ) → Going roles n work at a b r0 r1 → StepsTo roles n work at (Ok End) b c r1 r2 → RunsGroups roles n work execution at (means_at roles.reader a).left (Ok Completed) a c r0 r2 stops
-ends-end roles n work execution at a b c r0 r1 r2 stops so (inl e) =
-    (so.0, so.1, so.2.cut, e.2 ∙ so.2.reports, (sym so.2.left ∙ e.0, so.3, e.1 ∙ so.2.holds))
-ends-end roles n work execution at a b c r0 r1 r2 stops so (inr e) =
+pub ends-end : (roles : Roles) (n work execution at : ℕ) (a b c : List Known) (r0 r1 r2 : List Report) (stops : Stops) → Going roles n work at a b r0 r1 → StepsTo roles n work at (Ok End) b c r1 r2 → stops.found ≡ false → RunsGroups roles n work execution at (means_at roles.reader a).left (Ok Completed) a c r0 r2 stops
+ends-end roles n work execution at a b c r0 r1 r2 stops so (inl e) unseen =
+    (so.0, so.1, so.2.cut, e.3 ∙ so.2.reports, (sym so.2.left ∙ e.0, so.3, unseen, none-faulted a c (calm-trans a b c so.2.calm e.1), e.2 ∙ so.2.holds))
+ends-end roles n work execution at a b c r0 r1 r2 stops so (inr e) unseen =
     let w = went-on roles n work at a b c r0 r1 r2 so.0 so.1 e.0 [] Go so.2 e.1 in
-    (so.0 ++ done e.0 Go ∷ [], [], w.cut, w.reports, (refl, all-go so.0 e.0 so.3, w.holds))
+    (so.0 ++ done e.0 Go ∷ [], [], w.cut, w.reports, (refl, all-go so.0 e.0 so.3, unseen, none-faulted a c w.calm, w.holds))
 
 next : (roles : Roles) (n work at : ℕ) (a b c : List Known) (r0 r1 : List Report) (ds : List Done) (to g rest : List Coming) → Went roles n work at a b r0 r1 ds to → GroupLost roles n b c g rest → HoldsNext roles n ds to a c g rest
 next roles n work at a b c r0 r1 ds to g rest w l = record {
@@ -93,15 +98,15 @@ reader-by : (r : ℕ) (a b c : List Known) (g : List Coming) → Calm a b → Fa
 reader-by r a b c g calm (inl f) = inl (fault-at r a b c calm f)
 reader-by r a b c g calm (inr long) = inr long
 
-pub ends-fault : (roles : Roles) (n work execution at : ℕ) (a b c : List Known) (r0 r1 r2 : List Report) (stops : List ℕ) → Going roles n work at a b r0 r1 → StepsTo roles n work at (Ok Fault) b c r1 r2 → RunsGroups roles n work execution at (means_at roles.reader a).left (Ok Failed) a c r0 r2 stops
-ends-fault roles n work execution at a b c r0 r1 r2 stops so (same, inl f) =
-    (so.0, so.1, so.2.cut, same ∙ so.2.reports, inl (fault-of roles a b c so.2.calm f.0, f.1 ∙ so.2.holds))
-ends-fault roles n work execution at a b c r0 r1 r2 stops so (same, inr f) =
-    (so.0, so.1, so.2.cut, same ∙ so.2.reports, inr (f.0, f.1, next roles n work at a b c r0 r1 so.0 so.1 f.0 f.1 so.2 f.2, reader-by roles.reader a b c f.0 so.2.calm f.3))
+pub ends-fault : (roles : Roles) (n work execution at : ℕ) (a b c : List Known) (r0 r1 r2 : List Report) (stops : Stops) → Going roles n work at a b r0 r1 → StepsTo roles n work at (Ok Fault) b c r1 r2 → stops.found ≡ false → RunsGroups roles n work execution at (means_at roles.reader a).left (Ok Failed) a c r0 r2 stops
+ends-fault roles n work execution at a b c r0 r1 r2 stops so (same, inl f) unseen =
+    (so.0, so.1, so.2.cut, same ∙ so.2.reports, (so.3, unseen, inl (fault-of roles a b c so.2.calm f.0, f.1 ∙ so.2.holds)))
+ends-fault roles n work execution at a b c r0 r1 r2 stops so (same, inr f) unseen =
+    (so.0, so.1, so.2.cut, same ∙ so.2.reports, (so.3, unseen, inr (f.0, f.1, next roles n work at a b c r0 r1 so.0 so.1 f.0 f.1 so.2 f.2, reader-by roles.reader a b c f.0 so.2.calm f.3)))
 
-pub ends-err : (roles : Roles) (n work execution at : ℕ) (e : Refusal) (a b c : List Known) (r0 r1 r2 : List Report) (stops : List ℕ) → Going roles n work at a b r0 r1 → StepsTo roles n work at (Err e) b c r1 r2 → RunsGroups roles n work execution at (means_at roles.reader a).left (Err e) a c r0 r2 stops
-ends-err roles n work execution at e a b c r0 r1 r2 stops so (same, inl f) = (so.0, so.1, so.2.cut, same ∙ so.2.reports, inl (f ∙ so.2.holds))
-ends-err roles n work execution at e a b c r0 r1 r2 stops so (same, inr f) = (so.0, so.1, so.2.cut, same ∙ so.2.reports, inr (f.0, f.1, next roles n work at a b c r0 r1 so.0 so.1 f.0 f.1 so.2 f.2))
+pub ends-err : (roles : Roles) (n work execution at : ℕ) (e : Refusal) (a b c : List Known) (r0 r1 r2 : List Report) (stops : Stops) → Going roles n work at a b r0 r1 → StepsTo roles n work at (Err e) b c r1 r2 → RunsGroups roles n work execution at (means_at roles.reader a).left (Err e) a c r0 r2 stops
+ends-err roles n work execution at e a b c r0 r1 r2 stops so (same, inl f) = (so.0, so.1, so.2.cut, same ∙ so.2.reports, (so.3, inl (f ∙ so.2.holds)))
+ends-err roles n work execution at e a b c r0 r1 r2 stops so (same, inr f) = (so.0, so.1, so.2.cut, same ∙ so.2.reports, (so.3, inr (f.0, f.1, next roles n work at a b c r0 r1 so.0 so.1 f.0 f.1 so.2 f.2)))
 
 pub reports-same : (roles : Roles) (n work at : ℕ) (a b : List Known) (r0 r1 r2 : List Report) → r2 ≡ r1 → Going roles n work at a b r0 r1 → Going roles n work at a b r0 r2
 reports-same roles n work at a b r0 r1 r2 e so = (so.0, so.1, record { cut = so.2.cut; left = so.2.left; calm = so.2.calm; holds = so.2.holds; reports = e ∙ so.2.reports }, so.3)

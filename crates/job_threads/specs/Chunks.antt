@@ -12,7 +12,8 @@ use Rattle.job_threads.specs.declared.chunk.Step.TheVariants.{More, Stop, End, F
 use Rattle.job_threads.specs.declared.chunk.Ending.{Ending}
 use Rattle.job_threads.specs.declared.chunk.Ending.TheVariants.{Completed, Stopped, Failed, Unopened}
 use Rattle.job_threads.specs.Meaning.{Coming, Known, means_at}
-use Rattle.job_threads.specs.Kits.{Calm, HoldsSame, FaultAt, FaultOf, OpenFaultOf, work_of}
+use Rattle.job_threads.specs.Ports.{Stops}
+use Rattle.job_threads.specs.Kits.{Calm, NoneFaulted, HoldsSame, FaultAt, FaultOf, OpenFaultOf, work_of}
 use Rattle.job_threads.specs.Groups.{FirstGroups, IsGroup, kept, unless_empty, grown, written, Done, done, groups, counts, report_of, reports_of, mark_after, AllGo}
 
 -- the reader was asked for its mark, and it was reported
@@ -45,7 +46,7 @@ abbrev pub StepsTo : Roles → ℕ → ℕ → ℕ → Result Step Refusal → L
 StepsTo roles n work at (Ok More) a b before after = (g : List Coming) × (rest : List Coming) × GroupDone roles n work at a b before after g rest Go
 StepsTo roles n work at (Ok Stop) a b before after = (g : List Coming) × (rest : List Coming) × GroupDone roles n work at a b before after g rest StopAsked
 StepsTo roles n work at (Ok End) a b before after =
-    (((means_at roles.reader a).left ≡ []) × SameAt roles.writer a b × (after ≡ before))
+    (((means_at roles.reader a).left ≡ []) × Calm a b × SameAt roles.writer a b × (after ≡ before))
     ⊎ ((g : List Coming) × GroupDone roles n work at a b before after g [] Go)
 StepsTo roles n work at (Ok Fault) a b before after =
     (after ≡ before)
@@ -54,9 +55,13 @@ StepsTo roles n work at (Ok Fault) a b before after =
 StepsTo roles n work at (Err _) a b before after =
     (after ≡ before) × (SameAt roles.writer a b ⊎ ((g : List Coming) × (rest : List Coming) × GroupLost roles n a b g rest))
 
--- the last of the groups was answered that a stop is asked for
+-- the last of the groups, and no other, was answered that a stop is asked for
 abbrev pub LastIsStop : List Done → Type 0
-LastIsStop ds = (before : List Done) × (g : List Coming) × (ds ≡ before ++ done g StopAsked ∷ [])
+LastIsStop ds = (before : List Done) × (g : List Coming) × (ds ≡ before ++ done g StopAsked ∷ []) × AllGo before
+
+-- the last look found that the job execution was asked to stop, and no group was answered so
+abbrev pub IsSeen : ℕ → List Done → Stops → Type 0
+IsSeen execution ds stops = Contains stops.seen execution × (stops.found ≡ true) × AllGo ds
 
 -- the writer holds just the reported groups
 abbrev pub HoldsThese : Roles → List Done → List Known → List Known → Type 0
@@ -68,18 +73,24 @@ pub record HoldsNext (roles : Roles) (n : ℕ) (ds : List Done) (left : List Com
   pub group : IsGroup n g rest
   pub holds : (means_at roles.writer b).holds ≡ grown (written (work_of roles.processor a) (groups ds) ++ unless_empty (kept (work_of roles.processor a) g)) (means_at roles.writer a).holds
 
--- why the groups ended as they did, and what the writer holds
-abbrev pub EndsBy : Roles → ℕ → ℕ → Result Ending Refusal → List Done → List Coming → List Known → List Known → List ℕ → Type 0
-EndsBy roles n execution (Ok Completed) ds left a b stops = (left ≡ []) × AllGo ds × HoldsThese roles ds a b
-EndsBy roles n execution (Ok Stopped) ds left a b stops = (LastIsStop ds ⊎ Contains stops execution) × HoldsThese roles ds a b
+-- why the groups ended as they did, and what the writer holds. Completed: all is read, each report was answered that the chunk
+-- goes on, the last look found no stop, and nothing faulted. Stopped: by the answer to the last report or by the last look, and
+-- nothing more was read. Failed: by a fault, or by a mark that is too long
+abbrev pub EndsBy : Roles → ℕ → ℕ → Result Ending Refusal → List Done → List Coming → List Known → List Known → Stops → Type 0
+EndsBy roles n execution (Ok Completed) ds left a b stops =
+    (left ≡ []) × AllGo ds × (stops.found ≡ false) × NoneFaulted a b × HoldsThese roles ds a b
+EndsBy roles n execution (Ok Stopped) ds left a b stops =
+    (LastIsStop ds ⊎ IsSeen execution ds stops) × ((means_at roles.reader b).left ≡ left) × NoneFaulted a b × HoldsThese roles ds a b
 EndsBy roles n execution (Ok Failed) ds left a b stops =
-    (FaultOf roles a b × HoldsThese roles ds a b)
-    ⊎ ((g : List Coming) × (rest : List Coming) × HoldsNext roles n ds left a b g rest × (FaultAt roles.reader a b ⊎ (65536 < length (mark_after g))))
+    AllGo ds × (stops.found ≡ false)
+    × ((FaultOf roles a b × HoldsThese roles ds a b)
+    ⊎ ((g : List Coming) × (rest : List Coming) × HoldsNext roles n ds left a b g rest × (FaultAt roles.reader a b ⊎ (65536 < length (mark_after g)))))
 EndsBy roles n execution (Ok Unopened) ds left a b stops = (ds ≡ []) × OpenFaultOf roles a b × HoldsThese roles ds a b
-EndsBy roles n execution (Err _) ds left a b stops = HoldsThese roles ds a b ⊎ ((g : List Coming) × (rest : List Coming) × HoldsNext roles n ds left a b g rest)
+EndsBy roles n execution (Err _) ds left a b stops =
+    AllGo ds × (HoldsThese roles ds a b ⊎ ((g : List Coming) × (rest : List Coming) × HoldsNext roles n ds left a b g rest))
 
 -- the reports grew by those of the first groups, and the chunk ended
-abbrev pub RunsGroups : Roles → ℕ → ℕ → ℕ → ℕ → List Coming → Result Ending Refusal → List Known → List Known → List Report → List Report → List ℕ → Type 0
+abbrev pub RunsGroups : Roles → ℕ → ℕ → ℕ → ℕ → List Coming → Result Ending Refusal → List Known → List Known → List Report → List Report → Stops → Type 0
 RunsGroups roles n work execution at items result a b before after stops =
     (ds : List Done) × (left : List Coming) × FirstGroups n items (groups ds) left
     × (after ≡ before ++ reports_of (work_of roles.processor a) work at ds) × EndsBy roles n execution result ds left a b stops

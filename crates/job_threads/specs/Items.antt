@@ -15,6 +15,7 @@ use Rattle.job_threads.specs.declared.chunk.Ending.{Ending}
 use Rattle.job_threads.specs.declared.chunk.Ending.TheVariants.{Unopened}
 use Rattle.job_threads.specs.Meaning.{Known, means_at, place_of}
 use Rattle.job_threads.specs.Kits.{Calm, HoldsSame, OpenFaultAt, OpenFaultIn, OpenFaultOf, FaultAt, to_read, AreWithin, begun_in, begun_roles}
+use Rattle.job_threads.specs.Ports.{Stops}
 use Rattle.job_threads.specs.Chunks.{RunsGroups}
 use Rattle.job_threads.specs.Endings.{outcome_of, finish_of}
 
@@ -52,13 +53,13 @@ OpensRoles checkpoint roles (Ok _) a b = Calm a b × HoldsSame a b × ((means_at
 OpensRoles checkpoint roles (Err _) a b = OpenFaultOf roles a b × HoldsSame a b
 
 -- a chunk up to its finish
-abbrev pub RunsChunk : Option ℕ → Option Roles → ℕ → ℕ → ℕ → ℕ → Option (List ℕ) → Result Ending Refusal → List Known → List Known → List Report → List Report → List ℕ → Type 0
+abbrev pub RunsChunk : Option ℕ → Option Roles → ℕ → ℕ → ℕ → ℕ → Option (List ℕ) → Result Ending Refusal → List Known → List Known → List Report → List Report → Stops → Type 0
 RunsChunk p None n work execution at checkpoint result a b before after stops = (result ≡ Ok Unopened) × (b ≡ a) × (after ≡ before)
 RunsChunk p (Some roles) n work execution at checkpoint result a b before after stops =
     RunsGroups roles n work execution at (to_read checkpoint roles (begun_roles p roles a)) result (begun_roles p roles a) b before after stops
 
 -- a chunk with its finish
-abbrev pub EndsChunk : Option ℕ → Option Roles → ℕ → ℕ → ℕ → ℕ → Option (List ℕ) → Result WorkOutcome Refusal → List Known → List Known → List Report → List Report → List ℕ → Type 0
+abbrev pub EndsChunk : Option ℕ → Option Roles → ℕ → ℕ → ℕ → ℕ → Option (List ℕ) → Result WorkOutcome Refusal → List Known → List Known → List Report → List Report → Stops → Type 0
 EndsChunk p roles n work execution at checkpoint (Ok outcome) a b before after stops =
     (e : Ending) × (between : List Report) × (outcome ≡ outcome_of e) × RunsChunk p roles n work execution at checkpoint (Ok e) a b before between stops × (after ≡ between ++ finish_of work at e ∷ [])
 EndsChunk p roles n work execution at checkpoint (Err _) a b before after stops =
@@ -80,7 +81,7 @@ RunsOnce p (Some i) work at (Ok outcome) a b before after =
     ⊎ ((outcome ≡ Failed) × (after ≡ before ++ Finish work Failed None zero_step at ∷ []) × (OpenFaultAt i a b ⊎ FaultAt i a b))
 
 -- a work item: the theorem of this crate
-abbrev pub RunsItem : WorkItem → ℕ → WorkTask → Result WorkOutcome Refusal → List Known → List Known → List Report → List Report → List ℕ → Type 0
+abbrev pub RunsItem : WorkItem → ℕ → WorkTask → Result WorkOutcome Refusal → List Known → List Known → List Report → List Report → Stops → Type 0
 RunsItem item at (Batchlet artifact) result a b before after stops = RunsOnce item.partition (place_of artifact a) item.work at result a b before after
 RunsItem item at (Decision artifact) result a b before after stops = RunsOnce item.partition (place_of artifact a) item.work at result a b before after
 RunsItem item at (Chunk reader processor writer item_count checkpoint) result a b before after stops =

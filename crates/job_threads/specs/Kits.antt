@@ -11,6 +11,11 @@ pub record Calm (before after : List Known) : Type 0 where
   pub open_faults : (i : ℕ) → (means_at i after).open_faults ≡ (means_at i before).open_faults
   pub size : length after ≡ length before
 
+-- no artifact faulted
+abbrev pub NoneFaulted : List Known → List Known → Type 0
+NoneFaulted before after =
+    (i : ℕ) → ((means_at i after).faults ≡ (means_at i before).faults) × ((means_at i after).open_faults ≡ (means_at i before).open_faults)
+
 -- every writer holds what it held
 abbrev pub HoldsSame : List Known → List Known → Type 0
 HoldsSame before after = (i : ℕ) → (means_at i after).holds ≡ (means_at i before).holds

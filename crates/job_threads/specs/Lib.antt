@@ -9,3 +9,4 @@ pub mod Endings
 pub mod Items
 pub mod Past
 pub mod Noted
+pub mod Pools

@@ -1,6 +1,8 @@
 -- What a port holds.
-use Rattle.std.specs.Prelude.{ℕ, Bool, true, false, Option, Some, None, List, [], ◌∷◌, Result, Ok, Err, count_by, filter_map}
+use Rattle.std.specs.Prelude.{ℕ, ◌≡◌, ◌⊎◌, Bool, true, false, IsTrue, Option, Some, None, List, [], ◌∷◌, Result, Ok, Err, count_by, filter_map}
 use Rattle.std.specs.List.{Contains}
+use Rattle.batch_ids.specs.declared.refusal.Refusal.{Refusal}
+use Rattle.batch_ids.specs.declared.refusal.Refusal.TheVariants.{OutOfMemory}
 use Rattle.batch_history.specs.declared.call.Call.{Call}
 use Rattle.batch_history.specs.declared.call.Call.TheVariants.{Start, Restart, Stop, Abandon, Claim, Lose, Purge, Checkpoint as CallCheckpoint, Finish as CallFinish}
 use Rattle.batch_history.specs.declared.call.Entry.{Entry}
@@ -16,9 +18,36 @@ abbrev pub accepted : {A R E : Type 0} → (A → R) → Result A E → List R
 accepted report (Ok reply) = report reply ∷ []
 accepted report (Err _) = []
 
--- what was seen once stays seen
-abbrev pub IsKept : List ℕ → List ℕ → Type 0
-IsKept before after = (x : ℕ) → Contains before x → Contains after x
+-- the refusal that a port gave last, after a call with this result
+abbrev pub refused_by : {A : Type 0} → Option Refusal → Result A Refusal → Option Refusal
+refused_by before (Ok _) = before
+refused_by before (Err refusal) = Some refusal
+
+-- a refusal that is answered is the port's last, or memory was refused without it; else the port refused nothing
+abbrev pub IsRefusal : {A : Type 0} → Result A Refusal → Option Refusal → Option Refusal → Type 0
+IsRefusal (Ok _) before after = after ≡ before
+IsRefusal (Err refusal) before after = (after ≡ Some refusal) ⊎ ((refusal ≡ OutOfMemory) × (after ≡ before))
+
+-- what a port knows of stops: the job executions whose stop it saw, and whether its last look for a stop found one
+pub record Stops : Type 0 where
+  pub seen : List ℕ
+  pub found : Bool
+
+abbrev pub stops_of : List ℕ → Bool → Stops
+stops_of seen found = record { seen = seen; found = found }
+
+-- a stop that was seen stays seen
+abbrev pub StaySeen : List ℕ → List ℕ → Type 0
+StaySeen before after = (x : ℕ) → Contains before x → Contains after x
+
+-- nobody looked for a stop
+abbrev pub IsKept : Stops → Stops → Type 0
+IsKept before after = StaySeen before.seen after.seen × (after.found ≡ before.found)
+
+-- the port looked for the stop of this job execution
+abbrev pub HasLooked : ℕ → Bool → Stops → Stops → Type 0
+HasLooked execution found before after =
+    StaySeen before.seen after.seen × (after.found ≡ found) × (IsTrue found → Contains after.seen execution)
 
 -- whether a report is a finish
 abbrev pub is_finish : Report → Bool

@@ -1,7 +1,7 @@
 ghost use Rattle.std.specs.Prelude.{◌≡◌, ◌<◌, ◌≤◌, ◌-◌, length};
 ghost use Rattle.job_threads.specs.Meaning.{means_at};
 ghost use Rattle.job_threads.specs.Kits.{AreWithin};
-ghost use Rattle.job_threads.specs.Ports.{IsKept};
+ghost use Rattle.job_threads.specs.Ports.{IsKept, IsRefusal};
 ghost use Rattle.job_threads.specs.Groups.{counts};
 ghost use Rattle.job_threads.specs.Chunks.{Marks, StepsTo, RunsGroups};
 
@@ -75,14 +75,17 @@ pub(crate) fn report_group<P: Port, K: Artifacts>(
     ensures marks { Marks reader chunk.now.work chunk.now.at tally.read tally.kept tally.ended
         result (K.seen kit.old) (K.seen kit.new) (P.reports port.old) (P.reports port.new) }
     ensures stops { IsKept (P.stops port.old) (P.stops port.new) }
+    ensures refused { IsRefusal result (P.refused port.old) (P.refused port.new) }
 {
     match kit.checkpoint(reader) {
         Err(_) => Ok(Step::Fault),
-        Ok(mark) => match Text::<65536>::new(alloc, mark.as_str()) {
-            Err(Refusal::TextTooLong) => Ok(Step::Fault),
-            Err(refusal) => Err(refusal),
-            Ok(mark) => {
-                match port.checkpoint(chunk.work, mark, step_of(tally), chunk.at) {
+        Ok(mark) => {
+            if mark.len() > 65_536 {
+                return Ok(Step::Fault);
+            }
+            match Text::within(alloc, mark.as_str()) {
+                Err(refused) => Err(Refusal::from(refused)),
+                Ok(mark) => match port.checkpoint(chunk.work, mark, step_of(tally), chunk.at) {
                     Err(refusal) => Err(refusal),
                     Ok(Onward::StopAsked) => Ok(Step::Stop),
                     Ok(Onward::Go) => {
@@ -92,9 +95,9 @@ pub(crate) fn report_group<P: Port, K: Artifacts>(
                             Ok(Step::More)
                         }
                     }
-                }
+                },
             }
-        },
+        }
     }
 }
 
@@ -111,6 +114,7 @@ pub(crate) fn run_group<P: Port, K: Artifacts>(
     ensures steps { StepsTo roles chunk.now.size chunk.now.work chunk.now.at result (K.seen
         kit.old) (K.seen kit.new) (P.reports port.old) (P.reports port.new) }
     ensures stops { IsKept (P.stops port.old) (P.stops port.new) }
+    ensures refused { IsRefusal result (P.refused port.old) (P.refused port.new) }
 {
     match read_group(alloc, kit, roles, chunk.size) {
         Err(Trouble::Fault) => Ok(Step::Fault),
@@ -147,6 +151,7 @@ pub(crate) fn run_groups<P: Port, K: Artifacts>(
     ensures groups { RunsGroups roles chunk.now.size chunk.now.work chunk.now.execution
         chunk.now.at (means_at roles.reader (K.seen kit.old)).left result (K.seen kit.old) (K.seen
         kit.new) (P.reports port.old) (P.reports port.new) (P.stops port.new) }
+    ensures refused { IsRefusal result (P.refused port.old) (P.refused port.new) }
 {
     'groups: loop {
         if port.stop_seen(chunk.execution) {

@@ -1,6 +1,7 @@
 ghost use Rattle.std.specs.Prelude.{◌≡◌, ◌<◌, length, max, option_map};
 ghost use Rattle.job_threads.specs.Meaning.{place_of};
 ghost use Rattle.job_threads.specs.Kits.{AreWithin, IsWithin, to_read};
+ghost use Rattle.job_threads.specs.Ports.{IsRefusal};
 ghost use Rattle.job_threads.specs.Chunks.{RunsGroups};
 ghost use Rattle.job_threads.specs.Endings.{outcome_of, counts_of};
 ghost use Rattle.job_threads.specs.Items.{roles_of, FoundWithin, BeginsIn, BeginsRoles, OpensRoles, RunsBegun, RunsChunk, EndsChunk, RunsOnce, RunsItem};
@@ -135,9 +136,10 @@ fn run_opened<P: Port, K: Artifacts>(
 ) -> Result<Ending, Refusal>
     requires within { AreWithin roles (K.seen kit.old) }
     requires size { 0 < chunk.now.size }
-    ensures { RunsGroups roles chunk.now.size chunk.now.work chunk.now.execution chunk.now.at
+    ensures groups { RunsGroups roles chunk.now.size chunk.now.work chunk.now.execution chunk.now.at
         (to_read (option_map (λ s. s.now) checkpoint.entry) roles (K.seen kit.old)) result (K.seen
         kit.old) (K.seen kit.new) (P.reports port.old) (P.reports port.new) (P.stops port.new) }
+    ensures refused { IsRefusal result (P.refused port.old) (P.refused port.new) }
 {
     match open_roles(kit, roles, checkpoint) {
         Err(_) => Ok(Ending::Unopened),
@@ -157,9 +159,10 @@ fn run_chunk<P: Port, K: Artifacts>(
 ) -> Result<Ending, Refusal>
     requires within { FoundWithin roles (K.seen kit.old) }
     requires size { 0 < chunk.now.size }
-    ensures { RunsChunk partition roles chunk.now.size chunk.now.work chunk.now.execution
+    ensures chunk { RunsChunk partition roles chunk.now.size chunk.now.work chunk.now.execution
         chunk.now.at (option_map (λ s. s.now) checkpoint.entry) result (K.seen kit.old) (K.seen
         kit.new) (P.reports port.old) (P.reports port.new) (P.stops port.new) }
+    ensures refused { IsRefusal result (P.refused port.old) (P.refused port.new) }
 {
     match roles {
         None => Ok(Ending::Unopened),
@@ -182,9 +185,10 @@ fn end_chunk<P: Port, K: Artifacts>(
 ) -> Result<WorkOutcome, Refusal>
     requires within { FoundWithin roles (K.seen kit.old) }
     requires size { 0 < chunk.now.size }
-    ensures { EndsChunk partition roles chunk.now.size chunk.now.work chunk.now.execution
+    ensures chunk { EndsChunk partition roles chunk.now.size chunk.now.work chunk.now.execution
         chunk.now.at (option_map (λ s. s.now) checkpoint.entry) result (K.seen kit.old) (K.seen
         kit.new) (P.reports port.old) (P.reports port.new) (P.stops port.new) }
+    ensures refused { IsRefusal result (P.refused port.old) (P.refused port.new) }
 {
     match run_chunk(alloc, port, kit, roles, partition, checkpoint, chunk) {
         Err(refusal) => Err(refusal),
@@ -225,8 +229,9 @@ fn run_once<P: Port, K: Artifacts>(
     work: WorkId,
     at: Moment,
 ) -> Result<WorkOutcome, Refusal>
-    ensures { RunsOnce partition (place_of artifact.now (K.seen kit.old)) work at result (K.seen
+    ensures once { RunsOnce partition (place_of artifact.now (K.seen kit.old)) work at result (K.seen
         kit.old) (K.seen kit.new) (P.reports port.old) (P.reports port.new) }
+    ensures refused { IsRefusal result (P.refused port.old) (P.refused port.new) }
 {
     match kit.find(artifact.as_str()) {
         None => match port.finish(work, WorkOutcome::Failed, None, MetricStep::zero(), at) {
@@ -282,8 +287,9 @@ pub fn run_item<P: Port, K: Artifacts>(
     item: &WorkItem,
     at: Moment,
 ) -> Result<WorkOutcome, Refusal>
-    ensures { RunsItem item.now at item.now.task result (K.seen kit.old) (K.seen kit.new)
+    ensures item { RunsItem item.now at item.now.task result (K.seen kit.old) (K.seen kit.new)
         (P.reports port.old) (P.reports port.new) (P.stops port.new) }
+    ensures refused { IsRefusal result (P.refused port.old) (P.refused port.new) }
 {
     match &item.task {
         WorkTask::Batchlet { artifact } => {

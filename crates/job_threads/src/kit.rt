@@ -142,6 +142,7 @@ fn find_name(all: &[Named], name: &str) -> Option<usize>
 /// names and meanings, in the order in which they were added.
 #[derive(Drop)]
 pub struct Kit {
+    alloc: Global,
     all: Vec<Named>,
 }
 
@@ -151,6 +152,7 @@ impl Kit {
         ensures { ⟦<Kit as Artifacts>⟧.seen result ≡ [] }
     {
         Kit {
+            alloc,
             all: Vec::new(alloc),
         }
     }
@@ -160,18 +162,13 @@ impl Kit {
     /// # Errors
     ///
     /// `OutOfMemory` where memory is refused; the kit stays as it was, and the artifact is dropped.
-    pub fn add(
-        &mut self,
-        alloc: Global,
-        name: &str,
-        artifact: Box<dyn Artifact + Send>,
-    ) -> Result<(), OutOfMemory>
+    pub fn add(&mut self, name: &str, artifact: Box<dyn Artifact + Send>) -> Result<(), OutOfMemory>
         ensures ok { OnOk result (⟦<Kit as Artifacts>⟧.seen self.new ≡ ⟦<Kit as Artifacts>⟧.seen
             self.old ++ known name.now (meaning artifact) ∷ []) }
         ensures err { OnErr result (⟦<Kit as Artifacts>⟧.seen self.new ≡ ⟦<Kit as Artifacts>⟧.seen
             self.old) }
     {
-        let name = String::from_str(alloc, name)?;
+        let name = String::from_str(self.alloc, name)?;
         self.all.push(Named { name, artifact })?;
         Ok(())
     }

@@ -1,8 +1,8 @@
-ghost use Rattle.std.specs.Prelude.{◌≡◌, ◌++◌, List, ℕ, IsTrue};
-ghost use Rattle.std.specs.List.{Contains};
+ghost use Rattle.std.specs.Prelude.{◌≡◌, ◌++◌, List, Option};
+ghost use Rattle.batch_ids.specs.declared.refusal.Refusal.{Refusal};
 ghost use Rattle.job_threads.specs.declared.report.Report.{Report};
 ghost use Rattle.job_threads.specs.declared.report.Report.TheVariants.{Checkpoint, Finish};
-ghost use Rattle.job_threads.specs.Ports.{accepted, IsKept};
+ghost use Rattle.job_threads.specs.Ports.{accepted, refused_by, HasLooked, IsKept, Stops};
 
 use crate::report::Onward;
 use batch_history::WorkItem;
@@ -19,14 +19,17 @@ pub enum Claimed {
     Nothing,
 }
 
-/// What a worker calls of the job repository. Contracts see its accepted reports, and the job
-/// executions whose stop it saw.
+/// What a worker calls of the job repository. Contracts see its accepted reports, what it knows of
+/// stops, and its last refusal.
 pub trait Port {
     /// Its accepted checkpoints and finishes, with their replies.
     ghost reports: { Self → List Report };
 
-    /// The job executions whose stop it saw.
-    ghost stops: { Self → List ℕ };
+    /// The job executions whose stop it saw, and whether its last look for a stop found one.
+    ghost stops: { Self → Stops };
+
+    /// The refusal that it gave last, if it gave one.
+    ghost refused: { Self → Option Refusal };
 
     /// Asks for a work item.
     ///
@@ -34,7 +37,8 @@ pub trait Port {
     ///
     /// The refusal of the claim.
     fn claim(&mut self, at: Moment) -> Result<Claimed, Refusal>
-        ensures { reports self.new ≡ reports self.old };
+        ensures reports { reports self.new ≡ reports self.old }
+        ensures refused { refused self.new ≡ refused_by (refused self.old) result };
 
     /// Reports that a group of a chunk is done.
     ///
@@ -50,7 +54,8 @@ pub trait Port {
     ) -> Result<Onward, Refusal>
         ensures reports { reports self.new ≡ reports self.old
             ++ accepted (λ reply. Checkpoint work mark step at reply) result }
-        ensures stops { IsKept (stops self.old) (stops self.new) };
+        ensures stops { IsKept (stops self.old) (stops self.new) }
+        ensures refused { refused self.new ≡ refused_by (refused self.old) result };
 
     /// Ends a work item.
     ///
@@ -67,7 +72,8 @@ pub trait Port {
     ) -> Result<(), Refusal>
         ensures reports { reports self.new ≡ reports self.old
             ++ accepted (λ _. Finish work outcome exit step at) result }
-        ensures stops { IsKept (stops self.old) (stops self.new) };
+        ensures stops { IsKept (stops self.old) (stops self.new) }
+        ensures refused { refused self.new ≡ refused_by (refused self.old) result };
 
     /// Gives a work item up.
     ///
@@ -75,13 +81,14 @@ pub trait Port {
     ///
     /// The refusal of the loss.
     fn lose(&mut self, work: WorkId, at: Moment) -> Result<(), Refusal>
-        ensures { reports self.new ≡ reports self.old };
+        ensures reports { reports self.new ≡ reports self.old }
+        ensures refused { refused self.new ≡ refused_by (refused self.old) result };
 
     /// Whether a stop of this job execution was seen. A false says nothing.
     fn stop_seen(&mut self, execution: ExecutionId) -> bool
         ensures reports { reports self.new ≡ reports self.old }
-        ensures stops { IsKept (stops self.old) (stops self.new) }
-        ensures seen { IsTrue result → Contains (stops self.new) execution };
+        ensures stops { HasLooked execution result (stops self.old) (stops self.new) }
+        ensures refused { refused self.new ≡ refused self.old };
 
     /// Whether a job execution is unfinished.
     ///
@@ -89,5 +96,6 @@ pub trait Port {
     ///
     /// The refusal of the query.
     fn unfinished(&mut self) -> Result<bool, Refusal>
-        ensures { reports self.new ≡ reports self.old };
+        ensures reports { reports self.new ≡ reports self.old }
+        ensures refused { refused self.new ≡ refused_by (refused self.old) result };
 }

@@ -17,6 +17,8 @@ pub struct SessionPort<'a, R: Wait, N: Site> {
     rt: &'a R,
     operator: &'a Operator<N>,
     session: Session<N>,
+    found_stop: bool,
+    refused: Option<Refusal>,
 }
 
 impl<'a, R: Wait, N: Site> SessionPort<'a, R, N> {
@@ -26,6 +28,8 @@ impl<'a, R: Wait, N: Site> SessionPort<'a, R, N> {
             rt,
             operator,
             session,
+            found_stop: false,
+            refused: None,
         }
     }
 }
@@ -69,15 +73,22 @@ fn is_unfinished(answer: &Answer) -> bool {
 }
 
 impl<R: Wait, N: Site> Port for SessionPort<'_, R, N> {
-    ghost use Rattle.job_threads.specs.Ports.{reports_in};
+    ghost use Rattle.job_threads.specs.Ports.{reports_in, stops_of};
 
     ghost reports = { λ port. reports_in port.session.mine };
 
-    ghost stops = { λ port. port.session.stops };
+    ghost stops = { λ port. stops_of port.session.stops port.found_stop };
+
+    ghost refused = { λ port. port.refused };
 
     fn claim(&mut self, at: Moment) -> Result<Claimed, Refusal> {
-        let reply = self.operator.claim(self.rt, &mut self.session, at)?;
-        Ok(claimed(reply))
+        match self.operator.claim(self.rt, &mut self.session, at) {
+            Ok(reply) => Ok(claimed(reply)),
+            Err(refusal) => {
+                self.refused = Some(refusal);
+                Err(refusal)
+            }
+        }
     }
 
     fn checkpoint(
@@ -87,12 +98,20 @@ impl<R: Wait, N: Site> Port for SessionPort<'_, R, N> {
         step: MetricStep,
         at: Moment,
     ) -> Result<Onward, Refusal> {
-        let reply = self
+        match self
             .operator
-            .checkpoint(self.rt, &mut self.session, work, mark, step, at)?;
-        let told = onward(&reply);
-        drop(reply);
-        Ok(told)
+            .checkpoint(self.rt, &mut self.session, work, mark, step, at)
+        {
+            Ok(reply) => {
+                let told = onward(&reply);
+                drop(reply);
+                Ok(told)
+            }
+            Err(refusal) => {
+                self.refused = Some(refusal);
+                Err(refusal)
+            }
+        }
     }
 
     fn finish(
@@ -103,27 +122,50 @@ impl<R: Wait, N: Site> Port for SessionPort<'_, R, N> {
         step: MetricStep,
         at: Moment,
     ) -> Result<(), Refusal> {
-        let done = self
+        match self
             .operator
-            .finish(self.rt, &mut self.session, work, outcome, exit, step, at)?;
-        drop(done);
-        Ok(())
+            .finish(self.rt, &mut self.session, work, outcome, exit, step, at)
+        {
+            Ok(done) => {
+                drop(done);
+                Ok(())
+            }
+            Err(refusal) => {
+                self.refused = Some(refusal);
+                Err(refusal)
+            }
+        }
     }
 
     fn lose(&mut self, work: WorkId, at: Moment) -> Result<(), Refusal> {
-        let done = self.operator.lose(self.rt, &mut self.session, work, at)?;
-        drop(done);
-        Ok(())
+        match self.operator.lose(self.rt, &mut self.session, work, at) {
+            Ok(done) => {
+                drop(done);
+                Ok(())
+            }
+            Err(refusal) => {
+                self.refused = Some(refusal);
+                Err(refusal)
+            }
+        }
     }
 
     fn stop_seen(&mut self, execution: ExecutionId) -> bool {
-        self.operator.stop_seen(&mut self.session, execution)
+        self.found_stop = self.operator.stop_seen(&mut self.session, execution);
+        self.found_stop
     }
 
     fn unfinished(&mut self) -> Result<bool, Refusal> {
-        let answer = self.operator.status_counts(self.rt, &mut self.session)?;
-        let unfinished = is_unfinished(&answer);
-        drop(answer);
-        Ok(unfinished)
+        match self.operator.status_counts(self.rt, &mut self.session) {
+            Ok(answer) => {
+                let unfinished = is_unfinished(&answer);
+                drop(answer);
+                Ok(unfinished)
+            }
+            Err(refusal) => {
+                self.refused = Some(refusal);
+                Err(refusal)
+            }
+        }
     }
 }

@@ -1,4 +1,5 @@
-ghost use Rattle.std.specs.Prelude.{◌≤◌, length, IfOk};
+ghost use Rattle.std.specs.Prelude.{◌≡◌, ◌≤◌, ◌+◌, cond, length};
+ghost use Rattle.job_threads.specs.Pools.{ComesTo, within_u64};
 
 use crate::kit::Kit;
 use crate::session_port::SessionPort;
@@ -21,6 +22,19 @@ pub struct PoolReport {
     pub items: u64,
     /// How many of them gave up.
     pub gave_up: u64,
+}
+
+impl PoolReport {
+    /// With the report of one worker more.
+    fn with(self, report: WorkerReport) -> PoolReport
+        ensures items { result.items ≡ within_u64 (self.items + report.items) }
+        ensures gave_up { result.gave_up ≡ within_u64 (self.gave_up + cond report.gave_up 1 0) }
+    {
+        PoolReport {
+            items: self.items.saturating_add(report.items),
+            gave_up: self.gave_up.saturating_add(u64::from(report.gave_up)),
+        }
+    }
 }
 
 /// A kit with the number of its worker, and where its memory comes from.
@@ -57,16 +71,17 @@ fn work_alone<N: Site, R: Wait, G: Gate>(
 }
 
 /// The workers' reports together, or the refusal of the first of them that has one.
-fn total(reports: Vec<Result<WorkerReport, Refusal>>) -> Result<PoolReport, Refusal> {
+fn total(reports: &[Result<WorkerReport, Refusal>]) -> Result<PoolReport, Refusal>
+    ensures { ComesTo reports.now result }
+{
     let mut total = PoolReport {
         items: 0,
         gave_up: 0,
     };
     for report in reports {
-        let report = report?;
-        total.items = total.items.saturating_add(report.items);
-        if report.gave_up {
-            total.gave_up = total.gave_up.saturating_add(1);
+        match report {
+            Ok(report) => total = total.with(*report),
+            Err(refusal) => return Err(*refusal),
         }
     }
     Ok(total)
@@ -96,5 +111,5 @@ pub fn pool<N: Site + Send + Sync, R: Threads + Wait + Sync, G: Gate + Sync>(
         workers,
         &|one: Numbered| { work_alone(rt, operator, gate, one) },
     )?;
-    total(reports)
+    total(reports.as_slice())
 }

@@ -1,19 +1,22 @@
 use Rattle.std.proofs.Common.{refl, ap, ◌∙◌, append-nil, inl, inr, arith, length}
 use Rattle.job_threads.proofs.Turns.{faulted}
-use Rattle.job_threads.proofs.Marked.{mark-told, text-too-long, holds-eq, marked}
+use Rattle.job_threads.proofs.Marked.{mark-told, holds-eq, marked}
 use Rattle.job_threads.proofs.chunk.report_group.Goals as goal
 
 pub returns-in-Err-clause-marks : goal.returns-in-Err-clause-marks
 returns-in-Err-clause-marks g c = let f = faulted c.args.reader _ _ c.requires.within c.in-Err.ensures in (f.1, refl, inl f.0)
 
-pub returns-in-Err-TextTooLong-clause-marks : goal.returns-in-Err-TextTooLong-clause-marks
-returns-in-Err-TextTooLong-clause-marks g c =
+pub returns-then-len-gt65536-clause-marks : goal.returns-then-len-gt65536-clause-marks
+returns-then-len-gt65536-clause-marks g c =
     let told = mark-told c.args.reader c.in-Ok.mark _ _ c.in-Ok.ensures in
-    let long = text-too-long _ _ c.in-Err-TextTooLong.ensures.refused c.in-Err-TextTooLong.field-0-is in
-    (holds-eq _ _ told.0, refl, inr (omega (arith, ap length c.as_str.ensures.value, ap length told.1)))
+    (holds-eq _ _ told.0, refl, inr (omega (arith, ap length told.1)))
 
-pub returns-in-Err-new : goal.returns-in-Err-new
-returns-in-Err-new g c = record { marks = ((mark-told c.args.reader c.in-Ok.mark _ _ c.in-Ok.ensures).0, refl); stops = λ x h. h }
+pub returns-in-Err-within : goal.returns-in-Err-within
+returns-in-Err-within g c = record {
+  marks = ((mark-told c.args.reader c.in-Ok.mark _ _ c.in-Ok.ensures).0, refl);
+  stops = (λ x h. h, refl);
+  refused = inr (c.from.ensures, refl);
+}
 
 pub returns-in-Err-checkpoint-clause-marks : goal.returns-in-Err-checkpoint-clause-marks
 returns-in-Err-checkpoint-clause-marks g c = ((mark-told c.args.reader c.in-Ok.mark _ _ c.in-Ok.ensures).0, c.in-Err-checkpoint.ensures.reports ∙ append-nil _)
@@ -21,14 +24,14 @@ returns-in-Err-checkpoint-clause-marks g c = ((mark-told c.args.reader c.in-Ok.m
 pub returns-in-Ok-StopAsked-clause-marks : goal.returns-in-Ok-StopAsked-clause-marks
 returns-in-Ok-StopAsked-clause-marks g c =
     let told = mark-told c.args.reader c.in-Ok.mark _ _ c.in-Ok.ensures in
-    (told.0, marked _ _ _ _ _ _ _ _ _ _ c.in-Ok-StopAsked.ensures.reports c.step_of.ensures (c.in-Ok-new.ensures.same ∙ (c.as_str.ensures.value ∙ told.1)) c.in-Ok-StopAsked.field-0-is)
+    (told.0, marked _ _ _ _ _ _ _ _ _ _ c.in-Ok-StopAsked.ensures.reports c.step_of.ensures (c.in-Ok-within.ensures ∙ (c.as_str.ensures.value ∙ told.1)) c.in-Ok-StopAsked.field-0-is)
 
 pub returns-then-tally-clause-marks : goal.returns-then-tally-clause-marks
 returns-then-tally-clause-marks g c =
     let told = mark-told c.args.reader c.in-Ok.mark _ _ c.in-Ok.ensures in
-    (told.0, marked _ _ _ _ _ _ _ _ _ _ c.in-Ok-Go.ensures.reports c.step_of.ensures (c.in-Ok-new.ensures.same ∙ (c.as_str.ensures.value ∙ told.1)) c.in-Ok-Go.field-0-is, c.if-tally.true)
+    (told.0, marked _ _ _ _ _ _ _ _ _ _ c.in-Ok-Go.ensures.reports c.step_of.ensures (c.in-Ok-within.ensures ∙ (c.as_str.ensures.value ∙ told.1)) c.in-Ok-Go.field-0-is, c.if-tally.true)
 
 pub returns-clause-marks : goal.returns-clause-marks
 returns-clause-marks g c =
     let told = mark-told c.args.reader c.in-Ok.mark _ _ c.in-Ok.ensures in
-    (told.0, marked _ _ _ _ _ _ _ _ _ _ c.in-Ok-Go.ensures.reports c.step_of.ensures (c.in-Ok-new.ensures.same ∙ (c.as_str.ensures.value ∙ told.1)) c.in-Ok-Go.field-0-is, c.if-tally.false)
+    (told.0, marked _ _ _ _ _ _ _ _ _ _ c.in-Ok-Go.ensures.reports c.step_of.ensures (c.in-Ok-within.ensures ∙ (c.as_str.ensures.value ∙ told.1)) c.in-Ok-Go.field-0-is, c.if-tally.false)
