@@ -1,4 +1,4 @@
-ghost use Rattle.std.specs.Prelude.{◌≡◌, ◌<◌, ◌≤◌, ◌∷◌, ◌++◌, [], IsTrue, IfOk, IfErr, length};
+ghost use Rattle.std.specs.Prelude.{◌≡◌, ◌<◌, ◌≤◌, ◌%◌, ◌∷◌, ◌++◌, [], IsTrue, IfOk, IfErr, length};
 ghost use Rattle.seat_rules.specs.Places.{IsLegalLog};
 ghost use Rattle.seat_rules.specs.Views.{glanced_at, new_session};
 ghost use Rattle.batch_operator.specs.Calls.{IsAnswered, IsReplied};
@@ -117,6 +117,10 @@ impl<N: Site> Operator<N> {
     /// Brings read copy `j` of each kind to the history so far, so that the queries of sessions whose
     /// number leaves `j` when it is divided by `copies` are answered by it.
     ///
+    /// It takes the time to enter each operation that the copies lack. It waits for the lock of the book, and
+    /// holds it while it waits for the locks of the copies: a query that reads copy `j` then keeps every
+    /// call waiting until it is answered.
+    ///
     /// # Errors
     ///
     /// `OutOfMemory` where memory is refused; the copies keep what they have absorbed until then.
@@ -207,7 +211,8 @@ impl<N: Site> Operator<N> {
 
     /// The read copy that a session reads: its number, divided by how many copies there are, leaves it.
     pub(crate) fn copy_for(&self, session: &Session<N>) -> usize
-        ensures { result < self.now.repositories }
+        ensures number { result ≡ session.now.number % self.now.repositories }
+        ensures within { result < self.now.repositories }
     {
         (session.number() % self.repositories.len() as u64) as usize
     }
