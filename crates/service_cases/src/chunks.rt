@@ -1,13 +1,13 @@
-use crate::memory::{Answers, Memory, chunk, item_of};
+use crate::memory::{Answers, Memory, ROOMY, chunk, item_of};
 use crate::refusing::Open;
-use crate::staged::{Place, Staged, Written};
+use crate::staged::{Place, Staged, Written, nothing_written};
 use anyhow::Result;
 use batch_history::WorkTask;
 use batch_ids::{MetricStep, Metrics, Refusal, T256};
 use job_threads::{Kit, Report, Tape, WorkerReport, worker};
 use std::alloc::Global;
 use std::sync::Arc;
-use std::sync::atomic::{AtomicU64, Ordering};
+use std::sync::atomic::Ordering;
 
 /// Where each artifact of a chunk faults, and how long the mark of the fourth item is.
 #[derive(Clone, Copy)]
@@ -24,13 +24,6 @@ const CALM: Faults = Faults {
     processor: Place::Nowhere,
     writer: Place::Nowhere,
     long_mark: false,
-};
-
-/// A port that answers as a repository with room, and sees no stop.
-const ROOMY: Answers = Answers {
-    refused_checkpoint: None,
-    refuses_loss: false,
-    stop_after: None,
 };
 
 /// A text of 65,537 bytes, which is one too many for a mark.
@@ -56,7 +49,7 @@ fn five_items(alloc: Global, long_mark: bool) -> Result<Vec<String>> {
 }
 
 /// An artifact that faults at this place.
-fn staged(
+pub(crate) fn staged(
     alloc: Global,
     place: Place,
     items: Vec<String>,
@@ -85,11 +78,11 @@ fn run_chunk(
     let items = five_items(alloc, faults.long_mark)?;
     let reader = staged(alloc, faults.reader, items, written)?;
     let mut kit = Kit::new(alloc);
-    kit.add(alloc, "r", reader)?;
+    kit.add("r", reader)?;
     let processor = staged(alloc, faults.processor, Vec::new(alloc), written)?;
-    kit.add(alloc, "p", processor)?;
+    kit.add("p", processor)?;
     let writer = staged(alloc, faults.writer, Vec::new(alloc), written)?;
-    kit.add(alloc, "w", writer)?;
+    kit.add("w", writer)?;
     let reported = worker(alloc, port, &mut kit, &Open, 0, 3);
     drop(kit);
     Ok(reported)
@@ -139,14 +132,8 @@ fn print_task(
     answers: Answers,
 ) -> Result<()> {
     let alloc = rt.alloc();
-    let written = Arc::new(
-        alloc,
-        Written {
-            groups: AtomicU64::new(0),
-            items: AtomicU64::new(0),
-        },
-    )?;
-    let mut port = Memory::new(alloc, item_of(alloc, task)?, answers);
+    let written = nothing_written(alloc)?;
+    let mut port = Memory::new(alloc, Some(item_of(alloc, task)?), answers);
     let printed = print_run(rt, name, &mut port, faults, &written);
     drop(port);
     printed

@@ -1,7 +1,7 @@
 // Operators of the cases.
 ghost use Rattle.std.specs.Prelude.{◌≡◌};
 
-use anyhow::Result;
+use anyhow::{Result, bail};
 use batch_ids::{Parameters, T256};
 use batch_operator::{CopyCount, Operator};
 use jsl_model::Catalogue;
@@ -20,16 +20,25 @@ pub(crate) fn operator_of<N: Site>(
     requires seat { seat ≡ N.place.table }
     requires catalogue { catalogue ≡ N.place.catalogue }
 {
-    let copies = one_copy();
-    Ok(Operator::<N>::new(alloc, table, seat, catalogue, copies)?)
+    operator_with::<N>(alloc, table, seat, catalogue, 1)
 }
 
-/// One read copy of each kind.
-fn one_copy() -> CopyCount {
-    match CopyCount::new(1) {
-        Some(copies) => copies,
-        None => unreachable!(),
-    }
+/// An operator with so many read copies of each kind.
+pub(crate) fn operator_with<N: Site>(
+    alloc: Global,
+    table: SeatTable,
+    seat: BookSeat,
+    catalogue: Catalogue,
+    copies: u64,
+) -> Result<Operator<N>>
+    requires table { table ≡ N.place }
+    requires seat { seat ≡ N.place.table }
+    requires catalogue { catalogue ≡ N.place.catalogue }
+{
+    let Some(copies) = CopyCount::new(copies) else {
+        bail!("no such number of read copies");
+    };
+    Ok(Operator::<N>::new(alloc, table, seat, catalogue, copies)?)
 }
 
 /// Starts the job of this name, by a session of its own.

@@ -2,10 +2,12 @@
 //!
 //! - Scripts: says of each whether its replies are those of a file, and where they begin to differ. The scripts, the replies
 //!   and the list of both lie in `data/`.
-//! - Scripts on an operator: the same of those in `data/operator/`; then four threads on one operator, and a full desk.
+//! - Scripts on an operator: the same of those in `data/operator/`; then four threads on one operator, a full desk, what
+//!   sessions see of several read copies, and a session that is dropped.
 //! - Workers with an operator, and with a port that refuses: two of them at once, a step in partitions, a job of built-in
 //!   artifacts, what a worker and a pool report, a work item that is given up, a chunk whose artifacts fault at each of
-//!   their places, and names that the kit lacks.
+//!   their places, names that the kit lacks, stops that are seen or told, workers that give up, a worker that is idle, and
+//!   pools of which each worker is refused.
 #![tactic(auto)]
 
 mod asking;
@@ -13,32 +15,42 @@ mod built_ins;
 mod chunks;
 mod comparison;
 mod directive;
+mod dropped_sessions;
 mod four_threads;
+mod fronts;
 mod full_desk;
 mod hosting;
 mod memory;
 mod operator_cases;
 mod pools;
 mod quiet;
+mod refused_pools;
 mod refusing;
 mod reports;
 mod script;
 mod script_cases;
 mod stage;
 mod staged;
+mod stops;
+mod turns;
 
 use anyhow::Result;
 use built_ins::print_built_ins;
 use chunks::{print_ended_early, print_faults, print_unknown_names};
+use dropped_sessions::print_dropped_session;
 use four_threads::print_four_threads;
+use fronts::print_fronts;
 use full_desk::print_full_desk;
 use operator_cases::run_operator_cases;
-use pools::{print_partitions, print_together};
+use pools::{print_ahead, print_partitions, print_together};
+use refused_pools::print_refused_pools;
 use refusing::print_given_up;
 use reports::print_reports;
 use script_cases::run_script_cases;
 use std::sync::Wait;
 use std::thread::Threads;
+use stops::print_stops;
+use turns::print_all_turns;
 
 /// What workers do.
 fn print_workers<R: Threads + Wait + Print + AllocGlobal + Sync>(rt: &R) -> Result<()> {
@@ -49,7 +61,11 @@ fn print_workers<R: Threads + Wait + Print + AllocGlobal + Sync>(rt: &R) -> Resu
     print_given_up(rt)?;
     print_faults(rt)?;
     print_unknown_names(rt)?;
-    print_ended_early(rt)
+    print_ended_early(rt)?;
+    print_stops(rt)?;
+    print_all_turns(rt)?;
+    print_ahead(rt)?;
+    print_refused_pools(rt)
 }
 
 fn main(rt: HostRuntime) -> Result<()> {
@@ -57,5 +73,7 @@ fn main(rt: HostRuntime) -> Result<()> {
     run_operator_cases(&rt)?;
     print_four_threads(&rt)?;
     print_full_desk(&rt)?;
+    print_fronts(&rt)?;
+    print_dropped_session(&rt)?;
     print_workers(&rt)
 }

@@ -12,17 +12,36 @@ pub(crate) struct Answers {
     pub(crate) refuses_loss: bool,
     /// After how many checkpoints a stop is seen.
     pub(crate) stop_after: Option<u64>,
+    /// At which checkpoint, counted from 1, a stop is told.
+    pub(crate) told_at: Option<u64>,
+    /// Whether a job execution is unfinished.
+    pub(crate) unfinished: bool,
 }
 
-/// A port that hands out one work item, and keeps what is reported of it.
+/// A port that answers as a repository with room, and sees no stop.
+pub(crate) const ROOMY: Answers = Answers {
+    refused_checkpoint: None,
+    refuses_loss: false,
+    stop_after: None,
+    told_at: None,
+    unfinished: false,
+};
+
+/// A port that hands out one work item at most, keeps what is reported of it, and counts what it is
+/// asked.
 #[derive(Drop)]
 pub(crate) struct Memory {
     answers: Answers,
     item: Option<WorkItem>,
+    pub(crate) claims: u64,
     pub(crate) checkpoints: u64,
     pub(crate) losses: u64,
+    pub(crate) looks: u64,
+    pub(crate) queries: u64,
     pub(crate) reports: Vec<Report>,
     stops: Vec<ExecutionId>,
+    found_stop: bool,
+    refused: Option<Refusal>,
 }
 
 /// A work item with this to run.
@@ -48,14 +67,19 @@ pub(crate) fn chunk(alloc: Global, reader: &str, writer: &str) -> Result<WorkTas
 }
 
 impl Memory {
-    pub(crate) fn new(alloc: Global, item: WorkItem, answers: Answers) -> Memory {
+    pub(crate) fn new(alloc: Global, item: Option<WorkItem>, answers: Answers) -> Memory {
         Memory {
             answers,
-            item: Some(item),
+            item,
+            claims: 0,
             checkpoints: 0,
             losses: 0,
+            looks: 0,
+            queries: 0,
             reports: Vec::new(alloc),
             stops: Vec::new(alloc),
+            found_stop: false,
+            refused: None,
         }
     }
 
@@ -66,14 +90,28 @@ impl Memory {
             Some(after) => self.checkpoints >= after,
         }
     }
+
+    /// What this checkpoint is answered.
+    fn reply(&self) -> Onward {
+        if self.answers.told_at == Some(self.checkpoints) {
+            Onward::StopAsked
+        } else {
+            Onward::Go
+        }
+    }
 }
 
 impl Port for Memory {
+    ghost use Rattle.job_threads.specs.Ports.{stops_of};
+
     ghost reports = { λ p. p.reports.items };
 
-    ghost stops = { λ p. p.stops.items };
+    ghost stops = { λ p. stops_of p.stops.items p.found_stop };
+
+    ghost refused = { λ p. p.refused };
 
     fn claim(&mut self, _at: Moment) -> Result<Claimed, Refusal> {
+        self.claims = self.claims.saturating_add(1);
         match self.item.take() {
             None => Ok(Claimed::Nothing),
             Some(item) => Ok(Claimed::Work(item)),
@@ -89,16 +127,23 @@ impl Port for Memory {
     ) -> Result<Onward, Refusal> {
         self.checkpoints = self.checkpoints.saturating_add(1);
         if self.answers.refused_checkpoint == Some(self.checkpoints) {
+            self.refused = Some(Refusal::OutOfMemory);
             return Err(Refusal::OutOfMemory);
         }
-        self.reports.push(Report::Checkpoint {
+        let reply = self.reply();
+        match self.reports.push(Report::Checkpoint {
             work,
             mark,
             step,
             at,
-            reply: Onward::Go,
-        })?;
-        Ok(Onward::Go)
+            reply,
+        }) {
+            Ok(()) => Ok(reply),
+            Err(_) => {
+                self.refused = Some(Refusal::OutOfMemory);
+                Err(Refusal::OutOfMemory)
+            }
+        }
     }
 
     fn finish(
@@ -109,29 +154,38 @@ impl Port for Memory {
         step: MetricStep,
         at: Moment,
     ) -> Result<(), Refusal> {
-        self.reports.push(Report::Finish {
+        match self.reports.push(Report::Finish {
             work,
             outcome,
             exit,
             step,
             at,
-        })?;
-        Ok(())
+        }) {
+            Ok(()) => Ok(()),
+            Err(_) => {
+                self.refused = Some(Refusal::OutOfMemory);
+                Err(Refusal::OutOfMemory)
+            }
+        }
     }
 
     fn lose(&mut self, _work: WorkId, _at: Moment) -> Result<(), Refusal> {
         self.losses = self.losses.saturating_add(1);
         if self.answers.refuses_loss {
+            self.refused = Some(Refusal::WorkNotRunning);
             return Err(Refusal::WorkNotRunning);
         }
         Ok(())
     }
 
     fn stop_seen(&mut self, execution: ExecutionId) -> bool {
-        self.is_stopped() && self.stops.push(execution).is_ok()
+        self.looks = self.looks.saturating_add(1);
+        self.found_stop = self.is_stopped() && self.stops.push(execution).is_ok();
+        self.found_stop
     }
 
     fn unfinished(&mut self) -> Result<bool, Refusal> {
-        Ok(false)
+        self.queries = self.queries.saturating_add(1);
+        Ok(self.answers.unfinished)
     }
 }

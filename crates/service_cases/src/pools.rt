@@ -11,6 +11,7 @@ use jsl_json::read_catalogue;
 use jsl_model::Catalogue;
 use op_log::Answer;
 use seat_rules::{BookSeat, SeatTable, Site};
+use std::hint::spin_loop;
 use std::marker::Brand;
 use std::sync::Wait;
 use std::sync::atomic::{AtomicU64, Ordering};
@@ -28,30 +29,60 @@ const PARTITIONS: &[u8] =
 /// How many workers a pool has.
 const WORKERS: u64 = 2;
 
-/// How often a worker looks whether another has begun.
-const LOOKS: u64 = 10_000_000;
+/// A job of a step ahead of a split with a step in each of two flows.
+const AHEAD: &[u8] =
+    b"{\"jobs\":[{\"id\":\"a\",\"elements\":[{\"kind\":\"step\",\"id\":\"r\",\"next\":\"p\",\"batchlet\":{\"ref\":\"ok\"}},{\"kind\":\"split\",\"id\":\"p\",\"flows\":[{\"kind\":\"flow\",\"id\":\"f\",\"elements\":[{\"kind\":\"step\",\"id\":\"s\",\"batchlet\":{\"ref\":\"ok\"}}]},{\"kind\":\"flow\",\"id\":\"g\",\"elements\":[{\"kind\":\"step\",\"id\":\"t\",\"batchlet\":{\"ref\":\"ok\"}}]}]}]}]}";
 
-/// Holds each work item until so many have begun, and counts those that saw it.
+/// How often a worker looks for what it waits for.
+const LOOKS: u64 = 10_000;
+
+/// How long it pauses after a look in vain, in turns of an empty loop.
+const PAUSES: u64 = 10_000;
+
+/// Holds the first work items, so many of them as are `ahead`, until a worker is idle, and each other
+/// until so many have begun as are `wanted`. It counts those that saw it.
 #[derive(Drop)]
 struct Together {
+    ahead: u64,
     wanted: u64,
     begun: AtomicU64,
+    idle: AtomicU64,
     seen: AtomicU64,
+}
+
+impl Together {
+    /// Whether the work item that began after so many others may go on.
+    fn may_go(&self, others: u64) -> bool {
+        if others < self.ahead {
+            self.idle.load(Ordering::SeqCst) > 0
+        } else {
+            self.begun.load(Ordering::SeqCst) >= self.wanted
+        }
+    }
+}
+
+/// Lets other threads run.
+pub(crate) fn pause() {
+    for _turn in 0..PAUSES {
+        spin_loop();
+    }
+    thread::yield_now();
 }
 
 impl Gate for Together {
     fn before(&self, _worker: u64, _item: &WorkItem) {
-        self.begun.fetch_add(1, Ordering::SeqCst);
+        let others = self.begun.fetch_add(1, Ordering::SeqCst);
         for _look in 0..LOOKS {
-            if self.begun.load(Ordering::SeqCst) >= self.wanted {
+            if self.may_go(others) {
                 self.seen.fetch_add(1, Ordering::SeqCst);
                 return;
             }
-            thread::yield_now();
+            pause();
         }
     }
 
     fn idle(&self, _worker: u64) {
+        self.idle.fetch_add(1, Ordering::SeqCst);
         thread::yield_now();
     }
 
@@ -60,10 +91,12 @@ impl Gate for Together {
     }
 }
 
-fn gate_of(wanted: u64) -> Together {
+fn gate_of(ahead: u64, wanted: u64) -> Together {
     Together {
+        ahead,
         wanted,
         begun: AtomicU64::new(0),
+        idle: AtomicU64::new(0),
         seen: AtomicU64::new(0),
     }
 }
@@ -116,7 +149,7 @@ fn work_together<N: Site + Send + Sync, R: Threads + Wait + AllocGlobal + Sync>(
     let mut kits = Vec::new(alloc);
     for _worker in 0..WORKERS {
         let mut kit = Kit::new(alloc);
-        kit.add(alloc, "ok", Box::new(alloc, Quiet { alloc })?)?;
+        kit.add("ok", Box::new(alloc, Quiet { alloc })?)?;
         kits.push(kit)?;
     }
     Ok(pool(rt, alloc, operator, kits, gate)?)
@@ -156,9 +189,19 @@ fn print_ran(rt: &impl Print, name: &str, gate: &Together, ran: Ran) -> Result<(
 pub(crate) fn print_together<R: Threads + Wait + Print + AllocGlobal + Sync>(rt: &R) -> Result<()> {
     let catalogue = read_catalogue(rt.alloc(), SPLIT)?;
     let (table, seat) = SeatTable::new(rt.alloc(), &catalogue)?;
-    let gate = gate_of(2);
+    let gate = gate_of(0, 2);
     let ran = run_by_two::<Brand, _>(rt, &gate, table, seat, catalogue)?;
     print_ran(rt, "together", &gate, ran)
+}
+
+/// Two workers run a step, while one of them is idle, and then the two steps of a split at the same
+/// time.
+pub(crate) fn print_ahead<R: Threads + Wait + Print + AllocGlobal + Sync>(rt: &R) -> Result<()> {
+    let catalogue = read_catalogue(rt.alloc(), AHEAD)?;
+    let (table, seat) = SeatTable::new(rt.alloc(), &catalogue)?;
+    let gate = gate_of(1, 3);
+    let ran = run_by_two::<Brand, _>(rt, &gate, table, seat, catalogue)?;
+    print_ran(rt, "ahead", &gate, ran)
 }
 
 /// Two workers run a step in five partitions.
@@ -167,7 +210,7 @@ pub(crate) fn print_partitions<R: Threads + Wait + Print + AllocGlobal + Sync>(
 ) -> Result<()> {
     let catalogue = read_catalogue(rt.alloc(), PARTITIONS)?;
     let (table, seat) = SeatTable::new(rt.alloc(), &catalogue)?;
-    let gate = gate_of(1);
+    let gate = gate_of(0, 1);
     let ran = run_by_two::<Brand, _>(rt, &gate, table, seat, catalogue)?;
     print_ran(rt, "partitions", &gate, ran)
 }

@@ -13,6 +13,7 @@ struct Refusing {
     alloc: Global,
     given_up: u64,
     claims: u64,
+    refused: Option<Refusal>,
 }
 
 fn batchlet(alloc: Global) -> std::result::Result<WorkItem, OutOfMemory> {
@@ -28,16 +29,24 @@ fn batchlet(alloc: Global) -> std::result::Result<WorkItem, OutOfMemory> {
 }
 
 impl Port for Refusing {
-    ghost use Rattle.std.specs.Prelude.{[]};
+    ghost use Rattle.std.specs.Prelude.{[], false};
+    ghost use Rattle.job_threads.specs.Ports.{stops_of};
 
     ghost reports = { λ _. [] };
 
-    ghost stops = { λ _. [] };
+    ghost stops = { λ _. stops_of [] false };
+
+    ghost refused = { λ p. p.refused };
 
     fn claim(&mut self, _at: Moment) -> std::result::Result<Claimed, Refusal> {
         self.claims = self.claims.saturating_add(1);
-        let item = batchlet(self.alloc)?;
-        Ok(Claimed::Work(item))
+        match batchlet(self.alloc) {
+            Ok(item) => Ok(Claimed::Work(item)),
+            Err(_) => {
+                self.refused = Some(Refusal::OutOfMemory);
+                Err(Refusal::OutOfMemory)
+            }
+        }
     }
 
     fn checkpoint(
@@ -47,6 +56,7 @@ impl Port for Refusing {
         _step: MetricStep,
         _at: Moment,
     ) -> std::result::Result<Onward, Refusal> {
+        self.refused = Some(Refusal::WorkNotRunning);
         Err(Refusal::WorkNotRunning)
     }
 
@@ -58,11 +68,13 @@ impl Port for Refusing {
         _step: MetricStep,
         _at: Moment,
     ) -> std::result::Result<(), Refusal> {
+        self.refused = Some(Refusal::WorkNotRunning);
         Err(Refusal::WorkNotRunning)
     }
 
     fn lose(&mut self, _work: WorkId, _at: Moment) -> std::result::Result<(), Refusal> {
         self.given_up = self.given_up.saturating_add(1);
+        self.refused = Some(Refusal::RepositoryFull);
         Err(Refusal::RepositoryFull)
     }
 
@@ -93,11 +105,12 @@ impl Gate for Open {
 pub(crate) fn print_given_up(rt: &(impl Print + AllocGlobal)) -> Result<()> {
     let alloc = rt.alloc();
     let mut kit = Kit::new(alloc);
-    kit.add(alloc, "", Box::new(alloc, Quiet { alloc })?)?;
+    kit.add("", Box::new(alloc, Quiet { alloc })?)?;
     let mut port = Refusing {
         alloc,
         given_up: 0,
         claims: 0,
+        refused: None,
     };
     let ended = worker(alloc, &mut port, &mut kit, &Open, 0, 3);
     drop(kit);

@@ -67,7 +67,7 @@ fn work_alone<N: Site, R: Wait + AllocGlobal>(
     for name in ["count:5", "odd", "sink"] {
         if let Some(built_in) = BuiltIn::of(alloc, name)? {
             let artifact = Box::new(alloc, BuiltInArtifact::new(alloc, built_in))?;
-            kit.add(alloc, name, artifact)?;
+            kit.add(name, artifact)?;
         }
     }
     let session = operator.open_session(rt)?;

@@ -3,7 +3,7 @@ ghost use Rattle.service_cases.specs.Staged.{mark_at};
 
 use batch_ids::T256;
 use job_threads::{Artifact, ArtifactFault, Happening, Tape};
-use std::alloc::Global;
+use std::alloc::{AllocError, Global};
 use std::sync::Arc;
 use std::sync::atomic::{AtomicU64, Ordering};
 
@@ -25,6 +25,35 @@ pub(crate) enum Place {
 pub(crate) struct Written {
     pub(crate) groups: AtomicU64,
     pub(crate) items: AtomicU64,
+    /// The items of one digit, a 0 after each group.
+    pub(crate) digits: AtomicU64,
+}
+
+/// Nothing was written.
+pub(crate) fn nothing_written(alloc: Global) -> Result<Arc<Written>, AllocError> {
+    let written = Written {
+        groups: AtomicU64::new(0),
+        items: AtomicU64::new(0),
+        digits: AtomicU64::new(0),
+    };
+    Ok(Arc::new(alloc, written)?)
+}
+
+impl Written {
+    fn add_digit(&self, digit: u64) {
+        let digits = self.digits.load(Ordering::SeqCst);
+        let more = digits.saturating_mul(10).saturating_add(digit);
+        self.digits.store(more, Ordering::SeqCst);
+    }
+
+    fn add_group(&self, items: &[String]) {
+        self.groups.fetch_add(1, Ordering::SeqCst);
+        self.items.fetch_add(items.len() as u64, Ordering::SeqCst);
+        for item in items {
+            self.add_digit(item.as_str().parse::<u64>().unwrap_or(0));
+        }
+        self.add_digit(0);
+    }
 }
 
 /// An artifact that reads the items that it was given, keeps each, takes each group, and faults where
@@ -142,10 +171,7 @@ impl Artifact for Staged {
             self.tape = self.tape.then(Happening::Fault);
             return Err(ArtifactFault::Failed);
         }
-        self.written.groups.fetch_add(1, Ordering::SeqCst);
-        self.written
-            .items
-            .fetch_add(items.len() as u64, Ordering::SeqCst);
+        self.written.add_group(items);
         self.tape = self.tape.then(Happening::Took(items));
         Ok(())
     }

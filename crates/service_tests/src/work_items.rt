@@ -10,14 +10,18 @@ use std::test::Fail;
 #[derive(Drop)]
 struct Memory {
     reports: Vec<Report>,
+    refused: Option<Refusal>,
 }
 
 impl Port for Memory {
-    ghost use Rattle.std.specs.Prelude.{[]};
+    ghost use Rattle.std.specs.Prelude.{[], false};
+    ghost use Rattle.job_threads.specs.Ports.{stops_of};
 
     ghost reports = { λ p. p.reports.items };
 
-    ghost stops = { λ _. [] };
+    ghost stops = { λ _. stops_of [] false };
+
+    ghost refused = { λ p. p.refused };
 
     fn claim(&mut self, _at: Moment) -> Result<Claimed, Refusal> {
         Ok(Claimed::Nothing)
@@ -31,14 +35,19 @@ impl Port for Memory {
         at: Moment,
     ) -> Result<Onward, Refusal> {
         let reply = Onward::Go;
-        self.reports.push(Report::Checkpoint {
+        match self.reports.push(Report::Checkpoint {
             work,
             mark,
             step,
             at,
             reply,
-        })?;
-        Ok(reply)
+        }) {
+            Ok(()) => Ok(reply),
+            Err(_) => {
+                self.refused = Some(Refusal::OutOfMemory);
+                Err(Refusal::OutOfMemory)
+            }
+        }
     }
 
     fn finish(
@@ -49,14 +58,19 @@ impl Port for Memory {
         step: MetricStep,
         at: Moment,
     ) -> Result<(), Refusal> {
-        self.reports.push(Report::Finish {
+        match self.reports.push(Report::Finish {
             work,
             outcome,
             exit,
             step,
             at,
-        })?;
-        Ok(())
+        }) {
+            Ok(()) => Ok(()),
+            Err(_) => {
+                self.refused = Some(Refusal::OutOfMemory);
+                Err(Refusal::OutOfMemory)
+            }
+        }
     }
 
     fn lose(&mut self, _work: WorkId, _at: Moment) -> Result<(), Refusal> {
@@ -130,7 +144,7 @@ fn run_with(alloc: Global, names: &[&str], item: &WorkItem) -> Result<String, Fa
     for name in names {
         let built_in = BuiltIn::of(alloc, name)?.unwrap_or(BuiltIn::Fail);
         let artifact = Box::new(alloc, BuiltInArtifact::new(alloc, built_in))?;
-        kit.add(alloc, name, artifact)?;
+        kit.add(name, artifact)?;
     }
     let told = run_on(alloc, &mut kit, item);
     drop(kit);
@@ -140,6 +154,7 @@ fn run_with(alloc: Global, names: &[&str], item: &WorkItem) -> Result<String, Fa
 fn run_on(alloc: Global, kit: &mut Kit, item: &WorkItem) -> Result<String, Fail> {
     let mut port = Memory {
         reports: Vec::new(alloc),
+        refused: None,
     };
     let _outcome = run_item(alloc, &mut port, kit, item, 0)?;
     told(alloc, port.reports.as_slice())
