@@ -1,5 +1,5 @@
 -- The last replies are written.
-use Rattle.std.proofs.Common.{◌≡◌, ◌∙◌, ℕ, ◌<◌, List, ◌++◌, false, cond, take, drop, Result, Ok, Err, sym, ap, subst, append_assoc}
+use Rattle.std.proofs.Common.{◌≡◌, ◌∙◌, ℕ, ◌<◌, List, ◌++◌, false, cond, take, drop, Result, Ok, Err, refl, sym, ap, subst, append_assoc}
 use Rattle.std.proofs.lemmas.Bool.{false≢true}
 use Rattle.std.proofs.lemmas.List.{append_cancel_left, take-append-drop}
 use Rattle.script_lines.specs.Device.{Told, Held, Takes}
@@ -25,12 +25,14 @@ took_all r r' w held new waits result e R wrote =
 
 -- all that waited is written
 pub flushed : (r r' : Told) (w held new : Held) (waits : List ℕ) (result : Result Summary EngineFault) → has_writer_failed result ≡ false → RanSoFar r r' w held waits result
-    → Takes held new waits → Ran r r' w new result
-flushed r r' w held new waits (Ok summary) e R wrote = record { input = R.ran.input; output = R.ran.output; read = R.ran.read; written = took_all r r' w held new waits (Ok summary) e R wrote; outcome = R.ran.outcome }
-flushed r r' w held new waits (Err (Catalogue fault)) e R wrote = record { input = R.ran.input; output = R.ran.output; read = R.ran.read; written = took_all r r' w held new waits (Err (Catalogue fault)) e R wrote; outcome = R.ran.outcome }
-flushed r r' w held new waits (Err Read) e R wrote = record { input = R.ran.input; output = R.ran.output; read = R.ran.read; written = took_all r r' w held new waits (Err Read) e R wrote; outcome = R.ran.outcome }
-flushed r r' w held new waits (Err Write) e R wrote = absurd (false≢true (sym e))
-flushed r r' w held new waits (Err OutOfMemory) e R wrote = record { input = R.ran.input; output = R.ran.output; read = R.ran.read; written = took_all r r' w held new waits (Err OutOfMemory) e R wrote; outcome = R.ran.outcome }
+    → Takes held new waits → new.failures ≡ held.failures → Ran r r' w new result
+flushed r r' w held new waits (Ok summary) e R wrote quiet =
+    let o = R.ran.outcome in
+    record { input = R.ran.input; output = R.ran.output; read = R.ran.read; written = took_all r r' w held new waits (Ok summary) e R wrote; outcome = (o.0, o.1, o.2, o.3, o.4, quiet ∙ R.quiet refl); bounded = R.ran.bounded }
+flushed r r' w held new waits (Err (Catalogue fault)) e R wrote quiet = record { input = R.ran.input; output = R.ran.output; read = R.ran.read; written = took_all r r' w held new waits (Err (Catalogue fault)) e R wrote; outcome = R.ran.outcome; bounded = R.ran.bounded }
+flushed r r' w held new waits (Err Read) e R wrote quiet = record { input = R.ran.input; output = R.ran.output; read = R.ran.read; written = took_all r r' w held new waits (Err Read) e R wrote; outcome = R.ran.outcome; bounded = R.ran.bounded }
+flushed r r' w held new waits (Err Write) e R wrote quiet = absurd (false≢true (sym e))
+flushed r r' w held new waits (Err OutOfMemory) e R wrote quiet = record { input = R.ran.input; output = R.ran.output; read = R.ran.read; written = took_all r r' w held new waits (Err OutOfMemory) e R wrote; outcome = R.ran.outcome; bounded = R.ran.bounded }
 
 -- the writer failed while it took what waited
 pub flush_failed : (r r' : Told) (w held new : Held) (waits : List ℕ) (result : Result Summary EngineFault) (n : ℕ) → has_writer_failed result ≡ false → RanSoFar r r' w held waits result
@@ -57,4 +59,5 @@ flush_failed r r' w held new waits result n e R wrote failed =
         turn_more S.input R.sent fore R.turn,
         subst (λ k. k < new.failures) (R.quiet e) failed,
       );
+      bounded = S.bounded;
     }

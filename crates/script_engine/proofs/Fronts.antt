@@ -1,5 +1,5 @@
 -- What was written for the lines so far is a front of a script's text.
-use Rattle.std.proofs.Common.{◌≡◌, ◌∙◌, inl, inr, ℕ, ◌==◌, List, [], ◌∷◌, ◌++◌, Bool, true, false, cond, Result, Ok, Err, refl, sym, ap, append_assoc}
+use Rattle.std.proofs.Common.{◌≡◌, ◌∙◌, inl, inr, ℕ, ◌==◌, List, [], ◌∷◌, ◌++◌, Bool, true, false, cond, Result, Ok, Err, refl, sym, ap, append_assoc, arith}
 use Rattle.std.proofs.lemmas.List.{append-nil}
 use Rattle.jsl_model.specs.Jobs.{JobTree}
 use Rattle.batch_history.specs.Rows.{History}
@@ -55,12 +55,12 @@ complete_front r r' input lines (inr e) = ([], sym e.1 ∙ sym (append-nil lines
 
 -- whatever the answer, the output is a front of the text of complete lines
 pub output_front : (input output : List ℕ) (r r' : Told) (w w' : Held) (result : Result Summary EngineFault) → IsOutcome input output r r' w w' result → IsFront r r' input output
-output_front input output r r' w w' (Ok summary) o = (script_lines input, [], inr (o.1.0, refl), append-nil output ∙ o.0)
+output_front input output r r' w w' (Ok summary) o = (script_lines input, [], inr (omega (arith, o.1.0), refl), append-nil output ∙ o.0)
 output_front input output r r' w w' (Err (Catalogue fault)) o =
     let first = o.2.2 in
     (o.2.0, [], o.2.1, append-nil output ∙ o.0 ∙ sym (ap text_of_lines first.2 ∙ ap (λ c. opened c first.1) first.3))
 output_front input output r r' w w' (Err Read) o = (whole_lines input, [], inl refl, append-nil output ∙ o.0)
 output_front input output r r' w w' (Err Write) o = o.0
-output_front input output r r' w w' (Err OutOfMemory) o =
+output_front input output r r' w w' (Err OutOfMemory) (o, turn) =
     let text = text_front o.0 o.1 in
     (o.0 ++ o.1, text.0, o.2, ap (λ b. b ++ text.0) o.3 ∙ text.1)

@@ -1,12 +1,12 @@
 -- A script that stands in memory, and its replies in a buffer.
-use Rattle.std.proofs.Common.{◌≡◌, ◌∙◌, ℕ, List, [], ◌++◌, Some, Result, Ok, Err, sym, ap}
+use Rattle.std.proofs.Common.{◌≡◌, ◌∙◌, ℕ, List, [], ◌++◌, Some, Result, Ok, Err, refl, sym, ap}
 use Rattle.std.proofs.lemmas.List.{append-nil}
 use Rattle.script_lines.specs.Tape.{Past, told_by, held_by}
 use Rattle.script_engine.specs.declared.summary.Summary.{Summary}
 use Rattle.script_engine.specs.declared.fault.EngineFault.{EngineFault}
 use Rattle.script_engine.specs.declared.fault.EngineFault.TheVariants.{Catalogue, Read, Write, OutOfMemory}
 use Rattle.script_engine.specs.Script.{script_text}
-use Rattle.script_engine.specs.Ran.{Ran, HoldsReplies}
+use Rattle.script_engine.specs.Ran.{Ran, RanInMemory, HoldsReplies}
 
 -- all of the script was read, and the buffer holds its text
 pub holds_replies : (p p' q q' : Past) (script rest text : List ℕ) (result : Result Summary EngineFault)
@@ -17,3 +17,18 @@ holds_replies p p' q q' script rest text (Err (Catalogue fault)) R = R.written.g
 holds_replies p p' q q' script rest text (Err Read) R = tt
 holds_replies p p' q q' script rest text (Err Write) R = tt
 holds_replies p p' q q' script rest text (Err OutOfMemory) R = tt
+
+-- a front of the script was read, and the buffer holds all that was written
+pub ran_in_memory : (p p' q q' : Past) (script rest text : List ℕ) (result : Result Summary EngineFault)
+    → Ran (told_by p (Some script)) (told_by p' (Some rest)) (held_by q (Some [])) (held_by q' (Some text)) result → RanInMemory script text result
+ran_in_memory p p' q q' script rest text result R = record {
+  r = told_by p (Some script);
+  r' = told_by p' (Some rest);
+  w = held_by q (Some []);
+  w' = held_by q' (Some text);
+  ran = R;
+  whole = refl;
+  front = (rest, refl, R.read.lost);
+  empty = refl;
+  all = (refl, R.written.gained);
+}

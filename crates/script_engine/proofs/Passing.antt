@@ -35,6 +35,10 @@ pub all_written : (begun held : Held) (waits output input : List ℕ) → Passin
 all_written begun held waits output input P =
     subst (λ b. Takes begun (with_all held waits) b) P.all (takes_more begun held (with_all held waits) P.sent waits P.written (takes_waiting held waits))
 
+-- with what waits, the replies come in turn too
+pub turn_whole : (begun held : Held) (waits output input : List ℕ) → Passing begun held waits output input → RepliesInTurn input output
+turn_whole begun held waits output input P = subst (λ b. RepliesInTurn input b) P.all (turn_more input P.sent waits P.turn)
+
 -- a text is put behind what waited, and some of it all was sent
 pub put_behind : (begun held new : Held) (waited waits output text input : List ℕ) → Passing begun held waited output input → new.bytes ++ waits ≡ (held.bytes ++ waited) ++ text → Grew held new → new.failures ≡ held.failures
     → Passing begun new waits (output ++ text) input

@@ -1,5 +1,5 @@
 -- A script that runs: the lines that were answered, and what is written or waits for them.
-use Rattle.std.proofs.Common.{◌≡◌, ◌∙◌, ℕ, ◌<◌, List, [], ◌∷◌, ◌++◌, length, take, Option, Some, None, Result, Ok, Err, sym, ap, subst, append_assoc}
+use Rattle.std.proofs.Common.{◌≡◌, ◌∙◌, inr, ℕ, ◌<◌, List, [], ◌∷◌, ◌++◌, length, take, Option, Some, None, Result, Ok, Err, refl, sym, ap, subst, append_assoc}
 use Rattle.std.proofs.lemmas.Bool.{false≢true}
 use Rattle.std.proofs.lemmas.List.{append-nil}
 use Rattle.jsl_model.specs.Jobs.{JobTree}
@@ -9,9 +9,9 @@ use Rattle.script_lines.specs.declared.line_fault.LineFault.{LineFault}
 use Rattle.script_lines.specs.declared.line_fault.LineFault.TheVariants as line_faults
 use Rattle.script_lines.specs.Device.{Told, Held, Tells, Takes}
 use Rattle.script_lines.specs.Cut.{script_lines}
-use Rattle.script_lines.specs.Lines.{Shows, LineRead, AreComplete, IsPassedOn, PassedOn, IsPrompt}
+use Rattle.script_lines.specs.Lines.{Shows, LineRead, AreComplete, IsPassedOn, PassedOn, IsPrompt, IsBounded}
 use Rattle.script_lines.specs.Unread.{Unread}
-use Rattle.script_lines.proofs.Cutting.{Cutting, cut_next, cut_short, cut_so_far, cut_all, cut_fault}
+use Rattle.script_lines.proofs.Cutting.{Cutting, cut_next, cut_short, cut_so_far, cut_all, cut_fault, cut_bounded, next_bounded}
 use Rattle.script_engine.specs.declared.summary.Kind.{Kind}
 use Rattle.script_engine.specs.declared.summary.Summary.{Summary}
 use Rattle.script_engine.specs.declared.fault.EngineFault.TheVariants as faults
@@ -21,7 +21,7 @@ use Rattle.script_engine.specs.Summaries.{line_kind, kinds, kinds_from, kinds_of
 use Rattle.script_engine.specs.Ran.{RanSoFar}
 use Rattle.script_engine.proofs.Tallying.{one-line-more}
 use Rattle.script_engine.proofs.Turning.{turn_on, told_nothing}
-use Rattle.script_engine.proofs.Passing.{Passing, Grew, all_written, passed_on, put_behind, Broken, broken, same_input}
+use Rattle.script_engine.proofs.Passing.{Passing, Grew, turn_whole, all_written, passed_on, put_behind, Broken, broken, same_input}
 
 -- these lines are answered, whatever lines come
 pub record Running (start now : Told) (begun held : Held) (waits : List ℕ) (p : Unread) (h : History) (s : Summary) : Type 0 where
@@ -120,7 +120,8 @@ ends start now next begun held new waited waits p q h s number R t on grew promp
         output = R.output;
         read = cut.0;
         written = all_written begun new waits R.output input P;
-        outcome = (text_so_far R ∙ ap text_of_lines (sym cut.1), cut.2, summed R (script_lines input) cut.1 number e, (R.first, R.later, R.catalogue, cut.1, R.opening));
+        outcome = (text_so_far R ∙ ap text_of_lines (sym cut.1), cut.2, summed R (script_lines input) cut.1 number e, (R.first, R.later, R.catalogue, cut.1, R.opening), t.cause ∙ R.cutting.failures, P.failures);
+        bounded = next_bounded start now next p q (R.first ∷ R.later) (Ok None) R.cutting t;
       };
       sent = P.sent;
       grown = P.written;
@@ -141,7 +142,8 @@ no_memory start now next begun held new waited waits p q h s r R t on grew promp
         output = R.output;
         read = cut.0;
         written = all_written begun new waits R.output input P;
-        outcome = (R.first ∷ R.later, cut.1.0, cut.1.1, text_so_far R);
+        outcome = ((R.first ∷ R.later, cut.1.0, cut.1.1, text_so_far R, inr (R.first, R.later, R.catalogue, refl, R.opening)), turn_whole begun new waits R.output input P);
+        bounded = next_bounded start now next p q (R.first ∷ R.later) r R.cutting t;
       };
       sent = P.sent;
       grown = P.written;
@@ -150,9 +152,9 @@ no_memory start now next begun held new waited waits p q h s r R t on grew promp
     }
 
 -- the writer failed, and what it was to take is a front of the text of complete lines
-pub breaks : (start next : Told) (begun held new : Held) (waits input whole others : List ℕ) (lines : List (List ℕ)) → Tells start next input → AreComplete start next input lines → text_of_lines lines ≡ whole ++ others → Broken begun new whole input
+pub breaks : (start next : Told) (begun held new : Held) (waits input whole others : List ℕ) (lines : List (List ℕ)) → Tells start next input → IsBounded start next → AreComplete start next input lines → text_of_lines lines ≡ whole ++ others → Broken begun new whole input
     → held.failures ≡ begun.failures → held.failures < new.failures → RanSoFar start next begun new waits (Err faults.Write)
-breaks start next begun held new waits input whole others lines read complete text B quiet failed = record {
+breaks start next begun held new waits input whole others lines read bounded complete text B quiet failed = record {
   ran = record {
     input = input;
     output = B.front;
@@ -163,6 +165,7 @@ breaks start next begun held new waits input whole others lines read complete te
       B.turn,
       subst (λ k. k < new.failures) quiet failed,
     );
+    bounded = bounded;
   };
   sent = B.front;
   grown = B.written;
@@ -183,7 +186,8 @@ line_failed start now next begun held new waited waits p q h s line_faults.Read 
         output = R.output;
         read = cut.0;
         written = all_written begun new waits R.output input P;
-        outcome = (text_so_far R ∙ ap text_of_lines (sym cut.1), cut.2);
+        outcome = (text_so_far R ∙ ap text_of_lines (sym cut.1), cut.2, inr (R.first, R.later, R.catalogue, cut.1, R.opening), cut.3);
+        bounded = next_bounded start now next p q (R.first ∷ R.later) (Err line_faults.Read) R.cutting t;
       };
       sent = P.sent;
       grown = P.written;
@@ -198,7 +202,7 @@ line_failed start now next begun held new waited waits p q h s line_faults.Write
     let wrote : Takes held new (take on.0.0 (waited ++ [])) = subst (λ w. Takes held new (take on.0.0 w)) (sym (append-nil waited)) on.0.1 in
     let still : input ≡ R.cutting.input = ap (λ m. R.cutting.input ++ m) (told_nothing now next p q (Err line_faults.Write) t prompt) ∙ append-nil R.cutting.input in
     let P = same_input begun held waited R.output R.cutting.input input still R.passing in
-    breaks start next begun held new waits input (R.output ++ []) others (R.first ∷ (R.later ++ cut.1.0)) cut.0 cut.1.1 text (broken begun held new waited R.output [] input on.0.0 P wrote) R.passing.failures on.1
+    breaks start next begun held new waits input (R.output ++ []) others (R.first ∷ (R.later ++ cut.1.0)) cut.0 (next_bounded start now next p q (R.first ∷ R.later) (Err line_faults.Write) R.cutting t) cut.1.1 text (broken begun held new waited R.output [] input on.0.0 P wrote) R.passing.failures on.1
 line_failed start now next begun held new waited waits p q h s line_faults.OutOfMemory R t on grew prompt =
     no_memory start now next begun held new waited waits p q h s (Err line_faults.OutOfMemory) R t on grew prompt
 
@@ -218,4 +222,4 @@ put_failed start now next begun held mid new waited between waits p q h s l x n 
     let all : text_of_lines lines ≡ (R.output ++ x) ++ others =
     ap (λ ls. text_of_lines (R.first ∷ ls)) (append_assoc R.later (line ∷ []) so_far.0) ∙ R.text (line ∷ so_far.0)
     ∙ ap (λ b. R.output ++ (b ++ others)) (sym (text line cut.1)) ∙ sym (append_assoc R.output x others) in
-    breaks start next begun mid new waits D.input (R.output ++ x) others lines D.read so_far.1 all (broken begun mid new between R.output x D.input n P wrote) P.failures failed
+    breaks start next begun mid new waits D.input (R.output ++ x) others lines D.read (cut_bounded start next q ((R.first ∷ R.later) ++ line ∷ []) D) so_far.1 all (broken begun mid new between R.output x D.input n P wrote) P.failures failed

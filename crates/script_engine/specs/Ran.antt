@@ -1,9 +1,9 @@
 -- What a run of a script reads and writes.
-use Rattle.std.specs.Prelude.{◌≡◌, ℕ, ◌<◌, ◌≤◌, List, ◌∷◌, ◌++◌, Bool, false, length, take, Result, Ok, Err, if◌then◌else◌}
+use Rattle.std.specs.Prelude.{◌≡◌, ◌⊎◌, ℕ, ◌<◌, ◌≤◌, List, [], ◌∷◌, ◌++◌, Bool, false, length, take, Some, Result, Ok, Err, if◌then◌else◌}
 use Rattle.std.specs.Io.KnownBytes.{append_known}
 use Rattle.script_lines.specs.Device.{Told, Held, Tells, Takes, wide}
 use Rattle.script_lines.specs.Cut.{whole_lines, script_lines}
-use Rattle.script_lines.specs.Lines.{HasEnded, AreComplete, IsReadFault}
+use Rattle.script_lines.specs.Lines.{HasEnded, AreComplete, IsReadFault, IsBounded}
 use Rattle.jsl_model.specs.Jobs.{JobTree}
 use Rattle.jsl_json.specs.declared.fault.ReadFault.{ReadFault}
 use Rattle.jsl_json.specs.Catalogues.{is_out_of_memory}
@@ -18,6 +18,10 @@ use Rattle.script_engine.specs.Summaries.{summary_of}
 -- the first line is a catalogue without a fault
 abbrev pub IsOpened : List (List ℕ) → Type 0
 IsOpened lines = (line : List ℕ) × (rest : List (List ℕ)) × (catalogue : List JobTree) × (lines ≡ line ∷ rest) × (catalogue_at line ≡ Ok catalogue)
+
+-- there is no line, or the first is a catalogue without a fault
+abbrev pub IsOpenedIfAny : List (List ℕ) → Type 0
+IsOpenedIfAny lines = (lines ≡ []) ⊎ IsOpened lines
 
 -- the first line is a catalogue with this fault
 abbrev pub IsFirstFault : List (List ℕ) → ReadFault → Type 0
@@ -38,16 +42,17 @@ pub record RepliesInTurn (input output : List ℕ) : Type 0 where
 
 -- the input that was told and the output that was written, by the answer; a line counts once it was told to its end
 abbrev pub IsOutcome : List ℕ → List ℕ → Told → Told → Held → Held → Result Summary EngineFault → Type 0
--- the first line is a catalogue, the reader told its end, and all is answered and counted
+-- the first line is a catalogue, the reader told its end, no device failed, and all is answered and counted
 IsOutcome input output r r' w w' (Ok summary) = (output ≡ script_text input) × HasEnded r r' × (summary ≡ summary_of (script_lines input)) × IsOpened (script_lines input)
+    × (r'.failures ≡ r.failures) × (w'.failures ≡ w.failures)
 -- the fault of a first line that was told to its end, which is all that there is to tell
 IsOutcome input output r r' w w' (Err (Catalogue fault)) = (output ≡ fault_text fault) × (script_text input ≡ fault_text fault) × ((lines : List (List ℕ)) × AreComplete r r' input lines × IsFirstFault lines fault)
--- the complete lines are answered
-IsOutcome input output r r' w w' (Err Read) = (output ≡ text_of_lines (whole_lines input)) × IsReadFault r r'
+-- the whole lines are answered, of which the first is a catalogue; the reader hasn't told its end
+IsOutcome input output r r' w w' (Err Read) = (output ≡ text_of_lines (whole_lines input)) × IsReadFault r r' × IsOpenedIfAny (whole_lines input) × (r'.ends ≡ r.ends)
 -- a front of the text was written, and nothing was read while replies to whole lines waited
 IsOutcome input output r r' w w' (Err Write) = IsFront r r' input output × RepliesInTurn input output × (w.failures < w'.failures)
--- the lines before are answered
-IsOutcome input output r r' w w' (Err OutOfMemory) = (done : List (List ℕ)) × (rest : List (List ℕ)) × AreComplete r r' input (done ++ rest) × (output ≡ text_of_lines done)
+-- the lines before are answered, and nothing was read while replies to whole lines waited
+IsOutcome input output r r' w w' (Err OutOfMemory) = ((done : List (List ℕ)) × (rest : List (List ℕ)) × AreComplete r r' input (done ++ rest) × (output ≡ text_of_lines done) × IsOpenedIfAny done) × RepliesInTurn input output
 
 -- THE RUN OF A SCRIPT: what the reader told and the writer took in the call are an input and an output that fit the answer
 pub record Ran (r r' : Told) (w w' : Held) (result : Result Summary EngineFault) : Type 0 where
@@ -56,6 +61,20 @@ pub record Ran (r r' : Told) (w w' : Held) (result : Result Summary EngineFault)
   pub read : Tells r r' input
   pub written : Takes w w' output
   pub outcome : IsOutcome input output r r' w w' result
+  -- the reader told its end once at most, and was called at most as often as it may be
+  pub bounded : IsBounded r r'
+
+-- a script in memory was run: a reader that had the script left, and a writer that held nothing and holds the text
+pub record RanInMemory (script text : List ℕ) (result : Result Summary EngineFault) : Type 0 where
+  pub r : Told
+  pub r' : Told
+  pub w : Held
+  pub w' : Held
+  pub ran : Ran r r' w w' result
+  pub whole : r.left ≡ Some script
+  pub front : (rest : List ℕ) × (r'.left ≡ Some rest) × (script ≡ ran.input ++ rest)
+  pub empty : w.contents ≡ Some []
+  pub all : (w'.contents ≡ Some text) × (text ≡ ran.output)
 
 -- the buffer holds the text of a script that was run to its end, or the line of its catalogue's fault
 abbrev pub HoldsReplies : List ℕ → List ℕ → Result Summary EngineFault → Type 0

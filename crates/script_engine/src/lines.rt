@@ -1,4 +1,4 @@
-ghost use Rattle.std.specs.Prelude.{◌≡◌, ◌<◌, false, IfOk, IsSome, OnOk};
+ghost use Rattle.std.specs.Prelude.{◌≡◌, ◌<◌, true, false, IfOk, IsSome, OnOk, OnErr};
 ghost use Rattle.script_lines.specs.Unread.{nothing_read, weight};
 ghost use Rattle.script_engine.specs.Reading.{NextLine};
 
@@ -13,7 +13,6 @@ use std::alloc::Global;
 pub struct Lines<S: Source + Drop> {
     source: S,
     input: InputBuffer,
-    alloc: Global,
     failed: bool,
 }
 
@@ -30,7 +29,6 @@ impl<S: Source + Drop> Lines<S> {
         Ok(Lines {
             source,
             input: InputBuffer::new(alloc)?,
-            alloc,
             failed: false,
         })
     }
@@ -43,7 +41,8 @@ impl<S: Source + Drop> Lines<S> {
     }
 
     /// The next line; `None` says that the reader told its end and nothing is left. No call before may
-    /// have answered an `Err`. A line is kept up to [`MAX_LINE`] bytes. The time is that of the reads.
+    /// have answered an `Err`; [`Lines::has_failed`] says so from then on. A line is kept up to
+    /// [`MAX_LINE`] bytes. The time is that of the reads.
     ///
     /// # Errors
     ///
@@ -54,9 +53,10 @@ impl<S: Source + Drop> Lines<S> {
         ensures bounds { (MAX_LINE ≡ 16777216) × (MAX_READS ≡ 1099511627776) }
         ensures line { NextLine (S.tape self.old.source) (S.tape self.new.source) self.old.input self.new.input result }
         ensures going { OnOk result (self.new.failed ≡ false) }
+        ensures failed { OnErr result (self.new.failed ≡ true) }
         ensures smaller { IfOk result (λ line. IsSome line → weight self.new.input < weight self.old.input) }
     {
-        match self.input.line_alone(self.alloc, &mut self.source) {
+        match self.input.line_alone(&mut self.source) {
             Ok(line) => Ok(line),
             Err(fault) => {
                 self.failed = true;

@@ -1,5 +1,5 @@
 ghost use Rattle.std.specs.Prelude.{◌≡◌, [], IfOk, box_value};
-ghost use Rattle.script_engine.specs.Ran.{Ran, RanSoFar, HoldsReplies, has_writer_failed};
+ghost use Rattle.script_engine.specs.Ran.{Ran, RanInMemory, RanSoFar, HoldsReplies, has_writer_failed};
 
 use crate::answer::{LIMIT, answer};
 use crate::catalogue::{catalogue_in, tell_fault};
@@ -36,7 +36,7 @@ fn run<R: Source, W: Sink>(
     ensures { RanSoFar (R.tape reader.old) (R.tape reader.new) (W.tape writer.old) (W.tape writer.new) output.new result }
 {
     let mut input = InputBuffer::new(alloc)?;
-    let first = input.next_line(alloc, reader, output, writer)?;
+    let first = input.next_line(reader, output, writer)?;
     let catalogue = match catalogue_in(alloc, &first) {
         Ok(catalogue) => catalogue,
         Err(fault) => return Err(tell_fault(alloc, output, writer, fault)),
@@ -45,7 +45,7 @@ fn run<R: Source, W: Sink>(
     let book: &mut Book<LIMIT> = &mut boxed;
     let mut commands = CommandReader::new(alloc);
     let mut summary = Summary::default();
-    while let Some(line) = input.next_line(alloc, reader, output, writer)? {
+    while let Some(line) = input.next_line(reader, output, writer)? {
         let answered = answer(alloc, &mut commands, book, &line)?;
         output.put(writer, &answered.text)?;
         summary.count(answered.kind);
@@ -97,9 +97,11 @@ pub fn run_script<R: Source, W: Sink>(
 }
 
 /// Runs a script that stands in memory, by [`run_script`]. Gives the text that was written beside how
-/// the run ended: the replies to all its lines, or the line of its catalogue's fault.
+/// the run ended: the replies to all its lines, or the line of its catalogue's fault. At `OutOfMemory` it
+/// is the replies to the lines before, and at `Write`, where the text has no memory, a front of them.
 pub fn answer_script(alloc: Global, script: &[u8]) -> (Vec<u8>, Result<Summary, EngineFault>)
-    ensures { HoldsReplies script.now result.0.items result.1 }
+    ensures replies { HoldsReplies script.now result.0.items result.1 }
+    ensures ran { RanInMemory script.now result.0.items result.1 }
 {
     let mut reader = Counted::new(script);
     let mut writer = Counted::new(Vec::new(alloc));

@@ -9,7 +9,7 @@ use Rattle.script_lines.specs.declared.input_buffer.TheConstants.{MAX_READS}
 use Rattle.script_lines.specs.Device.{Told, Tells}
 use Rattle.script_lines.specs.Cut.{lines_of, whole_lines, has_feed, at_least_one, script_lines}
 use Rattle.script_lines.specs.Unread.{Unread, nothing_read}
-use Rattle.script_lines.specs.Lines.{Shows, ShowsFirst, Cuts, HasEnded, AreComplete, LineRead, IsReadFault}
+use Rattle.script_lines.specs.Lines.{Shows, ShowsFirst, Cuts, HasEnded, AreComplete, LineRead, IsReadFault, IsBounded}
 use Rattle.script_lines.proofs.Telling.{tells_more}
 use Rattle.script_lines.proofs.CutLaws.{lines_of-cut, lines_of-last, lines_of-nil, whole_lines-cut, whole_lines-none}
 
@@ -22,6 +22,7 @@ pub record Cutting (start now : Told) (p : Unread) (done : List (List ℕ)) : Ty
   pub failures : now.failures ≡ start.failures
   pub calls : now.calls + p.reads_left ≡ start.calls + MAX_READS
   pub ends : p.ended ≡ true → HasEnded start now
+  pub going : p.ended ≡ false → now.ends ≡ start.ends
   pub later : start.ends ≤ now.ends
   pub drained : p.ended ≡ true → p.bytes ≡ []
 
@@ -53,13 +54,20 @@ something bytes line q (inr e) none =
     omega arith
 
 -- the end was told before, and nothing since; or it was told now
-ends_after : (start now next : Told) (p : Unread) → (p.ended ≡ true → HasEnded start now) → (p.ended ≡ true → next ≡ now) → start.ends ≤ now.ends → (p.ended ≡ true) ⊎ HasEnded now next → HasEnded start next
-ends_after start now next p before still a (inl e) = subst (λ (t : Told). HasEnded start t) (sym (still e)) (before e)
-ends_after start now next p before still a (inr h) = (omega (arith, h.0), h.1)
+ends_by : (start now next : Told) (p : Unread) (ended : Bool) → p.ended ≡ ended → (p.ended ≡ true → HasEnded start now) → (p.ended ≡ false → now.ends ≡ start.ends) → (p.ended ≡ true → next ≡ now) → (p.ended ≡ true) ⊎ HasEnded now next → HasEnded start next
+ends_by start now next p true e before going still h = subst (λ (t : Told). HasEnded start t) (sym (still e)) (before e)
+ends_by start now next p false e before going still (inl t) = absurd (false≢true (sym e ∙ t))
+ends_by start now next p false e before going still (inr h) = (h.0 ∙ ap (λ n. n + 1) (going e), h.1)
 
-caused : (start now next : Told) (p q : Unread) → now.failures ≡ start.failures → now.calls + p.reads_left ≡ start.calls + MAX_READS → next.calls + q.reads_left ≡ now.calls + p.reads_left → (now.failures < next.failures) ⊎ (q.reads_left ≡ 0) → IsReadFault start next
-caused start now next p q f c d (inl h) = inl (omega arith)
-caused start now next p q f c d (inr h) = inr (omega arith)
+ends_after : (start now next : Told) (p : Unread) → (p.ended ≡ true → HasEnded start now) → (p.ended ≡ false → now.ends ≡ start.ends) → (p.ended ≡ true → next ≡ now) → (p.ended ≡ true) ⊎ HasEnded now next → HasEnded start next
+ends_after start now next p = ends_by start now next p p.ended refl
+
+caused : (start now next : Told) (p q : Unread) → now.failures ≡ start.failures → now.calls + p.reads_left ≡ start.calls + MAX_READS → next.calls + q.reads_left ≡ now.calls + p.reads_left
+    → (next.failures ≡ now.failures + 1) ⊎ ((next.failures ≡ now.failures) × (q.reads_left ≡ 0)) → IsReadFault start next
+caused start now next p q f c d (inl h) = inl (h ∙ ap (λ n. n + 1) f)
+caused start now next p q f c d (inr h) =
+    let none : q.reads_left ≡ 0 = h.1 in
+    inr (h.0 ∙ f, omega (arith, none, c, d))
 
 -- the first line: no line is an empty one
 pub cut_first : (start next : Told) (q : Unread) (first : Option Line) (t : LineRead start next nothing_read q (Ok first))
@@ -76,7 +84,8 @@ cut_first start next q None t = (
       whole = λ e. absurd (false≢true (sym e ∙ t.outcome.2));
       failures = t.cause;
       calls = t.calls;
-      ends = λ e. ends_after start start next nothing_read (λ h. absurd (false≢true h)) (λ h. absurd (false≢true h)) (omega arith) (t.ended e);
+      ends = λ e. ends_after start start next nothing_read (λ h. absurd (false≢true h)) (λ _. refl) (λ h. absurd (false≢true h)) (t.ended e);
+      going = t.going;
       later = t.later;
       drained = t.drained;
     },
@@ -95,7 +104,8 @@ cut_first start next q (Some l) t =
           whole = λ e more. cut_off_whole t.more line q t.outcome.2 t.outcome.3 e more;
           failures = t.cause;
           calls = t.calls;
-          ends = λ e. ends_after start start next nothing_read (λ h. absurd (false≢true h)) (λ h. absurd (false≢true h)) (omega arith) (t.ended e);
+          ends = λ e. ends_after start start next nothing_read (λ h. absurd (false≢true h)) (λ _. refl) (λ h. absurd (false≢true h)) (t.ended e);
+          going = t.going;
           later = t.later;
           drained = t.drained;
         },
@@ -123,7 +133,8 @@ cut_next start now next p q done l C t =
               ∙ sym (append_assoc done (line ∷ []) (whole_lines (q.bytes ++ more)));
           failures = t.cause ∙ C.failures;
           calls = t.calls ∙ C.calls;
-          ends = λ e. ends_after start now next p C.ends (λ h. (t.quiet h).1) C.later (t.ended e);
+          ends = λ e. ends_after start now next p C.ends C.going (λ h. (t.quiet h).1) (t.ended e);
+          going = λ e. t.going e ∙ C.going (false_from_ne_true p.ended running);
           later = omega (arith, C.later, t.later);
           drained = t.drained;
         },
@@ -135,7 +146,7 @@ cut_next start now next p q done l C t =
 complete : (start now next : Told) (p : Unread) (done : List (List ℕ)) (C : Cutting start now p done) (more : List ℕ) → (p.ended ≡ true → more ≡ []) → (p.ended ≡ true → next ≡ now) → (ended : Bool) → p.ended ≡ ended
     → (rest : List (List ℕ)) × AreComplete start next (C.input ++ more) (done ++ rest)
 complete start now next p done C more none still true e =
-    let told = subst (λ (t : Told). start.ends < t.ends) (sym (still e)) (C.ends e).0 in
+    let told : start.ends < next.ends = subst (λ (t : Told). start.ends < t.ends) (sym (still e)) (omega (arith, (C.ends e).0)) in
     (lines_of (p.bytes ++ more), inr (told, sym (C.lines more none)))
 complete start now next p done C more none still false e = (whole_lines (p.bytes ++ more), inl (sym (C.whole e more)))
 
@@ -157,22 +168,23 @@ pub cut_all : (start now next : Told) (p q : Unread) (done : List (List ℕ)) (C
 cut_all start now next p q done C t = (
   tells_more start now next C.input t.more C.read t.told,
   C.lines t.more (λ e. (t.quiet e).0) ∙ ap (λ x. done ++ lines_of x) t.outcome.0 ∙ ap (λ x. done ++ x) lines_of-nil ∙ append-nil done,
-  ends_after start now next p C.ends (λ e. (t.quiet e).1) C.later (t.ended t.outcome.2),
+  ends_after start now next p C.ends C.going (λ e. (t.quiet e).1) (t.ended t.outcome.2),
 )
 
 -- at a fault of the reader, these lines are all that have their line feed
 pub cut_fault : (start now next : Told) (p q : Unread) (done : List (List ℕ)) (C : Cutting start now p done) (t : LineRead now next p q (Err Read))
-    → Tells start next (C.input ++ t.more) × (whole_lines (C.input ++ t.more) ≡ done) × IsReadFault start next
+    → Tells start next (C.input ++ t.more) × (whole_lines (C.input ++ t.more) ≡ done) × IsReadFault start next × (next.ends ≡ start.ends)
 cut_fault start now next p q done C t = (
   tells_more start now next C.input t.more C.read t.told,
   C.whole t.cause.1 t.more ∙ ap (λ x. done ++ x) (whole_lines-none (p.bytes ++ t.more) t.outcome) ∙ append-nil done,
   caused start now next p q C.failures C.calls t.calls t.cause.0,
+  t.going t.cause.2 ∙ C.going t.cause.1,
 )
 
 -- a fault of the reader ahead of the first line
-pub first_fault : (start next : Told) (q : Unread) → (t : LineRead start next nothing_read q (Err Read)) → (whole_lines t.more ≡ []) × IsReadFault start next
+pub first_fault : (start next : Told) (q : Unread) → (t : LineRead start next nothing_read q (Err Read)) → (whole_lines t.more ≡ []) × IsReadFault start next × (next.ends ≡ start.ends)
 first_fault start next q t =
-    (whole_lines-none t.more t.outcome, caused start start next nothing_read q refl refl t.calls t.cause.0)
+    (whole_lines-none t.more t.outcome, caused start start next nothing_read q refl refl t.calls t.cause.0, t.going t.cause.2)
 
 -- where a read told more behind these lines, they are all that were whole before it
 pub whole_before : (start now next : Told) (p q : Unread) (done : List (List ℕ)) (r : Result (Option Line) LineFault) (C : Cutting start now p done) (t : LineRead now next p q r) (first last : List ℕ)
@@ -180,3 +192,28 @@ pub whole_before : (start now next : Told) (p q : Unread) (done : List (List ℕ
     → whole_lines (C.input ++ first) ≡ done
 whole_before start now next p q done r C t first last split clean open_end =
     C.whole open_end first ∙ ap (λ x. done ++ x) (whole_lines-none (p.bytes ++ first) clean) ∙ append-nil done
+
+bounded_by : (start now : Told) (p : Unread) (ended : Bool) → p.ended ≡ ended → (p.ended ≡ true → HasEnded start now) → (p.ended ≡ false → now.ends ≡ start.ends) → now.calls + p.reads_left ≡ start.calls + MAX_READS → IsBounded start now
+bounded_by start now p true e ends going calls = (omega (arith, (ends e).0), omega (arith, calls))
+bounded_by start now p false e ends going calls = (omega (arith, going e), omega (arith, calls))
+
+-- between two lines, the reader told its end once at most, and was called at most as often as it may be
+pub cut_bounded : (start now : Told) (p : Unread) (done : List (List ℕ)) → Cutting start now p done → IsBounded start now
+cut_bounded start now p done C = bounded_by start now p p.ended refl C.ends C.going C.calls
+
+-- the same of the call for the first line
+pub first_bounded : (start next : Told) (q : Unread) (r : Result (Option Line) LineFault) → LineRead start next nothing_read q r → IsBounded start next
+first_bounded start next q r t =
+    bounded_by start next q q.ended refl (λ e. ends_after start start next nothing_read (λ h. absurd (false≢true h)) (λ _. refl) (λ h. absurd (false≢true h)) (t.ended e)) t.going t.calls
+
+next_bounded_by : (start now next : Told) (p q : Unread) (done : List (List ℕ)) (r : Result (Option Line) LineFault) (C : Cutting start now p done) (t : LineRead now next p q r) (ended : Bool) → q.ended ≡ ended → IsBounded start next
+next_bounded_by start now next p q done r C t true e =
+    let told = ends_after start now next p C.ends C.going (λ h. (t.quiet h).1) (t.ended e) in
+    (omega (arith, told.0), omega (arith, t.calls, C.calls))
+next_bounded_by start now next p q done r C t false e =
+    let before = cut_bounded start now p done C in
+    (omega (arith, t.going e, before.0), omega (arith, t.calls, C.calls))
+
+-- and of the call for a later line
+pub next_bounded : (start now next : Told) (p q : Unread) (done : List (List ℕ)) (r : Result (Option Line) LineFault) → Cutting start now p done → LineRead now next p q r → IsBounded start next
+next_bounded start now next p q done r C t = next_bounded_by start now next p q done r C t q.ended refl

@@ -27,6 +27,7 @@ pub record Growing (old now : Told) (before after : Unread) (grown : Line) : Typ
   pub still : before.ended ≡ true → after.ended ≡ true
   pub later : old.ends ≤ now.ends
   pub ended : after.ended ≡ true → (before.ended ≡ true) ⊎ HasEnded old now
+  pub going : after.ended ≡ false → now.ends ≡ old.ends
   pub lighter : weight after + length line ≤ weight before
 
 -- what the writer's side keeps while a line grows
@@ -48,13 +49,14 @@ pub grew : (old now next : Told) (before mid after : Unread) (grown longer : Lin
     → ((line : List ℕ) → Shows grown line → Shows longer (line ++ mid.bytes))
     → Tells now next after.bytes
     → (after.ended ≡ true → (after.bytes ≡ []) × HasEnded now next)
+    → (after.ended ≡ false → next.ends ≡ now.ends)
     → now.ends ≤ next.ends
     → next.calls + after.reads_left ≡ now.calls + mid.reads_left
     → next.failures ≡ now.failures
     → after.reads_left < mid.reads_left
     → length after.bytes ≤ CHUNK
     → Growing old next before after longer
-grew old now next before mid after grown longer G clean running adds told ended later calls failures fewer small = record {
+grew old now next before mid after grown longer G clean running adds told ended going later calls failures fewer small = record {
   line = G.line ++ mid.bytes;
   more = G.more ++ after.bytes;
   shows = adds G.line G.shows;
@@ -67,7 +69,8 @@ grew old now next before mid after grown longer G clean running adds told ended 
   quiet = λ e. absurd (false≢true (sym running ∙ G.still e));
   still = λ e. absurd (false≢true (sym running ∙ G.still e));
   later = omega (arith, later, G.later);
-  ended = λ e. inr (omega (arith, (ended e).1.0, G.later), (ended e).1.1);
+  ended = λ e. inr ((ended e).1.0 ∙ ap (λ n. n + 1) (G.going running), (ended e).1.1);
+  going = λ e. going e ∙ G.going running;
   lighter = omega (arith, fewer_weigh_less after.reads_left mid.reads_left CHUNK (length after.bytes) fewer small, G.lighter, length-append G.line mid.bytes);
 }
 
@@ -94,23 +97,25 @@ found old now before mid after grown longer at G clean feed running adds rest =
       quiet = G.quiet;
       later = G.later;
       ended = λ e. absurd (false≢true (sym running ∙ e));
+      going = G.going;
       drained = λ e. absurd (false≢true (sym running ∙ e));
     })
 
-caused : (now old next : ℕ) → now ≡ old → (left : ℕ) → (now < next) ⊎ (left ≡ 0) → (old < next) ⊎ (left ≡ 0)
-caused now old next e left (inl h) = inl (omega arith)
-caused now old next e left (inr h) = inr h
+caused : (now old next : ℕ) → now ≡ old → (left : ℕ) → (next ≡ now + 1) ⊎ ((next ≡ now) × (left ≡ 0)) → (next ≡ old + 1) ⊎ ((next ≡ old) × (left ≡ 0))
+caused now old next e left (inl h) = inl (h ∙ ap (λ n. n + 1) e)
+caused now old next e left (inr h) = inr (h.0 ∙ e, h.1)
 
 -- all that was read is used, and the reader failed or may not be called again
 pub failed : (old now next : Told) (before mid after : Unread) (grown : Line) → Growing old now before mid grown
     → has_feed mid.bytes ≡ false → mid.ended ≡ false
     → Tells now next []
     → after.ended ≡ mid.ended
+    → (after.ended ≡ false → next.ends ≡ now.ends)
     → now.ends ≤ next.ends
     → next.calls + after.reads_left ≡ now.calls + mid.reads_left
-    → (now.failures < next.failures) ⊎ (after.reads_left ≡ 0)
+    → (next.failures ≡ now.failures + 1) ⊎ ((next.failures ≡ now.failures) × (after.reads_left ≡ 0))
     → LineRead old next before after (Err Read)
-failed old now next before mid after grown G clean running told still later calls cause =
+failed old now next before mid after grown G clean running told still going later calls cause =
     let begun : before.ended ≡ false = false_from_ne_true before.ended (λ e. false≢true (sym running ∙ G.still e)) in
     let open_end : after.ended ≡ false = still ∙ running in
     record {
@@ -118,10 +123,11 @@ failed old now next before mid after grown G clean running told still later call
       told = tells_no_more old now next G.more G.told told;
       turn = G.turn;
       outcome = ap has_feed G.bytes ∙ no_feed-append G.line mid.bytes G.no_feed clean;
-      cause = (caused now.failures old.failures next.failures G.failures after.reads_left cause, begun);
+      cause = (caused now.failures old.failures next.failures G.failures after.reads_left cause, begun, open_end);
       calls = calls ∙ G.calls;
       quiet = λ e. absurd (false≢true (sym begun ∙ e));
       drained = λ e. absurd (false≢true (sym open_end ∙ e));
       ended = λ e. absurd (false≢true (sym open_end ∙ e));
+      going = λ e. going e ∙ G.going running;
       later = omega (arith, later, G.later);
     }

@@ -33,20 +33,24 @@ Outcome bytes p (Err Read) = has_feed bytes ≡ false
 Outcome bytes p (Err Write) = Unit {0}
 Outcome bytes p (Err OutOfMemory) = Unit {0}
 
--- an answer Read has a cause: the reader failed or may not be called again, and had not told its end before; at any other answer it didn't fail
+-- an answer Read has a cause: the reader failed or may not be called again, and hasn't told its end; at any other answer it didn't fail
 abbrev pub HasCause : Told → Told → Unread → Unread → Result (Option Line) LineFault → Type 0
 HasCause old new before after (Ok line) = new.failures ≡ old.failures
-HasCause old new before after (Err Read) = ((old.failures < new.failures) ⊎ (after.reads_left ≡ 0)) × (before.ended ≡ false)
+HasCause old new before after (Err Read) = ((new.failures ≡ old.failures + 1) ⊎ ((new.failures ≡ old.failures) × (after.reads_left ≡ 0))) × (before.ended ≡ false) × (after.ended ≡ false)
 HasCause old new before after (Err Write) = new.failures ≡ old.failures
 HasCause old new before after (Err OutOfMemory) = new.failures ≡ old.failures
 
--- the reader failed since, or was called as often as it may be
+-- the reader failed since, once, or was called as often as it may be
 abbrev pub IsReadFault : Told → Told → Type 0
-IsReadFault start now = (start.failures < now.failures) ⊎ (start.calls + MAX_READS ≤ now.calls)
+IsReadFault start now = (now.failures ≡ start.failures + 1) ⊎ ((now.failures ≡ start.failures) × (now.calls ≡ start.calls + MAX_READS))
 
--- the reader told its end since, and has nothing left
+-- the reader told its end since, once, and has nothing left
 abbrev pub HasEnded : Told → Told → Type 0
-HasEnded start now = (start.ends < now.ends) × IsAtEnd now.left
+HasEnded start now = (now.ends ≡ start.ends + 1) × IsAtEnd now.left
+
+-- the reader told its end once at most since, and was called at most as often as it may be
+abbrev pub IsBounded : Told → Told → Type 0
+IsBounded start now = (now.ends ≤ start.ends + 1) × (now.calls ≤ start.calls + MAX_READS)
 
 -- lines that were told to their end: those that have their line feed, or all of them where the reader told its end
 abbrev pub AreComplete : Told → Told → List ℕ → List (List ℕ) → Type 0
@@ -71,8 +75,9 @@ pub record LineRead (old new : Told) (before after : Unread) (result : Result (O
   -- behind the end nothing is read, and nothing is left
   pub quiet : before.ended ≡ true → (more ≡ []) × (new ≡ old)
   pub drained : after.ended ≡ true → after.bytes ≡ []
-  -- an end that is known was told
+  -- an end that is known was told, and an end that was told is known
   pub ended : after.ended ≡ true → (before.ended ≡ true) ⊎ HasEnded old new
+  pub going : after.ended ≡ false → new.ends ≡ old.ends
   pub later : old.ends ≤ new.ends
 
 -- what was written and what waits are together what they were, and the writer didn't fail

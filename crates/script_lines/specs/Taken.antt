@@ -28,8 +28,9 @@ pub record Filled (old new : Told) (before after : Unread) (result : Result Unit
   pub err : OnErr result (Tells old new [])
   pub err_ended : OnErr result (after.ended ≡ before.ended)
   pub later : old.ends ≤ new.ends
+  pub going : after.ended ≡ false → new.ends ≡ old.ends
   pub calls : new.calls + after.reads_left ≡ old.calls + before.reads_left
   pub quiet : OnOk result (new.failures ≡ old.failures)
-  pub cause : IfErr result (λ e. (e ≡ Read) × ((old.failures < new.failures) ⊎ (after.reads_left ≡ 0)))
+  pub cause : IfErr result (λ e. (e ≡ Read) × ((new.failures ≡ old.failures + 1) ⊎ ((new.failures ≡ old.failures) × (after.reads_left ≡ 0))))
   pub fewer : OnOk result (after.reads_left < before.reads_left)
   pub small : OnOk result (length after.bytes ≤ CHUNK)

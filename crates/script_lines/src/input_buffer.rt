@@ -18,6 +18,7 @@ pub const MAX_READS: u64 = 1 << 40;
 /// of 65,536 bytes that is made once.
 #[derive(Drop)]
 pub struct InputBuffer {
+    alloc: Global,
     chunk: Vec<u8>,
     start: usize,
     end: usize,
@@ -63,6 +64,7 @@ impl InputBuffer {
         ensures { IfOk result (λ input. input ≡ nothing_read) }
     {
         Ok(InputBuffer {
+            alloc,
             chunk: new_buffer(alloc, CHUNK)?,
             start: 0,
             end: 0,
@@ -149,17 +151,13 @@ impl InputBuffer {
     ///
     /// - `Read` where the reader failed in this call, or may not be called again.
     /// - `OutOfMemory` where memory for the line is lacking.
-    pub fn line_alone<S: Source>(
-        &mut self,
-        alloc: Global,
-        source: &mut S,
-    ) -> Result<Option<Line>, LineFault>
+    pub fn line_alone<S: Source>(&mut self, source: &mut S) -> Result<Option<Line>, LineFault>
         ensures bounds { (MAX_LINE ≡ 16777216) × (MAX_READS ≡ 1099511627776) }
         ensures line { LineRead (S.tape source.old) (S.tape source.new) self.old self.new result }
         ensures nothing_written { result ≢ Err LineFault.Write }
         ensures smaller { IfOk result (λ line. IsSome line → weight self.new < weight self.old) }
     {
-        let mut line = Line::Whole(Vec::new(alloc));
+        let mut line = Line::Whole(Vec::new(self.alloc));
         while !self.has_ended() {
             line = match self.take(line)? {
                 Taken::Whole(whole) => return Ok(Some(whole)),
@@ -184,7 +182,6 @@ impl InputBuffer {
     /// - `OutOfMemory` where memory for the line is lacking.
     pub fn next_line<S: Source, W: Sink>(
         &mut self,
-        alloc: Global,
         source: &mut S,
         output: &mut OutputBuffer,
         writer: &mut W,
@@ -196,7 +193,7 @@ impl InputBuffer {
         ensures prompt { IsPrompt (S.tape source.old) (S.tape source.new) output.new result }
         ensures smaller { IfOk result (λ line. IsSome line → weight self.new < weight self.old) }
     {
-        let mut line = Line::Whole(Vec::new(alloc));
+        let mut line = Line::Whole(Vec::new(self.alloc));
         while !self.has_ended() {
             line = match self.take(line)? {
                 Taken::Whole(whole) => return Ok(Some(whole)),

@@ -2,6 +2,7 @@ use Rattle.std.proofs.Common.{◌≡◌, ◌∙◌, Option, Result, Ok, subst}
 use Rattle.std.proofs.lemmas.Result.{err_from_is_err_and}
 use Rattle.script_lines.specs.declared.line.Line.{Line}
 use Rattle.script_lines.specs.Lines.{LineRead}
+use Rattle.script_lines.proofs.Cutting.{cut_bounded}
 use Rattle.script_engine.proofs.Running.{begins, goes_on, ends, no_memory, line_failed, put_failed}
 use Rattle.script_engine.proofs.Tallying.{nothing-counted}
 use Rattle.script_engine.proofs.Opening.{nothing_done, nothing_asked, first_line, first_failed, refused}
@@ -29,7 +30,7 @@ returns-in_err-boxed g c =
     let r = err_from_is_err_and c.from_residual-in_err-boxed.result c.from_residual-in_err-boxed.ensures.1 in
     let line = c.in_ok-first.ensures in
     let first = first_line _ _ _ _ _ _ _ _ _ c.in_ok-input.ensures c.requires line.line line.passed_on line.grown in
-    rw (r.1, r.2) (nothing_done _ _ _ _ _ _ first.2.0.read first.2.1)
+    rw (r.1, r.2) (nothing_done _ _ _ _ _ _ first.2.0.read (cut_bounded _ _ _ _ first.2.0) first.2.1)
 
 pub loop-commands-init : goal.loop-commands-init
 loop-commands-init g c =

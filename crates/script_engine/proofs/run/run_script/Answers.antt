@@ -17,4 +17,4 @@ returns-in_err-flush g c =
 
 pub returns : goal.returns
 returns g c =
-    flushed _ _ _ _ _ _ _ (sym c.has_writer_failed.ensures ∙ c.if-has_writer_failed.false) c.run-outcome.ensures c.in_ok-flush.ensures.ok
+    flushed _ _ _ _ _ _ _ (sym c.has_writer_failed.ensures ∙ c.if-has_writer_failed.false) c.run-outcome.ensures c.in_ok-flush.ensures.ok c.in_ok-flush.ensures.ok_failures

@@ -14,4 +14,4 @@ loop-self-preserved g c =
     let running : c.loop-self.self.ended ≡ false = search rules in
     let t = subst (λ taken. IsTaken c.loop-self.line c.loop-self.self c.take.new.self taken) c.in-Part.is c.in_ok-whole.ensures.ok in
     let F = subst (λ before. Filled (g.S.Source.tape c.loop-self.source) (g.S.Source.tape c.fill.new.source) before c.fill.new.self (Ok tt)) t.0 c.in_ok-fill.ensures in
-    grew (g.S.Source.tape c.args.source.now) (g.S.Source.tape c.loop-self.source) (g.S.Source.tape c.fill.new.source) c.args.self.now c.loop-self.self c.fill.new.self c.loop-self.line c.in-Part.part c.loop-self.invariant t.1 running t.2 F.ok F.ended F.later F.calls F.quiet F.fewer F.small
+    grew (g.S.Source.tape c.args.source.now) (g.S.Source.tape c.loop-self.source) (g.S.Source.tape c.fill.new.source) c.args.self.now c.loop-self.self c.fill.new.self c.loop-self.line c.in-Part.part c.loop-self.invariant t.1 running t.2 F.ok F.ended F.going F.later F.calls F.quiet F.fewer F.small
