@@ -1,14 +1,25 @@
 -- What the words of the command line ask for.
-use Rattle.std.specs.Prelude.{◌≡◌, ◌≤◌, ℕ, List, [], ◌∷◌, codes}
+use Rattle.std.specs.Prelude.{◌≡◌, ◌⊎◌, ◌≤◌, ℕ, List, [], ◌∷◌, ◌++◌, codes}
+use Rattle.std.specs.Str.Parse.{IsNumeral, digits_value, without_leading_plus}
 use Rattle.batch_commands.specs.declared.asked.Arguments.{Arguments}
 use Rattle.batch_commands.specs.declared.asked.Arguments.TheVariants.{Script, Run}
 
--- a script is asked for by one word, a run by its first word, with 1 to 16 workers
+-- the text of a number: its decimal digits, ahead of which a plus may stand
+abbrev pub IsNumberText : List ℕ → ℕ → Type 0
+IsNumberText text number = IsNumeral 10 (without_leading_plus text) × (number ≡ digits_value 10 (without_leading_plus text))
+
+-- options ask for so many workers: by `--workers N` or `--workers=N`; no option asks for 2
+abbrev pub AsksFor : ℕ → List (List ℕ) → Type 0
+AsksFor workers [] = workers ≡ 2
+AsksFor workers (word ∷ []) = (text : List ℕ) × (word ≡ codes "--workers=" ++ text) × IsNumberText text workers
+AsksFor workers (word ∷ text ∷ []) = (word ≡ codes "--workers") × IsNumberText text workers
+AsksFor workers (word ∷ text ∷ other ∷ others) = ⊥
+
+-- the options among words: a last `--` is none
+abbrev pub HasOptions : List (List ℕ) → List (List ℕ) → Type 0
+HasOptions options words = (words ≡ options) ⊎ (words ≡ options ++ codes "--" ∷ [])
+
+-- a script is asked for by one word, a run by its first word, with 1 to 16 workers by its options
 abbrev pub IsAsked : Arguments → List (List ℕ) → Type 0
 IsAsked Script words = words ≡ codes "script" ∷ []
-IsAsked (Run workers) words = (1 ≤ workers) × (workers ≤ 16) × ((rest : List (List ℕ)) × (words ≡ codes "run" ∷ rest))
-
--- a run has 1 to 16 workers
-abbrev pub AreInRange : Arguments → Type 0
-AreInRange Script = Unit {0}
-AreInRange (Run workers) = (1 ≤ workers) × (workers ≤ 16)
+IsAsked (Run workers) words = (1 ≤ workers) × (workers ≤ 16) × ((rest : List (List ℕ)) × (options : List (List ℕ)) × (words ≡ codes "run" ∷ rest) × HasOptions options rest × AsksFor workers options)

@@ -1,12 +1,37 @@
 -- The exit statuses.
-use Rattle.std.specs.Prelude.{ℕ, Result, Ok, Err}
+use Rattle.std.specs.Prelude.{◌≡◌, ◌⊎◌, ℕ, List, Result, Ok, Err}
 use Rattle.script_engine.specs.declared.fault.EngineFault.{EngineFault}
 use Rattle.script_engine.specs.declared.fault.EngineFault.TheVariants.{Catalogue, Read, Write, OutOfMemory}
+use Rattle.script_engine.specs.declared.summary.Summary.{Summary}
+use Rattle.script_engine.specs.Ran.{Ran}
+use Rattle.script_lines.specs.Device.{Told, Held}
+use Rattle.batch_commands.specs.Asked.{IsAsked}
+use Rattle.batch_commands.specs.declared.asked.Arguments.TheVariants.{Script, Run}
 
 -- 0 done, 3 the catalogue is refused, 4 a read or a write failed, 5 out of memory
-abbrev pub exit_status : Result Unit EngineFault → ℕ
+abbrev pub exit_status : {A : Type 0} → Result A EngineFault → ℕ
 exit_status (Ok done) = 0
 exit_status (Err (Catalogue fault)) = 3
 exit_status (Err Read) = 4
 exit_status (Err Write) = 4
 exit_status (Err OutOfMemory) = 5
+
+-- the words are refused, and nothing is read or written
+abbrev pub IsRefused : Told → Told → Held → Held → ℕ → Type 0
+IsRefused r r' w w' status = (status ≡ 2) × (r' ≡ r) × (w' ≡ w)
+
+-- the words ask for a text, as for help: it is written or the writer fails, and nothing is read
+abbrev pub IsText : Told → Told → ℕ → Type 0
+IsText r r' status = ((status ≡ 0) ⊎ (status ≡ 4)) × (r' ≡ r)
+
+-- the words ask for a script, which is run
+abbrev pub IsScript : List (List ℕ) → Told → Told → Held → Held → ℕ → Type 0
+IsScript words r r' w w' status = (outcome : Result Summary EngineFault) × IsAsked Script words × Ran r r' w w' outcome × (status ≡ exit_status outcome)
+
+-- the words ask for a run by so many workers
+abbrev pub IsRun : List (List ℕ) → ℕ → Type 0
+IsRun words status = (workers : ℕ) × (outcome : Result Unit EngineFault) × IsAsked (Run workers) words × (status ≡ exit_status outcome)
+
+-- THE EXIT STATUS: it says what became of the words
+abbrev pub IsServed : List (List ℕ) → Told → Told → Held → Held → ℕ → Type 0
+IsServed words r r' w w' status = IsRefused r r' w w' status ⊎ IsText r r' status ⊎ IsScript words r r' w w' status ⊎ IsRun words status

@@ -1,5 +1,5 @@
-ghost use Rattle.std.specs.Prelude.{◌≡◌, ◌≤◌, ◌↔◌, ◌∷◌, List, ℕ, [], IsTrue, IfOk, IfSome, IsErr, codes, map};
-ghost use Rattle.batch_commands.specs.Asked.{IsAsked};
+ghost use Rattle.std.specs.Prelude.{◌≡◌, ◌≤◌, ◌↔◌, ◌∷◌, ◌++◌, List, ℕ, [], IsTrue, IfOk, IfSome, IsErr, codes, map};
+ghost use Rattle.batch_commands.specs.Asked.{IsAsked, IsNumberText, AsksFor, HasOptions};
 
 use crate::asked::Arguments;
 use crate::help::{ABOUT, RUN_ABOUT, RUN_HELP, SCRIPT_ABOUT, SCRIPT_HELP, WORKERS_HELP};
@@ -11,6 +11,9 @@ use std::alloc::{AllocError, Global};
 /// How many workers a run has at most.
 const MOST_WORKERS: u64 = 16;
 
+/// How many workers a run has where none are asked for.
+const DEFAULT_WORKERS: u64 = 2;
+
 fn is_script(words: &[&str]) -> bool
     ensures { IsTrue result ↔ (map (λ word. word.now) words.now ≡ codes "script" ∷ []) }
 {
@@ -20,13 +23,13 @@ fn is_script(words: &[&str]) -> bool
     }
 }
 
-/// Whether the first word is `run`.
-fn begins_run(words: &[&str]) -> bool
-    ensures { IsTrue result → (rest : List (List ℕ)) × (map (λ word. word.now) words.now ≡ codes "run" ∷ rest) }
+/// The words behind the first, if that is `run`.
+fn behind_run<'a, 'b>(words: &'b [&'a str]) -> Option<&'b [&'a str]>
+    ensures { IfSome result (λ rest. map (λ word. word.now) words.now ≡ codes "run" ∷ map (λ word. word.now) rest.now) }
 {
     match words {
-        [word, ..] => *word == "run",
-        _ => false,
+        [word, rest @ ..] if *word == "run" => Some(rest),
+        _ => None,
     }
 }
 
@@ -44,6 +47,48 @@ fn workers_of(matches: &ArgMatches<'_>) -> Option<u64>
     }
 }
 
+/// Whether a text is this number in decimal digits.
+fn writes(text: &str, number: u64) -> bool
+    ensures { IsTrue result → IsNumberText text.now number }
+{
+    match text.parse::<u64>() {
+        Ok(written) => written == number,
+        Err(_) => false,
+    }
+}
+
+/// Whether one word asks for so many workers: `--workers=N`.
+fn word_asks_for(word: &str, workers: u64) -> bool
+    ensures { IsTrue result → (text : List ℕ) × (word.now ≡ codes "--workers=" ++ text) × IsNumberText text workers }
+{
+    match word.strip_prefix("--workers=") {
+        Some(text) => writes(text, workers),
+        None => false,
+    }
+}
+
+/// Whether the words behind `run` ask for so many workers: none of them for 2.
+fn asks_for(words: &[&str], workers: u64) -> bool
+    ensures { IsTrue result → AsksFor workers (map (λ word. word.now) words.now) }
+{
+    match words {
+        [] => workers == DEFAULT_WORKERS,
+        [word] => word_asks_for(word, workers),
+        [option, text] => *option == "--workers" && writes(text, workers),
+        _ => false,
+    }
+}
+
+/// The words ahead of a last `--`, which ends the options.
+fn options_of<'a, 'b>(words: &'b [&'a str]) -> &'b [&'a str]
+    ensures { HasOptions (map (λ word. word.now) result.now) (map (λ word. word.now) words.now) }
+{
+    match words {
+        [options @ .., last] if *last == "--" => options,
+        _ => words,
+    }
+}
+
 /// What words ask for that `clap` has accepted.
 fn asked(matches: &ArgMatches<'_>, words: &[&str]) -> Option<Arguments>
     ensures { IfSome result (λ arguments. IsAsked arguments (map (λ word. word.now) words.now)) }
@@ -51,11 +96,13 @@ fn asked(matches: &ArgMatches<'_>, words: &[&str]) -> Option<Arguments>
     if is_script(words) {
         return Some(Arguments::Script);
     }
-    if begins_run(words) {
-        let workers = workers_of(matches)?;
-        return Some(Arguments::Run { workers });
+    let rest = behind_run(words)?;
+    let workers = workers_of(matches)?;
+    if asks_for(options_of(rest), workers) {
+        Some(Arguments::Run { workers })
+    } else {
+        None
     }
-    None
 }
 
 /// The command `script`.
@@ -86,7 +133,7 @@ fn run_command<'a>(alloc: Global) -> Result<Command<'a>, AllocError> {
 /// Reads the words that follow the program's name.
 ///
 /// They are accepted only where they are the one word `script`, or `run` with 1 to 16 workers: by
-/// `--workers N`, else 2.
+/// `--workers N` or `--workers=N`, else 2.
 ///
 /// # Errors
 ///

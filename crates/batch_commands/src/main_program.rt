@@ -1,13 +1,14 @@
-ghost use Rattle.std.specs.Prelude.{◌≡◌, ◌≢◌};
+ghost use Rattle.std.specs.Prelude.{◌≡◌, ◌≢◌, ◌≤◌, ◌⊎◌, map};
 ghost use Rattle.std.specs.IoError.{error_kind};
-ghost use Rattle.batch_commands.specs.Asked.{AreInRange};
-ghost use Rattle.batch_commands.specs.Statuses.{exit_status};
+ghost use Rattle.script_engine.specs.Ran.{Ran};
+ghost use Rattle.batch_commands.specs.Statuses.{exit_status, IsServed};
 
 use crate::asked::Arguments;
 use crate::command_line::arguments;
 use crate::run::run_jobs;
 use clap::error::Error;
-use script_engine::{Counted, EngineFault, run_script};
+use script_engine::{Counted, EngineFault, Sink, Source, run_script};
+use std::alloc::Global;
 use std::io;
 use std::io::{ErrorKind, Read, Write};
 use std::sync::Wait;
@@ -49,11 +50,11 @@ pub fn refuse_words<F: Write>(error: &io::Error, faults: &mut F) -> u8
 }
 
 /// Tells why a script or a run was not done to its end, and gives the exit status.
-fn end<F: Write>(outcome: Result<(), EngineFault>, faults: &mut F) -> u8
+fn end<T: Drop, F: Write>(outcome: Result<T, EngineFault>, faults: &mut F) -> u8
     ensures { result ≡ exit_status outcome }
 {
     match outcome {
-        Ok(()) => DONE,
+        Ok(_) => DONE,
         Err(EngineFault::Catalogue(_)) => FAULTY_CATALOGUE,
         Err(EngineFault::Read) => {
             tell(faults, "batchctl: read fault");
@@ -70,37 +71,82 @@ fn end<F: Write>(outcome: Result<(), EngineFault>, faults: &mut F) -> u8
     }
 }
 
-/// Does what the words of the command line ask for.
-fn run<R: Threads + Wait + AllocGlobal + Sync, D: Read + Drop, W: Write + Drop>(
-    rt: &R,
-    arguments: Arguments,
-    reader: D,
-    writer: W,
-) -> Result<(), EngineFault>
-    requires { AreInRange arguments }
+/// Answers a script, and gives the exit status.
+fn serve_script<S: Source, W: Sink, F: Write>(
+    alloc: Global,
+    source: &mut S,
+    sink: &mut W,
+    faults: &mut F,
+) -> u8
+    ensures { (outcome : _) × Ran (S.tape source.old) (S.tape source.new) (W.tape sink.old) (W.tape sink.new) outcome × (result ≡ exit_status outcome) }
 {
-    let mut source = Counted::new(reader);
-    let mut sink = Counted::new(writer);
-    match arguments {
-        Arguments::Script => {
-            run_script(rt.alloc(), &mut source, &mut sink)?;
-            Ok(())
+    let outcome = run_script(alloc, source, sink);
+    end(outcome, faults)
+}
+
+/// A writer of std that writes to a sink.
+#[derive(Drop)]
+struct SinkWriter<'s, W: Sink> {
+    sink: &'s mut W,
+}
+
+impl<W: Sink> Write for SinkWriter<'_, W> {
+    fn write(&mut self, piece: &[u8]) -> io::Result<usize> {
+        match self.sink.write(piece) {
+            Ok(count) => Ok(count),
+            Err(_) => Err(io::Error::from(ErrorKind::Other)),
         }
-        Arguments::Run { workers } => run_jobs(rt, workers, source, &mut sink),
+    }
+
+    fn flush(&mut self) -> io::Result<()> {
+        Ok(())
     }
 }
 
-/// Tells why the words were refused, or the text that they asked for, and gives the exit status.
-fn tell_words<W: Write, F: Write>(error: &Error, writer: &mut W, faults: &mut F) -> u8 {
-    if error.use_stderr() {
-        let _ = write!(faults, "{error}");
-        return REFUSED;
-    }
-    match write!(writer, "{error}") {
+/// Tells the text that the words asked for, and gives the exit status.
+fn tell_text<W: Sink, F: Write>(error: &Error, sink: &mut W, faults: &mut F) -> u8
+    ensures { (result ≡ DONE) ⊎ (result ≡ DEVICE_FAILED) }
+{
+    let mut writer = SinkWriter { sink };
+    let told = write!(writer, "{error}");
+    drop(writer);
+    match told {
         Ok(()) => DONE,
         Err(_) => {
             tell(faults, "batchctl: write fault");
             DEVICE_FAILED
+        }
+    }
+}
+
+/// Tells why the words were refused, or the text that they asked for, and gives the exit status.
+fn tell_words<W: Sink, F: Write>(error: &Error, sink: &mut W, faults: &mut F) -> u8
+    ensures { ((result ≡ REFUSED) × (W.tape sink.new ≡ W.tape sink.old)) ⊎ ((result ≡ DONE) ⊎ (result ≡ DEVICE_FAILED)) }
+{
+    if error.use_stderr() {
+        let _ = write!(faults, "{error}");
+        return REFUSED;
+    }
+    tell_text(error, sink, faults)
+}
+
+/// Does what the words ask for, and gives the exit status.
+fn serve<R: Threads + Wait + AllocGlobal + Sync, S: Source, W: Sink, F: Write>(
+    rt: &R,
+    words: &[&str],
+    source: &mut S,
+    sink: &mut W,
+    faults: &mut F,
+) -> u8
+    ensures { IsServed (map (λ word. word.now) words.now) (S.tape source.old) (S.tape source.new) (W.tape sink.old) (W.tape sink.new) result }
+{
+    match arguments(rt.alloc(), words) {
+        Ok(Arguments::Script) => serve_script(rt.alloc(), source, sink, faults),
+        Ok(Arguments::Run { workers }) => end(run_jobs(rt, workers, source, sink), faults),
+        Err(error) => {
+            let status = tell_words(&error, sink, faults);
+            drop(error);
+            status
         }
     }
 }
@@ -113,15 +159,15 @@ pub fn program<R: Threads + Wait + AllocGlobal + Sync, D: Read + Drop, W: Write 
     rt: &R,
     words: &[&str],
     reader: D,
-    mut writer: W,
+    writer: W,
     faults: &mut F,
-) -> u8 {
-    match arguments(rt.alloc(), words) {
-        Ok(arguments) => end(run(rt, arguments, reader, writer), faults),
-        Err(error) => {
-            let status = tell_words(&error, &mut writer, faults);
-            drop(error);
-            status
-        }
-    }
+) -> u8
+    ensures { (r : _) × (r' : _) × (w : _) × (w' : _) × IsServed (map (λ word. word.now) words.now) r r' w w' result }
+{
+    let mut source = Counted::new(reader);
+    let mut sink = Counted::new(writer);
+    let status = serve(rt, words, &mut source, &mut sink, faults);
+    drop(source);
+    drop(sink);
+    status
 }

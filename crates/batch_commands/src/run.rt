@@ -1,5 +1,5 @@
 // The run of a catalogue's jobs by workers with built-in artifacts.
-ghost use Rattle.std.specs.Prelude.{◌≡◌, ◌≤◌, false};
+ghost use Rattle.std.specs.Prelude.{◌≡◌, ◌≤◌};
 
 use crate::executions::put_executions;
 use crate::replies::Replies;
@@ -10,7 +10,8 @@ use batch_operator::{CopyCount, Operator};
 use built_in_artifacts::pool_with_built_ins;
 use job_threads::Gate;
 use jsl_model::Catalogue;
-use script_engine::{EngineFault, Lines, Sink, Source, catalogue_in};
+use script_engine::{EngineFault, Sink, Source, catalogue_in};
+use script_lines::InputBuffer;
 use seat_rules::{BookSeat, SeatTable, Site};
 use sessions::Session;
 use std::marker::Brand;
@@ -35,15 +36,11 @@ impl Gate for Host {
 
 /// Starts the jobs that the lines name, runs them by a pool, and tells of each job execution. The
 /// catalogue names these artifacts.
-fn run_over<
-    N: Site + Send + Sync,
-    R: Threads + Wait + AllocGlobal + Sync,
-    S: Source + Drop,
-    W: Sink,
->(
+fn run_over<N: Site + Send + Sync, R: Threads + Wait + AllocGlobal + Sync, S: Source, W: Sink>(
     rt: &R,
     workers: u64,
-    lines: &mut Lines<S>,
+    input: &mut InputBuffer,
+    source: &mut S,
     replies: &mut Replies<'_, W>,
     names: &[&str],
     table: SeatTable,
@@ -52,7 +49,6 @@ fn run_over<
 ) -> Result<(), EngineFault>
     requires some { 1 ≤ workers }
     requires few { workers ≤ 16 }
-    requires lines { lines.old.failed ≡ false }
     requires table { table ≡ N.place }
     requires seat { seat ≡ N.place.table }
     requires catalogue { catalogue ≡ N.place.catalogue }
@@ -61,28 +57,37 @@ fn run_over<
         unreachable!();
     };
     let operator = Operator::<N>::new(rt.alloc(), table, seat, catalogue, copies)?;
-    let ran = run_on(rt, workers, lines, replies, &operator, names);
+    let ran = run_on(rt, workers, input, source, replies, &operator, names);
     operator.close();
     ran
 }
 
 /// The same on an operator.
-fn run_on<N: Site + Send + Sync, R: Threads + Wait + AllocGlobal + Sync, S: Source + Drop, W: Sink>(
+fn run_on<N: Site + Send + Sync, R: Threads + Wait + AllocGlobal + Sync, S: Source, W: Sink>(
     rt: &R,
     workers: u64,
-    lines: &mut Lines<S>,
+    input: &mut InputBuffer,
+    source: &mut S,
     replies: &mut Replies<'_, W>,
     operator: &Operator<N>,
     names: &[&str],
 ) -> Result<(), EngineFault>
     requires some { 1 ≤ workers }
     requires few { workers ≤ 16 }
-    requires lines { lines.old.failed ≡ false }
 {
     match operator.open_session(rt) {
         Ok(session) => {
             let mut session = session;
-            let ran = run_in(rt, workers, lines, replies, operator, &mut session, names);
+            let ran = run_in(
+                rt,
+                workers,
+                input,
+                source,
+                replies,
+                operator,
+                &mut session,
+                names,
+            );
             drop(session);
             ran
         }
@@ -91,10 +96,11 @@ fn run_on<N: Site + Send + Sync, R: Threads + Wait + AllocGlobal + Sync, S: Sour
 }
 
 /// The same in a session.
-fn run_in<N: Site + Send + Sync, R: Threads + Wait + AllocGlobal + Sync, S: Source + Drop, W: Sink>(
+fn run_in<N: Site + Send + Sync, R: Threads + Wait + AllocGlobal + Sync, S: Source, W: Sink>(
     rt: &R,
     workers: u64,
-    lines: &mut Lines<S>,
+    input: &mut InputBuffer,
+    source: &mut S,
     replies: &mut Replies<'_, W>,
     operator: &Operator<N>,
     session: &mut Session<N>,
@@ -102,9 +108,8 @@ fn run_in<N: Site + Send + Sync, R: Threads + Wait + AllocGlobal + Sync, S: Sour
 ) -> Result<(), EngineFault>
     requires some { 1 ≤ workers }
     requires few { workers ≤ 16 }
-    requires lines { lines.old.failed ≡ false }
 {
-    let started = answer_starts(rt, operator, session, lines, replies)?;
+    let started = answer_starts(rt, operator, session, input, source, replies)?;
     replies.flush()?;
     if let Err(refusal) = pool_with_built_ins(rt, rt.alloc(), operator, names, workers, &Host) {
         replies.refuse(refusal)?;
@@ -113,39 +118,42 @@ fn run_in<N: Site + Send + Sync, R: Threads + Wait + AllocGlobal + Sync, S: Sour
 }
 
 /// Runs the jobs of a catalogue, with the names of its artifacts.
-fn run_catalogue<R: Threads + Wait + AllocGlobal + Sync, S: Source + Drop, W: Sink>(
+fn run_catalogue<R: Threads + Wait + AllocGlobal + Sync, S: Source, W: Sink>(
     rt: &R,
     workers: u64,
-    lines: &mut Lines<S>,
+    input: &mut InputBuffer,
+    source: &mut S,
     replies: &mut Replies<'_, W>,
     names: &[&str],
     catalogue: Catalogue,
 ) -> Result<(), EngineFault>
     requires some { 1 ≤ workers }
     requires few { workers ≤ 16 }
-    requires lines { lines.old.failed ≡ false }
 {
     let (table, seat) = SeatTable::new(rt.alloc(), &catalogue)?;
-    run_over::<Brand, R, S, W>(rt, workers, lines, replies, names, table, seat, catalogue)
+    run_over::<Brand, R, S, W>(
+        rt, workers, input, source, replies, names, table, seat, catalogue,
+    )
 }
 
 /// Runs the jobs of a catalogue.
-fn run_jobs_of<R: Threads + Wait + AllocGlobal + Sync, S: Source + Drop, W: Sink>(
+fn run_jobs_of<R: Threads + Wait + AllocGlobal + Sync, S: Source, W: Sink>(
     rt: &R,
     workers: u64,
-    lines: &mut Lines<S>,
+    input: &mut InputBuffer,
+    source: &mut S,
     replies: &mut Replies<'_, W>,
     catalogue: &Catalogue,
 ) -> Result<(), EngineFault>
     requires some { 1 ≤ workers }
     requires few { workers ≤ 16 }
-    requires lines { lines.old.failed ≡ false }
 {
     let names = catalogue.artifacts()?;
     run_catalogue(
         rt,
         workers,
-        lines,
+        input,
+        source,
         replies,
         names.as_slice(),
         catalogue.try_clone()?,
@@ -154,22 +162,22 @@ fn run_jobs_of<R: Threads + Wait + AllocGlobal + Sync, S: Source + Drop, W: Sink
 
 /// Runs what the lines ask for, the first of which is the catalogue. The last replies stay in their
 /// buffer.
-fn run_lines<R: Threads + Wait + AllocGlobal + Sync, S: Source + Drop, W: Sink>(
+fn run_lines<R: Threads + Wait + AllocGlobal + Sync, S: Source, W: Sink>(
     rt: &R,
     workers: u64,
-    lines: &mut Lines<S>,
+    input: &mut InputBuffer,
+    source: &mut S,
     replies: &mut Replies<'_, W>,
 ) -> Result<(), EngineFault>
     requires some { 1 ≤ workers }
     requires few { workers ≤ 16 }
-    requires lines { lines.old.failed ≡ false }
 {
-    let first = lines.next_line()?;
+    let first = input.line_alone(source)?;
     let read = catalogue_in(rt.alloc(), &first);
     drop(first);
     match read {
         Ok(catalogue) => {
-            let ran = run_jobs_of(rt, workers, lines, replies, &catalogue);
+            let ran = run_jobs_of(rt, workers, input, source, replies, &catalogue);
             drop(catalogue);
             ran
         }
@@ -178,26 +186,26 @@ fn run_lines<R: Threads + Wait + AllocGlobal + Sync, S: Source + Drop, W: Sink>(
 }
 
 /// Runs what the lines of a reader ask for.
-fn run_source<R: Threads + Wait + AllocGlobal + Sync, S: Source + Drop, W: Sink>(
+fn run_source<R: Threads + Wait + AllocGlobal + Sync, S: Source, W: Sink>(
     rt: &R,
     workers: u64,
-    source: S,
+    source: &mut S,
     replies: &mut Replies<'_, W>,
 ) -> Result<(), EngineFault>
     requires some { 1 ≤ workers }
     requires few { workers ≤ 16 }
 {
-    let mut lines = Lines::new(rt.alloc(), source)?;
-    let ran = run_lines(rt, workers, &mut lines, replies);
-    drop(lines);
+    let mut input = InputBuffer::new(rt.alloc())?;
+    let ran = run_lines(rt, workers, &mut input, source, replies);
+    drop(input);
     ran
 }
 
 /// The same, with the last replies written, where the writer has not failed.
-fn run_to_end<R: Threads + Wait + AllocGlobal + Sync, S: Source + Drop, W: Sink>(
+fn run_to_end<R: Threads + Wait + AllocGlobal + Sync, S: Source, W: Sink>(
     rt: &R,
     workers: u64,
-    source: S,
+    source: &mut S,
     replies: &mut Replies<'_, W>,
 ) -> Result<(), EngineFault>
     requires some { 1 ≤ workers }
@@ -224,10 +232,10 @@ fn run_to_end<R: Threads + Wait + AllocGlobal + Sync, S: Source + Drop, W: Sink>
 ///   written, and nothing is run.
 /// - `Write` where the writer failed.
 /// - `OutOfMemory` where memory was refused.
-pub fn run_jobs<R: Threads + Wait + AllocGlobal + Sync, S: Source + Drop, W: Sink>(
+pub fn run_jobs<R: Threads + Wait + AllocGlobal + Sync, S: Source, W: Sink>(
     rt: &R,
     workers: u64,
-    source: S,
+    source: &mut S,
     writer: &mut W,
 ) -> Result<(), EngineFault>
     requires some { 1 ≤ workers }

@@ -1,12 +1,11 @@
 // The start lines of a run.
-ghost use Rattle.std.specs.Prelude.{◌≡◌, false};
-
 use crate::replies::Replies;
 use batch_ids::Refusal;
 use batch_operator::Operator;
 use script_engine::{
-    EngineFault, Line, Lines, Sink, Source, StartFault, StartLine, bad_line_text, read_start,
+    EngineFault, Line, Sink, Source, StartFault, StartLine, bad_line_text, read_start,
 };
+use script_lines::InputBuffer;
 use seat_rules::Site;
 use sessions::Session;
 use std::alloc::Global;
@@ -79,17 +78,16 @@ fn is_empty(line: &Line) -> bool {
 }
 
 /// Starts the jobs that the lines name, up to their end. Says how many job executions were made.
-pub(crate) fn answer_starts<N: Site, R: Wait + AllocGlobal, S: Source + Drop, W: Sink>(
+pub(crate) fn answer_starts<N: Site, R: Wait + AllocGlobal, S: Source, W: Sink>(
     rt: &R,
     operator: &Operator<N>,
     session: &mut Session<N>,
-    lines: &mut Lines<S>,
+    input: &mut InputBuffer,
+    source: &mut S,
     replies: &mut Replies<'_, W>,
-) -> Result<u64, EngineFault>
-    requires { lines.old.failed ≡ false }
-{
+) -> Result<u64, EngineFault> {
     let mut started: u64 = 0;
-    while let Some(line) = lines.next_line()? {
+    while let Some(line) = input.line_alone(source)? {
         let answered = answer_line(rt, operator, session, &line, replies);
         drop(line);
         if answered? {
