@@ -43,7 +43,7 @@ behind_at pairs i d new lt lower so_far =
     ∙ ap (λ (front : List Pair). front ++ with_pair (drop (i + 1) pairs) new) (sym (take_more pairs i d lt)))
 
 -- two keys the other way round
-key_cmp-back : (a b : Pair) → key_cmp a b ≡ Greater → key_cmp b a ≡ Less
+pub key_cmp-back : (a b : Pair) → key_cmp a b ≡ Greater → key_cmp b a ≡ Less
 key_cmp-back a b e = nat_list_cmp_total.antisymm b.0 a.0 ∙ ap ordering_reverse e
 
 before-by : (first next new : Pair) (rest : List Pair) (o : Ordering) → key_cmp first new ≡ Less → key_cmp first next ≡ Less

@@ -1,6 +1,6 @@
 -- The parameters of a job execution: pairs of a key and a value, in bytes.
-use Rattle.std.specs.Prelude.{◌≡◌, ℕ, ◌≤◌, Bool, ◌||◌, nat_lt, Option, option_map, List, [], ◌∷◌, find, length, map, String, string_bytes}
-use Rattle.std.specs.List.{list_any}
+use Rattle.std.specs.Prelude.{◌≡◌, ℕ, ◌≤◌, Bool, ◌||◌, nat_lt, Option, None, option_map, List, [], ◌∷◌, filter, find, length, map, String, string_bytes}
+use Rattle.std.specs.List.{last_or, list_any}
 use Rattle.std.specs.Ordering.{nat_cmp}
 use Rattle.std.specs.Cmp.Lexicographic.{slice_cmp}
 use Rattle.std.specs.declared.cmp.Ordering.{Ordering}
@@ -46,6 +46,10 @@ with_pair (held ∷ rest) new = by_order (key_cmp held new) (held ∷ with_pair 
 abbrev pub with_all : List Pair → List Pair → List Pair
 with_all held [] = held
 with_all held (new ∷ rest) = with_all (with_pair held new) rest
+
+-- the value that was given last with a key, if one was
+abbrev pub value_given_last : List Pair → List ℕ → Option (List ℕ)
+value_given_last given key = option_map (λ pair. pair.1) (last_or None (filter (λ pair. bytes_eq pair.0 key) given))
 
 -- the parameters that these pairs give: of a key given twice the last value counts
 abbrev pub parameters_of : List Pair → List Pair

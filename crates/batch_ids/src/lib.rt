@@ -4,6 +4,7 @@
 
 mod execution_id;
 mod instance_id;
+mod law;
 mod metric;
 mod metric_step;
 mod metrics;
@@ -17,6 +18,7 @@ mod work_id;
 
 pub use execution_id::ExecutionId;
 pub use instance_id::InstanceId;
+pub use law::the_value_given_last_counts;
 pub use metric::Metric;
 pub use metric_step::MetricStep;
 pub use metrics::Metrics;
