@@ -14,8 +14,6 @@ use Rattle.job_walk.specs.declared.runnable.Runnable.{Runnable}
 use Rattle.job_walk.specs.declared.runnable.Runnable.TheVariants.{Step as RunsStep}
 use Rattle.walk_rules.specs.declared.facts.Fact.{Fact}
 use Rattle.walk_rules.specs.declared.work_key.WorkKey.{WorkKey}
-use Rattle.batch_history.specs.Lists.{Each}
-use Rattle.batch_history.specs.NextRows.{over, reported}
 use Rattle.batch_history.specs.Executions.{Made}
 use Rattle.batch_history.specs.Replies.{has_something, runnable_of_job, partitions_of_job, work_task}
 use Rattle.batch_history.specs.Rows.{Rows}
@@ -36,6 +34,8 @@ use Rattle.batch_history.proofs.Folds.{made, is_made, works_of, plan_kept, folde
 use Rattle.batch_history.proofs.Kept.{IsUnknown}
 use Rattle.batch_history.proofs.Stepping.{planned-by}
 use Rattle.batch_history.proofs.Told.{AllDue, IsRowOf, row-of, made-more, made-once, ToldClaim, claim-told}
+use Rattle.batch_history.specs.NextRows.{over, reported}
+use Rattle.batch_history.specs.Lists.{Each}
 use Rattle.batch_history.proofs.WorkLists.{each-map, each-append, each-change}
 use Rattle.history_laws.specs.Laws.{IsOpen}
 use Rattle.history_laws.proofs.Claims.{IsHandedOf, handed-of}
@@ -144,7 +144,8 @@ kind-of mark (ChunkStep reader processor writer count) runs is = ap (λ r. is_st
 -- a work key of a partitioned step of which nothing is known: the step is neither carried nor barred, its partition is not kept
 pub partition-open : (plan : Plan) (worked : WorkKey → Fact) (job : Option JobTree) (key : WorkKey) (task : Task) (n : ℕ) → IsUnknown plan worked job key
     → runnable_of_job job key ≡ Some (RunsStep task) → partitions_of_job job key ≡ Some n → IsOpen plan key
-partition-open plan worked job key task n unknown runs partitions = unknown-open plan worked job key task unknown runs
+partition-open plan worked job key task n unknown runs partitions =
+    unknown-open plan worked job key task unknown runs (λ none. absurd (let bad : None ≡ Some n = sym none ∙ partitions in cc))
 
 begun-step : (limit : ℕ) (catalogue : List JobTree) (older : List Entry) (who at : ℕ) (item : WorkItem) → AllDue limit catalogue older
     → ToldClaim (folded_rows catalogue older) (Work item) → IsStepWork catalogue (entry who at Claim (Work item) ∷ older) (busy_work who at item)

@@ -4,10 +4,10 @@ use Rattle.std.specs.List.{list_any, list_all}
 use Rattle.std.proofs.lemmas.List.{map-append, reverse-append}
 use Rattle.std.proofs.lemmas.Bool.{eqb-true, eqb-false, eq-eqb, ltb-false, ltb-true, lt-ltb, ne_eqb, and_parts, or_parts, leb-true, le-leb}
 use Rattle.walk_rules.specs.Keys.{numbers_to}
-use Rattle.batch_history.specs.Lists.{Each}
 use Rattle.batch_history.specs.Partitions.{each_once, executions_with, is_completed, is_of_partition, completes_in, newest_of_partition, works_before, is_completed_after, is_kept_after, is_done_after, done_among, done_executions}
 use Rattle.batch_history.specs.declared.rows.WorkRow.{WorkRow}
 use Rattle.batch_history.proofs.Finished.{on-it}
+use Rattle.batch_history.specs.Lists.{Each}
 use Rattle.batch_history.proofs.WorkLists.{each-map, each-append}
 use Rattle.history_laws.specs.Partitions.{is_kept_in, is_done_in, IsKept}
 use Rattle.history_laws.proofs.Rising.{AreRising, each-filter}

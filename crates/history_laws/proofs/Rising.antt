@@ -5,7 +5,6 @@ use Rattle.std.proofs.lemmas.Bool.{eqb-true, eq-eqb, ltb-false, ltb-true}
 use Rattle.batch_ids.specs.Metrics.{zero_step}
 use Rattle.batch_ids.specs.declared.status.WorkOutcome.TheVariants.{Failed}
 use Rattle.jsl_model.specs.Jobs.{JobTree}
-use Rattle.batch_history.specs.NextRows.{over, reported}
 use Rattle.batch_history.specs.Executions.{Made}
 use Rattle.batch_history.specs.Lists.{change_first, is_at, Each}
 use Rattle.batch_history.specs.Operations.{taken_up_by}
@@ -27,6 +26,7 @@ use Rattle.batch_history.proofs.Folds.{made, is_made, works_of, bare_of, folded_
 use Rattle.batch_history.proofs.Kept.{IsHeld, IsKept, kept}
 use Rattle.batch_history.proofs.Singles.{earlier-over}
 use Rattle.batch_history.proofs.Told.{AllDue, IsRowOf, row-of, made-more, made-number, ToldClaim, claim-told}
+use Rattle.batch_history.specs.NextRows.{over, reported}
 use Rattle.batch_history.proofs.WorkLists.{each-map, each-both, each-append, each-change}
 
 -- ---- Lists of work items

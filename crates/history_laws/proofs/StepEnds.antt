@@ -11,7 +11,6 @@ use Rattle.batch_ids.specs.declared.status.WorkOutcome.{WorkOutcome}
 use Rattle.jsl_model.specs.Jobs.{JobTree}
 use Rattle.jsl_model.specs.declared.element.Task.{Task}
 use Rattle.job_walk.specs.declared.plan.Plan.{Plan}
-use Rattle.batch_history.specs.NextRows.{over, reported}
 use Rattle.batch_history.specs.Executions.{Made}
 use Rattle.batch_history.specs.Lists.{change_first, Each}
 use Rattle.batch_history.specs.Moments.{first_moment}
@@ -31,6 +30,7 @@ use Rattle.batch_history.proofs.Folds.{made, makes, is_made, works_of, start_of,
 use Rattle.batch_history.proofs.Kept.{IsHeld, kept}
 use Rattle.batch_history.proofs.Stepping.{planned-by, ended-by}
 use Rattle.batch_history.proofs.Told.{AllDue, made-before, made-more, made-once}
+use Rattle.batch_history.specs.NextRows.{over, reported}
 use Rattle.batch_history.proofs.WorkLists.{each-map, each-found}
 use Rattle.history_laws.proofs.EachWork.{IsEndedBy, each-ended}
 use Rattle.history_laws.proofs.Laws.{no-end}

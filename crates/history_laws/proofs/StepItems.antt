@@ -19,7 +19,6 @@ use Rattle.job_walk.specs.Plans.{is_kept}
 use Rattle.walk_rules.specs.Keys.{key_of}
 use Rattle.walk_rules.specs.declared.facts.Value.{Value}
 use Rattle.walk_rules.specs.declared.work_key.WorkKey.{WorkKey}
-use Rattle.batch_history.specs.NextRows.{over, reported}
 use Rattle.batch_history.specs.Executions.{Made}
 use Rattle.batch_history.specs.Lists.{change_first, is_at, Each}
 use Rattle.batch_history.specs.Replies.{row_status, has_something, has_something_by, walk_in_rows, runnable_of_job, partitions_of_job, partition_named}
@@ -42,6 +41,7 @@ use Rattle.batch_history.proofs.Finished.{on-it, owner-unfinished}
 use Rattle.batch_history.proofs.Folds.{made, is_made, works_of, plan_kept, bare_of, folded_rows, execution_row}
 use Rattle.batch_history.proofs.Kept.{kept, IsUnknown, unknown-unworked}
 use Rattle.batch_history.proofs.Told.{AllDue, IsRowOf, row-of, ToldClaim, claim-told, ToldReport, checkpoint-told, finish-told, loss-told}
+use Rattle.batch_history.specs.NextRows.{over, reported}
 use Rattle.batch_history.proofs.WorkLists.{each-both, unknown-away}
 use Rattle.history_laws.specs.Laws.{IsOpen}
 use Rattle.history_laws.proofs.Claims.{IsHandedOf, handed-of, IsPlaced, all-placed}

@@ -22,7 +22,7 @@ use Rattle.walk_rules.specs.declared.facts.Known.{Known}
 use Rattle.walk_rules.specs.declared.facts.Value.TheVariants.{Open, Ended}
 use Rattle.walk_rules.specs.declared.work_key.WorkKey.{WorkKey}
 use Rattle.walk_rules.proofs.SameKeys.{same-one, same-self, differing-keys}
-use Rattle.job_walk.specs.Plans.{carried_exit, is_kept, step_fact, unless_barred}
+use Rattle.job_walk.specs.Plans.{bars_kept, carried_exit, is_kept, keeps_each, step_fact, unless_barred}
 use Rattle.job_walk.specs.Runnables.{Leaf, all_leaves, partitions_with, runnable_with}
 use Rattle.job_walk.specs.declared.plan.Plan.{Plan}
 use Rattle.job_walk.specs.declared.runnable.Runnable.{Runnable}
@@ -114,10 +114,10 @@ itself (r ∷ rs) h =
 -- ---- What is known of each partition
 
 -- what a plan says of a partition of a step that it neither carries nor bars
-step-kept : (carried : Option (List ℕ)) (kept : Bool) (worked : Fact) (barred : Bool) → carried ≡ None → kept ≡ true → barred ≡ false
-    → step_fact carried kept worked barred ≡ FactCarried (status_name Completed)
-step-kept carried kept worked barred free is unbarred =
-    ap (λ c. step_fact c kept worked barred) free ∙ ap (λ b. step_fact None b worked barred) is
+step-kept : (carried : Option (List ℕ)) (all kept : Bool) (worked : Fact) (barred : Bool) → carried ≡ None → all ≡ false → kept ≡ true
+    → step_fact carried all kept worked barred ≡ FactCarried (status_name Completed)
+step-kept carried all kept worked barred free unbarred is =
+    ap (λ c. step_fact c all kept worked barred) free ∙ (ap (λ b. step_fact None b kept worked barred) unbarred ∙ ap (λ b. step_fact None false b worked barred) is)
 
 unbarred-same : (worked : Fact) → unless_barred worked false ≡ worked
 unbarred-same FactNothing = refl
@@ -126,25 +126,31 @@ unbarred-same (FactOver outcome exit) = refl
 unbarred-same (FactCarried exit) = refl
 unbarred-same FactBarred = refl
 
-step-worked : (carried : Option (List ℕ)) (kept : Bool) (worked : Fact) (barred : Bool) → carried ≡ None → kept ≡ false → barred ≡ false
-    → step_fact carried kept worked barred ≡ worked
-step-worked carried kept worked barred free is unbarred =
-    ap (λ c. step_fact c kept worked barred) free ∙ (ap (λ b. step_fact None b worked barred) is
-    ∙ (ap (unless_barred worked) unbarred ∙ unbarred-same worked))
+step-worked : (carried : Option (List ℕ)) (all kept : Bool) (worked : Fact) (barred : Bool) → carried ≡ None → all ≡ false → kept ≡ false → barred ≡ false
+    → step_fact carried all kept worked barred ≡ worked
+step-worked carried all kept worked barred free unbarred is none =
+    ap (λ c. step_fact c all kept worked barred) free
+    ∙ (ap (λ b. step_fact None b kept worked barred) unbarred
+    ∙ (ap (λ b. step_fact None false b worked barred) is
+    ∙ (ap (unless_barred worked) none ∙ unbarred-same worked)))
 
 kept-fact : (plan : Plan) (leaves : List Leaf) (worked : WorkKey → Fact) (key : WorkKey) (task : Task) (n : ℕ) → runnable_with leaves key ≡ Some (RunsStep task)
     → partitions_with leaves key ≡ Some n → carried_exit plan.carried key.element ≡ None → is_among plan.barred key.element ≡ false → is_kept plan key ≡ true
     → planned_facts plan leaves worked key ≡ FactCarried (status_name Completed)
 kept-fact plan leaves worked key task n runs partitions free unbarred is =
-    ap (runnable_fact plan key (worked key)) runs
-    ∙ step-kept (carried_exit plan.carried key.element) (is_kept plan key) (worked key) (is_among plan.barred key.element) free is unbarred
+    ap (λ (o : Option ℕ). runnable_fact plan o key (worked key) (runnable_with leaves key)) partitions
+    ∙ (ap (runnable_fact plan (Some n) key (worked key)) runs
+    ∙ step-kept (carried_exit plan.carried key.element) (bars_kept plan key.element (Some n)) (is_kept plan key) (worked key) (is_among plan.barred key.element) free
+    (ap (λ b. b && keeps_each plan key.element (Some n)) unbarred) is)
 
 worked-fact : (plan : Plan) (leaves : List Leaf) (worked : WorkKey → Fact) (key : WorkKey) (task : Task) (n : ℕ) → runnable_with leaves key ≡ Some (RunsStep task)
     → partitions_with leaves key ≡ Some n → carried_exit plan.carried key.element ≡ None → is_among plan.barred key.element ≡ false → is_kept plan key ≡ false
     → planned_facts plan leaves worked key ≡ worked key
 worked-fact plan leaves worked key task n runs partitions free unbarred is =
-    ap (runnable_fact plan key (worked key)) runs
-    ∙ step-worked (carried_exit plan.carried key.element) (is_kept plan key) (worked key) (is_among plan.barred key.element) free is unbarred
+    ap (λ (o : Option ℕ). runnable_fact plan o key (worked key) (runnable_with leaves key)) partitions
+    ∙ (ap (runnable_fact plan (Some n) key (worked key)) runs
+    ∙ step-worked (carried_exit plan.carried key.element) (bars_kept plan key.element (Some n)) (is_kept plan key) (worked key) (is_among plan.barred key.element) free
+    (ap (λ b. b && keeps_each plan key.element (Some n)) unbarred) is unbarred)
 
 -- a partition is kept, or is over
 abbrev Through : Plan → List WorkRow → ℕ → List ℕ → ℕ → Type 0

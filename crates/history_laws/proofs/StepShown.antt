@@ -25,8 +25,8 @@ use Rattle.batch_history.specs.declared.rows.WorkRow.{WorkRow}
 use Rattle.batch_history.proofs.Finished.{on-it}
 use Rattle.batch_history.proofs.Folds.{made, is_made, works_of, execution_row}
 use Rattle.batch_history.proofs.Legality.{past-due, all_rows_folded}
-use Rattle.batch_history.proofs.Told.{AllDue}
 use Rattle.batch_history.specs.Lists.{Each}
+use Rattle.batch_history.proofs.Told.{AllDue}
 use Rattle.history_laws.specs.Laws.{row_in}
 use Rattle.history_laws.specs.StepExecutions.{steps_in, step_among, step_in, IsPartitioned}
 use Rattle.history_laws.proofs.Beginnings.{row-folded, row-there, IsRowAt, row-at}
