@@ -1,7 +1,9 @@
-use batch_commands::{program, refuse_words};
-use std::io;
-use std::io::{Error, ErrorKind, Read, Write};
+use crate::flaky::{FlakyReader, FlakyWriter};
+use batch_commands::{Arguments, arguments, program, refuse_words};
+use std::alloc::{AllocError, Global};
+use std::io::{Error, ErrorKind, Read};
 use std::sync::Wait;
+use std::test::Fail;
 use std::thread::Threads;
 
 const SCRIPT: &[u8] = b"{\"jobs\":[]}\n{\"do\":\"start\",\"by\":1,\"at\":0,\"job\":\"a\"}\n";
@@ -21,26 +23,6 @@ const STARTS: &[u8] =
 /// What they are answered, and what is told of the job execution: its steps by their ids.
 const STARTS_RUN: &str =
     "{\"refused\":\"JobStartException\"}\n{\"refused\":\"BadLine\"}\n{\"execution\":1}\n{\"execution\":1,\"exit\":\"FAILED\",\"status\":\"FAILED\",\"steps\":[{\"exit\":\"FAILED\",\"metrics\":{},\"status\":\"FAILED\",\"step\":\"s\"},{\"exit\":\"COMPLETED\",\"metrics\":{},\"status\":\"COMPLETED\",\"step\":\"t\"}]}\n";
-
-/// A reader and a writer that fails at once.
-#[derive(Drop)]
-struct Broken;
-
-impl Read for Broken {
-    fn read(&mut self, _buffer: &mut [u8]) -> io::Result<usize> {
-        Err(Error::from(ErrorKind::Other))
-    }
-}
-
-impl Write for Broken {
-    fn write(&mut self, _bytes: &[u8]) -> io::Result<usize> {
-        Err(Error::from(ErrorKind::Other))
-    }
-
-    fn flush(&mut self) -> io::Result<()> {
-        Ok(())
-    }
-}
 
 /// What the program writes, and what it tells on standard error.
 #[derive(Drop)]
@@ -92,33 +74,164 @@ fn a_catalogue_is_run(rt: HostRuntime) {
     assert!(rt; writes(&rt, &["run", "--workers=1"], b"", 3, wanted));
 }
 
-/// Whether the program tells a fault of a device that it reads.
-fn tells_read_fault<R: Threads + Wait + AllocGlobal + Sync>(rt: &R, words: &[&str]) -> bool {
-    let mut out = Vec::new(rt.alloc());
-    let mut faults = Vec::new(rt.alloc());
-    let found = program(rt, words, Broken, &mut out, &mut faults);
-    drop(out);
-    found == 4 && faults.as_slice() == b"batchctl: read fault\n".as_slice()
+/// A command, its input of two lines, and the pieces that it writes: the reply to the second line, and what a run tells
+/// of its job executions.
+const COMMANDS: [(&str, &[u8], &[&str]); 2] = [
+    ("script", SCRIPT, &["{\"refused\":\"JobStartException\"}\n"]),
+    (
+        "run",
+        CHUNK,
+        &[
+            "{\"execution\":1}\n",
+            "{\"execution\":1,\"exit\":\"COMPLETED\",\"status\":\"COMPLETED\",\"steps\":[{\"exit\":\"COMPLETED\",\"metrics\":{\"COMMIT_COUNT\":3,\"FILTER_COUNT\":2,\"READ_COUNT\":5,\"WRITE_COUNT\":3},\"status\":\"COMPLETED\",\"step\":\"s\"}]}\n",
+        ],
+    ),
+];
+
+/// The first so many of these pieces.
+fn joined(alloc: Global, pieces: &[&str], count: usize) -> Result<String, AllocError> {
+    let mut text = String::new(alloc);
+    for piece in pieces.iter().take(count) {
+        text.push_str(piece)?;
+    }
+    Ok(text)
 }
 
-/// Whether the program tells a fault of a device that it writes on.
-fn tells_write_fault<R: Threads + Wait + AllocGlobal + Sync>(rt: &R, words: &[&str]) -> bool {
+/// Whether the program ends by a fault of a device, tells it by this line, and has written this.
+fn tells<R: Threads + Wait + AllocGlobal + Sync, D: Read + Drop>(
+    rt: &R,
+    word: &str,
+    reader: D,
+    writer: FlakyWriter,
+    line: &str,
+    wanted: &[u8],
+) -> bool {
+    let mut writer = writer;
     let mut faults = Vec::new(rt.alloc());
-    let found = program(rt, words, SCRIPT, Broken, &mut faults);
-    found == 4 && faults.as_slice() == b"batchctl: write fault\n".as_slice()
+    let found = program(rt, &[word], reader, &mut writer, &mut faults);
+    let is_told = faults.as_slice() == line.as_bytes();
+    let is_written = writer.taken.as_slice() == wanted;
+    drop(faults);
+    drop(writer);
+    found == 4 && is_told && is_written
+}
+
+/// Whether the program tells a fault of the reader behind so many bytes, and has written this.
+fn tells_read_fault<R: Threads + Wait + AllocGlobal + Sync>(
+    rt: &R,
+    word: &str,
+    input: &[u8],
+    good_calls: usize,
+    wanted: &[u8],
+) -> bool {
+    let reader = FlakyReader::new(input, good_calls);
+    let writer = FlakyWriter {
+        taken: Vec::new(rt.alloc()),
+        most: usize::MAX,
+        good_calls: usize::MAX,
+        is_silent: false,
+        has_failed: true,
+    };
+    tells(rt, word, reader, writer, "batchctl: read fault\n", wanted)
+}
+
+/// Whether the program tells a fault of the writer behind so many calls, each of which takes at most so many bytes, and has
+/// written this.
+fn tells_write_fault<R: Threads + Wait + AllocGlobal + Sync>(
+    rt: &R,
+    word: &str,
+    input: &[u8],
+    most: usize,
+    good_calls: usize,
+    wanted: &[u8],
+) -> bool {
+    let fails = |is_silent| FlakyWriter {
+        taken: Vec::new(rt.alloc()),
+        most,
+        good_calls,
+        is_silent,
+        has_failed: false,
+    };
+    let line = "batchctl: write fault\n";
+    tells(rt, word, input, fails(false), line, wanted)
+        && tells(rt, word, input, fails(true), line, wanted)
+}
+
+/// Whether the program tells a fault of the reader at each call. The reply to the last line is written once it was told.
+fn tells_each_read_fault<R: Threads + Wait + AllocGlobal + Sync>(
+    rt: &R,
+    word: &str,
+    input: &[u8],
+    reply: &[u8],
+) -> bool {
+    for calls in 0..input.len() {
+        if !tells_read_fault(rt, word, input, calls, b"") {
+            return false;
+        }
+    }
+    tells_read_fault(rt, word, input, input.len(), reply)
+}
+
+/// Whether the program tells a fault of the writer at each call, where each takes one byte.
+fn tells_each_write_fault<R: Threads + Wait + AllocGlobal + Sync>(
+    rt: &R,
+    word: &str,
+    input: &[u8],
+    wanted: &[u8],
+) -> bool {
+    for calls in 0..wanted.len() {
+        let front = wanted.get(..calls).unwrap_or(b"");
+        if !tells_write_fault(rt, word, input, 1, calls, front) {
+            return false;
+        }
+    }
+    true
+}
+
+/// The same, where each call takes a whole piece.
+fn tells_each_lost_piece<R: Threads + Wait + AllocGlobal + Sync>(
+    rt: &R,
+    word: &str,
+    input: &[u8],
+    pieces: &[&str],
+) -> Result<bool, AllocError> {
+    for calls in 0..pieces.len() {
+        let wanted = joined(rt.alloc(), pieces, calls)?;
+        if !tells_write_fault(rt, word, input, usize::MAX, calls, wanted.as_bytes()) {
+            return Ok(false);
+        }
+    }
+    Ok(true)
 }
 
 #[test]
-fn a_failed_device_is_told_on_standard_error(rt: HostRuntime) {
-    for word in &["script", "run"] {
-        assert!(rt; tells_read_fault(&rt, &[*word]), "{word}");
-        assert!(rt; tells_write_fault(&rt, &[*word]), "{word}");
+fn each_read_of_a_command_may_fail(rt: HostRuntime) -> Result<(), Fail> {
+    for (word, input, pieces) in &COMMANDS {
+        let reply = joined(rt.alloc(), pieces, 1)?;
+        assert!(rt;
+            tells_each_read_fault(&rt, word, input, reply.as_bytes()),
+            "{word}"
+        );
     }
+    Ok(())
+}
+
+#[test]
+fn each_write_of_a_command_may_fail(rt: HostRuntime) -> Result<(), Fail> {
+    for (word, input, pieces) in &COMMANDS {
+        let wanted = joined(rt.alloc(), pieces, pieces.len())?;
+        assert!(rt;
+            tells_each_write_fault(&rt, word, input, wanted.as_bytes()),
+            "{word}"
+        );
+        assert!(rt; tells_each_lost_piece(&rt, word, input, pieces)?, "{word}");
+    }
+    Ok(())
 }
 
 #[test]
 fn a_failed_device_is_told_where_help_was_asked_for(rt: HostRuntime) {
-    assert!(rt; tells_write_fault(&rt, &["--help"]));
+    assert!(rt; tells_write_fault(&rt, "--help", b"", usize::MAX, 0, b""));
 }
 
 /// Whether the program writes some help, and tells nothing on standard error.
@@ -137,6 +250,28 @@ fn helps<R: Threads + Wait + AllocGlobal + Sync>(rt: &R) -> bool {
 fn help_goes_to_the_writer(rt: HostRuntime) {
     assert!(rt; helps(&rt));
     assert!(rt; writes(&rt, &["--version"], SCRIPT, 0, "batchctl 0.1.0\n"));
+}
+
+/// Command lines, and what they ask for.
+const COMMAND_LINES: [(&[&str], Arguments); 8] = [
+    (&["script"], Arguments::Script),
+    (&["run"], Arguments::Run { workers: 2 }),
+    (&["run", "--"], Arguments::Run { workers: 2 }),
+    (&["run", "--workers", "3"], Arguments::Run { workers: 3 }),
+    (
+        &["run", "--workers", "3", "--"],
+        Arguments::Run { workers: 3 },
+    ),
+    (&["run", "--workers", "16"], Arguments::Run { workers: 16 }),
+    (&["run", "--workers=1"], Arguments::Run { workers: 1 }),
+    (&["run", "--workers=+03"], Arguments::Run { workers: 3 }),
+];
+
+#[test]
+fn words_ask_for_a_script_or_a_run(rt: HostRuntime) {
+    for (words, wanted) in &COMMAND_LINES {
+        assert!(rt; arguments(rt.alloc(), words).ok() == Some(*wanted));
+    }
 }
 
 /// Command lines that are refused.

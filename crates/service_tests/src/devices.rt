@@ -1,21 +1,22 @@
 //! Scripts that end at any byte, and readers and writers that fail at any call.
-use script_engine::{Counted, EngineFault, answer_script, run_script};
+use crate::flaky::{FlakyReader, FlakyWriter};
+use script_engine::{Counted, EngineFault, Summary, answer_script, run_script};
 use std::alloc::{AllocError, Global};
-use std::io;
-use std::io::{Error, ErrorKind, Read, Write};
 use std::test::Fail;
 
 const SCRIPT: &str =
     r#"{"jobs":[{"id":"a","elements":[{"kind":"step","id":"s","batchlet":{"ref":"ok"}}]}]}
 {"do":"start","by":1,"at":10,"job":"a"}
 {"do":"claim","by":2,"at":20}
-{"ask":"status_counts"}
+{"do":"finish","by":2,"at":30,"work":1,"outcome":"COMPLETED"}
+{"ask":"job_execution","execution":1}
 "#;
 
-const REPLIES: [&str; 3] = [
+const REPLIES: [&str; 4] = [
     "{\"execution\":1}\n",
     "{\"work\":{\"element\":\"s\",\"execution\":1,\"kind\":\"batchlet\",\"ref\":\"ok\",\"work\":1}}\n",
-    "{\"counts\":{\"STARTED\":1}}\n",
+    "{\"done\":true}\n",
+    "{\"job_execution\":{\"create\":10,\"end\":30,\"execution\":1,\"exit\":\"COMPLETED\",\"instance\":1,\"job\":\"a\",\"start\":20,\"status\":\"COMPLETED\",\"updated\":30}}\n",
 ];
 
 /// The first so many replies, and a line behind them.
@@ -75,30 +76,24 @@ fn a_script_may_end_at_each_byte(rt: HostRuntime) -> Result<(), Fail> {
     Ok(())
 }
 
-/// Tells one byte a call, and fails behind its last one.
-#[derive(Drop)]
-struct Broken<'a> {
-    rest: &'a [u8],
-}
-
-impl Read for Broken<'_> {
-    fn read(&mut self, buffer: &mut [u8]) -> io::Result<usize> {
-        match (self.rest.split_first(), buffer.first_mut()) {
-            (Some((byte, rest)), Some(place)) => {
-                *place = *byte;
-                self.rest = rest;
-                Ok(1)
-            }
-            _ => Err(Error::from(ErrorKind::Other)),
-        }
-    }
+#[test]
+fn a_script_is_summed_up(rt: HostRuntime) {
+    let (replies, outcome) = answer_script(rt.alloc(), SCRIPT.as_bytes());
+    drop(replies);
+    let summary = Summary {
+        lines: 4,
+        entries: 3,
+        refusals: 0,
+        bad: 0,
+    };
+    assert!(rt; outcome == Ok(summary));
 }
 
 /// Whether a run whose read fails behind so many bytes says so, and has written the replies to the lines before.
 fn is_broken_behind(alloc: Global, calls: usize) -> Result<bool, Fail> {
-    let rest = SCRIPT.as_bytes().get(..calls).unwrap_or(b"");
-    let wanted = replies_and(alloc, replies_due(rest), "")?;
-    let mut reader = Counted::new(Broken { rest });
+    let told = SCRIPT.as_bytes().get(..calls).unwrap_or(b"");
+    let wanted = replies_and(alloc, replies_due(told), "")?;
+    let mut reader = Counted::new(FlakyReader::new(SCRIPT.as_bytes(), calls));
     let mut writer = Counted::new(Vec::new(alloc));
     let outcome = run_script(alloc, &mut reader, &mut writer);
     let is_told = outcome == Err(EngineFault::Read);
@@ -107,58 +102,55 @@ fn is_broken_behind(alloc: Global, calls: usize) -> Result<bool, Fail> {
     Ok(is_told && written.as_slice() == wanted.as_bytes())
 }
 
+// The last call is the one that would have told the end.
 #[test]
 fn each_read_may_fail(rt: HostRuntime) -> Result<(), Fail> {
-    for calls in 0..SCRIPT.len() {
+    for calls in 0..=SCRIPT.len() {
         assert!(rt; is_broken_behind(rt.alloc(), calls)?, "call {calls}");
     }
     Ok(())
 }
 
-/// Takes one byte a call, and fails behind so many calls.
-#[derive(Drop)]
-struct Narrow {
-    taken: Vec<u8>,
-    calls_left: usize,
-}
-
-impl Write for Narrow {
-    fn write(&mut self, piece: &[u8]) -> io::Result<usize> {
-        match piece.first() {
-            Some(byte) if self.calls_left > 0 => {
-                self.calls_left -= 1;
-                self.taken.push(*byte)?;
-                Ok(1)
-            }
-            _ => Err(Error::from(ErrorKind::Other)),
-        }
-    }
-
-    fn flush(&mut self) -> io::Result<()> {
-        Ok(())
-    }
-}
-
-/// Whether a run whose write fails behind so many bytes says so, and these are the first of what it was to write.
-fn is_cut_behind(alloc: Global, calls_left: usize, wanted: &[u8]) -> bool {
-    let mut reader = Counted::new(SCRIPT.as_bytes());
-    let mut writer = Counted::new(Narrow {
-        taken: Vec::new(alloc),
-        calls_left,
-    });
+/// Whether a run by this writer, which fails, says so, and these are the bytes that the writer has taken.
+fn is_cut_by(alloc: Global, writer: FlakyWriter, wanted: &[u8]) -> bool {
+    let mut reader = Counted::new(FlakyReader::new(SCRIPT.as_bytes(), usize::MAX));
+    let mut writer = Counted::new(writer);
     let outcome = run_script(alloc, &mut reader, &mut writer);
     let is_told = outcome == Err(EngineFault::Write);
     drop(outcome);
     let taken = writer.into_inner().taken;
-    is_told && Some(taken.as_slice()) == wanted.get(..calls_left)
+    is_told && taken.as_slice() == wanted
+}
+
+/// The same, behind so many calls that take pieces of at most so many bytes, whatever the failure is.
+fn is_cut_behind(alloc: Global, most: usize, good_calls: usize, wanted: &[u8]) -> bool {
+    let fails = |is_silent| FlakyWriter {
+        taken: Vec::new(alloc),
+        most,
+        good_calls,
+        is_silent,
+        has_failed: false,
+    };
+    is_cut_by(alloc, fails(false), wanted) && is_cut_by(alloc, fails(true), wanted)
 }
 
 #[test]
-fn each_write_may_fail(rt: HostRuntime) -> Result<(), Fail> {
-    let wanted = replies_and(rt.alloc(), 3, "")?;
-    for calls_left in 0..wanted.len() {
-        let is_cut = is_cut_behind(rt.alloc(), calls_left, wanted.as_bytes());
-        assert!(rt; is_cut, "call {calls_left}");
+fn each_write_of_a_byte_may_fail(rt: HostRuntime) -> Result<(), Fail> {
+    let all = replies_and(rt.alloc(), REPLIES.len(), "")?;
+    for calls in 0..all.len() {
+        let wanted = all.as_bytes().get(..calls).unwrap_or(b"");
+        assert!(rt; is_cut_behind(rt.alloc(), 1, calls, wanted), "call {calls}");
+    }
+    Ok(())
+}
+
+// Each reply is written in one piece, before the next byte of the script is read.
+#[test]
+fn each_write_of_a_line_may_fail(rt: HostRuntime) -> Result<(), Fail> {
+    for calls in 0..REPLIES.len() {
+        let wanted = replies_and(rt.alloc(), calls, "")?;
+        let is_cut = is_cut_behind(rt.alloc(), usize::MAX, calls, wanted.as_bytes());
+        assert!(rt; is_cut, "call {calls}");
     }
     Ok(())
 }

@@ -21,6 +21,8 @@ mod devices;
 #[cfg(test)]
 mod element_indexes;
 #[cfg(test)]
+mod flaky;
+#[cfg(test)]
 mod identifiers;
 #[cfg(test)]
 mod jobs;
