@@ -1,105 +1,109 @@
-"""Runs the gate, and prints what it took of the processors by crate: proofs, tests, builds of programs, and must-fail edits.
+"""Runs the gate, and prints what it took: seconds by the clock and processor minutes, of the whole or by crate.
 
-    python3 tools/gate_seconds.py [LOG]
+    python3 tools/gate_seconds.py [--log LOG]                        the gate, `.ci/run`, as a whole
+    python3 tools/gate_seconds.py --by-crate [--log LOG] [CRATE..]   `rt ci CRATE` of each crate, the lowest first
 
-The gate's own output goes to the file LOG (`gate.log` in the system's temporary folder, if none is given). The
-figures are read twice a second from /proc, of the processes that the gate began, so a process that lived for less may
-be missed; what is no check (links, runs of tests and programs, refused requests for memory) is in no row, but in the
-processor minutes of the whole that stand last. The exit status is the gate's.
+The figures tell of a first run: `rt ci` keeps on this machine what it has passed, in whichever checkout, and a later run proves
+and tries only what changed. So begin with a machine that has kept nothing of these crates. By crate, a row has the proof of one
+crate, its tests and its must-fail edits: what lies below was kept by the rows before. Beside it stand the tests and programs of
+the crates below, which `rt ci` runs again each time. A row says so if its crate was not proved in this run.
+
+Processor time is what the system counts for the command and all that it waited for. What the commands write goes to the file LOG
+(`gate.log` in the system's temporary folder, if none is given). The exit status is the gate's, or that of the first `rt ci`
+that fails, behind which no other crate is timed.
 """
 
 from __future__ import annotations
 
-import os
+import argparse
 import resource
 import subprocess
 import sys
 import tempfile
 import time
-from collections import Counter
+from dataclasses import dataclass
 from pathlib import Path
 
-ROOT = Path(__file__).resolve().parent.parent
-TICKS = os.sysconf("SC_CLK_TCK")
-KINDS = ("proofs", "tests", "builds", "edits")
+from repository import ROOT, uses_by_crate, with_those_above
 
 
-def words_of(process: Path) -> list[str]:
-    return (process / "cmdline").read_bytes().decode(errors="replace").split("\0")
+@dataclass(frozen=True)
+class Timed:
+    """What a command took, what it wrote, and how it ended."""
+
+    seconds: float
+    processors: float
+    said: list[str]
+    status: int
 
 
-def fields_of(process: Path) -> list[str]:
-    """The fields of its `stat` behind the name: the parent is the second, the moment when it began the twentieth."""
-    return (process / "stat").read_text().rsplit(")", 1)[1].split()
+def processor_seconds() -> float:
+    """What the commands that have ended took of the processors, and all that they waited for."""
+    used = resource.getrusage(resource.RUSAGE_CHILDREN)
+    return used.ru_utime + used.ru_stime
 
 
-def is_below(process: Path, gate: int) -> bool:
-    """Whether the gate began it, or a process that the gate began."""
-    number = int(process.name)
-    while number > 1 and number != gate:
-        number = int(fields_of(Path("/proc") / str(number))[1])
-    return number == gate
+def timed(command: list[str], log: Path) -> Timed:
+    """Runs a command at the top of the repository, with its output behind what the log holds."""
+    before = log.stat().st_size
+    began, taken = time.monotonic(), processor_seconds()
+    with log.open("ab") as out:
+        status = subprocess.run(command, cwd=ROOT, stdout=out, stderr=subprocess.STDOUT, check=False).returncode
+    seconds, processors = time.monotonic() - began, processor_seconds() - taken
+    said = log.read_bytes()[before:].decode(errors="replace").splitlines()
+    return Timed(seconds, processors, said, status)
 
 
-def seconds_of(fields: list[str]) -> float:
-    return (int(fields[11]) + int(fields[12])) / TICKS
+def what_was_done(crate: str, run: Timed) -> str:
+    """What the end of `rt ci` says of this run, and whether the crate was proved in it."""
+    told = [line.removeprefix("rt: ok").strip(" :,;") for line in run.said if line.startswith("rt: ok")]
+    if run.status != 0:
+        return f"failed, with status {run.status}"
+    kept = "" if f"rt: {crate} proved" in run.said else "kept by an earlier run, in whole or in part: "
+    return kept + (told[-1] if told else "")
 
 
-def kind_of(words: list[str], folder: str) -> str:
-    """What a process of the compiler is for: one of KINDS."""
-    if "rt-edit" in folder:
-        return "edits"
-    if "--test" in words:
-        return "tests"
-    return "builds" if "--crate-checked" in words else "proofs"
+def time_gate(log: Path) -> int:
+    """Times the gate as a whole, and gives its exit status."""
+    gate = timed([str(ROOT / ".ci" / "run")], log)
+    print(f"{gate.seconds:.0f} s by the clock, {gate.processors / 60:.0f} processor minutes")
+    for line in gate.said:
+        if line.startswith("rt: ok"):
+            print(line)
+    if gate.status != 0:
+        print(f"the gate failed, with status {gate.status}: {log}")
+    return gate.status
 
 
-def sample(gate: int, seen: dict[str, tuple[str, str, float]]) -> None:
-    """Notes of each check of the gate that runs: its crate, what it is for, and what it took so far."""
-    for process in Path("/proc").glob("[0-9]*"):
-        try:
-            words = words_of(process)
-            if "--crate-name" not in words or not words[0].endswith("rattle") or not is_below(process, gate):
-                continue
-            crate = words[words.index("--crate-name") + 1]
-            kind = kind_of(words, os.readlink(process / "cwd"))
-            fields = fields_of(process)
-            seen[f"{process.name} {fields[19]}"] = (crate, kind, seconds_of(fields))
-        except OSError:
-            continue
-
-
-def table(seen: dict[str, tuple[str, str, float]]) -> str:
-    by_kind: dict[str, Counter[str]] = {kind: Counter() for kind in KINDS}
-    for crate, kind, seconds in seen.values():
-        by_kind[kind][crate] += seconds
-    heads = [f"{kind} (s)" for kind in (*KINDS, "all")]
-    lines = [f"| crate | {' | '.join(heads)} |", "|---" * (len(heads) + 1) + "|"]
-    whole = sum(by_kind.values(), Counter())
-    for crate, seconds in whole.most_common():
-        figures = [f"{by_kind[kind][crate]:.0f}" for kind in KINDS]
-        lines.append(f"| {crate} | {' | '.join(figures)} | {seconds:.0f} |")
-    sums = [f"{by_kind[kind].total():.0f}" for kind in KINDS]
-    lines.append(f"| all | {' | '.join(sums)} | {whole.total():.0f} |")
-    return "\n".join(lines)
+def time_crates(crates: list[str], log: Path) -> int:
+    """Times `rt ci` of each of these crates, and gives the exit status of the last."""
+    print("| crate | by the clock (s) | processors (s) | |\n|---|---|---|---|")
+    seconds = processors = 0.0
+    for crate in crates:
+        run = timed(["rt", "ci", crate], log)
+        seconds, processors = seconds + run.seconds, processors + run.processors
+        print(f"| {crate} | {run.seconds:.0f} | {run.processors:.0f} | {what_was_done(crate, run)} |", flush=True)
+        if run.status != 0:
+            return run.status
+    print(f"| all | {seconds:.0f} | {processors:.0f} | |")
+    return 0
 
 
 def main() -> int:
-    log = Path(sys.argv[1]) if len(sys.argv) > 1 else Path(tempfile.gettempdir()) / "gate.log"
-    seen: dict[str, tuple[str, str, float]] = {}
-    began = time.monotonic()
-    with log.open("w") as out:
-        gate = subprocess.Popen([str(ROOT / ".ci" / "run")], cwd=ROOT, stdout=out, stderr=subprocess.STDOUT)
-        while gate.poll() is None:
-            sample(gate.pid, seen)
-            time.sleep(0.5)
-    print(table(seen))
-    used = resource.getrusage(resource.RUSAGE_CHILDREN)
-    print(
-        f"\n{time.monotonic() - began:.0f} s by the clock, {(used.ru_utime + used.ru_stime) / 60:.0f} processor minutes;"
-        f" {log.read_text().rstrip().splitlines()[-1]}"
-    )
-    return gate.returncode
+    parser = argparse.ArgumentParser(description=__doc__.splitlines()[0])
+    parser.add_argument("--log", type=Path, default=Path(tempfile.gettempdir()) / "gate.log")
+    parser.add_argument("--by-crate", action="store_true", help="time `rt ci` of each crate")
+    parser.add_argument("crates", nargs="*", help="the crates to time, with --by-crate; all, if none is given")
+    words = parser.parse_args()
+    if words.crates and not words.by_crate:
+        parser.error("crates are timed with --by-crate")
+    if unknown := set(words.crates) - set(uses_by_crate()):
+        parser.error(f"crates.txt does not name {', '.join(sorted(unknown))}")
+    words.log.write_bytes(b"")
+    if not words.by_crate:
+        return time_gate(words.log)
+    wanted = words.crates or uses_by_crate()
+    return time_crates([crate for crate in with_those_above(set(uses_by_crate())) if crate in wanted], words.log)
 
 
 if __name__ == "__main__":
