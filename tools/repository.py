@@ -2,6 +2,7 @@
 
 from __future__ import annotations
 
+import shutil
 from pathlib import Path
 
 ROOT = Path(__file__).resolve().parent.parent
@@ -39,3 +40,15 @@ def with_those_above(crates: set[str]) -> list[str]:
 
 def has_tests(crate: str) -> bool:
     return any("#[test]" in path.read_text() for path in (ROOT / "crates" / crate / "src").rglob("*.rt"))
+
+
+def copy_of(crates: set[str], folder: Path) -> Path:
+    """Copies these crates and those that they stand on into this folder, as a repository of their own, with nothing of what
+    was built or kept in `out/`. Gives the folder that the crates are in."""
+    kept = with_libraries(crates)
+    shutil.copy(ROOT / "HANDLES", folder / "HANDLES")
+    lines = [line for line in (ROOT / "crates.txt").read_text().splitlines() if line.split(":")[0].split()[0] in kept]
+    (folder / "crates.txt").write_text("\n".join(lines) + "\n")
+    for name in kept:
+        shutil.copytree(ROOT / "crates" / name, folder / "crates" / name, ignore=shutil.ignore_patterns("out"))
+    return folder / "crates"
