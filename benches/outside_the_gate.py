@@ -1,7 +1,7 @@
 """Proves, builds and runs a program of `benches/` that stands outside the gate: its files are texts, since `rt ci` takes no
 source that no crate names.
 
-It is done in a copy of the repository, over what earlier checks left in `out/`.
+It works in a copy of the repository without `out/`.
 """
 
 from __future__ import annotations
@@ -15,7 +15,7 @@ from pathlib import Path
 ROOT = Path(__file__).resolve().parent.parent
 sys.path.insert(0, str(ROOT / "tools"))
 
-from repository import with_libraries  # noqa: E402
+from repository import copy_of  # noqa: E402
 
 # What the programs use of the repository, and of the kit.
 USES = {"batch_operator", "sessions", "seat_rules", "jsl_json", "op_log", "jsl_model", "batch_ids"}
@@ -24,17 +24,14 @@ LIBRARIES = USES | {"sqlite_items", "anyhow", "atomic_table"}
 
 def copy_to(name: str, folder: Path) -> Path:
     """A repository of the program and of what it stands on."""
-    kept = with_libraries(USES)
-    shutil.copy(ROOT / "HANDLES", folder / "HANDLES")
-    lines = [line for line in (ROOT / "crates.txt").read_text().splitlines() if line.split(":")[0].split()[0] in kept]
-    (folder / "crates.txt").write_text("\n".join([*lines, f"{name}: {' '.join(sorted(LIBRARIES))}"]) + "\n")
-    for crate in kept:
-        shutil.copytree(ROOT / "crates" / crate, folder / "crates" / crate)
+    crates = copy_of(USES, folder)
+    with (folder / "crates.txt").open("a") as table:
+        table.write(f"{name}: {' '.join(sorted(LIBRARIES))}\n")
     for source in (ROOT / "benches" / name).rglob("*.txt"):
-        copied = folder / "crates" / source.relative_to(ROOT / "benches").with_suffix("")
+        copied = crates / source.relative_to(ROOT / "benches").with_suffix("")
         copied.parent.mkdir(parents=True, exist_ok=True)
         shutil.copy(source, copied)
-    return folder / "crates" / name
+    return crates / name
 
 
 def run(name: str, words: list[str]) -> int:

@@ -16,9 +16,10 @@ Where the check names only what the function calls, which may hold another plant
 the plant is tried again by itself, and the whole crate decides. So it is where an answer no longer fits because its goal
 became trivial: a plant against which nothing else is said counts as proved.
 
-The copy takes over what earlier checks left in `out/` of the crate and of those below it, which saves the first
-check. Verdicts are kept in `plants/verdicts.json`, and all of them are printed as a table in the end. Must-fail edits are the telling plants, and the gate tries them;
-these here are tried by hand.
+The copy has nothing of `out/`. It is checked once with no plant, and has to be proved: that takes as long as a first check of the
+crate and of those below it, or less if checks in other copies on this machine kept them. Verdicts are kept in
+`plants/verdicts.json`, and all of them are printed as a table in the end. Must-fail edits are the telling plants, and the gate
+tries them; these here are tried by hand.
 """
 
 from __future__ import annotations
@@ -27,7 +28,6 @@ import argparse
 import hashlib
 import json
 import re
-import shutil
 import subprocess
 import sys
 import tempfile
@@ -35,12 +35,13 @@ import tomllib
 from dataclasses import dataclass
 from pathlib import Path
 
-from repository import ROOT, with_libraries
+from repository import ROOT, copy_of
 
 VERDICTS = ROOT / "plants" / "verdicts.json"
 # What the check says of an answer to a goal that the plant has made trivial: without the answer it would be proved.
 FELL_AWAY = "the two types are `Unit {0}` (expected)"
-CHECK = ["timeout", "1500", "rt", "check"]
+FIRST_CHECK = ["rt", "check"]
+CHECK = ["timeout", "1500", *FIRST_CHECK]
 
 
 @dataclass(frozen=True)
@@ -81,17 +82,6 @@ class Plant:
         """The type of the `impl` block that is open at the end of this text."""
         found = list(re.finditer(r"^impl(?:<[^>]*>)? (?:[A-Za-z:<>, ]+ for )?(\w+)[^\n]*\{$", before, re.M))
         return found[-1].group(1) if found and "\n}\n" not in before[found[-1].end() :] else ""
-
-
-def copy_of(crate: str, folder: Path) -> Path:
-    """A copy of the crate, in a repository that has what it stands on."""
-    kept = with_libraries({crate})
-    shutil.copy(ROOT / "HANDLES", folder / "HANDLES")
-    lines = [line for line in (ROOT / "crates.txt").read_text().splitlines() if line.split(":")[0].split()[0] in kept]
-    (folder / "crates.txt").write_text("\n".join(lines) + "\n")
-    for name in kept:
-        shutil.copytree(ROOT / "crates" / name, folder / "crates" / name)
-    return folder / "crates" / crate
 
 
 def plants_of(crate: str) -> list[Plant]:
@@ -195,8 +185,17 @@ def try_group(crate: Path, group: list[Plant], sources: dict[str, str]) -> dict[
     return verdicts
 
 
+def proved_copy(name: str, folder: Path) -> Path:
+    """A copy of the crate in which each function is proved."""
+    crate = copy_of({name}, folder) / name
+    said = subprocess.run(FIRST_CHECK, cwd=crate, stdout=subprocess.PIPE, stderr=subprocess.STDOUT, text=True).stdout
+    if "\nlogic=proved" not in said:
+        sys.exit(f"{said}\n{name}: it is not proved with no plant in it")
+    return crate
+
+
 def try_plants(name: str, plants: list[Plant], folder: Path) -> dict[str, str]:
-    crate = copy_of(name, folder)
+    crate = proved_copy(name, folder)
     sources = {plant.file: (crate / plant.file).read_text() for plant in plants}
     stale = [plant.name for plant in plants if plant.put(sources[plant.file]) is None]
     for plant in stale:
