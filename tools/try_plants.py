@@ -1,7 +1,7 @@
 """Plants the wrong bodies of `plants/CRATE.toml` in a copy of the repository, and says which of them are still proved.
 
     python3 tools/try_plants.py CRATE..            tries all plants of these crates
-    python3 tools/try_plants.py --new CRATE..      only those that have no verdict yet, or were changed since
+    python3 tools/try_plants.py --new CRATE..      only those that have no verdict on the code as it stands
     python3 tools/try_plants.py                    tries nothing
 
 A plant that is still proved is a gap in a contract, unless its `reason` says what else refuses it. Each function is
@@ -17,8 +17,11 @@ the plant is tried again by itself, and the whole crate decides. So it is where 
 became trivial: a plant against which nothing else is said counts as proved.
 
 The copy has nothing of `out/`. It is checked once with no plant, and has to be proved: that takes as long as a first check of the
-crate and of those below it, or less if checks in other copies on this machine kept them. Verdicts are kept in
-`plants/verdicts.json`, and all of them are printed as a table in the end. Must-fail edits are the telling plants, and the gate
+crate and of those below it, or less if checks in other copies on this machine kept them.
+
+Verdicts are kept in `plants/verdicts.json`, and all of them are printed as a table in the end. Each names what it was tried on,
+by a checksum of the file that the plant is in and of the crate's specs/. If any of these was changed since, the verdict is old,
+and counts for nothing. A plant whose own text was changed is not tried. Must-fail edits are the telling plants, and the gate
 tries them; these here are tried by hand.
 """
 
@@ -33,6 +36,7 @@ import sys
 import tempfile
 import tomllib
 from dataclasses import dataclass
+from functools import cache
 from pathlib import Path
 
 from repository import ROOT, copy_of
@@ -42,6 +46,10 @@ VERDICTS = ROOT / "plants" / "verdicts.json"
 FELL_AWAY = "the two types are `Unit {0}` (expected)"
 FIRST_CHECK = ["rt", "check"]
 CHECK = ["timeout", "1500", *FIRST_CHECK]
+# By plant: its mark, what became of it, and the code that it was tried on.
+Kept = dict[str, list[str]]
+# The begin of a function, in the layout of `rt fmt`.
+FUNCTION = re.compile(r"^([ ]*)(?:pub(?:\([a-z]+\))? )?(?:const )?(?:unsafe )?fn ([a-z_0-9]+)", re.M)
 
 
 @dataclass(frozen=True)
@@ -71,17 +79,33 @@ class Plant:
         return text
 
     def function(self, text: str) -> tuple[str, str, str]:
-        """The file, the type (if any) and the name of the function that the plant is in."""
-        place = text.index(self.old)
-        before = text[: place + len(self.old.split("\n")[0])]
-        names = re.findall(r"\bfn ([a-z_0-9]+)", before)
-        return self.file, self.type_of(before), names[-1] if names else ""
+        """The file, the type (if any) and the name of the function that the plant is in; no name if it is in none."""
+        place = text.index(self.old) + len(self.old.split("\n")[0])
+        return self.file, self.type_of(text[:place]), function_at(text, place)
 
     @staticmethod
     def type_of(before: str) -> str:
         """The type of the `impl` block that is open at the end of this text."""
         found = list(re.finditer(r"^impl(?:<[^>]*>)? (?:[A-Za-z:<>, ]+ for )?(\w+)[^\n]*\{$", before, re.M))
         return found[-1].group(1) if found and "\n}\n" not in before[found[-1].end() :] else ""
+
+
+def function_at(text: str, place: int) -> str:
+    """The name of the innermost function that goes on at this place of a file that `rt fmt` has laid out; none behind its end."""
+    begun = [found for found in FUNCTION.finditer(text) if found.start() < place]
+    return next((found[2] for found in reversed(begun) if place <= end_of_function(text, found)), "")
+
+
+def end_of_function(text: str, begun: re.Match[str]) -> int:
+    """Where a function ends: at the brace that stands under its first word, or where it is declared without a body."""
+    for line in re.finditer(r"^.*$", text[begun.start() :], re.M):
+        if line[0] == begun[1] + "{" or line[0].endswith(" {"):
+            body = begun.start() + line.end()
+            closed = re.compile(rf"^{begun[1]}\}}", re.M).search(text, body)
+            return closed.end() if closed else len(text)
+        if line[0].endswith((";", "{}")):
+            return begun.start() + line.end()
+    return len(text)
 
 
 def plants_of(crate: str) -> list[Plant]:
@@ -209,54 +233,91 @@ def try_plants(name: str, plants: list[Plant], folder: Path) -> dict[str, str]:
     return verdicts
 
 
-def kept_verdicts() -> dict[str, dict[str, list[str]]]:
-    """By crate and plant: the plant's mark, and what became of it."""
+@cache
+def code_at(crate: Path, file: str) -> str:
+    """What tells the code that a plant of this file is tried on from any other: the file and the crate's definitions."""
+    digest = hashlib.sha256()
+    for path in [crate / file, *sorted((crate / "specs").rglob("*.antt"))]:
+        digest.update(path.relative_to(crate).as_posix().encode() + b"\0" + path.read_bytes() + b"\0")
+    return digest.hexdigest()[:12]
+
+
+def crates_with_plants() -> list[str]:
+    return sorted(path.stem for path in (ROOT / "plants").glob("*.toml"))
+
+
+def kept_verdicts() -> dict[str, Kept]:
+    """What is kept of each crate."""
     return json.loads(VERDICTS.read_text()) if VERDICTS.exists() else {}
 
 
-def verdict_kept(kept: dict[str, list[str]], plant: Plant) -> str:
-    mark, said = kept.get(plant.name, ["", ""])
-    return said if mark == plant.mark() else "not tried"
+def verdict_kept(kept: Kept, plant: Plant, code: str) -> str:
+    """What became of a plant on this code: `old` if it was tried on other code, `not tried` if its own text was another."""
+    mark, said, tried_on = kept.get(plant.name, ("", "", ""))
+    if mark != plant.mark():
+        return "not tried"
+    return said if tried_on == code else "old"
+
+
+def verdicts_of(name: str, plants: list[Plant]) -> dict[Plant, str]:
+    kept = kept_verdicts().get(name, {})
+    return {plant: verdict_kept(kept, plant, code_at(ROOT / "crates" / name, plant.file)) for plant in plants}
+
+
+def still_said(kept: Kept, plants: list[Plant]) -> Kept:
+    """The verdicts on plants that stand as they were tried."""
+    return {plant.name: kept[plant.name] for plant in plants if kept.get(plant.name, [""])[0] == plant.mark()}
+
+
+def newly_said(found: dict[str, str], plants: list[Plant], crate: Path) -> Kept:
+    """The verdicts that were found, each with its plant's mark and the code that it was tried on."""
+    tried = [plant for plant in plants if plant.name in found]
+    return {plant.name: [plant.mark(), found[plant.name], code_at(crate, plant.file)] for plant in tried}
+
+
+def keep(name: str, found: dict[str, str]) -> None:
+    """Keeps what was found of the plants of a crate, and drops the verdicts that are of no plant."""
+    kept = kept_verdicts()
+    new = {crate: still_said(kept.get(crate, {}), plants_of(crate)) for crate in crates_with_plants()}
+    new[name] |= newly_said(found, plants_of(name), ROOT / "crates" / name)
+    VERDICTS.write_text(json.dumps(new, indent=1, sort_keys=True) + "\n")
 
 
 def try_crate(name: str, only_new: bool) -> None:
-    kept = kept_verdicts().get(name, {})
-    plants = plants_of(name)
-    wanted = [plant for plant in plants if not only_new or verdict_kept(kept, plant) in ("not tried", "stale")]
+    said = verdicts_of(name, plants_of(name))
+    wanted = [plant for plant in said if not only_new or said[plant] in ("old", "not tried", "stale")]
     with tempfile.TemporaryDirectory(prefix="plants-") as folder:
         found = try_plants(name, wanted, Path(folder)) if wanted else {}
-    new = {plant.name: [plant.mark(), found.get(plant.name) or verdict_kept(kept, plant)] for plant in plants}
-    VERDICTS.write_text(json.dumps(kept_verdicts() | {name: new}, indent=1, sort_keys=True) + "\n")
+    keep(name, found)
 
 
-def row_of(name: str, kept: dict[str, list[str]]) -> tuple[list[int], list[str]]:
+def row_of(name: str) -> tuple[list[int], list[str]]:
     """How many plants a crate has, and of each kind; and what is proved with no reason given."""
-    plants = plants_of(name)
-    said = {plant: verdict_kept(kept, plant) for plant in plants}
-    proved = [plant for plant in plants if said[plant] == "PROVED"]
+    said = verdicts_of(name, plants_of(name))
+    proved = [plant for plant in said if said[plant] == "PROVED"]
     counts = [
-        len(plants),
+        len(said),
         sum(verdict == "refused" for verdict in said.values()),
         sum(bool(plant.reason) for plant in proved),
         sum(not plant.reason for plant in proved),
-        sum(verdict not in ("refused", "PROVED") for verdict in said.values()),
+        sum(verdict == "old" for verdict in said.values()),
+        sum(verdict not in ("refused", "PROVED", "old") for verdict in said.values()),
     ]
     return counts, [f"{name}: {plant.name}" for plant in proved if not plant.reason]
 
 
 def print_table() -> list[str]:
     """Prints what became of all plants by crate, and gives those that are proved with no reason given."""
-    kept = kept_verdicts()
-    heads = ["planted", "refused by a contract", "proved, refused by a test", "proved", "not tried"]
+    heads = ["planted", "refused by a contract", "proved, refused by a test", "proved", "old", "not tried"]
     print("| crate | " + " | ".join(heads) + " |")
     print("|---|" + "---|" * len(heads))
     totals = [0] * len(heads)
     gaps: list[str] = []
-    for path in sorted((ROOT / "plants").glob("*.toml")):
-        counts, proved = row_of(path.stem, kept.get(path.stem, {}))
+    for name in crates_with_plants():
+        counts, proved = row_of(name)
         totals = [total + count for total, count in zip(totals, counts)]
         gaps += proved
-        print(f"| {path.stem} | " + " | ".join(map(str, counts)) + " |")
+        print(f"| {name} | " + " | ".join(map(str, counts)) + " |")
     print("| all | " + " | ".join(map(str, totals)) + " |")
     return gaps
 
