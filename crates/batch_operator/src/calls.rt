@@ -161,8 +161,9 @@ impl<N: Site> Operator<N> {
     /// reply is `Reply::Done`.
     ///
     /// It takes time as there are lists from its element to the job's own, flows of the splits
-    /// among them, and elements that the walk newly passes; and where a step is COMPLETED, as its
-    /// job instance has checkpoints.
+    /// among them, and elements that the walk newly passes; if a step is COMPLETED, as its job instance
+    /// has checkpoints; and if the job execution ends, as the number of its job's unfinished job executions
+    /// has binary digits.
     ///
     /// # Errors
     ///

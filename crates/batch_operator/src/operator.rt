@@ -12,21 +12,8 @@ use read_copies::{Copies, StatusCounts};
 use seat_rules::{BookSeat, SeatTable, Site};
 use sessions::{Desk, Session};
 use std::alloc::Global;
-use std::hint::spin_loop;
-use std::sync::{Mutex, MutexGuard, Wait};
+use std::sync::{Mutex, Wait};
 use stop_signals::{look, stop};
-
-/// How often a call tries the lock of the book before it sleeps until the lock is free.
-const TRIES: u32 = 40;
-
-/// How long it pauses after a try in vain, in turns of an empty loop.
-const PAUSES: u32 = 20;
-
-fn pause() {
-    for turn in 0..PAUSES {
-        spin_loop();
-    }
-}
 
 /// What the lock keeps: a desk that hosts no read copy.
 #[derive(Drop)]
@@ -43,7 +30,8 @@ pub(crate) struct Kept<N: Site> {
 /// `stop_seen` wait for nobody.
 ///
 /// What is kept grows by doubling: for that an operation takes constant time on average, and at worst
-/// as much as the log or the rows are long. A row is found by its number by halving. The walk of a job
+/// as much as the log or the rows are long. A row is looked for first at the place that its number says,
+/// and found by halving if a purge has moved it. The walk of a job
 /// execution is kept from its first operation to its end; where none is kept, since memory for it was
 /// refused, a call makes it, in time as the job has elements and partitions, times what the plan of the
 /// job execution names and its work items. Beside that, each call takes what its own comment says.
@@ -146,18 +134,6 @@ impl<N: Site> Operator<N> {
         self.desk.lock(rt).desk.open(&self.table)
     }
 
-    /// The desk, once its lock is free. A call holds it for a short time, and a thread that falls asleep
-    /// has to be woken, so the lock is tried for a while first.
-    fn take_desk(&self, rt: &impl Wait) -> MutexGuard<'_, Kept<N>> {
-        for turn in 0..TRIES {
-            if let Some(kept) = self.desk.try_lock() {
-                return kept;
-            }
-            pause();
-        }
-        self.desk.lock(rt)
-    }
-
     pub(crate) fn act(
         &self,
         rt: &impl Wait,
@@ -167,7 +143,7 @@ impl<N: Site> Operator<N> {
     ) -> Result<Reply, Refusal>
         ensures { IsReplied N.place.catalogue session.old session.new call at result }
     {
-        self.take_desk(rt).desk.act(session, call, at, &self.table)
+        self.desk.lock(rt).desk.act(session, call, at, &self.table)
     }
 
     pub(crate) fn act_on_stop(
@@ -179,7 +155,7 @@ impl<N: Site> Operator<N> {
     ) -> Result<Reply, Refusal>
         ensures { IsReplied N.place.catalogue session.old session.new (Call.Stop execution) at result }
     {
-        let mut kept = self.take_desk(rt);
+        let mut kept = self.desk.lock(rt);
         stop(&mut kept.desk, session, execution, at, &self.table)
     }
 
@@ -206,7 +182,7 @@ impl<N: Site> Operator<N> {
     ) -> Result<Answer, Refusal>
         ensures { IsAnswered N.place.catalogue session.old session.new query.now result }
     {
-        self.take_desk(rt).desk.ask(session, query, &self.table)
+        self.desk.lock(rt).desk.ask(session, query, &self.table)
     }
 
     /// The read copy that a session reads: its number, divided by how many copies there are, leaves it.
