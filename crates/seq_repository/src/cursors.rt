@@ -32,12 +32,22 @@ pub(crate) struct Slot {
     pub(crate) cursor: Option<Cursor>,
 }
 
-impl Debug for Slot {
+/// The walks that are kept, as they are printed: by the numbers of their job executions, without the
+/// slots that are empty.
+#[derive(Drop)]
+pub(crate) struct KeptCursors<'a> {
+    pub(crate) slots: &'a BTreeMap<u64, Slot>,
+}
+
+impl<'a> Debug for KeptCursors<'a> {
     fn fmt<W: fmt::Write>(&self, f: &mut Formatter<W>) -> fmt::Result {
-        match &self.cursor {
-            Some(cursor) => cursor.fmt(f),
-            None => f.write_str("None"),
+        let mut map = f.debug_map();
+        for (number, slot) in self.slots.iter() {
+            if let Some(cursor) = &slot.cursor {
+                map.entry(number, cursor);
+            }
         }
+        map.finish()
     }
 }
 

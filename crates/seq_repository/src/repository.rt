@@ -7,20 +7,21 @@ ghost use Rattle.batch_history.specs.Rows.{History};
 ghost use Rattle.seq_repository.specs.Kept.{IsNext, StandsFor};
 
 use crate::answers;
-use crate::cursors::Slot;
+use crate::cursors::{KeptCursors, Slot};
 use batch_history::{Answer, Call, CountsByStatus, Entry, LastNumbers, Query, Reply};
 use batch_ids::{Moment, OutOfMemory, Refusal};
 use jsl_model::Catalogue;
 use records::Records;
 use std::alloc::Global;
 use std::collections::{BTreeMap, BTreeSet};
+use std::fmt::{self, Debug, Formatter};
 use std::marker::Model;
 
 /// A job repository for one caller, of at most `LIMIT` accepted operations. Contracts see its rows.
 ///
 /// It stands for a history: a catalogue and the operations that were accepted over it. See Jakarta
 /// Batch 2.1, "JobRepository" and "JobOperator".
-#[derive(Debug, Drop)]
+#[derive(Drop)]
 pub struct Repository<const LIMIT: u64> {
     /// Where the rows, replies and answers take their memory.
     pub(crate) alloc: Global,
@@ -32,6 +33,25 @@ pub struct Repository<const LIMIT: u64> {
     pub(crate) agenda: BTreeSet<u64>,
     /// The walks of unfinished job executions that were taken up, by their numbers.
     pub(crate) cursors: BTreeMap<u64, Slot>,
+}
+
+impl<const LIMIT: u64> Debug for Repository<LIMIT> {
+    fn fmt<W: fmt::Write>(&self, f: &mut Formatter<W>) -> fmt::Result {
+        f.debug_struct("Repository")
+            .field("alloc", &self.alloc)
+            .field("catalogue", &self.catalogue)
+            .field("count", &self.count)
+            .field("last", &self.last)
+            .field("records", &self.records)
+            .field("agenda", &self.agenda)
+            .field(
+                "cursors",
+                &KeptCursors {
+                    slots: &self.cursors,
+                },
+            )
+            .finish()
+    }
 }
 
 impl<const LIMIT: u64> Model for Repository<LIMIT> {
