@@ -122,8 +122,8 @@ impl ElementIndex {
         }
     }
 
-    /// The spot of the element with this id. It looks at one spot, mostly, and at no more than the number of
-    /// elements has binary digits.
+    /// The spot of the element with this id. It looks at one spot, mostly; if hashes meet, at one more than
+    /// their number has binary digits at most, and compares the id twice with each that differs.
     fn entry_of(&self, id: &T256) -> Option<&Entry> {
         let hash = hash_of(id);
         let near = self.near(hash)?;
@@ -137,7 +137,7 @@ impl ElementIndex {
     }
 
     /// The place of the element with this id in its list, and 0 where there is none. It costs a look-up by
-    /// the hash of the id; where hashes meet, it compares as many ids as their number has binary digits.
+    /// the hash of the id; if hashes meet, it looks at one id more than their number has binary digits at most.
     pub fn place_of(&self, id: &T256) -> usize {
         match self.entry_of(id) {
             Some(entry) => entry.spot.place,

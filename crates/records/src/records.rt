@@ -42,7 +42,8 @@ use std::marker::Model;
 /// job instance to its job executions and to its checkpoints, from a step of a job instance to its work
 /// items, and from a job execution to its work items. How many job executions have each batch status is
 /// kept beside them. Adding a row costs constant time on average, but for a search of the numbers beside
-/// it; one call may cost time as there are rows, where a list of them grows.
+/// it, and for an unfinished job execution a search among those of its job; one call may cost time as there
+/// are rows, if a list of them grows.
 #[derive(Debug, Drop)]
 pub struct Records {
     instances: RowList<JobInstance>,
@@ -89,14 +90,15 @@ impl Records {
         }
     }
 
-    /// The job instance of this number, if there is one, by a binary search.
+    /// The job instance of this number, if there is one: looked for at the place that its number says, then
+    /// by a binary search.
     pub fn instance(&self, i: InstanceId) -> Option<&JobInstance>
         ensures { option_copied result ≡ find (is_instance i) self.now.instances }
     {
         self.instances.get(i.value())
     }
 
-    /// The job execution of this number, if there is one, by a binary search.
+    /// The job execution of this number, if there is one, found likewise.
     pub fn execution(&self, x: ExecutionId) -> Option<&ExecutionRow>
         ensures found { option_copied result ≡ find (is_execution x) self.now.executions }
         ensures keyed { AreKeyed self.now }
@@ -104,7 +106,7 @@ impl Records {
         self.executions.get(x.value())
     }
 
-    /// The work item of this number, if there is one, by a binary search.
+    /// The work item of this number, if there is one, found likewise.
     pub fn work(&self, w: WorkId) -> Option<&WorkRow>
         ensures { option_copied result ≡ find (is_work w) self.now.works }
     {
@@ -337,6 +339,9 @@ impl Records {
 
     /// Adds a job instance with its first job execution, both with a number above those that are there.
     ///
+    /// It takes constant time on average, but for its place among the unfinished job executions of its job:
+    /// that takes as many comparisons as their number has binary digits.
+    ///
     /// # Errors
     ///
     /// `OutOfMemory` alone, and then nothing has changed.
@@ -378,7 +383,7 @@ impl Records {
         Ok(())
     }
 
-    /// Adds a job execution with a number above those that are there.
+    /// Adds a job execution with a number above those that are there. It takes time as `add_instance` does.
     ///
     /// # Errors
     ///
