@@ -12,4 +12,4 @@ pub use names::has_only;
 pub use optional::{
     optional_list, optional_number, optional_object, optional_text, optional_truth,
 };
-pub use value::read_value;
+pub use value::{read_text, read_value};

@@ -1,5 +1,6 @@
 ghost use Rattle.std.specs.Prelude.{◌≡◌, IfOk, option_map};
 ghost use Rattle.serde_json.specs.View.{view};
+ghost use Rattle.serde_json.specs.Read.{read};
 ghost use Rattle.json_members.specs.Members.{data_of};
 
 use batch_ids::OutOfMemory;
@@ -18,6 +19,21 @@ pub fn read_value(alloc: Global, bytes: &[u8]) -> Result<Option<Value>, OutOfMem
     ensures { IfOk result (λ found. option_map view found ≡ data_of bytes.now) }
 {
     match Value::from_slice(alloc, bytes) {
+        Ok(value) => Ok(Some(value)),
+        Err(error) if error.is_memory() => Err(AllocError),
+        Err(_) => Ok(None),
+    }
+}
+
+/// The value that a text is, or `None` if it is not one JSON value. It is read as by [`read_value`].
+///
+/// # Errors
+///
+/// `OutOfMemory` alone: memory was refused.
+pub fn read_text(alloc: Global, text: &str) -> Result<Option<Value>, OutOfMemory>
+    ensures { IfOk result (λ found. option_map view found ≡ read text.now) }
+{
+    match Value::from_str(alloc, text) {
         Ok(value) => Ok(Some(value)),
         Err(error) if error.is_memory() => Err(AllocError),
         Err(_) => Ok(None),

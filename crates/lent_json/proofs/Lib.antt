@@ -1,3 +1,4 @@
+pub mod Members
 pub mod Counts
-pub mod Lent
-pub mod Lists
+pub mod TextObjects
+pub mod Tokens

@@ -1,2 +1,5 @@
-pub mod Lent
+pub mod Flat
+pub mod Kinds
 pub mod Looks
+pub mod Reads
+pub mod TextObjects

@@ -1,13 +1,17 @@
-//! JSON values that are looked into where they stand in their text: an object whose members are texts, whole numbers, or objects
-//! of whole numbers or of texts is read with little memory, and shows what the same text shows to `serde_json`.
+//! JSON objects that are read in one pass: an object whose members are scalars, or objects of scalars, is read with little memory,
+//! and shows what the same text shows to `serde_json`.
 #![tactic(auto)]
 
+mod flat;
 mod look;
+mod member;
 mod numbers;
-mod plain;
 mod reading;
+mod texts;
 
+pub use flat::Scalar;
 pub use json::Scratch;
 pub use look::Look;
-pub use plain::are_texts;
-pub use reading::{Plain, read_plain};
+pub use member::{CountMembers, FlatObject, Member, TextMembers};
+pub use reading::{Unread, read_flat};
+pub use texts::Texts;

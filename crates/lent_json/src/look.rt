@@ -1,31 +1,47 @@
-ghost use Rattle.std.specs.Prelude.{◌≡◌, map, true, bytes_eq, IfSome, option_map};
-ghost use Rattle.std.specs.List.{list_all, list_any};
-ghost use Rattle.json.specs.Find.{get as lent_get, get_member};
-ghost use Rattle.json.specs.Value.{value_view, members_view};
+ghost use Rattle.std.specs.Prelude.{◌≡◌, true, map, option_map, is_some, IfSome};
+ghost use Rattle.std.specs.List.{list_all};
+ghost use Rattle.std.specs.BTreeMap.{values};
+ghost use Rattle.serde_json.specs.View.{view};
 ghost use Rattle.serde_json.specs.Find.{get, as_str};
 ghost use Rattle.json_members.specs.Members.{as_count, as_object_value, has_only, text_at, number_at, optional_text, optional_number, optional_object};
-ghost use Rattle.lent_json.specs.Looks.{shown, is_open, is_inside};
+ghost use Rattle.lent_json.specs.Looks.{shown, is_inside};
+ghost use Rattle.lent_json.specs.Flat.{member_data, scalars_data};
+ghost use Rattle.lent_json.specs.TextObjects.{texts_data, as_texts_value, optional_texts};
 
-use crate::numbers::count_in;
+use crate::flat::{Scalar, keys_among, last_named};
+use crate::member::{CountMembers, FlatObject, Member, TextMembers};
+use crate::texts::Texts;
+use serde_json::Map;
 
 /// A JSON value that is looked into.
 #[derive(Clone, Copy)]
 pub enum Look<'v, 't> {
     /// One with memory of its own.
     Own(&'v serde_json::Value),
-    /// One that is lent by the text that it was read from.
-    Lent(&'v json::Value<'t>),
+    /// An object that was read in one pass.
+    Flat(&'v FlatObject<'t>),
+    /// An object of whole numbers inside such an object.
+    Counts(&'v CountMembers<'t>),
+    /// An object of texts inside such an object.
+    Texts(&'v TextMembers<'t>),
+    /// A scalar inside such an object.
+    Scalar(Scalar<'t>),
 }
 
 impl<'v, 't> Look<'v, 't> {
     fn get(self, name: &str) -> Option<Look<'v, 't>>
-        requires { is_open self ≡ true }
-        ensures data { option_map shown result ≡ get name.now (shown self.entry) }
+        ensures shown { option_map shown result ≡ get name.now (shown self.entry) }
         ensures inside { IfSome result (λ found. is_inside found ≡ true) }
     {
         match self {
             Look::Own(value) => Some(Look::Own(value.get(name)?)),
-            Look::Lent(value) => Some(Look::Lent(lent_member(value, name)?)),
+            Look::Flat(object) => {
+                let member = last_named(object.members.as_slice(), name)?;
+                Some(look_at(member))
+            }
+            Look::Counts(counts) => look_among(counts.members.as_slice(), name),
+            Look::Texts(texts) => look_among(texts.members.as_slice(), name),
+            Look::Scalar(_) => None,
         }
     }
 
@@ -34,7 +50,8 @@ impl<'v, 't> Look<'v, 't> {
     {
         match self {
             Look::Own(value) => value.as_str(),
-            Look::Lent(value) => value.as_str(),
+            Look::Scalar(Scalar::Text(text)) => Some(text),
+            _ => None,
         }
     }
 
@@ -43,44 +60,52 @@ impl<'v, 't> Look<'v, 't> {
     {
         match self {
             Look::Own(value) => value.as_u64(),
-            Look::Lent(json::Value::Number(text)) => count_in(text),
-            Look::Lent(_) => None,
-        }
-    }
-
-    fn as_object(self) -> Option<Look<'v, 't>>
-        requires { is_inside self ≡ true }
-        ensures data { option_map shown result ≡ as_object_value (shown self.entry) }
-        ensures open { IfSome result (λ found. is_open found ≡ true) }
-    {
-        match self {
-            Look::Own(serde_json::Value::Object(_)) => Some(self),
-            Look::Lent(json::Value::Object(_)) => Some(self),
+            Look::Scalar(Scalar::Count(count)) => Some(count),
             _ => None,
         }
     }
 
-    /// The text that the member of this name is; `None` where there is no such member, or it is no text.
+    fn as_object(self) -> Option<Look<'v, 't>>
+        ensures { option_map shown result ≡ as_object_value (shown self.entry) }
+    {
+        match self {
+            Look::Own(serde_json::Value::Object(_)) => Some(self),
+            Look::Flat(_) | Look::Counts(_) | Look::Texts(_) => Some(self),
+            _ => None,
+        }
+    }
+
+    fn as_texts(self) -> Option<Texts<'v, 't>>
+        requires { is_inside self ≡ true }
+        ensures { option_map texts_data result ≡ as_texts_value (shown self.entry) }
+    {
+        match self {
+            Look::Own(value) => own_texts(value),
+            Look::Texts(texts) => Some(Texts::Lent(texts)),
+            Look::Counts(_) => None,
+            Look::Scalar(_) => None,
+            Look::Flat(_) => None,
+        }
+    }
+
+    /// The text that the member of this name is; `None` if there is no such member, or it is no text.
     pub fn text_at(self, name: &str) -> Option<&'v str>
-        requires { is_open self ≡ true }
         ensures { option_map (λ text. text.now) result ≡ text_at name.now (shown self.entry) }
     {
         self.get(name)?.as_str()
     }
 
-    /// The number that the member of this name is, 0 to 2^64 - 1; `None` where there is no such
+    /// The number that the member of this name is, 0 to 2^64 - 1; `None` if there is no such
     /// member, or it is no such number.
     pub fn number_at(self, name: &str) -> Option<u64>
-        requires { is_open self ≡ true }
         ensures { result ≡ number_at name.now (shown self.entry) }
     {
         self.get(name)?.as_count()
     }
 
-    /// The text of a member that may be left out: `Some(None)` where it is left out, `None` where it
+    /// The text of a member that may be left out: `Some(None)` if it is left out, `None` if it
     /// is there and no text.
     pub fn optional_text(self, name: &str) -> Option<Option<&'v str>>
-        requires { is_open self ≡ true }
         ensures { option_map (option_map (λ text. text.now)) result
             ≡ optional_text name.now (shown self.entry) }
     {
@@ -90,10 +115,9 @@ impl<'v, 't> Look<'v, 't> {
         }
     }
 
-    /// The number, 0 to 2^64 - 1, of a member that may be left out: `Some(None)` where it is left out,
-    /// `None` where it is there and no such number.
+    /// The number, 0 to 2^64 - 1, of a member that may be left out: `Some(None)` if it is left out,
+    /// `None` if it is there and no such number.
     pub fn optional_number(self, name: &str) -> Option<Option<u64>>
-        requires { is_open self ≡ true }
         ensures { result ≡ optional_number name.now (shown self.entry) }
     {
         match self.get(name) {
@@ -102,16 +126,25 @@ impl<'v, 't> Look<'v, 't> {
         }
     }
 
-    /// The object of a member that may be left out: `Some(None)` where it is left out, `None` where it
+    /// The object of a member that may be left out: `Some(None)` if it is left out, `None` if it
     /// is there and no object.
     pub fn optional_object(self, name: &str) -> Option<Option<Look<'v, 't>>>
-        requires { is_open self ≡ true }
-        ensures data { option_map (option_map shown) result
-            ≡ optional_object name.now (shown self.entry) }
-        ensures open { IfSome result (λ object. IfSome object (λ found. is_open found ≡ true)) }
+        ensures { option_map (option_map shown) result ≡ optional_object name.now (shown self.entry) }
     {
         match self.get(name) {
             Some(member) => Some(Some(member.as_object()?)),
+            None => Some(None),
+        }
+    }
+
+    /// The object of texts of a member that may be left out: `Some(None)` if it is left out, `None` if
+    /// it is there and no object of texts.
+    pub fn optional_texts(self, name: &str) -> Option<Option<Texts<'v, 't>>>
+        ensures { option_map (option_map texts_data) result
+            ≡ optional_texts name.now (shown self.entry) }
+    {
+        match self.get(name) {
+            Some(member) => Some(Some(member.as_texts()?)),
             None => Some(None),
         }
     }
@@ -120,65 +153,54 @@ impl<'v, 't> Look<'v, 't> {
     ///
     /// It costs as many comparisons as it has members, times the number of the names.
     pub fn has_only(self, names: &[&str]) -> bool
-        requires { is_open self ≡ true }
         ensures { result ≡ has_only (map (λ name. name.now) names.now) (shown self.entry) }
     {
         match self {
             Look::Own(value) => json_members::has_only(value, names),
-            Look::Lent(json::Value::Object(members)) => keys_among(members.as_slice(), names),
-            Look::Lent(_) => false,
+            Look::Flat(object) => keys_among(object.members.as_slice(), names),
+            Look::Counts(counts) => keys_among(counts.members.as_slice(), names),
+            Look::Texts(texts) => keys_among(texts.members.as_slice(), names),
+            Look::Scalar(_) => false,
         }
     }
 }
 
-fn keys_among(members: &[(&str, json::Value<'_>)], names: &[&str]) -> bool
-    ensures { result ≡ list_all
-        (λ member. list_any (λ listed. bytes_eq member.0.now listed.now) names.now) members.now }
+fn look_at<'v, 't>(member: &'v Member<'t>) -> Look<'v, 't>
+    ensures shown { shown result ≡ member_data member.now }
+    ensures inside { is_inside result ≡ true }
 {
-    members.iter().all(|member| is_listed(member.0, names))
-}
-
-fn is_listed(name: &str, names: &[&str]) -> bool
-    ensures { result ≡ list_any (λ listed. bytes_eq name.now listed.now) names.now }
-{
-    names.iter().any(|listed| is_name(name, *listed))
-}
-
-/// The last member of this name, where the value is an object that has one.
-fn lent_member<'v, 't>(value: &'v json::Value<'t>, name: &str) -> Option<&'v json::Value<'t>>
-    ensures { option_map (λ member. value_view member.now) result
-        ≡ lent_get name.now (value_view value.now) }
-{
-    match value {
-        json::Value::Object(members) => last_named(members.as_slice(), name),
-        _ => None,
+    match member {
+        Member::Scalar(scalar) => Look::Scalar(*scalar),
+        Member::Counts(counts) => Look::Counts(counts),
+        Member::Texts(texts) => Look::Texts(texts),
     }
 }
 
-fn last_named<'v, 't>(
-    members: &'v [(&'t str, json::Value<'t>)],
-    name: &str,
-) -> Option<&'v json::Value<'t>>
-    ensures { option_map (λ value. value_view value.now) result
-        ≡ get_member name.now (members_view members.now) }
+fn look_among<'v, 't>(members: &'v [(&'t str, Scalar<'t>)], name: &str) -> Option<Look<'v, 't>>
+    ensures shown { option_map shown result ≡ get name.now (scalars_data members.now) }
+    ensures inside { IfSome result (λ found. is_inside found ≡ true) }
 {
-    let mut left = members.len();
-    while left > 0 {
-        left -= 1;
-        let member = &members[left];
-        if is_name(member.0, name) {
-            return Some(&member.1);
+    let scalar = last_named(members, name)?;
+    Some(Look::Scalar(*scalar))
+}
+
+fn own_texts<'v, 't: 'v>(value: &'v serde_json::Value) -> Option<Texts<'v, 't>>
+    ensures { option_map texts_data result ≡ as_texts_value (view value.now) }
+{
+    match value.as_object() {
+        Some(members) => {
+            if are_texts(members) {
+                Some(Texts::Own(members))
+            } else {
+                None
+            }
         }
+        None => None,
     }
-    None
 }
 
-/// Whether two names are the same. Most that differ do so in their length or their first byte.
-#[inline]
-fn is_name(name: &str, wanted: &str) -> bool
-    ensures { result ≡ bytes_eq name.now wanted.now }
+fn are_texts(members: &Map<String, serde_json::Value>) -> bool
+    ensures { result ≡ list_all (λ value. is_some (as_str (view value))) (values members.now) }
 {
-    name.len() == wanted.len()
-        && name.as_bytes().first() == wanted.as_bytes().first()
-        && name == wanted
+    members.values().all(serde_json::Value::is_string)
 }

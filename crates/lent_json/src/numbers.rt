@@ -1,5 +1,5 @@
 ghost use Rattle.std.specs.Prelude.{◌≡◌, ◌==◌, slice_index};
-ghost use Rattle.lent_json.specs.Lent.{count_in};
+ghost use Rattle.lent_json.specs.Flat.{count_in};
 
 use fast_float::Numeral;
 

@@ -1,76 +1,196 @@
-ghost use Rattle.std.specs.Prelude.{◌≡◌, Some, None, IfOk, option_map, true};
-ghost use Rattle.json.specs.Value.{value_view};
-ghost use Rattle.json_members.specs.Members.{data_of};
-ghost use Rattle.lent_json.specs.Lent.{json_of, lent_data, is_plain};
-ghost use Rattle.lent_json.specs.Looks.{IfLent};
-ghost use Rattle.lent_json.specs.declared.reading.Plain.TheVariants.{NoJson};
+ghost use Rattle.std.specs.Prelude.{ℕ, ◌≡◌, ◌≢◌, ◌<◌, ◌≤◌, ◌∷◌, Some, None, Err, IfOk, OnOk, IfSome, length, option_map};
+ghost use Rattle.json.specs.Token.Token.{bad};
+ghost use Rattle.json.specs.Reads.{token_of};
+ghost use Rattle.serde_json.specs.Data.{no_members};
+ghost use Rattle.serde_json.specs.Read.{read as read_data};
+ghost use Rattle.lent_json.specs.Flat.{scalar_data, scalars_data, member_data, flat_data, put_all};
+ghost use Rattle.lent_json.specs.Reads.{members_read, value_read, scalar_of};
+ghost use Rattle.lent_json.specs.declared.reading.Unread.TheVariants.{NoJson, OutOfMemory};
 
-use crate::plain::is_plain;
-use batch_ids::OutOfMemory;
-use json::{Error, Reader, Scratch, Value};
+use crate::flat::{Scalar, all_texts, are_counts};
+use crate::member::{CountMembers, FlatObject, Member, TextMembers};
+use crate::numbers::count_in;
+use json::{Invalid, Reader, Scratch, Token};
 use std::alloc::{AllocError, Global};
 
-/// How deep lists and objects may nest.
-const MAX_DEPTH: usize = 127;
-
-/// What bytes are to one that looks into a JSON value where it stands in them.
-#[derive(Drop)]
-pub enum Plain<'t> {
-    /// A value that may be looked into as it stands there.
-    Lent(Value<'t>),
-    /// Of these bytes nothing is said: a value, if they are one, has to be read from them anew.
+/// Why a text is not read in one pass.
+#[derive(Clone, Copy, Debug, PartialEq, Eq, Drop)]
+pub enum Unread {
+    /// Nothing is said of the text: a value, if it is one, has to be read from it anew.
     Other,
-    /// Bytes that are no JSON value, so that none can be read from them.
+    /// The text is no JSON value.
     NoJson,
+    /// Memory was refused.
+    OutOfMemory,
 }
 
-/// The JSON value that a text is, its members in their order; `None` where it is none.
-fn read_text<'t>(
-    alloc: Global,
-    text: &'t str,
-    scratch: &'t mut Scratch,
-) -> Result<Option<Value<'t>>, OutOfMemory>
-    ensures { IfOk result (λ found. option_map value_view found ≡ json_of text.now) }
-{
-    let mut reader = Reader::new(text, scratch)?;
-    match Value::read(alloc, &mut reader, MAX_DEPTH) {
-        Ok(value) => {
-            if reader.next().is_some() {
-                return Ok(None);
-            }
-            Ok(Some(value))
-        }
-        Err(Error::OutOfMemory) => Err(AllocError),
-        Err(Error::Invalid | Error::TooLong | Error::DuplicateKey) => Ok(None),
+impl From<Invalid> for Unread {
+    ghost from_gives = { λ _ unread. unread ≡ NoJson };
+
+    fn from(_error: Invalid) -> Unread {
+        Unread::NoJson
     }
 }
 
-/// The value that the bytes stand for, where it may be looked into as it stands there: an object
-/// whose members are null, truth values, texts, whole numbers, objects of whole numbers, or objects
-/// of texts, of 16 at most or under rising names that are not empty. `Plain::NoJson` where they are
-/// not UTF-8, or not one JSON value whose lists and objects nest 127 deep at most; `Plain::Other`
-/// says nothing of them. The memory of `scratch` serves one read after another.
+impl From<AllocError> for Unread {
+    ghost from_gives = { λ _ unread. unread ≡ OutOfMemory };
+
+    fn from(_error: AllocError) -> Unread {
+        Unread::OutOfMemory
+    }
+}
+
+/// How many members an object has room for before it takes more memory.
+const ROOM: usize = 8;
+
+/// The most members that an object may have, names that come twice counted twice: a job execution has
+/// no more parameters. So the memory of a read has a bound.
+const MAX_MEMBERS: usize = 64;
+
+/// The scalar that a token is.
+fn scalar_of<'t>(token: Token<'t>) -> Result<Scalar<'t>, Unread>
+    ensures read { IfOk result (λ scalar. Some (scalar_data scalar) ≡ scalar_of (token_of token.entry)) }
+    ensures no_json { result ≡ Err NoJson → token_of token.entry ≡ bad }
+{
+    match token {
+        Token::String(text) => Ok(Scalar::Text(text)),
+        Token::Number(text) => match count_in(text) {
+            Some(count) => Ok(Scalar::Count(count)),
+            None => Err(Unread::Other),
+        },
+        Token::Bool(truth) => Ok(Scalar::Truth(truth)),
+        Token::Null => Ok(Scalar::Null),
+        Token::Bad => Err(Unread::NoJson),
+        _ => Err(Unread::Other),
+    }
+}
+
+/// The scalar that comes next.
+fn next_scalar<'t>(reader: &mut Reader<'t>) -> Result<Scalar<'t>, Unread>
+    ensures read { IfOk result (λ scalar. (depth : ℕ)
+        → value_read depth reader.old ≡ Some (scalar_data scalar, reader.new)) }
+    ensures shorter { OnOk result (length reader.new < length reader.old) }
+    ensures no_json { result ≡ Err NoJson → (depth : ℕ)
+        → value_read depth reader.old ≡ None }
+{
+    match reader.next() {
+        Some(token) => scalar_of(token),
+        None => Err(Unread::NoJson),
+    }
+}
+
+/// The scalars of an object whose brace was read, up to the brace that closes it.
+fn read_scalars<'t>(
+    alloc: Global,
+    reader: &mut Reader<'t>,
+) -> Result<Vec<(&'t str, Scalar<'t>)>, Unread>
+    ensures read { IfOk result (λ found. (depth : ℕ)
+        → members_read depth (length reader.old) no_members reader.old
+        ≡ Some (put_all scalar_data found.items no_members, reader.new)) }
+    ensures shorter { OnOk result (length reader.new < length reader.old) }
+    ensures no_json { result ≡ Err NoJson → (depth : ℕ)
+        → members_read depth (length reader.old) no_members reader.old ≡ None }
+{
+    let mut found = Vec::with_capacity(alloc, ROOM)?;
+    while let Some(name) = reader.next_key()? {
+        if found.len() == MAX_MEMBERS {
+            return Err(Unread::Other);
+        }
+        let scalar = next_scalar(reader)?;
+        found.reserve(1)?;
+        found.push_reserved((name, scalar));
+    }
+    Ok(found)
+}
+
+/// The object of these members, if they are all whole numbers, or all texts.
+fn object_of<'t>(members: Vec<(&'t str, Scalar<'t>)>) -> Result<Member<'t>, Unread>
+    ensures read { IfOk result (λ member. member_data member ≡ scalars_data members.entry.items) }
+    ensures no_json { result ≢ Err NoJson }
+{
+    if all_texts(members.as_slice()) {
+        return Ok(Member::Texts(TextMembers { members }));
+    }
+    if are_counts(members.as_slice()) {
+        return Ok(Member::Counts(CountMembers { members }));
+    }
+    Err(Unread::Other)
+}
+
+/// The value of a member that comes next.
+fn next_member<'t>(alloc: Global, reader: &mut Reader<'t>) -> Result<Member<'t>, Unread>
+    ensures read { IfOk result (λ member. (depth : ℕ) → 0 < depth
+        → value_read depth reader.old ≡ Some (member_data member, reader.new)) }
+    ensures shorter { OnOk result (length reader.new < length reader.old) }
+    ensures no_json { result ≡ Err NoJson → (depth : ℕ) → 0 < depth
+        → value_read depth reader.old ≡ None }
+{
+    match reader.next() {
+        Some(Token::BeginObject) => {
+            let members = read_scalars(alloc, reader)?;
+            object_of(members)
+        }
+        Some(token) => Ok(Member::Scalar(scalar_of(token)?)),
+        None => Err(Unread::NoJson),
+    }
+}
+
+/// How deep lists and objects may nest inside the members of an object.
+const DEPTH_INSIDE: usize = 126;
+
+/// The members of an object whose brace was read, up to the brace that closes it.
+fn read_members<'t>(
+    alloc: Global,
+    reader: &mut Reader<'t>,
+) -> Result<Vec<(&'t str, Member<'t>)>, Unread>
+    ensures read { IfOk result (λ found.
+        members_read DEPTH_INSIDE (length reader.old) no_members reader.old
+        ≡ Some (put_all member_data found.items no_members, reader.new)) }
+    ensures no_json { result ≡ Err NoJson
+        → members_read DEPTH_INSIDE (length reader.old) no_members reader.old ≡ None }
+{
+    let mut found = Vec::with_capacity(alloc, ROOM)?;
+    while let Some(name) = reader.next_key()? {
+        if found.len() == MAX_MEMBERS {
+            return Err(Unread::Other);
+        }
+        let member = next_member(alloc, reader)?;
+        found.reserve(1)?;
+        found.push_reserved((name, member));
+    }
+    Ok(found)
+}
+
+/// The object that a text is, if it is flat: its members are null, truth values, texts, whole numbers,
+/// or objects of texts or of whole numbers, and it and each of these has 64 members at most. The memory
+/// of `scratch` serves one read after another.
+///
+/// It reads no further than to the first token that shows that the object is not flat.
 ///
 /// # Errors
 ///
-/// `OutOfMemory` alone: memory was refused.
-pub fn read_plain<'t>(
+/// - `NoJson` if the text is not one JSON value whose lists and objects nest 127 deep at most.
+/// - `Other` says nothing of it.
+/// - `OutOfMemory` if memory is refused.
+pub fn read_flat<'t>(
     alloc: Global,
-    bytes: &'t [u8],
+    text: &'t str,
     scratch: &'t mut Scratch,
-) -> Result<Plain<'t>, OutOfMemory>
-    ensures plain { IfOk result (λ read. IfLent read (λ value.
-        is_plain (value_view value) ≡ true)) }
-    ensures data { IfOk result (λ read. IfLent read (λ value.
-        data_of bytes.now ≡ Some (lent_data (value_view value)))) }
-    ensures no_json { IfOk result (λ read. read ≡ NoJson → data_of bytes.now ≡ None) }
+) -> Result<FlatObject<'t>, Unread>
+    ensures read { IfOk result (λ found. read_data text.now ≡ Some (flat_data found.members.items)) }
+    ensures no_json { result ≡ Err NoJson → read_data text.now ≡ None }
 {
-    let Ok(text) = simdutf8::compat::from_utf8(bytes) else {
-        return Ok(Plain::NoJson);
-    };
-    match read_text(alloc, text, scratch)? {
-        Some(value) if is_plain(&value) => Ok(Plain::Lent(value)),
-        Some(_) => Ok(Plain::Other),
-        None => Ok(Plain::NoJson),
+    let mut reader = Reader::new(text, scratch)?;
+    match reader.next() {
+        Some(Token::BeginObject) => {
+            let members = read_members(alloc, &mut reader)?;
+            if reader.next().is_some() {
+                return Err(Unread::NoJson);
+            }
+            Ok(FlatObject { members })
+        }
+        Some(Token::Bad) => Err(Unread::NoJson),
+        Some(_) => Err(Unread::Other),
+        None => Err(Unread::NoJson),
     }
 }

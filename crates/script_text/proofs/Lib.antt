@@ -3,3 +3,5 @@ pub mod LentParameters
 pub mod Pairs
 pub mod Floats
 pub mod Texts
+pub mod Halving
+pub mod Lines

@@ -1,38 +1,28 @@
 -- The parameters of a job execution in JSON: an object whose members are texts.
-use Rattle.std.specs.Prelude.{ℕ, ◌&&◌, List, [], ◌∷◌, Bool, true, false, map, codes, is_some, Option, Some, None, option_map, unwrap_or, if◌then◌else◌}
+use Rattle.std.specs.Prelude.{ℕ, List, [], ◌∷◌, map, codes, Option, Some, None, option_map, unwrap_or, if◌then◌else◌}
 use Rattle.serde_json.specs.Data.{Data, string, object, Members, no_members, member}
 use Rattle.serde_json.specs.Find.{as_str, as_object}
 use Rattle.batch_ids.specs.Parameters.{Pair, parameters_of, is_too_large}
-use Rattle.json_members.specs.Members.{optional_object}
-use Rattle.json_members.specs.Chains.{◌>>=◌}
+use Rattle.lent_json.specs.TextObjects.{optional_texts}
 use Rattle.script_text.specs.Written.{with_members}
-
--- whether each of these members is a text
-abbrev pub are_texts : Members → Bool
-are_texts no_members = true
-are_texts (member name d ms) = is_some (as_str d) && are_texts ms
 
 -- the name and the text of each of these members
 abbrev pub text_pairs : Members → List Pair
 text_pairs no_members = []
 text_pairs (member name d ms) = (name, unwrap_or (as_str d) []) ∷ text_pairs ms
 
--- whether it is an object of texts
-abbrev pub has_texts : Data → Bool
-has_texts d = unwrap_or (option_map are_texts (as_object d)) false
-
 -- the keys and values that an object of texts gives
 abbrev pub given_pairs : Data → List Pair
 given_pairs d = unwrap_or (option_map text_pairs (as_object d)) []
 
--- the keys and values of an object that may be left out, if it is one of texts
-abbrev pub pairs_given : Option Data → Option (List Pair)
-pairs_given None = Some []
-pairs_given (Some d) = if has_texts d then Some (given_pairs d) else None
+-- the keys and values of an object of texts that may be left out
+abbrev pub pairs_given : Option Data → List Pair
+pairs_given None = []
+pairs_given (Some d) = given_pairs d
 
 -- the keys and values that the member `parameters` gives; none where it is left out
 abbrev pub parameters_at : Data → Option (List Pair)
-parameters_at d = optional_object (codes "parameters") d >>= pairs_given
+parameters_at d = option_map pairs_given (optional_texts (codes "parameters") d)
 
 -- the parameters that these keys and values are, if all are within their bounds
 abbrev pub parameters_within : List Pair → Option (List Pair)

@@ -1,18 +1,17 @@
 -- What a raw command, call or query stands for: one as its line spells it, whose texts are borrowed from the line.
-use Rattle.std.specs.Prelude.{List, [], Option, Some, None, option_map}
-use Rattle.json.specs.Value.{value_view}
-use Rattle.serde_json.specs.View.{view}
+use Rattle.std.specs.Prelude.{List, [], Option, Some, None, option_map, unwrap_or}
+use Rattle.serde_json.specs.Data.{Data}
 use Rattle.batch_ids.specs.Parameters.{Pair}
 use Rattle.batch_history.specs.declared.call.Call.{Call}
 use Rattle.batch_history.specs.declared.call.Call.TheVariants.{Start, Restart, Stop, Abandon, Claim, Checkpoint, Finish, Lose, Purge}
 use Rattle.batch_history.specs.declared.query.Query.{Query}
 use Rattle.batch_history.specs.declared.query.Query.TheVariants.{JobNames, JobInstanceCount, JobInstances, RunningExecutions, Parameters, JobInstance, JobExecutions, JobExecution, StepExecutions, StatusCounts}
-use Rattle.lent_json.specs.declared.look.Look.{Look}
-use Rattle.lent_json.specs.declared.look.Look.TheVariants.{Own, Lent}
-use Rattle.script_text.specs.LentParameters.{lent_pairs}
+use Rattle.lent_json.specs.TextObjects.{texts_data}
+use Rattle.lent_json.specs.declared.texts.Texts.{Texts}
 use Rattle.script_text.specs.Parameters.{given_pairs}
 use Rattle.script_text.specs.declared.command.Command.{Command}
-use Rattle.script_text.specs.declared.command.Command.TheVariants.{Act, Ask}
+use Rattle.script_text.specs.Commands.{command_of_data}
+use Rattle.script_text.specs.declared.command.Command.TheVariants.{BadLine, Act, Ask}
 use Rattle.script_text.specs.declared.raw.RawCall.{RawCall}
 use Rattle.script_text.specs.declared.raw.RawCall.TheVariants as raw_calls
 use Rattle.script_text.specs.declared.raw.RawQuery.{RawQuery}
@@ -21,10 +20,9 @@ use Rattle.script_text.specs.declared.raw.RawCommand.{RawCommand}
 use Rattle.script_text.specs.declared.raw.RawCommand.TheVariants as raw_commands
 
 -- the keys and values that an object of texts gives, if there is one
-abbrev pub pairs_in : Option Look → List Pair
+abbrev pub pairs_in : Option Texts → List Pair
 pairs_in None = []
-pairs_in (Some (Own value)) = given_pairs (view value.now)
-pairs_in (Some (Lent value)) = lent_pairs (value_view value.now)
+pairs_in (Some texts) = given_pairs (texts_data texts)
 
 -- the call that a raw call spells
 abbrev pub call_in : RawCall → Call
@@ -55,3 +53,7 @@ query_in raw_queries.StatusCounts = StatusCounts
 abbrev pub command_in : RawCommand → Command
 command_in (raw_commands.Act by at call) = Act by at (call_in call)
 command_in (raw_commands.Ask query) = Ask (query_in query)
+
+-- the command that a text is, by the value that it has, if it has one
+abbrev pub command_of_read : Option Data → Command
+command_of_read found = unwrap_or (option_map command_of_data found) BadLine

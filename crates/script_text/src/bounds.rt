@@ -11,7 +11,7 @@ use batch_history::{Call, Query};
 use batch_ids::{
     ExecutionId, InstanceId, MetricStep, OutOfMemory, T256, Text, WorkId, WorkOutcome,
 };
-use lent_json::Look;
+use lent_json::Texts;
 use std::alloc::Global;
 
 /// The call that a raw call spells, with copies of its texts; `None` where one is above its bound.
@@ -50,7 +50,7 @@ pub fn call_within(alloc: Global, call: &RawCall<'_, '_>) -> Result<Option<Call>
 fn start_within(
     alloc: Global,
     job: &str,
-    parameters: Option<Look<'_, '_>>,
+    parameters: Option<Texts<'_, '_>>,
 ) -> Result<Option<Call>, OutOfMemory>
     ensures { IfOk result (λ made. made ≡ call_within (Start job.now (pairs_in parameters.entry))) }
 {
@@ -66,7 +66,7 @@ fn start_within(
 fn restart_within(
     alloc: Global,
     execution: u64,
-    parameters: Option<Look<'_, '_>>,
+    parameters: Option<Texts<'_, '_>>,
 ) -> Result<Option<Call>, OutOfMemory>
     ensures { IfOk result (λ made. made ≡ call_within (Restart execution (pairs_in parameters.entry))) }
 {

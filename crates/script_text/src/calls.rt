@@ -1,12 +1,12 @@
 // The calls of a script, a row of the table each.
-ghost use Rattle.std.specs.Prelude.{◌≡◌, true, option_map};
-ghost use Rattle.lent_json.specs.Looks.{shown, is_open};
+ghost use Rattle.std.specs.Prelude.{◌≡◌, option_map};
+ghost use Rattle.lent_json.specs.Looks.{shown};
 ghost use Rattle.batch_ids.specs.Statuses.{outcome_named};
 ghost use Rattle.script_text.specs.Calls.{start_of, restart_of, stop_of, abandon_of, claim_of, checkpoint_of, finish_of, lose_of, purge_of, call_named};
 ghost use Rattle.script_text.specs.RawCommands.{call_in};
 
 use crate::metrics::metrics_at;
-use crate::parameters::parameters_in;
+use crate::parameters::parameters_at;
 use crate::raw::RawCall;
 use batch_ids::WorkOutcome;
 use lent_json::Look;
@@ -14,7 +14,6 @@ use lent_json::Look;
 /// The call of a line whose `do` is this word.
 #[tactic(auto, unfolding(crate::specs::Calls::call_named))]
 pub fn call_named<'v, 't>(word: &str, value: Look<'v, 't>) -> Option<RawCall<'v, 't>>
-    requires { is_open value ≡ true }
     ensures { option_map call_in result ≡ call_named word.now (shown value.entry) }
 {
     match word {
@@ -33,27 +32,25 @@ pub fn call_named<'v, 't>(word: &str, value: Look<'v, 't>) -> Option<RawCall<'v,
 
 #[tactic(auto, unfolding(crate::specs::Calls::start_of))]
 fn start_of<'v, 't>(value: Look<'v, 't>) -> Option<RawCall<'v, 't>>
-    requires { is_open value ≡ true }
     ensures { option_map call_in result ≡ start_of (shown value.entry) }
 {
     if !value.has_only(&["do", "by", "at", "job", "parameters"]) {
         return None;
     }
     let job = value.text_at("job")?;
-    let parameters = parameters_in(value)?;
+    let parameters = parameters_at(value)?;
     Some(RawCall::Start { job, parameters })
 }
 
 #[tactic(auto, unfolding(crate::specs::Calls::restart_of))]
 fn restart_of<'v, 't>(value: Look<'v, 't>) -> Option<RawCall<'v, 't>>
-    requires { is_open value ≡ true }
     ensures { option_map call_in result ≡ restart_of (shown value.entry) }
 {
     if !value.has_only(&["do", "by", "at", "execution", "parameters"]) {
         return None;
     }
     let execution = value.number_at("execution")?;
-    let parameters = parameters_in(value)?;
+    let parameters = parameters_at(value)?;
     Some(RawCall::Restart {
         execution,
         parameters,
@@ -62,7 +59,6 @@ fn restart_of<'v, 't>(value: Look<'v, 't>) -> Option<RawCall<'v, 't>>
 
 #[tactic(auto, unfolding(crate::specs::Calls::stop_of))]
 fn stop_of<'v, 't>(value: Look<'v, 't>) -> Option<RawCall<'v, 't>>
-    requires { is_open value ≡ true }
     ensures { option_map call_in result ≡ stop_of (shown value.entry) }
 {
     if !value.has_only(&["do", "by", "at", "execution"]) {
@@ -74,7 +70,6 @@ fn stop_of<'v, 't>(value: Look<'v, 't>) -> Option<RawCall<'v, 't>>
 
 #[tactic(auto, unfolding(crate::specs::Calls::abandon_of))]
 fn abandon_of<'v, 't>(value: Look<'v, 't>) -> Option<RawCall<'v, 't>>
-    requires { is_open value ≡ true }
     ensures { option_map call_in result ≡ abandon_of (shown value.entry) }
 {
     if !value.has_only(&["do", "by", "at", "execution"]) {
@@ -86,7 +81,6 @@ fn abandon_of<'v, 't>(value: Look<'v, 't>) -> Option<RawCall<'v, 't>>
 
 #[tactic(auto, unfolding(crate::specs::Calls::claim_of))]
 fn claim_of<'v, 't>(value: Look<'v, 't>) -> Option<RawCall<'v, 't>>
-    requires { is_open value ≡ true }
     ensures { option_map call_in result ≡ claim_of (shown value.entry) }
 {
     if !value.has_only(&["do", "by", "at"]) {
@@ -97,7 +91,6 @@ fn claim_of<'v, 't>(value: Look<'v, 't>) -> Option<RawCall<'v, 't>>
 
 #[tactic(auto, unfolding(crate::specs::Calls::checkpoint_of))]
 fn checkpoint_of<'v, 't>(value: Look<'v, 't>) -> Option<RawCall<'v, 't>>
-    requires { is_open value ≡ true }
     ensures { option_map call_in result ≡ checkpoint_of (shown value.entry) }
 {
     if !value.has_only(&["do", "by", "at", "work", "data", "metrics"]) {
@@ -111,7 +104,6 @@ fn checkpoint_of<'v, 't>(value: Look<'v, 't>) -> Option<RawCall<'v, 't>>
 
 #[tactic(auto, unfolding(crate::specs::Calls::finish_of))]
 fn finish_of<'v, 't>(value: Look<'v, 't>) -> Option<RawCall<'v, 't>>
-    requires { is_open value ≡ true }
     ensures { option_map call_in result ≡ finish_of (shown value.entry) }
 {
     let names = ["do", "by", "at", "work", "outcome", "exit", "metrics"];
@@ -133,7 +125,6 @@ fn finish_of<'v, 't>(value: Look<'v, 't>) -> Option<RawCall<'v, 't>>
 
 #[tactic(auto, unfolding(crate::specs::Calls::lose_of))]
 fn lose_of<'v, 't>(value: Look<'v, 't>) -> Option<RawCall<'v, 't>>
-    requires { is_open value ≡ true }
     ensures { option_map call_in result ≡ lose_of (shown value.entry) }
 {
     if !value.has_only(&["do", "by", "at", "work"]) {
@@ -145,7 +136,6 @@ fn lose_of<'v, 't>(value: Look<'v, 't>) -> Option<RawCall<'v, 't>>
 
 #[tactic(auto, unfolding(crate::specs::Calls::purge_of))]
 fn purge_of<'v, 't>(value: Look<'v, 't>) -> Option<RawCall<'v, 't>>
-    requires { is_open value ≡ true }
     ensures { option_map call_in result ≡ purge_of (shown value.entry) }
 {
     if !value.has_only(&["do", "by", "at", "instance"]) {

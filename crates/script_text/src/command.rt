@@ -1,15 +1,17 @@
-ghost use Rattle.std.specs.Prelude.{◌≡◌, true, IfOk};
-ghost use Rattle.lent_json.specs.Looks.{shown, is_open};
+ghost use Rattle.std.specs.Prelude.{◌≡◌, IfOk};
+ghost use Rattle.serde_json.specs.Read.{read};
+ghost use Rattle.lent_json.specs.Looks.{shown};
 ghost use Rattle.script_text.specs.Commands.{command_of, command_of_data, within_bounds};
-ghost use Rattle.script_text.specs.RawCommands.{command_in};
+ghost use Rattle.script_text.specs.RawCommands.{command_in, command_of_read};
 
 use crate::bounds::{call_within, query_within};
 use crate::raw::{RawCommand, raw_command_of};
 use batch_history::{Call, Query};
 use batch_ids::{Moment, OutOfMemory};
-use json_members::read_value;
-use lent_json::{Look, Plain, Scratch, read_plain};
-use std::alloc::Global;
+use json_members::read_text;
+use lent_json::{Look, Scratch, Unread, read_flat};
+use simdutf8::compat::from_utf8;
+use std::alloc::{AllocError, Global};
 
 /// What a line of a script is.
 #[derive(Debug, PartialEq, Eq, Drop)]
@@ -72,15 +74,14 @@ pub enum Command {
 pub fn read_command(alloc: Global, line: &[u8]) -> Result<Command, OutOfMemory>
     ensures { IfOk result (λ command. command ≡ command_of line.now) }
 {
-    let value = read_value(alloc, line)?;
-    match &value {
-        Some(value) => command_of_value(alloc, Look::Own(value)),
-        None => Ok(Command::BadLine),
+    match from_utf8(line) {
+        Ok(text) => command_of_tree(alloc, text),
+        Err(_) => Ok(Command::BadLine),
     }
 }
 
-/// The longest line, in bytes, that is read with memory that is kept. What a longer one takes goes
-/// with it, so that one long line leaves nothing behind.
+/// The longest line, in bytes, that is read with memory that is kept, so that one long line leaves
+/// nothing behind.
 const MAX_KEPT_LINE: usize = 65_536;
 
 /// Reads the commands of lines, one after another, with memory that it keeps from line to line.
@@ -99,9 +100,8 @@ impl CommandReader {
         }
     }
 
-    /// The command that a line is, as [`read_command`] says. A line without a list, whose inner
-    /// objects are of whole numbers, or of texts, 16 at most or under rising names that are not
-    /// empty, is read faster: it is looked into where it stands.
+    /// The command that a line is, as [`read_command`] says. A line of at most 65,536 bytes without a
+    /// list, whose inner objects are of whole numbers or of texts, 64 at most, is read in one pass.
     ///
     /// # Errors
     ///
@@ -110,37 +110,41 @@ impl CommandReader {
         ensures { IfOk result (λ command. command ≡ command_of line.now) }
     {
         if line.len() > MAX_KEPT_LINE {
-            return read_long_line(self.alloc, line);
+            return read_command(self.alloc, line);
         }
-        read_line(self.alloc, line, &mut self.scratch)
+        match from_utf8(line) {
+            Ok(text) => command_of_text(self.alloc, text, &mut self.scratch),
+            Err(_) => Ok(Command::BadLine),
+        }
     }
 }
 
-/// The command that a line is, read with memory of its own. It stands apart, since a function that
-/// has a `Scratch` among its own values clears it whenever it is called.
-#[inline(never)]
-fn read_long_line(alloc: Global, line: &[u8]) -> Result<Command, OutOfMemory>
-    ensures { IfOk result (λ command. command ≡ command_of line.now) }
+/// The command that a text is, read in one pass if it can be, with this memory.
+fn command_of_text(alloc: Global, text: &str, scratch: &mut Scratch) -> Result<Command, OutOfMemory>
+    ensures { IfOk result (λ command. command ≡ command_of_read (read text.now)) }
 {
-    let mut scratch = Scratch::new(alloc);
-    read_line(alloc, line, &mut scratch)
+    let flat = read_flat(alloc, text, scratch);
+    match &flat {
+        Ok(object) => command_of_value(alloc, Look::Flat(object)),
+        Err(Unread::Other) => command_of_tree(alloc, text),
+        Err(Unread::NoJson) => Ok(Command::BadLine),
+        Err(Unread::OutOfMemory) => Err(AllocError),
+    }
 }
 
-/// The command that a line is, read with this memory.
-fn read_line(alloc: Global, line: &[u8], scratch: &mut Scratch) -> Result<Command, OutOfMemory>
-    ensures { IfOk result (λ command. command ≡ command_of line.now) }
+/// The command that a text is, read into a tree.
+fn command_of_tree(alloc: Global, text: &str) -> Result<Command, OutOfMemory>
+    ensures { IfOk result (λ command. command ≡ command_of_read (read text.now)) }
 {
-    let plain = read_plain(alloc, line, scratch)?;
-    match &plain {
-        Plain::Lent(value) => command_of_value(alloc, Look::Lent(value)),
-        Plain::Other => read_command(alloc, line),
-        Plain::NoJson => Ok(Command::BadLine),
+    let value = read_text(alloc, text)?;
+    match &value {
+        Some(value) => command_of_value(alloc, Look::Own(value)),
+        None => Ok(Command::BadLine),
     }
 }
 
 #[tactic(auto, unfolding(crate::specs::Commands::command_of_data))]
 fn command_of_value(alloc: Global, value: Look<'_, '_>) -> Result<Command, OutOfMemory>
-    requires { is_open value ≡ true }
     ensures { IfOk result (λ command. command ≡ command_of_data (shown value.entry)) }
 {
     match raw_command_of(value) {

@@ -1,7 +1,7 @@
 // The metrics of a step execution: an object of counts by the metrics' names.
-ghost use Rattle.std.specs.Prelude.{◌≡◌, true, map, IfOk};
+ghost use Rattle.std.specs.Prelude.{◌≡◌, map, IfOk};
 ghost use Rattle.serde_json.specs.View.{view};
-ghost use Rattle.lent_json.specs.Looks.{shown, is_open};
+ghost use Rattle.lent_json.specs.Looks.{shown};
 ghost use Rattle.script_text.specs.Metrics.{metric_at, metric_names, step_of, metrics_at, metrics_data};
 
 use crate::written::counts_value;
@@ -13,7 +13,6 @@ use std::alloc::Global;
 /// The step that the member `metrics` is, which may be left out; `None` where it is there and no
 /// object of counts.
 pub fn metrics_at(value: Look<'_, '_>) -> Option<MetricStep>
-    requires { is_open value ≡ true }
     ensures { result ≡ metrics_at (shown value.entry) }
 {
     match value.optional_object("metrics")? {
@@ -24,7 +23,6 @@ pub fn metrics_at(value: Look<'_, '_>) -> Option<MetricStep>
 
 #[tactic(auto, unfolding(crate::specs::Metrics::step_of))]
 fn step_of(object: Look<'_, '_>) -> Option<MetricStep>
-    requires { is_open object ≡ true }
     ensures { result ≡ step_of (shown object.entry) }
 {
     if !object.has_only(&metric_names()) {
@@ -60,7 +58,6 @@ fn metric_names() -> [&'static str; 8]
 /// The count of this metric, which may be left out; `None` where it is there and no number from 0
 /// to 4,294,967,295.
 fn metric_at(metric: Metric, object: Look<'_, '_>) -> Option<u32>
-    requires { is_open object ≡ true }
     ensures { result ≡ metric_at metric (shown object.entry) }
 {
     match object.optional_number(metric.name())? {

@@ -1,6 +1,6 @@
 // The queries of a script, a row of the table each.
-ghost use Rattle.std.specs.Prelude.{◌≡◌, true, Some, None, option_map, if◌then◌else◌};
-ghost use Rattle.lent_json.specs.Looks.{shown, is_open};
+ghost use Rattle.std.specs.Prelude.{◌≡◌, Some, None, option_map, if◌then◌else◌};
+ghost use Rattle.lent_json.specs.Looks.{shown};
 ghost use Rattle.script_text.specs.Queries.{is_alone, job_asked, execution_asked, instance_asked, job_instances_of, query_named};
 ghost use Rattle.script_text.specs.RawCommands.{query_in};
 
@@ -10,7 +10,6 @@ use lent_json::Look;
 /// The query of a line whose `ask` is this word.
 #[tactic(auto, unfolding(crate::specs::Queries::query_named))]
 pub fn query_named<'v>(word: &str, value: Look<'v, '_>) -> Option<RawQuery<'v>>
-    requires { is_open value ≡ true }
     ensures { option_map query_in result ≡ query_named word.now (shown value.entry) }
 {
     match word {
@@ -44,7 +43,6 @@ pub fn query_named<'v>(word: &str, value: Look<'v, '_>) -> Option<RawQuery<'v>>
 
 /// A query that has nothing more.
 fn alone<'v>(value: Look<'_, '_>, query: RawQuery<'v>) -> Option<RawQuery<'v>>
-    requires { is_open value ≡ true }
     ensures { option_map query_in result ≡ (if is_alone (shown value.entry) then Some (query_in query.entry) else None) }
 {
     if is_alone(value) { Some(query) } else { None }
@@ -52,7 +50,6 @@ fn alone<'v>(value: Look<'_, '_>, query: RawQuery<'v>) -> Option<RawQuery<'v>>
 
 #[tactic(auto, unfolding(crate::specs::Queries::job_instances_of))]
 fn job_instances_of<'v>(value: Look<'v, '_>) -> Option<RawQuery<'v>>
-    requires { is_open value ≡ true }
     ensures { option_map query_in result ≡ job_instances_of (shown value.entry) }
 {
     if !value.has_only(&["ask", "job", "start", "count"]) {
@@ -66,7 +63,6 @@ fn job_instances_of<'v>(value: Look<'v, '_>) -> Option<RawQuery<'v>>
 
 /// Whether a query has nothing more.
 fn is_alone(value: Look<'_, '_>) -> bool
-    requires { is_open value ≡ true }
     ensures { result ≡ is_alone (shown value.entry) }
 {
     value.has_only(&["ask"])
@@ -74,7 +70,6 @@ fn is_alone(value: Look<'_, '_>) -> bool
 
 /// The name of the job that is asked about.
 fn job_asked<'v>(value: Look<'v, '_>) -> Option<&'v str>
-    requires { is_open value ≡ true }
     ensures { option_map (λ job. job.now) result ≡ job_asked (shown value.entry) }
 {
     if !value.has_only(&["ask", "job"]) {
@@ -85,7 +80,6 @@ fn job_asked<'v>(value: Look<'v, '_>) -> Option<&'v str>
 
 /// The job execution that is asked about.
 fn execution_asked(value: Look<'_, '_>) -> Option<u64>
-    requires { is_open value ≡ true }
     ensures { result ≡ execution_asked (shown value.entry) }
 {
     if !value.has_only(&["ask", "execution"]) {
@@ -96,7 +90,6 @@ fn execution_asked(value: Look<'_, '_>) -> Option<u64>
 
 /// The job instance that is asked about.
 fn instance_asked(value: Look<'_, '_>) -> Option<u64>
-    requires { is_open value ≡ true }
     ensures { result ≡ instance_asked (shown value.entry) }
 {
     if !value.has_only(&["ask", "instance"]) {

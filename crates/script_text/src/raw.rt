@@ -1,12 +1,12 @@
-ghost use Rattle.std.specs.Prelude.{◌≡◌, true, option_map};
-ghost use Rattle.lent_json.specs.Looks.{shown, is_open};
+ghost use Rattle.std.specs.Prelude.{◌≡◌, option_map};
+ghost use Rattle.lent_json.specs.Looks.{shown};
 ghost use Rattle.script_text.specs.Commands.{session_at, call_of, query_of, raw_command_of};
 ghost use Rattle.script_text.specs.RawCommands.{command_in};
 
 use crate::calls::call_named;
 use crate::queries::query_named;
 use batch_ids::{MetricStep, Moment, WorkOutcome};
-use lent_json::Look;
+use lent_json::{Look, Texts};
 
 /// A command as its line spells it. Its texts are those of the line, and may be of any length.
 #[derive(Clone, Copy)]
@@ -24,11 +24,11 @@ pub enum RawCommand<'a, 't> {
 pub enum RawCall<'a, 't> {
     Start {
         job: &'a str,
-        parameters: Option<Look<'a, 't>>,
+        parameters: Option<Texts<'a, 't>>,
     },
     Restart {
         execution: u64,
-        parameters: Option<Look<'a, 't>>,
+        parameters: Option<Texts<'a, 't>>,
     },
     Stop {
         execution: u64,
@@ -92,7 +92,6 @@ pub enum RawQuery<'a> {
 /// The command that a value is, if it is one of the table.
 #[tactic(auto, unfolding(crate::specs::Commands::raw_command_of))]
 pub fn raw_command_of<'v, 't>(value: Look<'v, 't>) -> Option<RawCommand<'v, 't>>
-    requires { is_open value ≡ true }
     ensures { option_map command_in result ≡ raw_command_of (shown value.entry) }
 {
     match call_of(value) {
@@ -103,7 +102,6 @@ pub fn raw_command_of<'v, 't>(value: Look<'v, 't>) -> Option<RawCommand<'v, 't>>
 
 #[tactic(auto, unfolding(crate::specs::Commands::call_of))]
 fn call_of<'v, 't>(value: Look<'v, 't>) -> Option<RawCommand<'v, 't>>
-    requires { is_open value ≡ true }
     ensures { option_map command_in result ≡ call_of (shown value.entry) }
 {
     let word = value.text_at("do")?;
@@ -115,7 +113,6 @@ fn call_of<'v, 't>(value: Look<'v, 't>) -> Option<RawCommand<'v, 't>>
 
 #[tactic(auto, unfolding(crate::specs::Commands::query_of))]
 fn query_of<'v, 't>(value: Look<'v, 't>) -> Option<RawCommand<'v, 't>>
-    requires { is_open value ≡ true }
     ensures { option_map command_in result ≡ query_of (shown value.entry) }
 {
     let word = value.text_at("ask")?;
@@ -125,7 +122,6 @@ fn query_of<'v, 't>(value: Look<'v, 't>) -> Option<RawCommand<'v, 't>>
 
 /// The session that gives a command: a number from 1.
 fn session_at(value: Look<'_, '_>) -> Option<u64>
-    requires { is_open value ≡ true }
     ensures { result ≡ session_at (shown value.entry) }
 {
     let by = value.number_at("by")?;

@@ -9,7 +9,7 @@ use crate::bounds::text_within;
 use crate::parameters::{parameters_at, parameters_within};
 use batch_ids::{Parameters, T256};
 use json_members::{has_only, read_value, text_at};
-use lent_json::Look;
+use lent_json::{Look, Texts};
 use serde_json::Value;
 use std::alloc::{AllocError, Global};
 use thiserror::Error;
@@ -49,7 +49,7 @@ impl From<AllocError> for StartFault {
 #[derive(Clone, Copy)]
 struct RawStart<'a> {
     job: &'a str,
-    parameters: Option<Look<'a, 'a>>,
+    parameters: Option<Texts<'a, 'a>>,
 }
 
 /// The start of a job that a line is, the line feed left out: an object with the member `job`, a text
@@ -81,7 +81,7 @@ fn start_at(value: &Value) -> Option<RawStart<'_>>
         return None;
     }
     let job = text_at(value, "job")?;
-    let parameters = parameters_at(value)?;
+    let parameters = parameters_at(Look::Own(value))?;
     Some(RawStart { job, parameters })
 }
 

@@ -3,7 +3,7 @@ use Rattle.std.specs.Option.{option_and_then}
 use Rattle.fast_float.specs.Text.{scan}
 use Rattle.serde_json.specs.Read.{number_of, number_from}
 use Rattle.serde_json.specs.Find.{as_u64}
-use Rattle.lent_json.specs.Lent.{count_in}
+use Rattle.lent_json.specs.Flat.{count_in}
 use Rattle.lent_json.proofs.Counts.{no-negative, positive}
 use Rattle.lent_json.proofs.numbers.count_in.Goals as goal
 

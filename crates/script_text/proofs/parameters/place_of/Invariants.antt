@@ -1,7 +1,12 @@
-use Rattle.std.proofs.Common.{◌≡◌, ◌++◌, List, ℕ, take, drop}
-use Rattle.batch_ids.specs.Parameters.{pairs_of, with_pair}
+use Rattle.std.proofs.Common.{◌≡◌, ◌++◌, ◌-◌, ◌<◌, ◌≤◌, List, ℕ, length, take, drop, get_or, Greater}
+use Rattle.batch_ids.specs.Parameters.{Pair, key_cmp, pairs_of, with_pair}
 use Rattle.script_text.proofs.parameters.place_of.Given as goal
 
-abbrev pub invariant-loop-at : goal.invariant-loop-at
-invariant-loop-at l =
-    (text : List ℕ) → with_pair (pairs_of l.pairs) (l.name, text) ≡ take l.at (pairs_of l.pairs) ++ with_pair (drop l.at (pairs_of l.pairs)) (l.name, text)
+abbrev pub invariant-loop-low : goal.invariant-loop-low
+invariant-loop-low l =
+    (l.low ≤ l.high) × (l.high ≤ length l.pairs)
+    × ((text : List ℕ) → with_pair (pairs_of l.pairs) (l.name, text) ≡ take l.low (pairs_of l.pairs) ++ with_pair (drop l.low (pairs_of l.pairs)) (l.name, text))
+    × ((d : Pair) × ((text : List ℕ) → l.high < length (pairs_of l.pairs) → key_cmp (get_or (pairs_of l.pairs) l.high d) (l.name, text) ≡ Greater))
+
+abbrev pub decreases-loop-low : goal.decreases-loop-low
+decreases-loop-low l = l.high - l.low

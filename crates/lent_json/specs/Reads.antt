@@ -1,0 +1,28 @@
+-- What is read of the tokens of a text.
+use Rattle.std.specs.Prelude.{ℕ, List, Option, None, Some, option_map}
+use Rattle.json.specs.Token.{Token}
+use Rattle.json.specs.Json.{members, value}
+use Rattle.serde_json.specs.Data.{Data, null, boolean, number, unsigned, string, Members}
+use Rattle.serde_json.specs.Read.{of_json, of_members, converted}
+use Rattle.lent_json.specs.Flat.{count_in}
+
+-- the value that tokens begin with, nested so deep at most; and the tokens behind it
+abbrev pub value_read : ℕ → List Token → Option (Data × List Token)
+value_read depth ts = converted of_json (value depth ts)
+
+-- the members that tokens are, nested so deep at most, put into those that were found; and the tokens behind them
+abbrev pub members_read : ℕ → ℕ → Members → List Token → Option (Members × List Token)
+members_read depth turns found ts = converted (λ js. of_members js found) (members (value depth) turns ts)
+
+-- the scalar that a token is, if it is one
+abbrev pub scalar_of : Token → Option Data
+scalar_of Token.begin_object = None
+scalar_of Token.end_object = None
+scalar_of Token.begin_array = None
+scalar_of Token.end_array = None
+scalar_of (Token.key s) = None
+scalar_of (Token.string s) = Some (string s)
+scalar_of (Token.number s) = option_map (λ n. number (unsigned n)) (count_in s)
+scalar_of (Token.boolean b) = Some (boolean b)
+scalar_of Token.null = Some null
+scalar_of Token.bad = None
