@@ -135,7 +135,8 @@ def ids_of_one_hash(count: int) -> list[str]:
     """Ids of 48 bytes to which the hasher of a job's index of elements gives one hash.
 
     It takes 16 bytes at a time: the first 8 of them, joined with its state, times the other 8. If the first 8 equal the state,
-    the other 8 count for nothing. So we look for 16 bytes that lead to a state of letters, and vary what follows these letters."""
+    the other 8 count for nothing. So we look for 16 bytes that lead to a state of letters, and vary what follows these letters.
+    """
     dice = Random(SEED)
     while True:
         front = f"{dice.randrange(10**16):016}"
@@ -278,12 +279,14 @@ def run(program: Path, words: tuple[str, ...], given: Path) -> tuple[list[float]
     """Processor seconds, the clock's seconds and peak MiB of a run; its exit status, and a digest of what it wrote."""
     with given.open("rb") as source, tempfile.TemporaryFile() as written:
         begun = time.perf_counter()
-        running = subprocess.Popen([program, *words], stdin=source, stdout=written, stderr=subprocess.STDOUT, env={})
+        running = subprocess.Popen(
+            [program, *words], stdin=source, stdout=written, stderr=subprocess.STDOUT, env=dict[str, str]()
+        )
         _, status, used = os.wait4(running.pid, 0)
         seconds = time.perf_counter() - begun
         running.returncode = os.waitstatus_to_exitcode(status)
         written.seek(0)
-        digest = hashlib.file_digest(written, "sha256").hexdigest()
+        digest = hashlib.sha256(written.read()).hexdigest()
     return [used.ru_utime + used.ru_stime, seconds, used.ru_maxrss / 1024], (running.returncode, digest)
 
 
