@@ -1,9 +1,10 @@
 //! The index of a job has each element where an ordered map of their ids has it.
 use batch_ids::{OutOfMemory, T256};
 use jsl_json::read_catalogue;
-use jsl_model::{Body, Element, Job, Outer};
+use jsl_model::{Body, Catalogue, Element, Job, Outer};
 use std::alloc::{AllocError, Global};
 use std::collections::BTreeMap;
+use std::hash::{FoldHasher, Hash, Hasher};
 use std::test::Fail;
 
 /// Where to look for an element.
@@ -129,17 +130,32 @@ fn are_found(job: &Job, spots: &BTreeMap<T256, Spot>) -> bool {
     true
 }
 
+/// Whether the job's index has no element of this id.
+fn is_nowhere(job: &Job, id: &T256) -> bool {
+    let index = job.index();
+    index.outer_of(id).is_none()
+        && index.outer_with_place(id).is_none()
+        && index.place_of(id) == 0
+        && index.key_place_of(id, 2) == 0
+}
+
 /// How many elements a job has, if its index has each where the map has it, and nothing else.
 fn count_of_found(alloc: Global, job: &Job) -> Result<Option<usize>, Fail> {
     let mut spots = BTreeMap::new(alloc);
     add_all(&mut spots, job.elements(), None, 0)?;
     let none = T256::new(alloc, "none")?;
-    let more = job.index().outer_of(&none).is_some() || job.index().place_of(&none) != 0;
-    Ok(if are_found(job, &spots) && !more {
+    Ok(if are_found(job, &spots) && is_nowhere(job, &none) {
         Some(spots.len())
     } else {
         None
     })
+}
+
+/// A step in three partitions.
+fn step_of(alloc: Global, id: &str) -> Result<String, AllocError> {
+    format!(in alloc;
+        "{{\"kind\":\"step\",\"id\":\"{id}\",\"partitions\":3,\"batchlet\":{{\"ref\":\"ok\"}}}}"
+    )
 }
 
 /// So many steps in three partitions, with the numbers from this one on.
@@ -150,9 +166,8 @@ fn steps(alloc: Global, first: usize, count: usize) -> Result<String, AllocError
             text.push_str(",")?;
         }
         let number = first.saturating_add(step);
-        let one = format!(in alloc;
-            "{{\"kind\":\"step\",\"id\":\"e{number}\",\"partitions\":3,\"batchlet\":{{\"ref\":\"ok\"}}}}"
-        )?;
+        let id = format!(in alloc; "e{number}")?;
+        let one = step_of(alloc, id.as_str())?;
         text.push_str(one.as_str())?;
     }
     Ok(text)
@@ -185,10 +200,15 @@ fn nest(alloc: Global, depth: usize) -> Result<String, AllocError> {
     Ok(text)
 }
 
+/// The catalogue of a job `j` with these elements.
+fn catalogue_of(alloc: Global, elements: &str) -> Result<Catalogue, Fail> {
+    let text = format!(in alloc; "{{\"jobs\":[{{\"id\":\"j\",\"elements\":[{elements}]}}]}}")?;
+    Ok(read_catalogue(alloc, text.as_bytes())?)
+}
+
 /// How many elements the job with these has, if its index has each where the map has it, and no other.
 fn found_in(alloc: Global, elements: &str) -> Result<Option<usize>, Fail> {
-    let text = format!(in alloc; "{{\"jobs\":[{{\"id\":\"j\",\"elements\":[{elements}]}}]}}")?;
-    let catalogue = read_catalogue(alloc, text.as_bytes())?;
+    let catalogue = catalogue_of(alloc, elements)?;
     let found = match catalogue.job("j") {
         Some(job) => count_of_found(alloc, job),
         None => Ok(None),
@@ -217,6 +237,90 @@ fn each_element_of_flows_is_found(rt: HostRuntime) -> Result<(), Fail> {
     for depth in [1usize, 15] {
         let elements = nest(alloc, depth)?;
         assert_eq!(rt; found_in(alloc, elements.as_str())?, Some(2 * depth + 3));
+    }
+    Ok(())
+}
+
+/// An id of 48 bytes with this number. The hashes of all these ids meet.
+///
+/// The index takes them by a `FoldHasher`, which folds 16 bytes at a time. It joins the first 8 with its state by exclusive or,
+/// the next 8 with a constant, and multiplies both. Here the first 16 bytes lead to the state whose bytes are the next 8. So
+/// the second product is 0 whatever the number is, and the last 16 bytes are the same in each id.
+fn meeting_id(alloc: Global, number: usize) -> Result<T256, Fail> {
+    let id = format!(in alloc; "id-8715350726942n[F*{{'(d{number:08}................")?;
+    Ok(T256::new(alloc, id.as_str())?)
+}
+
+/// So many steps with such ids, whose numbers are even and fall.
+fn meeting_steps(alloc: Global, count: usize) -> Result<String, Fail> {
+    let mut text = String::new(alloc);
+    for place in 0..count {
+        if place > 0 {
+            text.push_str(",")?;
+        }
+        let number = count.saturating_sub(place).saturating_mul(2);
+        let id = meeting_id(alloc, number)?;
+        let one = step_of(alloc, id.as_str())?;
+        text.push_str(one.as_str())?;
+    }
+    Ok(text)
+}
+
+/// Whether a job's index has no element with such an id of the first odd numbers, so many.
+fn has_no_odd(alloc: Global, job: &Job, count: usize) -> Result<bool, Fail> {
+    for place in 0..count {
+        let number = place.saturating_mul(2).saturating_add(1);
+        let id = meeting_id(alloc, number)?;
+        if !is_nowhere(job, &id) {
+            return Ok(false);
+        }
+    }
+    Ok(true)
+}
+
+/// The same of the job with these elements.
+fn has_no_odd_in(alloc: Global, elements: &str, count: usize) -> Result<bool, Fail> {
+    let catalogue = catalogue_of(alloc, elements)?;
+    let has_none = match catalogue.job("j") {
+        Some(job) => has_no_odd(alloc, job, count),
+        None => Ok(false),
+    };
+    drop(catalogue);
+    has_none
+}
+
+#[test]
+fn elements_whose_ids_meet_are_told_apart(rt: HostRuntime) -> Result<(), Fail> {
+    let alloc = rt.alloc();
+    let list = meeting_steps(alloc, 1_000)?;
+    assert_eq!(rt; found_in(alloc, list.as_str())?, Some(1_000));
+    assert!(rt; has_no_odd_in(alloc, list.as_str(), 1_002)?);
+    let inside = meeting_steps(alloc, 999)?;
+    let flow = format!(in alloc; "{{\"kind\":\"flow\",\"id\":\"f\",\"elements\":[{inside}]}}")?;
+    assert_eq!(rt; found_in(alloc, flow.as_str())?, Some(1_000));
+    assert!(rt; has_no_odd_in(alloc, flow.as_str(), 1_002)?);
+    Ok(())
+}
+
+/// The hash by which the index finds an id.
+fn hash_of(id: &T256) -> u64 {
+    let mut hasher = FoldHasher::default();
+    id.hash(&mut hasher);
+    hasher.finish()
+}
+
+/// The hash of the id of this number.
+fn meeting_hash(alloc: Global, number: usize) -> Result<u64, Fail> {
+    let id = meeting_id(alloc, number)?;
+    Ok(hash_of(&id))
+}
+
+/// The test above would pass as well if the hashes didn't meet.
+#[test]
+fn hashes_of_these_ids_meet(rt: HostRuntime) -> Result<(), Fail> {
+    let hash = meeting_hash(rt.alloc(), 0)?;
+    for number in 1..2_003usize {
+        assert_eq!(rt; meeting_hash(rt.alloc(), number)?, hash, "{number}");
     }
     Ok(())
 }
