@@ -8,8 +8,8 @@ use std::hash::{FoldHasher, Hash, Hasher};
 use std::test::Fail;
 
 /// Where to look for an element.
-#[derive(Drop)]
-struct Spot {
+#[derive(Debug, Drop)]
+pub(crate) struct Spot {
     /// Its place in its list.
     place: usize,
     /// The place of its first work key, among those of the job.
@@ -44,7 +44,7 @@ fn add_spot(spots: &mut BTreeMap<T256, Spot>, id: T256, spot: Spot) -> Result<()
 /// Adds the elements of a list and those inside them, of which the first work key has this place;
 /// the place of the next one.
 #[cycle(indexing)]
-fn add_all(
+pub(crate) fn add_all(
     spots: &mut BTreeMap<T256, Spot>,
     elements: &[Element],
     outer: Option<&Outer>,
@@ -159,7 +159,7 @@ fn step_of(alloc: Global, id: &str) -> Result<String, AllocError> {
 }
 
 /// So many steps in three partitions, with the numbers from this one on.
-fn steps(alloc: Global, first: usize, count: usize) -> Result<String, AllocError> {
+pub(crate) fn steps(alloc: Global, first: usize, count: usize) -> Result<String, AllocError> {
     let mut text = String::new(alloc);
     for step in 0..count {
         if step > 0 {
@@ -174,7 +174,7 @@ fn steps(alloc: Global, first: usize, count: usize) -> Result<String, AllocError
 }
 
 /// A split of so many flows of two steps.
-fn split(alloc: Global, count: usize) -> Result<String, AllocError> {
+pub(crate) fn split(alloc: Global, count: usize) -> Result<String, AllocError> {
     let mut text = String::from_str(alloc, "{\"kind\":\"split\",\"id\":\"k\",\"flows\":[")?;
     for flow in 0..count {
         let comma = if flow > 0 { "," } else { "" };
@@ -189,7 +189,7 @@ fn split(alloc: Global, count: usize) -> Result<String, AllocError> {
 }
 
 /// So many flows, each inside the one before, behind a step.
-fn nest(alloc: Global, depth: usize) -> Result<String, AllocError> {
+pub(crate) fn nest(alloc: Global, depth: usize) -> Result<String, AllocError> {
     let mut text = steps(alloc, 0, 3)?;
     for level in 0..depth {
         let before = steps(alloc, level.saturating_add(1_000), 1)?;
@@ -201,7 +201,7 @@ fn nest(alloc: Global, depth: usize) -> Result<String, AllocError> {
 }
 
 /// The catalogue of a job `j` with these elements.
-fn catalogue_of(alloc: Global, elements: &str) -> Result<Catalogue, Fail> {
+pub(crate) fn catalogue_of(alloc: Global, elements: &str) -> Result<Catalogue, Fail> {
     let text = format!(in alloc; "{{\"jobs\":[{{\"id\":\"j\",\"elements\":[{elements}]}}]}}")?;
     Ok(read_catalogue(alloc, text.as_bytes())?)
 }

@@ -1,7 +1,7 @@
 //! Tests that no script in a file can be. Of what lies below the repository: identifiers, jobs, graphs, members of JSON
-//! objects, transition elements, indexes of elements and walks. Of the service: copies, a full log, lines at their bound,
-//! scripts that are cut off, readers and writers that fail, a list of events, built-in artifacts, threads that wait for one
-//! another, and the words of a command line.
+//! objects, transition elements, indexes of elements and walks. Of the service: copies, what a book prints, a full log, lines
+//! at their bound, scripts that are cut off, readers and writers that fail, a list of events, built-in artifacts, threads that
+//! wait for one another, and the words of a command line.
 #![tactic(auto)]
 
 #[cfg(test)]
@@ -30,6 +30,8 @@ mod jobs;
 mod object_members;
 #[cfg(test)]
 mod patterns;
+#[cfg(test)]
+mod printed;
 #[cfg(test)]
 mod target_graphs;
 #[cfg(test)]

@@ -72,12 +72,12 @@ fn partition_of(alloc: Global, id: &str, partition: u32) -> Result<WorkKey, Fail
 }
 
 /// The work key of a step that isn't partitioned.
-fn key_of(alloc: Global, id: &str) -> Result<WorkKey, Fail> {
+pub(crate) fn key_of(alloc: Global, id: &str) -> Result<WorkKey, Fail> {
     partition_of(alloc, id, 0)
 }
 
 /// Takes a work key, if it is ready.
-fn take(cursor: &mut Cursor, key: &WorkKey) -> Result<(), OutOfMemory> {
+pub(crate) fn take(cursor: &mut Cursor, key: &WorkKey) -> Result<(), OutOfMemory> {
     if cursor.is_ready(key) {
         cursor.take(key)?;
     }
@@ -85,7 +85,7 @@ fn take(cursor: &mut Cursor, key: &WorkKey) -> Result<(), OutOfMemory> {
 }
 
 /// Reports a work key, if it is being run.
-fn report(
+pub(crate) fn report(
     cursor: &mut Cursor,
     key: &WorkKey,
     outcome: WorkOutcome,
