@@ -1,4 +1,8 @@
 //! Threads that wait for one another at one operator, many times.
+//!
+//! A call of an operator waits for the lock of its book directly. This test fails only by hanging, if a thread that waits is
+//! never woken. It can't show how long a thread waits, nor whether a call tries the lock before it waits: an operator that
+//! never tries passes as well as one that does.
 ghost use Rattle.std.specs.Prelude.{◌≡◌};
 
 use crate::copies::catalogue;
