@@ -13,8 +13,8 @@ found, and ends with status 1. The word after a block's fence says what the bloc
   catalogue. A block without it goes on with the script of the block before. Other lines with a `#` are for the reader alone.
 - `rust`: an excerpt that stands, line for line, in a source file of a crate.
 
-docs/LINES.md must also name each command, query and refusal of the sources. The program is the one that `rt ci` or `rt run`
-has built.
+docs/LINES.md must also have each command, query, reply and refusal of the sources, and each member of a work item, a job
+execution and a step execution. The program is the one that `rt ci` or `rt run` has built.
 """
 
 from __future__ import annotations
@@ -36,11 +36,15 @@ from repository import ROOT
 PROGRAM = ROOT / "crates" / "batchctl" / "out" / "batchctl"
 LINES = ROOT / "docs" / "LINES.md"
 PAGES = [ROOT / "docs" / "TUTORIAL.md", LINES]
-# Where the words stand that docs/LINES.md must name, and how it names each.
+# The sources of the words that docs/LINES.md must have, a pattern that finds these, and how the page spells each.
 WORDS = [
     ("script_text/src/calls.rt", r'^ +"(\w+)" => \w+_of\(value\)', '"do":"{}"'),
     ("script_text/src/queries.rt", r'^ +"(\w+)" => ', '"ask":"{}"'),
-    ("batch_ids/src/refusal.rt", r'^ +Refusal::\w+ => "(\w+)"', "`{}`"),
+    ("script_text/src/reply.rt", r'tell_(?:one|true)\(out, "(\w+)"', '{{"{}":'),
+    ("script_text/src/reply.rt", r'^ +\("([\w-]+)", ', "`{}`"),
+    ("script_text/src/records.rt", r'^ +\("(\w+)", ', "`{}`"),
+    # A script that runs out of memory ends: it has no reply that says so.
+    ("batch_ids/src/refusal.rt", r'^ +Refusal::\w+ => "(?!OutOfMemory)(\w+)"', '{{"refused":"{}"}}'),
 ]
 CATALOGUE = "# catalogue: "
 SENT = "> "
@@ -206,7 +210,7 @@ def check_excerpts(blocks: list[Block]) -> Iterator[Difference]:
 
 
 def check_words(page: str, text: str) -> Iterator[Difference]:
-    """The page names each command, each query and each refusal."""
+    """The page has each word of the sources."""
     for source, pattern, spelling in WORDS:
         words = re.findall(pattern, (ROOT / "crates" / source).read_text(), re.M)
         if not words:
