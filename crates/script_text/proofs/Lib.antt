@@ -5,3 +5,4 @@ pub mod Floats
 pub mod Texts
 pub mod Halving
 pub mod Lines
+pub mod ParameterMembers

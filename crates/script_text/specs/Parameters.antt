@@ -3,7 +3,9 @@ use Rattle.std.specs.Prelude.{ℕ, List, [], ◌∷◌, map, codes, Option, Some
 use Rattle.serde_json.specs.Data.{Data, string, object, Members, no_members, member}
 use Rattle.serde_json.specs.Find.{as_str, as_object}
 use Rattle.batch_ids.specs.Parameters.{Pair, parameters_of, is_too_large}
-use Rattle.lent_json.specs.TextObjects.{optional_texts}
+use Rattle.json_members.specs.Members.{optional_object}
+use Rattle.json_members.specs.Chains.{◌>>=◌}
+pub use Rattle.lent_json.specs.TextObjects.{are_texts, has_texts}
 use Rattle.script_text.specs.Written.{with_members}
 
 -- the name and the text of each of these members
@@ -15,14 +17,14 @@ text_pairs (member name d ms) = (name, unwrap_or (as_str d) []) ∷ text_pairs m
 abbrev pub given_pairs : Data → List Pair
 given_pairs d = unwrap_or (option_map text_pairs (as_object d)) []
 
--- the keys and values of an object of texts that may be left out
-abbrev pub pairs_given : Option Data → List Pair
-pairs_given None = []
-pairs_given (Some d) = given_pairs d
+-- the keys and values of an object that may be left out, if it is one of texts
+abbrev pub pairs_given : Option Data → Option (List Pair)
+pairs_given None = Some []
+pairs_given (Some d) = if has_texts d then Some (given_pairs d) else None
 
 -- the keys and values that the member `parameters` gives; none where it is left out
 abbrev pub parameters_at : Data → Option (List Pair)
-parameters_at d = option_map pairs_given (optional_texts (codes "parameters") d)
+parameters_at d = optional_object (codes "parameters") d >>= pairs_given
 
 -- the parameters that these keys and values are, if all are within their bounds
 abbrev pub parameters_within : List Pair → Option (List Pair)
