@@ -9,3 +9,4 @@ pub mod Begun
 pub mod Finishing
 pub mod Replied
 pub mod Totals
+pub mod Looks

@@ -12,7 +12,7 @@ use Rattle.job_threads.specs.declared.chunk.Step.TheVariants.{More, Stop, End, F
 use Rattle.job_threads.specs.declared.chunk.Ending.{Ending}
 use Rattle.job_threads.specs.declared.chunk.Ending.TheVariants.{Completed, Stopped, Failed, Unopened}
 use Rattle.job_threads.specs.Meaning.{Coming, Known, means_at}
-use Rattle.job_threads.specs.Ports.{Stops}
+use Rattle.job_threads.specs.Ports.{Stops, FoundNone, FoundLast}
 use Rattle.job_threads.specs.Kits.{Calm, NoneFaulted, HoldsSame, FaultAt, FaultOf, OpenFaultOf, work_of}
 use Rattle.job_threads.specs.Groups.{FirstGroups, IsGroup, kept, unless_empty, grown, written, Done, done, groups, counts, report_of, reports_of, mark_after, AllGo}
 
@@ -62,6 +62,14 @@ LastIsStop ds = (before : List Done) × (g : List Coming) × (ds ≡ before ++ d
 -- the last look found that the job execution was asked to stop, and no group was answered so
 abbrev pub IsSeen : ℕ → List Done → Stops → Type 0
 IsSeen execution ds stops = Contains stops.seen execution × (stops.found ≡ true) × AllGo ds
+
+-- the first look that found a stop was the last one, and the chunk was stopped by it: else no look found one
+abbrev pub IsHeeded : Result Ending Refusal → Stops → Stops → Type 0
+IsHeeded (Ok Stopped) before after = FoundNone before after ⊎ FoundLast before after
+IsHeeded (Ok Completed) before after = FoundNone before after
+IsHeeded (Ok Failed) before after = FoundNone before after
+IsHeeded (Ok Unopened) before after = FoundNone before after
+IsHeeded (Err _) before after = FoundNone before after
 
 -- the writer holds just the reported groups
 abbrev pub HoldsThese : Roles → List Done → List Known → List Known → Type 0

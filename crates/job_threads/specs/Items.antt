@@ -3,7 +3,7 @@ use Rattle.std.specs.Prelude.{ℕ, ◌≡◌, ◌⊎◌, ◌++◌, max, List, []
 use Rattle.batch_ids.specs.Metrics.{zero_step}
 use Rattle.batch_ids.specs.declared.refusal.Refusal.{Refusal}
 use Rattle.batch_ids.specs.declared.status.WorkOutcome.{WorkOutcome}
-use Rattle.batch_ids.specs.declared.status.WorkOutcome.TheVariants.{Completed, Failed}
+use Rattle.batch_ids.specs.declared.status.WorkOutcome.TheVariants.{Completed, Failed, Stopped}
 use Rattle.batch_history.specs.declared.call.WorkItem.{WorkItem}
 use Rattle.batch_history.specs.declared.call.WorkTask.{WorkTask}
 use Rattle.batch_history.specs.declared.call.WorkTask.TheVariants.{Batchlet, Chunk, Decision}
@@ -15,7 +15,7 @@ use Rattle.job_threads.specs.declared.chunk.Ending.{Ending}
 use Rattle.job_threads.specs.declared.chunk.Ending.TheVariants.{Unopened}
 use Rattle.job_threads.specs.Meaning.{Known, means_at, place_of}
 use Rattle.job_threads.specs.Kits.{Calm, HoldsSame, OpenFaultAt, OpenFaultIn, OpenFaultOf, FaultAt, to_read, AreWithin, begun_in, begun_roles}
-use Rattle.job_threads.specs.Ports.{Stops}
+use Rattle.job_threads.specs.Ports.{Stops, FoundNone, FoundLast}
 use Rattle.job_threads.specs.Chunks.{RunsGroups}
 use Rattle.job_threads.specs.Endings.{outcome_of, finish_of}
 
@@ -64,6 +64,13 @@ EndsChunk p roles n work execution at checkpoint (Ok outcome) a b before after s
     (e : Ending) × (between : List Report) × (outcome ≡ outcome_of e) × RunsChunk p roles n work execution at checkpoint (Ok e) a b before between stops × (after ≡ between ++ finish_of work at e ∷ [])
 EndsChunk p roles n work execution at checkpoint (Err _) a b before after stops =
     (result : Result Ending Refusal) × RunsChunk p roles n work execution at checkpoint result a b before after stops
+
+-- the first look that found a stop was the last one: a work item that is COMPLETED or FAILED was never found to be stopped
+abbrev pub IsHeededBy : Result WorkOutcome Refusal → Stops → Stops → Type 0
+IsHeededBy (Ok Completed) before after = FoundNone before after
+IsHeededBy (Ok Failed) before after = FoundNone before after
+IsHeededBy (Ok Stopped) before after = FoundNone before after ⊎ FoundLast before after
+IsHeededBy (Err _) before after = FoundNone before after ⊎ FoundLast before after
 
 -- a batchlet or decider was told of the partition, and ran
 abbrev pub RunsBegun : Option ℕ → ℕ → Result (Option (List ℕ)) ArtifactFault → List Known → List Known → Type 0

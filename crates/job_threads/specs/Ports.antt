@@ -1,5 +1,5 @@
 -- What a port holds.
-use Rattle.std.specs.Prelude.{ℕ, ◌≡◌, ◌⊎◌, Bool, true, false, IsTrue, Option, Some, None, List, [], ◌∷◌, Result, Ok, Err, count_by, filter_map}
+use Rattle.std.specs.Prelude.{ℕ, ◌≡◌, ◌⊎◌, ◌+◌, ◌%◌, ◌^◌, if◌then◌else◌, Bool, true, false, IsTrue, Option, Some, None, List, [], ◌∷◌, Result, Ok, Err, count_by, filter_map}
 use Rattle.std.specs.List.{Contains}
 use Rattle.batch_ids.specs.declared.refusal.Refusal.{Refusal}
 use Rattle.batch_ids.specs.declared.refusal.Refusal.TheVariants.{OutOfMemory}
@@ -28,13 +28,19 @@ abbrev pub IsRefusal : {A : Type 0} → Result A Refusal → Option Refusal → 
 IsRefusal (Ok _) before after = after ≡ before
 IsRefusal (Err refusal) before after = (after ≡ Some refusal) ⊎ ((refusal ≡ OutOfMemory) × (after ≡ before))
 
--- what a port knows of stops: the job executions whose stop it saw, and whether its last look for a stop found one
+-- what a port knows of stops: the job executions whose stop it saw, whether its last look for a stop found one, and how many
+-- looks did, as 64 bits count them
 pub record Stops : Type 0 where
   pub seen : List ℕ
   pub found : Bool
+  pub finds : ℕ
 
-abbrev pub stops_of : List ℕ → Bool → Stops
-stops_of seen found = record { seen = seen; found = found }
+abbrev pub stops_of : List ℕ → Bool → ℕ → Stops
+stops_of seen found finds = record { seen = seen; found = found; finds = finds }
+
+-- a count of 64 bits with one more
+abbrev pub one_more : ℕ → ℕ
+one_more n = (n + 1) % 2 ^ 64
 
 -- a stop that was seen stays seen
 abbrev pub StaySeen : List ℕ → List ℕ → Type 0
@@ -42,12 +48,21 @@ StaySeen before after = (x : ℕ) → Contains before x → Contains after x
 
 -- nobody looked for a stop
 abbrev pub IsKept : Stops → Stops → Type 0
-IsKept before after = StaySeen before.seen after.seen × (after.found ≡ before.found)
+IsKept before after = StaySeen before.seen after.seen × (after.found ≡ before.found) × (after.finds ≡ before.finds)
 
 -- the port looked for the stop of this job execution
 abbrev pub HasLooked : ℕ → Bool → Stops → Stops → Type 0
 HasLooked execution found before after =
     StaySeen before.seen after.seen × (after.found ≡ found) × (IsTrue found → Contains after.seen execution)
+    × (after.finds ≡ (if found then one_more before.finds else before.finds))
+
+-- no look found a stop
+abbrev pub FoundNone : Stops → Stops → Type 0
+FoundNone before after = after.finds ≡ before.finds
+
+-- one look found a stop, and it was the last
+abbrev pub FoundLast : Stops → Stops → Type 0
+FoundLast before after = (after.found ≡ true) × (after.finds ≡ one_more before.finds)
 
 -- whether a report is a finish
 abbrev pub is_finish : Report → Bool

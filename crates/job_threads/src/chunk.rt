@@ -3,7 +3,7 @@ ghost use Rattle.job_threads.specs.Meaning.{means_at};
 ghost use Rattle.job_threads.specs.Kits.{AreWithin};
 ghost use Rattle.job_threads.specs.Ports.{IsKept, IsRefusal};
 ghost use Rattle.job_threads.specs.Groups.{counts};
-ghost use Rattle.job_threads.specs.Chunks.{Marks, StepsTo, RunsGroups};
+ghost use Rattle.job_threads.specs.Chunks.{Marks, StepsTo, RunsGroups, IsHeeded};
 
 use crate::group::{Group, Trouble, read_group, write_kept};
 use crate::kit::{Artifacts, Roles};
@@ -152,6 +152,7 @@ pub(crate) fn run_groups<P: Port, K: Artifacts>(
         chunk.now.at (means_at roles.reader (K.seen kit.old)).left result (K.seen kit.old) (K.seen
         kit.new) (P.reports port.old) (P.reports port.new) (P.stops port.new) }
     ensures refused { IsRefusal result (P.refused port.old) (P.refused port.new) }
+    ensures heeded { IsHeeded result (P.stops port.old) (P.stops port.new) }
 {
     'groups: loop {
         if port.stop_seen(chunk.execution) {

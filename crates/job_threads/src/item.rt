@@ -2,9 +2,9 @@ ghost use Rattle.std.specs.Prelude.{◌≡◌, ◌<◌, length, max, option_map}
 ghost use Rattle.job_threads.specs.Meaning.{place_of};
 ghost use Rattle.job_threads.specs.Kits.{AreWithin, IsWithin, to_read};
 ghost use Rattle.job_threads.specs.Ports.{IsRefusal};
-ghost use Rattle.job_threads.specs.Chunks.{RunsGroups};
+ghost use Rattle.job_threads.specs.Chunks.{RunsGroups, IsHeeded};
 ghost use Rattle.job_threads.specs.Endings.{outcome_of, counts_of};
-ghost use Rattle.job_threads.specs.Items.{roles_of, FoundWithin, BeginsIn, BeginsRoles, OpensRoles, RunsBegun, RunsChunk, EndsChunk, RunsOnce, RunsItem};
+ghost use Rattle.job_threads.specs.Items.{roles_of, FoundWithin, BeginsIn, BeginsRoles, OpensRoles, RunsBegun, RunsChunk, EndsChunk, IsHeededBy, RunsOnce, RunsItem};
 
 use crate::artifact::ArtifactFault;
 use crate::chunk::{Chunk, Ending, run_groups};
@@ -140,6 +140,7 @@ fn run_opened<P: Port, K: Artifacts>(
         (to_read (option_map (λ s. s.now) checkpoint.entry) roles (K.seen kit.old)) result (K.seen
         kit.old) (K.seen kit.new) (P.reports port.old) (P.reports port.new) (P.stops port.new) }
     ensures refused { IsRefusal result (P.refused port.old) (P.refused port.new) }
+    ensures heeded { IsHeeded result (P.stops port.old) (P.stops port.new) }
 {
     match open_roles(kit, roles, checkpoint) {
         Err(_) => Ok(Ending::Unopened),
@@ -163,6 +164,7 @@ fn run_chunk<P: Port, K: Artifacts>(
         chunk.now.at (option_map (λ s. s.now) checkpoint.entry) result (K.seen kit.old) (K.seen
         kit.new) (P.reports port.old) (P.reports port.new) (P.stops port.new) }
     ensures refused { IsRefusal result (P.refused port.old) (P.refused port.new) }
+    ensures heeded { IsHeeded result (P.stops port.old) (P.stops port.new) }
 {
     match roles {
         None => Ok(Ending::Unopened),
@@ -189,6 +191,7 @@ fn end_chunk<P: Port, K: Artifacts>(
         chunk.now.at (option_map (λ s. s.now) checkpoint.entry) result (K.seen kit.old) (K.seen
         kit.new) (P.reports port.old) (P.reports port.new) (P.stops port.new) }
     ensures refused { IsRefusal result (P.refused port.old) (P.refused port.new) }
+    ensures heeded { IsHeededBy result (P.stops port.old) (P.stops port.new) }
 {
     match run_chunk(alloc, port, kit, roles, partition, checkpoint, chunk) {
         Err(refusal) => Err(refusal),
@@ -232,6 +235,7 @@ fn run_once<P: Port, K: Artifacts>(
     ensures once { RunsOnce partition (place_of artifact.now (K.seen kit.old)) work at result (K.seen
         kit.old) (K.seen kit.new) (P.reports port.old) (P.reports port.new) }
     ensures refused { IsRefusal result (P.refused port.old) (P.refused port.new) }
+    ensures heeded { IsHeededBy result (P.stops port.old) (P.stops port.new) }
 {
     match kit.find(artifact.as_str()) {
         None => match port.finish(work, WorkOutcome::Failed, None, MetricStep::zero(), at) {
@@ -290,6 +294,7 @@ pub fn run_item<P: Port, K: Artifacts>(
     ensures item { RunsItem item.now at item.now.task result (K.seen kit.old) (K.seen kit.new)
         (P.reports port.old) (P.reports port.new) (P.stops port.new) }
     ensures refused { IsRefusal result (P.refused port.old) (P.refused port.new) }
+    ensures heeded { IsHeededBy result (P.stops port.old) (P.stops port.new) }
 {
     match &item.task {
         WorkTask::Batchlet { artifact } => {

@@ -20,16 +20,19 @@ pub enum Claimed {
 }
 
 /// What a worker calls of the job repository. Contracts see its accepted reports, what it knows of
-/// stops, and its last refusal.
+/// stops, and its last refusals.
 pub trait Port {
     /// Its accepted checkpoints and finishes, with their replies.
     ghost reports: { Self → List Report };
 
-    /// The job executions whose stop it saw, and whether its last look for a stop found one.
+    /// The job executions whose stop it saw, whether its last look for a stop found one, and how many did.
     ghost stops: { Self → Stops };
 
-    /// The refusal that it gave last, if it gave one.
+    /// The refusal that it gave last, if it gave one, to any call but `lose`.
     ghost refused: { Self → Option Refusal };
+
+    /// The refusal that it gave last, if it gave one, to a call of `lose`.
+    ghost refused_loss: { Self → Option Refusal };
 
     /// Asks for a work item.
     ///
@@ -38,7 +41,8 @@ pub trait Port {
     /// The refusal of the claim.
     fn claim(&mut self, at: Moment) -> Result<Claimed, Refusal>
         ensures reports { reports self.new ≡ reports self.old }
-        ensures refused { refused self.new ≡ refused_by (refused self.old) result };
+        ensures refused { refused self.new ≡ refused_by (refused self.old) result }
+        ensures loss { refused_loss self.new ≡ refused_loss self.old };
 
     /// Reports that a group of a chunk is done.
     ///
@@ -55,7 +59,8 @@ pub trait Port {
         ensures reports { reports self.new ≡ reports self.old
             ++ accepted (λ reply. Checkpoint work mark step at reply) result }
         ensures stops { IsKept (stops self.old) (stops self.new) }
-        ensures refused { refused self.new ≡ refused_by (refused self.old) result };
+        ensures refused { refused self.new ≡ refused_by (refused self.old) result }
+        ensures loss { refused_loss self.new ≡ refused_loss self.old };
 
     /// Ends a work item.
     ///
@@ -73,7 +78,8 @@ pub trait Port {
         ensures reports { reports self.new ≡ reports self.old
             ++ accepted (λ _. Finish work outcome exit step at) result }
         ensures stops { IsKept (stops self.old) (stops self.new) }
-        ensures refused { refused self.new ≡ refused_by (refused self.old) result };
+        ensures refused { refused self.new ≡ refused_by (refused self.old) result }
+        ensures loss { refused_loss self.new ≡ refused_loss self.old };
 
     /// Gives a work item up.
     ///
@@ -82,13 +88,15 @@ pub trait Port {
     /// The refusal of the loss.
     fn lose(&mut self, work: WorkId, at: Moment) -> Result<(), Refusal>
         ensures reports { reports self.new ≡ reports self.old }
-        ensures refused { refused self.new ≡ refused_by (refused self.old) result };
+        ensures refused { refused self.new ≡ refused self.old }
+        ensures loss { refused_loss self.new ≡ refused_by (refused_loss self.old) result };
 
     /// Whether a stop of this job execution was seen. A false says nothing.
     fn stop_seen(&mut self, execution: ExecutionId) -> bool
         ensures reports { reports self.new ≡ reports self.old }
         ensures stops { HasLooked execution result (stops self.old) (stops self.new) }
-        ensures refused { refused self.new ≡ refused self.old };
+        ensures refused { refused self.new ≡ refused self.old }
+        ensures loss { refused_loss self.new ≡ refused_loss self.old };
 
     /// Whether a job execution is unfinished.
     ///
@@ -97,5 +105,6 @@ pub trait Port {
     /// The refusal of the query.
     fn unfinished(&mut self) -> Result<bool, Refusal>
         ensures reports { reports self.new ≡ reports self.old }
-        ensures refused { refused self.new ≡ refused_by (refused self.old) result };
+        ensures refused { refused self.new ≡ refused_by (refused self.old) result }
+        ensures loss { refused_loss self.new ≡ refused_loss self.old };
 }

@@ -18,7 +18,9 @@ pub struct SessionPort<'a, R: Wait, N: Site> {
     operator: &'a Operator<N>,
     session: Session<N>,
     found_stop: bool,
+    finds: u64,
     refused: Option<Refusal>,
+    refused_loss: Option<Refusal>,
 }
 
 impl<'a, R: Wait, N: Site> SessionPort<'a, R, N> {
@@ -29,7 +31,9 @@ impl<'a, R: Wait, N: Site> SessionPort<'a, R, N> {
             operator,
             session,
             found_stop: false,
+            finds: 0,
             refused: None,
+            refused_loss: None,
         }
     }
 }
@@ -77,9 +81,11 @@ impl<R: Wait, N: Site> Port for SessionPort<'_, R, N> {
 
     ghost reports = { λ port. reports_in port.session.mine };
 
-    ghost stops = { λ port. stops_of port.session.stops port.found_stop };
+    ghost stops = { λ port. stops_of port.session.stops port.found_stop port.finds };
 
     ghost refused = { λ port. port.refused };
+
+    ghost refused_loss = { λ port. port.refused_loss };
 
     fn claim(&mut self, at: Moment) -> Result<Claimed, Refusal> {
         match self.operator.claim(self.rt, &mut self.session, at) {
@@ -144,7 +150,7 @@ impl<R: Wait, N: Site> Port for SessionPort<'_, R, N> {
                 Ok(())
             }
             Err(refusal) => {
-                self.refused = Some(refusal);
+                self.refused_loss = Some(refusal);
                 Err(refusal)
             }
         }
@@ -152,6 +158,9 @@ impl<R: Wait, N: Site> Port for SessionPort<'_, R, N> {
 
     fn stop_seen(&mut self, execution: ExecutionId) -> bool {
         self.found_stop = self.operator.stop_seen(&mut self.session, execution);
+        if self.found_stop {
+            self.finds = self.finds.wrapping_add(1);
+        }
         self.found_stop
     }
 

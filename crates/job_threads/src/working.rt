@@ -1,5 +1,5 @@
 ghost use Rattle.std.specs.Prelude.{◌≡◌, ◌+◌, IfOk};
-ghost use Rattle.job_threads.specs.Ports.{finishes};
+ghost use Rattle.job_threads.specs.Ports.{finishes, IsRefusal};
 
 use crate::item::run_item;
 use crate::kit::Artifacts;
@@ -39,7 +39,8 @@ fn run_or_lose<P: Port, K: Artifacts, G: Gate>(
     gate: &G,
     item: &WorkItem,
 ) -> Result<WorkOutcome, Refusal>
-    ensures { IfOk result (λ _. finishes (P.reports port.new) ≡ finishes (P.reports port.old) + 1) }
+    ensures finished { IfOk result (λ _. finishes (P.reports port.new) ≡ finishes (P.reports port.old) + 1) }
+    ensures refused { IsRefusal result (P.refused port.old) (P.refused port.new) }
 {
     match run_item(alloc, port, kit, item, gate.now()) {
         Ok(outcome) => Ok(outcome),
@@ -57,8 +58,8 @@ fn run_or_lose<P: Port, K: Artifacts, G: Gate>(
 ///
 /// # Errors
 ///
-/// The first refusal of a claim, a report or a query, or `OutOfMemory` where memory is refused. The
-/// work item that it ran then is given up by one `lose`.
+/// The first refusal of a claim, a report or a query, which is the port's last but for that of a loss; or
+/// `OutOfMemory` if memory is refused. The work item that it ran then is given up by one `lose`.
 pub fn worker<P: Port, K: Artifacts, G: Gate>(
     alloc: Global,
     port: &mut P,
@@ -67,8 +68,9 @@ pub fn worker<P: Port, K: Artifacts, G: Gate>(
     number: u64,
     turns: u64,
 ) -> Result<WorkerReport, Refusal>
-    ensures { IfOk result (λ report. finishes (P.reports port.new)
+    ensures finished { IfOk result (λ report. finishes (P.reports port.new)
         ≡ finishes (P.reports port.old) + report.items) }
+    ensures refused { IsRefusal result (P.refused port.old) (P.refused port.new) }
 {
     let mut items: u64 = 0;
     let mut idle: u64 = 0;

@@ -3,6 +3,7 @@ pub mod Turning
 pub mod Passing
 pub mod Tallying
 pub mod Running
+pub mod Applying
 pub mod Opening
 pub mod Flushing
 pub mod InMemory

@@ -67,32 +67,45 @@ passed {start = start} {now = now} {begun = begun} {held = held} {waited = waite
     passed_on begun held new waited waits R.output R.cutting.input (R.cutting.input ++ t.more) R.passing on grew
     (turn_on start now next p q (R.first ∷ R.later) r R.cutting t R.output R.passing.sent waits (text_so_far R) R.passing.turn prompt)
 
+-- a repository stands for the history after the lines that are answered
+pub record Standing (St : History → Type 0) (start now : Told) (begun held : Held) (waits : List ℕ) (p : Unread) (s : Summary) : Type 0 where
+  pub history : History
+  pub stands : St history
+  pub running : Running start now begun held waits p history s
+
 -- one more line
-pub goes_on : (start now next : Told) (begun held mid new : Held) (waited between waits : List ℕ) (p q : Unread) (h h' : History) (s s' : Summary) (l : Line) (x : List ℕ) (k : Kind) → Running start now begun held waited p h s → LineRead now next p q (Ok (Some l))
+pub goes_on : (St St' : History → Type 0) (start now next : Told) (begun held mid new : Held) (waited between waits : List ℕ) (p q : Unread) (s s' : Summary) (l : Line) (x : List ℕ) (k : Kind) (S : Standing St start now begun held waited p s) → LineRead now next p q (Ok (Some l))
     → IsPassedOn held mid waited between → Grew held mid → IsPrompt now next between (Ok (Some l))
-    → ((line : List ℕ) → Shows l line → x ≡ line_text h line) → ((line : List ℕ) → Shows l line → h' ≡ line_after h line)
-    → ((line : List ℕ) → Shows l line → k ≡ line_kind h line) → s' ≡ counted k s
-    → new.bytes ++ waits ≡ (mid.bytes ++ between) ++ x → Grew mid new → new.failures ≡ mid.failures → Running start next begun new waits q h' s'
-goes_on start now next begun held mid new waited between waits p q h h' s s' l x k R t on grew prompt text after kind more put grew_more quiet =
+    → ((line : List ℕ) → Shows l line → x ≡ line_text S.history line) → ((line : List ℕ) → Shows l line → St' (line_after S.history line))
+    → ((line : List ℕ) → Shows l line → k ≡ line_kind S.history line) → s' ≡ counted k s
+    → new.bytes ++ waits ≡ (mid.bytes ++ between) ++ x → Grew mid new → new.failures ≡ mid.failures → Standing St' start next begun new waits q s'
+goes_on St St' start now next begun held mid new waited between waits p q s s' l x k S t on grew prompt text after kind more put grew_more quiet =
+    let R = S.running in
+    let h = S.history in
     let cut = cut_next start now next p q (R.first ∷ R.later) l R.cutting t in
     let line = cut.0 in
+    let h' = line_after h line in
     let tail = λ (lines : List (List ℕ)). append_assoc R.later (line ∷ []) lines in
     let P = same_input begun mid between R.output (R.cutting.input ++ t.more) cut.2.0.input cut.2.1 (passed R next mid between q (Ok (Some l)) t on grew prompt) in
     record {
-      first = R.first;
-      later = R.later ++ line ∷ [];
-      catalogue = R.catalogue;
-      opening = R.opening;
-      cutting = cut.2.0;
-      output = R.output ++ x;
-      passing = put_behind begun mid new between waits R.output x cut.2.0.input P put grew_more quiet;
-      text = λ lines. ap (λ ls. text_of_lines (R.first ∷ ls)) (tail lines) ∙ R.text (line ∷ lines)
-          ∙ sym (append_assoc R.output x (replies h' lines) ∙ ap (λ b. R.output ++ (b ++ replies h' lines)) (text line cut.1) ∙ ap (λ k. R.output ++ (line_text h line ++ replies k lines)) (after line cut.1));
-      entries = λ lines. ap (λ ls. entries_of_lines (R.first ∷ ls)) (tail lines) ∙ R.entries (line ∷ lines) ∙ ap (λ k. length (history_past k lines).log) (sym (after line cut.1));
-      past = R.past ++ k ∷ [];
-      became = λ lines. ap (λ ls. kinds_of_lines (R.first ∷ ls)) (tail lines) ∙ R.became (line ∷ lines)
-          ∙ sym (append_assoc R.past (k ∷ []) (kinds h' lines) ∙ ap (λ b. R.past ++ (b ∷ kinds h' lines)) (kind line cut.1) ∙ ap (λ g. R.past ++ (line_kind h line ∷ kinds g lines)) (after line cut.1));
-      tallied = more ∙ ap (counted k) R.tallied ∙ one-line-more R.past k;
+      history = h';
+      stands = after line cut.1;
+      running = record {
+        first = R.first;
+        later = R.later ++ line ∷ [];
+        catalogue = R.catalogue;
+        opening = R.opening;
+        cutting = cut.2.0;
+        output = R.output ++ x;
+        passing = put_behind begun mid new between waits R.output x cut.2.0.input P put grew_more quiet;
+        text = λ lines. ap (λ ls. text_of_lines (R.first ∷ ls)) (tail lines) ∙ R.text (line ∷ lines)
+            ∙ sym (append_assoc R.output x (replies h' lines) ∙ ap (λ b. R.output ++ (b ++ replies h' lines)) (text line cut.1));
+        entries = λ lines. ap (λ ls. entries_of_lines (R.first ∷ ls)) (tail lines) ∙ R.entries (line ∷ lines);
+        past = R.past ++ k ∷ [];
+        became = λ lines. ap (λ ls. kinds_of_lines (R.first ∷ ls)) (tail lines) ∙ R.became (line ∷ lines)
+            ∙ sym (append_assoc R.past (k ∷ []) (kinds h' lines) ∙ ap (λ b. R.past ++ (b ∷ kinds h' lines)) (kind line cut.1));
+        tallied = more ∙ ap (counted k) R.tallied ∙ one-line-more R.past k;
+      };
     }
 
 abbrev with-entries : Summary → ℕ → Summary

@@ -5,6 +5,7 @@ pub use Rattle.script_lines.specs.Lines
 pub use Rattle.script_lines.specs.Unread
 pub mod Faults
 pub mod Script
+pub mod Standing
 pub mod Summaries
 pub mod Ran
 pub mod Reading

@@ -1,17 +1,19 @@
 ghost use Rattle.std.specs.Prelude.{◌≡◌, List, ℕ, Result, Err, IfOk, OnOk};
 ghost use Rattle.batch_history.specs.Due.{IsDue};
+ghost use Rattle.batch_history.specs.Rows.{History};
 ghost use Rattle.script_lines.specs.Lines.{Shows};
 ghost use Rattle.script_text.specs.declared.command.Command.TheVariants.{Act, Ask};
 ghost use Rattle.script_text.specs.Answers.{answer_text};
 ghost use Rattle.script_text.specs.Replies.{bad_line_text, reply_text};
+ghost use Rattle.script_engine.specs.Standing.{Stands};
 ghost use Rattle.script_engine.specs.Script.{line_text, line_after, text_for, history_for};
 ghost use Rattle.script_engine.specs.Summaries.{kind_for, kind_of, line_kind};
 ghost use Rattle.script_engine.specs.declared.summary.Kind.TheVariants.{Refused, Bad};
 
 use crate::summary::Kind;
 use batch_ids::{Moment, OutOfMemory, Refusal};
-use op_log::{Answer, Book, Call, Query, Reply};
 use script_lines::Line;
+use seq_repository::{Answer, Call, Query, Reply, Repository};
 use script_text::{Command, CommandReader, answer_text, bad_line_text, reply_text};
 use std::alloc::{AllocError, Global};
 
@@ -27,17 +29,20 @@ pub(crate) struct Answered {
     pub(crate) kind: Kind,
 }
 
-/// Answers a line. At an `Err` the history is left open.
+/// Answers a line after the operations before it. At an `Err` it is left open what the repository stands for.
 #[tactic(auto, unfolding(crate::specs::Script::line_text, crate::specs::Script::line_after, crate::specs::Summaries::line_kind))]
 pub(crate) fn answer(
     alloc: Global,
     commands: &mut CommandReader,
-    book: &mut Book<LIMIT>,
+    repository: &mut Repository<LIMIT>,
     line: &Line,
 ) -> Result<Answered, OutOfMemory>
-    ensures text { IfOk result (λ answered. (bytes : List ℕ) → Shows line.now bytes → answered.text.items ≡ line_text book.old bytes) }
-    ensures kind { IfOk result (λ answered. (bytes : List ℕ) → Shows line.now bytes → answered.kind ≡ line_kind book.old bytes) }
-    ensures after { OnOk result ((bytes : List ℕ) → Shows line.now bytes → book.new ≡ line_after book.old bytes) }
+    ensures text { (h : History) → Stands repository.old h
+        → IfOk result (λ answered. (bytes : List ℕ) → Shows line.now bytes → answered.text.items ≡ line_text h bytes) }
+    ensures kind { (h : History) → Stands repository.old h
+        → IfOk result (λ answered. (bytes : List ℕ) → Shows line.now bytes → answered.kind ≡ line_kind h bytes) }
+    ensures after { (h : History) → Stands repository.old h
+        → OnOk result ((bytes : List ℕ) → Shows line.now bytes → Stands repository.new (line_after h bytes)) }
 {
     match line {
         Line::Whole(bytes) => {
@@ -48,7 +53,7 @@ pub(crate) fn answer(
                 });
             }
             let command = commands.read(bytes)?;
-            answer_command(alloc, book, command)
+            answer_command(alloc, repository, command)
         }
         Line::TooLong => reply_bad_line(alloc),
     }
@@ -57,18 +62,18 @@ pub(crate) fn answer(
 /// Answers a command.
 fn answer_command(
     alloc: Global,
-    book: &mut Book<LIMIT>,
+    repository: &mut Repository<LIMIT>,
     command: Command,
 ) -> Result<Answered, OutOfMemory>
-    ensures text { IfOk result (λ answered. answered.text.items ≡ text_for book.old command) }
-    ensures kind { IfOk result (λ answered. answered.kind ≡ kind_for book.old command) }
-    ensures after { OnOk result (book.new ≡ history_for book.old command) }
+    ensures text { (h : History) → Stands repository.old h → IfOk result (λ answered. answered.text.items ≡ text_for h command) }
+    ensures kind { (h : History) → Stands repository.old h → IfOk result (λ answered. answered.kind ≡ kind_for h command) }
+    ensures after { (h : History) → Stands repository.old h → OnOk result (Stands repository.new (history_for h command)) }
 {
     match command {
         Command::BadLine => reply_bad_line(alloc),
         Command::TextTooLong => reply_refusal(alloc, Refusal::TextTooLong),
-        Command::Act { by, at, call } => act(alloc, book, by, at, call),
-        Command::Ask(query) => ask(alloc, book, &query),
+        Command::Act { by, at, call } => act(alloc, repository, by, at, call),
+        Command::Ask(query) => ask(alloc, repository, &query),
     }
 }
 
@@ -118,27 +123,27 @@ fn kind_of<R>(reply: &Result<R, Refusal>) -> Result<Kind, OutOfMemory>
 /// Answers a call.
 fn act(
     alloc: Global,
-    book: &mut Book<LIMIT>,
+    repository: &mut Repository<LIMIT>,
     by: u64,
     at: Moment,
     call: Call,
 ) -> Result<Answered, OutOfMemory>
-    ensures text { IfOk result (λ answered. answered.text.items ≡ text_for book.old (Act by at call)) }
-    ensures kind { IfOk result (λ answered. answered.kind ≡ kind_for book.old (Act by at call)) }
-    ensures after { OnOk result (book.new ≡ history_for book.old (Act by at call)) }
+    ensures text { (h : History) → Stands repository.old h → IfOk result (λ answered. answered.text.items ≡ text_for h (Act by at call)) }
+    ensures kind { (h : History) → Stands repository.old h → IfOk result (λ answered. answered.kind ≡ kind_for h (Act by at call)) }
+    ensures after { (h : History) → Stands repository.old h → OnOk result (Stands repository.new (history_for h (Act by at call))) }
 {
-    let reply = book.act(by, call, at);
+    let reply = repository.apply(by, &call, at);
     let answered = reply_line(alloc, &reply);
     drop(reply);
     answered
 }
 
 /// Answers a query.
-fn ask(alloc: Global, book: &Book<LIMIT>, query: &Query) -> Result<Answered, OutOfMemory>
-    ensures text { IfOk result (λ answered. answered.text.items ≡ text_for book.now (Ask query.now)) }
-    ensures kind { IfOk result (λ answered. answered.kind ≡ kind_for book.now (Ask query.now)) }
+fn ask(alloc: Global, repository: &Repository<LIMIT>, query: &Query) -> Result<Answered, OutOfMemory>
+    ensures text { (h : History) → Stands repository.now h → IfOk result (λ answered. answered.text.items ≡ text_for h (Ask query.now)) }
+    ensures kind { (h : History) → Stands repository.now h → IfOk result (λ answered. answered.kind ≡ kind_for h (Ask query.now)) }
 {
-    let answer = book.ask(query);
+    let answer = repository.ask(query);
     let answered = answer_line(alloc, &answer);
     drop(answer);
     answered

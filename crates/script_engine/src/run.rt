@@ -1,4 +1,6 @@
 ghost use Rattle.std.specs.Prelude.{◌≡◌, [], IfOk, box_value};
+ghost use Rattle.seq_repository.specs.Kept.{StandsFor};
+ghost use Rattle.script_engine.specs.Script.{begin};
 ghost use Rattle.script_engine.specs.Ran.{Ran, RanInMemory, RanSoFar, HoldsReplies, has_writer_failed};
 
 use crate::answer::{LIMIT, answer};
@@ -7,17 +9,20 @@ use crate::fault::EngineFault;
 use crate::summary::Summary;
 use batch_ids::OutOfMemory;
 use jsl_model::Catalogue;
-use op_log::Book;
 use script_lines::{Counted, InputBuffer, OutputBuffer, Sink, Source};
 use script_text::CommandReader;
+use seq_repository::Repository;
 use std::alloc::{AllocError, Global};
 
-/// A book with an empty log over this catalogue, on the heap.
-fn boxed_book(alloc: Global, catalogue: Catalogue) -> Result<Box<Book<LIMIT>>, OutOfMemory>
-    ensures { IfOk result (λ book. box_value book ≡ record { catalogue = catalogue; log = [] }) }
+/// A repository without an operation over this catalogue, on the heap.
+fn boxed_repository(
+    alloc: Global,
+    catalogue: Catalogue,
+) -> Result<Box<Repository<LIMIT>>, OutOfMemory>
+    ensures { IfOk result (λ repository. StandsFor (box_value repository) (begin catalogue)) }
 {
-    match Box::new(alloc, Book::new(alloc, catalogue)?) {
-        Ok(book) => Ok(book),
+    match Box::new(alloc, Repository::new(alloc, catalogue)?) {
+        Ok(repository) => Ok(repository),
         Err(refused) => {
             drop(refused);
             Err(AllocError)
@@ -41,16 +46,16 @@ fn run<R: Source, W: Sink>(
         Ok(catalogue) => catalogue,
         Err(fault) => return Err(tell_fault(alloc, output, writer, fault)),
     };
-    let mut boxed = boxed_book(alloc, catalogue)?;
-    let book: &mut Book<LIMIT> = &mut boxed;
+    let mut boxed = boxed_repository(alloc, catalogue)?;
+    let repository: &mut Repository<LIMIT> = &mut boxed;
     let mut commands = CommandReader::new(alloc);
     let mut summary = Summary::default();
     while let Some(line) = input.next_line(reader, output, writer)? {
-        let answered = answer(alloc, &mut commands, book, &line)?;
+        let answered = answer(alloc, &mut commands, repository, &line)?;
         output.put(writer, &answered.text)?;
         summary.count(answered.kind);
     }
-    summary.entries = book.len() as u64;
+    summary.entries = repository.len();
     Ok(summary)
 }
 
@@ -68,8 +73,8 @@ fn has_writer_failed(outcome: &Result<Summary, EngineFault>) -> bool
 /// A script is lines, each ended by a line feed; the last may lack it. The first line is the
 /// catalogue of jobs (no input at all counts as an empty first line), every other line a command or
 /// a query. An empty line has no reply; every other line has one, a line, in their order. A line of
-/// more than [`MAX_LINE`](crate::MAX_LINE) bytes is no command and no catalogue. The log has at
-/// most 1,000,000 operations. Replies are collected, 65,536 bytes at most, and written before the
+/// more than [`MAX_LINE`](crate::MAX_LINE) bytes is no command and no catalogue. At most
+/// 1,000,000 operations are accepted, of which none is kept as a call. Replies are collected, 65,536 bytes at most, and written before the
 /// reader is asked for more and at the end.
 ///
 /// # Errors

@@ -8,6 +8,7 @@ use jsl_json::read_catalogue;
 use jsl_model::Catalogue;
 use op_log::Reply;
 use seat_rules::{BookSeat, SeatTable, Site};
+use sessions::Session;
 use std::marker::Brand;
 use std::sync::Wait;
 
@@ -23,12 +24,13 @@ fn work_in(reply: &Reply) -> Result<WorkId> {
     }
 }
 
-/// Starts the job and claims its work, by a session that is dropped then.
+/// Starts the job and claims its work, by this session, which is dropped then.
 fn claim_and_drop<N: Site>(
     rt: &(impl Wait + AllocGlobal),
     operator: &Operator<N>,
+    session: Session<N>,
 ) -> Result<WorkId> {
-    let mut session = operator.open_session(rt)?;
+    let mut session = session;
     let job = T256::new(rt.alloc(), "a")?;
     drop(operator.start(rt, &mut session, job, Parameters::none(), 0));
     let reply = operator.claim(rt, &mut session, 0);
@@ -39,13 +41,14 @@ fn claim_and_drop<N: Site>(
     work
 }
 
-/// Gives the work up by another session, and opens a third.
+/// Drops a session while another is open, which gives its work up. Then opens a third.
 fn print_loss<N: Site>(
     rt: &(impl Wait + Print + AllocGlobal),
     operator: &Operator<N>,
 ) -> Result<()> {
-    let work = claim_and_drop(rt, operator)?;
+    let claimer = operator.open_session(rt)?;
     let mut session = operator.open_session(rt)?;
+    let work = claim_and_drop(rt, operator, claimer)?;
     let reply = operator.lose(rt, &mut session, work, 0)?;
     let is_done = matches!(reply, Reply::Done);
     drop(reply);
@@ -78,7 +81,7 @@ fn run_dropped<N: Site>(
     printed
 }
 
-/// A session claims work and is dropped: another gives its work up, and no number is used twice.
+/// A session claims work and is dropped: another, which was opened before, gives its work up, and no number is used twice.
 pub(crate) fn print_dropped_session(rt: &(impl Wait + Print + AllocGlobal)) -> Result<()> {
     let catalogue = read_catalogue(rt.alloc(), STEP)?;
     let (table, seat) = SeatTable::new(rt.alloc(), &catalogue)?;

@@ -6,7 +6,8 @@
 //!   sessions see of several read copies, and a session that is dropped.
 //! - Workers with an operator, and with a port that refuses: two of them at once, a step in partitions, a job of built-in
 //!   artifacts, what a worker and a pool report, a work item that is given up, a chunk whose artifacts fault at each of
-//!   their places, names that the kit lacks, stops that are seen or told, workers that give up, a worker that is idle, and
+//!   their places, names that the kit lacks, stops that are seen or told, workers that give up, what a
+//!   session finds unfinished, a worker that is idle, and
 //!   pools of which each worker is refused.
 #![tactic(auto)]
 
@@ -23,6 +24,7 @@ mod hosting;
 mod memory;
 mod operator_cases;
 mod pools;
+mod ports;
 mod quiet;
 mod refused_pools;
 mod refusing;
@@ -43,6 +45,7 @@ use fronts::print_fronts;
 use full_desk::print_full_desk;
 use operator_cases::run_operator_cases;
 use pools::{print_ahead, print_partitions, print_together};
+use ports::print_unfinished;
 use refused_pools::print_refused_pools;
 use refusing::print_given_up;
 use reports::print_reports;
@@ -64,6 +67,7 @@ fn print_workers<R: Threads + Wait + Print + AllocGlobal + Sync>(rt: &R) -> Resu
     print_ended_early(rt)?;
     print_stops(rt)?;
     print_all_turns(rt)?;
+    print_unfinished(rt)?;
     print_ahead(rt)?;
     print_refused_pools(rt)
 }

@@ -41,7 +41,9 @@ pub(crate) struct Memory {
     pub(crate) reports: Vec<Report>,
     stops: Vec<ExecutionId>,
     found_stop: bool,
+    finds: u64,
     refused: Option<Refusal>,
+    refused_loss: Option<Refusal>,
 }
 
 /// A work item with this to run.
@@ -79,7 +81,9 @@ impl Memory {
             reports: Vec::new(alloc),
             stops: Vec::new(alloc),
             found_stop: false,
+            finds: 0,
             refused: None,
+            refused_loss: None,
         }
     }
 
@@ -106,9 +110,11 @@ impl Port for Memory {
 
     ghost reports = { λ p. p.reports.items };
 
-    ghost stops = { λ p. stops_of p.stops.items p.found_stop };
+    ghost stops = { λ p. stops_of p.stops.items p.found_stop p.finds };
 
     ghost refused = { λ p. p.refused };
+
+    ghost refused_loss = { λ p. p.refused_loss };
 
     fn claim(&mut self, _at: Moment) -> Result<Claimed, Refusal> {
         self.claims = self.claims.saturating_add(1);
@@ -172,7 +178,7 @@ impl Port for Memory {
     fn lose(&mut self, _work: WorkId, _at: Moment) -> Result<(), Refusal> {
         self.losses = self.losses.saturating_add(1);
         if self.answers.refuses_loss {
-            self.refused = Some(Refusal::WorkNotRunning);
+            self.refused_loss = Some(Refusal::WorkNotRunning);
             return Err(Refusal::WorkNotRunning);
         }
         Ok(())
@@ -181,6 +187,9 @@ impl Port for Memory {
     fn stop_seen(&mut self, execution: ExecutionId) -> bool {
         self.looks = self.looks.saturating_add(1);
         self.found_stop = self.is_stopped() && self.stops.push(execution).is_ok();
+        if self.found_stop {
+            self.finds = self.finds.wrapping_add(1);
+        }
         self.found_stop
     }
 

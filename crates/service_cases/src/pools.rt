@@ -34,7 +34,7 @@ const AHEAD: &[u8] =
     b"{\"jobs\":[{\"id\":\"a\",\"elements\":[{\"kind\":\"step\",\"id\":\"r\",\"next\":\"p\",\"batchlet\":{\"ref\":\"ok\"}},{\"kind\":\"split\",\"id\":\"p\",\"flows\":[{\"kind\":\"flow\",\"id\":\"f\",\"elements\":[{\"kind\":\"step\",\"id\":\"s\",\"batchlet\":{\"ref\":\"ok\"}}]},{\"kind\":\"flow\",\"id\":\"g\",\"elements\":[{\"kind\":\"step\",\"id\":\"t\",\"batchlet\":{\"ref\":\"ok\"}}]}]}]}]}";
 
 /// How often a worker looks for what it waits for.
-const LOOKS: u64 = 10_000;
+const LOOKS: u64 = 100_000;
 
 /// How long it pauses after a look in vain, in turns of an empty loop.
 const PAUSES: u64 = 10_000;

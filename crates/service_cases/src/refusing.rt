@@ -14,6 +14,7 @@ struct Refusing {
     given_up: u64,
     claims: u64,
     refused: Option<Refusal>,
+    refused_loss: Option<Refusal>,
 }
 
 fn batchlet(alloc: Global) -> std::result::Result<WorkItem, OutOfMemory> {
@@ -34,9 +35,11 @@ impl Port for Refusing {
 
     ghost reports = { λ _. [] };
 
-    ghost stops = { λ _. stops_of [] false };
+    ghost stops = { λ _. stops_of [] false 0 };
 
     ghost refused = { λ p. p.refused };
+
+    ghost refused_loss = { λ p. p.refused_loss };
 
     fn claim(&mut self, _at: Moment) -> std::result::Result<Claimed, Refusal> {
         self.claims = self.claims.saturating_add(1);
@@ -74,7 +77,7 @@ impl Port for Refusing {
 
     fn lose(&mut self, _work: WorkId, _at: Moment) -> std::result::Result<(), Refusal> {
         self.given_up = self.given_up.saturating_add(1);
-        self.refused = Some(Refusal::RepositoryFull);
+        self.refused_loss = Some(Refusal::RepositoryFull);
         Err(Refusal::RepositoryFull)
     }
 
@@ -111,6 +114,7 @@ pub(crate) fn print_given_up(rt: &(impl Print + AllocGlobal)) -> Result<()> {
         given_up: 0,
         claims: 0,
         refused: None,
+        refused_loss: None,
     };
     let ended = worker(alloc, &mut port, &mut kit, &Open, 0, 3);
     drop(kit);

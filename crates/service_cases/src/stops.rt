@@ -131,7 +131,7 @@ fn print_item(
 }
 
 /// Chunks whose job execution is asked to stop: the port sees it at a look, or is told by the reply to
-/// a report. Then a chunk that drops the even items.
+/// a report. Then chunks that drop the even items.
 pub(crate) fn print_stops(rt: &(impl Print + AllocGlobal)) -> Result<()> {
     for (name, reader, seen_after, told_at) in &STOPS {
         let mut answers = ROOMY;
@@ -139,5 +139,6 @@ pub(crate) fn print_stops(rt: &(impl Print + AllocGlobal)) -> Result<()> {
         answers.told_at = Some(*told_at);
         print_item(rt, name, reader, None, answers)?;
     }
-    print_item(rt, "odd items", "count:5", Some("odd"), ROOMY)
+    print_item(rt, "odd items", "count:5", Some("odd"), ROOMY)?;
+    print_item(rt, "odd items of four", "count:4", Some("odd"), ROOMY)
 }

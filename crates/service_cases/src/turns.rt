@@ -7,20 +7,26 @@ use job_threads::{Gate, Kit, WorkerReport, worker};
 use std::alloc::Global;
 use std::sync::atomic::{AtomicU64, Ordering};
 
-/// Counts what a worker says to it.
+/// The number of each worker.
+const NUMBER: u64 = 7;
+
+/// Counts what a worker says to it, and adds up the numbers that it names.
 #[derive(Drop)]
 struct Counting {
     before: AtomicU64,
     idle: AtomicU64,
+    numbers: AtomicU64,
 }
 
 impl Gate for Counting {
-    fn before(&self, _worker: u64, _item: &WorkItem) {
+    fn before(&self, worker: u64, _item: &WorkItem) {
         self.before.fetch_add(1, Ordering::SeqCst);
+        self.numbers.fetch_add(worker, Ordering::SeqCst);
     }
 
-    fn idle(&self, _worker: u64) {
+    fn idle(&self, worker: u64) {
         self.idle.fetch_add(1, Ordering::SeqCst);
+        self.numbers.fetch_add(worker, Ordering::SeqCst);
     }
 
     fn now(&self) -> Moment {
@@ -43,7 +49,7 @@ fn work(
 ) -> Result<std::result::Result<WorkerReport, Refusal>> {
     let mut kit = Kit::new(alloc);
     kit.add("ok", Box::new(alloc, Quiet { alloc })?)?;
-    let reported = worker(alloc, port, &mut kit, gate, 0, turns);
+    let reported = worker(alloc, port, &mut kit, gate, NUMBER, turns);
     drop(kit);
     Ok(reported)
 }
@@ -58,6 +64,7 @@ fn print_worker(
     let gate = Counting {
         before: AtomicU64::new(0),
         idle: AtomicU64::new(0),
+        numbers: AtomicU64::new(0),
     };
     let report = work(rt.alloc(), port, &gate, turns)??;
     println!(rt;
@@ -65,9 +72,10 @@ fn print_worker(
         report.items, report.gave_up, port.claims, port.queries
     )?;
     println!(rt;
-        "{name} of {turns}: {} before a work item, {} idle",
+        "{name} of {turns}: {} before a work item, {} idle, numbers {}",
         gate.before.load(Ordering::SeqCst),
-        gate.idle.load(Ordering::SeqCst)
+        gate.idle.load(Ordering::SeqCst),
+        gate.numbers.load(Ordering::SeqCst)
     )?;
     Ok(())
 }

@@ -1,71 +1,103 @@
-//! A log that is full.
-use crate::copies::{CALLS, call_of, catalogue};
-use batch_history::{Call, Reply};
-use batch_ids::{ExecutionId, Refusal};
+//! Logs that are full.
+use crate::copies::{CALLS, catalogue};
 use op_log::Book;
+use script_text::{Command, answer_text, read_command, reply_text};
 use std::alloc::Global;
 use std::test::Fail;
 
-// A log over the catalogue that has room for one entry.
-fn book(alloc: Global) -> Result<Book<1>, Fail> {
-    let catalogue = catalogue(alloc)?;
-    Ok(Book::new(alloc, catalogue)?)
-}
-
-// Whether this is what the log answers a call.
-fn is_answered(book: &mut Book<1>, call: Call, wanted: &Result<Reply, Refusal>) -> bool {
-    let reply = book.act(1, call, 0);
-    let is_wanted = reply == *wanted;
-    drop(reply);
-    is_wanted
-}
-
-// What refuses the first calls to a log with room for one entry; the start, which is the first, is
-// entered.
-const REFUSED: [Option<Refusal>; 4] = [
-    None,
-    Some(Refusal::RepositoryFull),
-    Some(Refusal::NoSuchWork),
-    Some(Refusal::RepositoryFull),
-];
-
-// Whether this refuses a call, or where nothing does, the first job execution answers it.
-fn is_refused(book: &mut Book<1>, call: Call, refusal: Option<Refusal>) -> bool {
-    let wanted = match refusal {
-        None => Ok(Reply::Execution(ExecutionId::new(1))),
-        Some(refusal) => Err(refusal),
-    };
-    let is_wanted = is_answered(book, call, &wanted);
-    drop(wanted);
-    is_wanted
-}
-
-// Whether a start is entered, and what would be entered behind it is refused, behind the refusals of
-// the call itself.
-fn is_filled(alloc: Global, book: &mut Book<1>) -> Result<bool, Fail> {
-    for (line, refusal) in CALLS.iter().zip(&REFUSED) {
-        let call = call_of(alloc, line)?;
-        if !is_refused(book, call, *refusal) {
-            return Ok(false);
+// The text that a line is replied to.
+fn reply_to<const LIMIT: u64>(
+    alloc: Global,
+    book: &mut Book<LIMIT>,
+    line: &str,
+) -> Result<Vec<u8>, Fail> {
+    match read_command(alloc, line.as_bytes())? {
+        Command::Act { by, at, call } => {
+            let reply = book.act(by, call, at);
+            let text = reply_text(alloc, &reply);
+            drop(reply);
+            Ok(text?)
         }
+        Command::Ask(query) => {
+            let answer = book.ask(&query);
+            let text = answer_text(alloc, &answer);
+            drop(answer);
+            Ok(text?)
+        }
+        _ => Err("a line that is no command".into()),
     }
-    Ok(true)
 }
 
-// The same of a log that has room for one entry, and how many it then has. A claim without work makes no entry.
-fn fill_one(alloc: Global) -> Result<(bool, usize), Fail> {
-    let mut book = book(alloc)?;
-    let claimed = is_answered(&mut book, Call::Claim, &Ok(Reply::Nothing));
-    let filled = is_filled(alloc, &mut book);
+// Adds the replies to these lines.
+fn reply_to_all<const LIMIT: u64>(
+    alloc: Global,
+    book: &mut Book<LIMIT>,
+    lines: &[&str],
+    replies: &mut Vec<u8>,
+) -> Result<(), Fail> {
+    for line in lines {
+        replies.extend_from_slice(&reply_to(alloc, book, line)?)?;
+    }
+    Ok(())
+}
+
+// The replies of a log with room for so many operations, and how many it then has.
+fn replies_of<const LIMIT: u64>(alloc: Global, lines: &[&str]) -> Result<(Vec<u8>, usize), Fail> {
+    let mut book = Book::<LIMIT>::new(alloc, catalogue(alloc)?)?;
+    let mut replies = Vec::new(alloc);
+    let replied = reply_to_all(alloc, &mut book, lines, &mut replies);
     let len = book.len();
     drop(book);
-    Ok((filled? && claimed, len))
+    replied?;
+    Ok((replies, len))
 }
+
+// A claim that finds nothing makes no entry. Each other call is refused for what it is before the log is found to be full.
+const OF_ONE: &str = r#"{"nothing":true}
+{"execution":1}
+{"refused":"RepositoryFull"}
+{"refused":"NoSuchWork"}
+{"refused":"RepositoryFull"}
+"#;
 
 #[test]
 fn a_full_log_refuses_what_would_be_entered(rt: HostRuntime) -> Result<(), Fail> {
-    let (as_wanted, len) = fill_one(rt.alloc())?;
-    assert!(rt; as_wanted);
+    let lines = [CALLS[1], CALLS[0], CALLS[1], CALLS[2], CALLS[3]];
+    let (replies, len) = replies_of::<1>(rt.alloc(), &lines)?;
+    assert!(rt; replies.as_slice() == OF_ONE.as_bytes());
     assert_eq!(rt; len, 1);
+    Ok(())
+}
+
+const STOP_OF_9: &str = r#"{"do":"stop","by":1,"at":0,"execution":9}"#;
+
+const COUNT: &str = r#"{"ask":"job_instance_count","job":"a"}"#;
+
+const OF_TWO: &str = r#"{"execution":1}
+{"execution":2}
+{"refused":"RepositoryFull"}
+{"refused":"RepositoryFull"}
+{"refused":"NoSuchJobExecutionException"}
+{"refused":"RepositoryFull"}
+{"count":2}
+"#;
+
+#[test]
+fn a_log_of_two_operations_refuses_a_third(rt: HostRuntime) -> Result<(), Fail> {
+    let lines = [
+        CALLS[0], CALLS[0], CALLS[0], CALLS[1], STOP_OF_9, CALLS[3], COUNT,
+    ];
+    let (replies, len) = replies_of::<2>(rt.alloc(), &lines)?;
+    assert!(rt; replies.as_slice() == OF_TWO.as_bytes());
+    assert_eq!(rt; len, 2);
+    Ok(())
+}
+
+#[test]
+fn a_log_without_room_answers_a_claim(rt: HostRuntime) -> Result<(), Fail> {
+    let (replies, len) = replies_of::<0>(rt.alloc(), &[CALLS[1], CALLS[0]])?;
+    let wanted = "{\"nothing\":true}\n{\"refused\":\"RepositoryFull\"}\n";
+    assert!(rt; replies.as_slice() == wanted.as_bytes());
+    assert_eq!(rt; len, 0);
     Ok(())
 }

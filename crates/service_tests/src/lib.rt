@@ -1,6 +1,6 @@
 //! Tests that no script in a file can be. Of what lies below the repository: identifiers, jobs, graphs, members of JSON
-//! objects, transition elements, indexes of elements and walks. Of the service: copies, what a book prints, a full log, lines
-//! at their bound, scripts that are cut off, readers and writers that fail, a list of events, built-in artifacts, threads that
+//! objects, transition elements, indexes of elements and walks. Of the service: copies, what a book prints, full logs, lines
+//! of a reader and at their bound, scripts that are cut off, readers and writers that fail, a list of events, built-in artifacts, threads that
 //! wait for one another, and the words of a command line.
 #![tactic(auto)]
 
@@ -26,6 +26,8 @@ mod flaky;
 mod identifiers;
 #[cfg(test)]
 mod jobs;
+#[cfg(test)]
+mod line_readers;
 #[cfg(test)]
 mod object_members;
 #[cfg(test)]

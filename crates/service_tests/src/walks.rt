@@ -103,26 +103,33 @@ fn has_failed(cursor: &Cursor) -> bool {
     matches!(cursor.value(), Value::Ended { status, .. } if *status == failed)
 }
 
-/// Takes and reports the steps `s` and `t` of a walk. Whether both are ready at first; then `s` is taken, and `t` is ready;
-/// once `s` has failed and `t` is taken, none is ready; and in the end the walk has failed.
+/// Takes and reports the steps `s` and `t` of a walk. Whether both are ready at first; then `s` is busy and `t` is ready; then
+/// both are busy; once `s` has failed, `t` alone is busy; and in the end the walk has failed.
 fn walk_both(
     cursor: &mut Cursor,
     s: &WorkKey,
     t: &WorkKey,
     exit: &T256,
-) -> Result<[bool; 4], Fail> {
+) -> Result<[bool; 5], Fail> {
     let both_ready = cursor.is_ready(s) && cursor.is_ready(t);
     take(cursor, s)?;
-    let one_taken = cursor.is_busy(s) && cursor.is_ready(t);
-    report(cursor, s, WorkOutcome::Failed, exit)?;
+    let one_busy = cursor.is_busy(s) && cursor.is_ready(t);
     take(cursor, t)?;
-    let none_ready = cursor.ready().len() == 0;
+    let both_busy = cursor.is_busy(s) && cursor.is_busy(t);
+    report(cursor, s, WorkOutcome::Failed, exit)?;
+    let last_busy = !cursor.is_busy(s) && cursor.is_busy(t);
     report(cursor, t, WorkOutcome::Completed, exit)?;
-    Ok([both_ready, one_taken, none_ready, has_failed(cursor)])
+    Ok([
+        both_ready,
+        one_busy,
+        both_busy,
+        last_busy,
+        has_failed(cursor),
+    ])
 }
 
 /// The same of these steps by their ids.
-fn walk_s_and_t(alloc: Global, cursor: &mut Cursor) -> Result<[bool; 4], Fail> {
+fn walk_s_and_t(alloc: Global, cursor: &mut Cursor) -> Result<[bool; 5], Fail> {
     let s = key_of(alloc, "s")?;
     let t = key_of(alloc, "t")?;
     walk_both(cursor, &s, &t, &T256::empty())
@@ -133,7 +140,7 @@ fn a_walk_is_told_what_is_taken_and_reported(rt: HostRuntime) -> Result<(), Fail
     let mut cursor = begun(rt.alloc())?;
     let came = walk_s_and_t(rt.alloc(), &mut cursor);
     drop(cursor);
-    assert_eq!(rt; came?, [true; 4]);
+    assert_eq!(rt; came?, [true; 5]);
     Ok(())
 }
 
@@ -152,18 +159,24 @@ fn print_alike(alloc: Global, one: &Cursor, other: &Cursor) -> Result<bool, Fail
     Ok(printed == wanted)
 }
 
-/// Takes the step `t` of a copy. Whether it is taken there, and ready in the walk that was copied.
-fn take_in_copy(alloc: Global, cursor: &Cursor, copy: &mut Cursor) -> Result<[bool; 2], Fail> {
-    let t = key_of(alloc, "t")?;
-    take(copy, &t)?;
-    Ok([copy.is_busy(&t), cursor.is_ready(&t)])
+/// Walks a copy to its end: `s` fails before `t` is taken. Whether none is ready once `t` is taken, and the copy has failed
+/// then.
+fn walk_copy(copy: &mut Cursor, s: &WorkKey, t: &WorkKey, exit: &T256) -> Result<[bool; 2], Fail> {
+    report(copy, s, WorkOutcome::Failed, exit)?;
+    take(copy, t)?;
+    let none_ready = copy.ready().len() == 0;
+    report(copy, t, WorkOutcome::Completed, exit)?;
+    Ok([none_ready, has_failed(copy)])
 }
 
-/// Whether a copy prints as its walk does, and goes on by itself.
-fn goes_on(alloc: Global, cursor: &Cursor, copy: &mut Cursor) -> Result<[bool; 3], Fail> {
+/// Whether a copy prints as its walk does, and is walked to its end, while `s` stays busy and `t` ready in the walk.
+fn goes_on(alloc: Global, cursor: &Cursor, copy: &mut Cursor) -> Result<[bool; 4], Fail> {
     let alike = print_alike(alloc, copy, cursor)?;
-    let [taken, ready] = take_in_copy(alloc, cursor, copy)?;
-    Ok([alike, taken, ready])
+    let s = key_of(alloc, "s")?;
+    let t = key_of(alloc, "t")?;
+    let [none_ready, failed] = walk_copy(copy, &s, &t, &T256::empty())?;
+    let same = cursor.is_busy(&s) && cursor.is_ready(&t);
+    Ok([alike, none_ready, failed, same])
 }
 
 #[test]
@@ -171,12 +184,12 @@ fn a_copied_walk_goes_on_by_itself(rt: HostRuntime) -> Result<(), Fail> {
     let cursor = begun_and_taken(rt.alloc())?;
     let came = copy_goes_on(rt.alloc(), &cursor);
     drop(cursor);
-    assert_eq!(rt; came?, [true; 3]);
+    assert_eq!(rt; came?, [true; 4]);
     Ok(())
 }
 
 /// The same of a copy that is made here.
-fn copy_goes_on(alloc: Global, cursor: &Cursor) -> Result<[bool; 3], Fail> {
+fn copy_goes_on(alloc: Global, cursor: &Cursor) -> Result<[bool; 4], Fail> {
     let mut copy = cursor.try_clone()?;
     let came = goes_on(alloc, cursor, &mut copy);
     drop(copy);

@@ -4,6 +4,8 @@ use Rattle.script_lines.specs.declared.line.Line.{Line}
 use Rattle.script_lines.specs.Lines.{LineRead}
 use Rattle.script_lines.proofs.Cutting.{cut_bounded}
 use Rattle.script_engine.proofs.Running.{begins, goes_on, ends, no_memory, line_failed, put_failed}
+use Rattle.script_engine.specs.Script.{begin}
+use Rattle.script_engine.proofs.Applying.{begun, counted_all}
 use Rattle.script_engine.proofs.Tallying.{nothing-counted}
 use Rattle.script_engine.proofs.Opening.{nothing_done, nothing_asked, first_line, first_failed, refused}
 use Rattle.script_engine.proofs.run.run.Goals as goal
@@ -36,19 +38,24 @@ pub loop-commands-init : goal.loop-commands-init
 loop-commands-init g c =
     let line = c.in_ok-first.ensures in
     let first = first_line _ _ _ _ _ _ _ _ _ c.in_ok-input.ensures c.requires line.line line.passed_on line.grown in
-    rw (c.deref_mut-book.ensures.value ∙ c.in_ok-boxed.ensures) (begins _ _ _ _ _ _ first.0 c.in-Ok.catalogue _ first.2.0 (c.in-Ok.ensures.read first.0 first.1) first.2.1 (nothing-counted _ c.default-summary.ensures))
+    let stands = begun _ _ c.in_ok-boxed.ensures in
+    rw c.deref_mut-repository.ensures.value record {
+      history = begin c.in-Ok.catalogue;
+      stands = stands;
+      running = begins _ _ _ _ _ _ first.0 c.in-Ok.catalogue _ first.2.0 (c.in-Ok.ensures.read first.0 first.1) first.2.1 (nothing-counted _ c.default-summary.ensures);
+    }
 
 pub returns-in_err-line : goal.returns-in_err-line
 returns-in_err-line g c =
     let r = err_from_is_err_and c.from_residual-in_err-line.result c.from_residual-in_err-line.ensures.1 in
     let line = c.in_err-line.ensures in
-    rw (r.1, r.2) (line_failed _ _ _ _ _ _ _ _ _ _ _ _ _ c.loop-commands.invariant line.line line.passed_on line.grown line.prompt)
+    rw (r.1, r.2) (line_failed _ _ _ _ _ _ _ _ _ _ _ _ _ c.loop-commands.invariant.running line.line line.passed_on line.grown line.prompt)
 
 pub returns-in_err-answered : goal.returns-in_err-answered
 returns-in_err-answered g c =
     let r = err_from_is_err_and c.from_residual-in_err-answered.result c.from_residual-in_err-answered.ensures.1 in
     let line = c.in_ok-line.ensures in
-    rw (r.1, r.2) (no_memory _ _ _ _ _ _ _ _ _ _ _ _ _ c.loop-commands.invariant line.line line.passed_on line.grown line.prompt)
+    rw (r.1, r.2) (no_memory _ _ _ _ _ _ _ _ _ _ _ _ _ c.loop-commands.invariant.running line.line line.passed_on line.grown line.prompt)
 
 pub returns-in_err-put : goal.returns-in_err-put
 returns-in_err-put g c =
@@ -56,8 +63,8 @@ returns-in_err-put g c =
     let read = subst (λ (o : Option Line). LineRead (g.R.Source.tape c.loop-commands.reader) (g.R.Source.tape c.next_line-in-loop-commands.new.source) c.loop-commands.input c.next_line-in-loop-commands.new.self (Ok o)) c.in-Some.is line.line in
     let r = err_from_is_err_and c.from_residual-in_err-put.result c.from_residual-in_err-put.ensures.1 in
     let put = c.in_err-put.ensures in
-    rw (r.1, r.2) (put_failed _ _ _ _ _ _ _ _ _ _ _ _ _ _ c.in-Some.line _ put.err.0 c.loop-commands.invariant read line.passed_on line.grown line.prompt
-    (λ bytes shown. c.deref.ensures.value ∙ c.in_ok-answered.ensures.text bytes shown) put.err.1 put.err_failures)
+    rw (r.1, r.2) (put_failed _ _ _ _ _ _ _ _ _ _ _ _ _ _ c.in-Some.line _ put.err.0 c.loop-commands.invariant.running read line.passed_on line.grown line.prompt
+    (λ bytes shown. c.deref.ensures.value ∙ c.in_ok-answered.ensures.text c.loop-commands.invariant.history c.loop-commands.invariant.stands bytes shown) put.err.1 put.err_failures)
 
 pub loop-commands-preserved-in_ok-put : goal.loop-commands-preserved-in_ok-put
 loop-commands-preserved-in_ok-put g c =
@@ -65,7 +72,7 @@ loop-commands-preserved-in_ok-put g c =
     let read = subst (λ (o : Option Line). LineRead (g.R.Source.tape c.loop-commands.reader) (g.R.Source.tape c.next_line-in-loop-commands.new.source) c.loop-commands.input c.next_line-in-loop-commands.new.self (Ok o)) c.in-Some.is line.line in
     let put = c.in_ok-put.ensures in
     goes_on _ _ _ _ _ _ _ _ _ _ _ _ _ _ _ _ c.in-Some.line _ _ c.loop-commands.invariant read line.passed_on line.grown line.prompt
-    (λ bytes shown. c.deref.ensures.value ∙ c.in_ok-answered.ensures.text bytes shown) c.in_ok-answered.ensures.after (λ bytes shown. c.in_ok-answered.ensures.kind bytes shown) c.count.ensures put.ok put.ok_grown put.ok_failures
+    (λ bytes shown. c.deref.ensures.value ∙ c.in_ok-answered.ensures.text c.loop-commands.invariant.history c.loop-commands.invariant.stands bytes shown) (λ bytes shown. c.in_ok-answered.ensures.after c.loop-commands.invariant.history c.loop-commands.invariant.stands bytes shown) (λ bytes shown. c.in_ok-answered.ensures.kind c.loop-commands.invariant.history c.loop-commands.invariant.stands bytes shown) c.count.ensures put.ok put.ok_grown put.ok_failures
 
 pub loop-commands-preserved : goal.loop-commands-preserved
 loop-commands-preserved g c =
@@ -73,10 +80,10 @@ loop-commands-preserved g c =
     let read = subst (λ (o : Option Line). LineRead (g.R.Source.tape c.loop-commands.reader) (g.R.Source.tape c.next_line-in-loop-commands.new.source) c.loop-commands.input c.next_line-in-loop-commands.new.self (Ok o)) c.in-Some.is line.line in
     let put = c.in_ok-put.ensures in
     goes_on _ _ _ _ _ _ _ _ _ _ _ _ _ _ _ _ c.in-Some.line _ _ c.loop-commands.invariant read line.passed_on line.grown line.prompt
-    (λ bytes shown. c.deref.ensures.value ∙ c.in_ok-answered.ensures.text bytes shown) c.in_ok-answered.ensures.after (λ bytes shown. c.in_ok-answered.ensures.kind bytes shown) c.count.ensures put.ok put.ok_grown put.ok_failures
+    (λ bytes shown. c.deref.ensures.value ∙ c.in_ok-answered.ensures.text c.loop-commands.invariant.history c.loop-commands.invariant.stands bytes shown) (λ bytes shown. c.in_ok-answered.ensures.after c.loop-commands.invariant.history c.loop-commands.invariant.stands bytes shown) (λ bytes shown. c.in_ok-answered.ensures.kind c.loop-commands.invariant.history c.loop-commands.invariant.stands bytes shown) c.count.ensures put.ok put.ok_grown put.ok_failures
 
 pub returns : goal.returns
 returns g c =
     let line = c.in_ok-line.ensures in
     let read = subst (λ (o : Option Line). LineRead (g.R.Source.tape c.loop-commands.reader) (g.R.Source.tape c.next_line-in-loop-commands.new.source) c.loop-commands.input c.next_line-in-loop-commands.new.self (Ok o)) c.in_default.is line.line in
-    ends _ _ _ _ _ _ _ _ _ _ _ _ _ c.loop-commands.invariant read line.passed_on line.grown line.prompt c.len.ensures.length
+    ends _ _ _ _ _ _ _ _ _ _ _ _ _ c.loop-commands.invariant.running read line.passed_on line.grown line.prompt (c.len.ensures ∙ counted_all _ _ c.loop-commands.invariant.stands)
