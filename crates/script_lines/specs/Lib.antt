@@ -4,4 +4,4 @@ pub mod Noted
 pub mod Cut
 pub mod Unread
 pub mod Lines
-pub mod Taken
+pub mod AtHand

@@ -1,5 +1,5 @@
 -- How proofs store what a device has done.
-use Rattle.std.specs.Prelude.{ℕ, List, [], Option, refl}
+use Rattle.std.specs.Prelude.{ℕ, List, [], Option, Some, refl}
 use Rattle.std.specs.Coded.{Coded, code_by, coded×, coded_ℕ, coded_list}
 use Rattle.script_lines.specs.Device.{Told, Held}
 
@@ -18,6 +18,10 @@ nothing_past = record { bytes = []; ends = 0; failures = 0; calls = 0; narrow = 
 -- what a reader with this past told, which has so much left
 abbrev pub told_by : Past → Option (List ℕ) → Told
 told_by p left = record { bytes = p.bytes; ends = p.ends; failures = p.failures; calls = p.calls; narrow = p.narrow; left = left }
+
+-- what a reader of bytes in memory told, which has these left: it never failed
+abbrev pub told_in_memory : Past → List ℕ → Told
+told_in_memory p rest = record { bytes = p.bytes; ends = p.ends; failures = 0; calls = p.calls; narrow = p.narrow; left = Some rest }
 
 -- what a writer with this past took, which holds these contents
 abbrev pub held_by : Past → Option (List ℕ) → Held

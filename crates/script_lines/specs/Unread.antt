@@ -16,6 +16,10 @@ nothing_read = record { bytes = []; ended = false; reads_left = MAX_READS }
 abbrev pub skipped : ℕ → Unread → Unread
 skipped count p = record { bytes = drop count p.bytes; ended = p.ended; reads_left = p.reads_left }
 
+-- with all bytes used
+abbrev pub emptied : Unread → Unread
+emptied p = record { bytes = []; ended = p.ended; reads_left = p.reads_left }
+
 -- a measure of what is left to do, which falls with each line that is taken off
 abbrev pub weight : Unread → ℕ
 weight p = p.reads_left * (CHUNK + 1) + length p.bytes

@@ -1,5 +1,6 @@
-ghost use Rattle.std.specs.Prelude.{◌≡◌, ◌≢◌, ◌<◌, ◌≤◌, List, ℕ, [], true, length, IfOk, IsSome, Err, OnErr};
+ghost use Rattle.std.specs.Prelude.{◌≡◌, ◌≢◌, ◌<◌, ◌≤◌, List, ℕ, [], true, false, length, IfOk, IsSome, Err, OnErr};
 
+use crate::at_hand::AtHand;
 use crate::buffer::new_buffer;
 use crate::device::{Sink, Source};
 use crate::line::{Line, feed_at};
@@ -39,18 +40,9 @@ impl Model for InputBuffer {
     ghost invariant = { λ p. (length p.chunk.items ≡ CHUNK) × (p.end ≤ CHUNK) × (p.start ≤ p.end) × (p.ended ≡ true → p.start ≡ p.end) };
 }
 
-// What a line has become with what was at hand.
-#[derive(Drop)]
-enum Taken {
-    // Its line feed was there.
-    Whole(Line),
-    // It goes on.
-    Part(Line),
-}
-
 impl InputBuffer {
-    ghost use Rattle.script_lines.specs.Unread.{nothing_read, skipped, weight};
-    ghost use Rattle.script_lines.specs.Taken.{IsTaken, Filled};
+    ghost use Rattle.script_lines.specs.Unread.{nothing_read, skipped, emptied, weight};
+    ghost use Rattle.script_lines.specs.AtHand.{IsAtHand, Filled};
     ghost use Rattle.script_lines.specs.Device.{Takes};
     ghost use Rattle.script_lines.specs.Lines.{LineRead, PassedOn, IsPrompt};
     ghost use Rattle.script_lines.specs.declared.line.TheConstants.{MAX_LINE};
@@ -95,23 +87,47 @@ impl InputBuffer {
         self.start += count;
     }
 
-    // Takes what is at hand into the line, up to its first line feed.
-    fn take(&mut self, line: Line) -> Result<Taken, AllocError>
-        ensures ok { IfOk result (λ taken. IsTaken line self.old self.new taken) }
-        ensures err { OnErr result (self.new ≡ self.old) }
+    // Counts all bytes as used.
+    fn skip_all(&mut self)
+        ensures { self.new ≡ emptied self.old }
     {
+        self.start = self.end;
+    }
+
+    /// The next line, if it is whole in what was read. `part` is the beginning of that line: an empty line at first, and
+    /// later what the last call returned as [`AtHand::Part`]. No reader is called. So a caller can pass on what waits
+    /// before it asks for more by [`InputBuffer::fill`].
+    ///
+    /// # Errors
+    ///
+    /// `AllocError` if memory for the line is lacking. The part is dropped, and the bytes at hand stay.
+    pub fn line_at_hand(&mut self, part: Line) -> Result<AtHand, AllocError>
+        ensures ok { IfOk result (λ given. IsAtHand part self.old self.new given) }
+        ensures err { OnErr result ((self.new ≡ self.old) × (self.old.ended ≡ false)) }
+    {
+        if self.has_ended() {
+            return Ok(AtHand::End(part.unless_empty()));
+        }
         let bytes = self.unread();
         if let Some(at) = feed_at(bytes) {
-            let whole = line.add(&bytes[..at])?;
+            let line = part.add(&bytes[..at])?;
             self.skip(at + 1);
-            Ok(Taken::Whole(whole))
+            Ok(AtHand::Line(line))
         } else {
-            Ok(Taken::Part(line.add(bytes)?))
+            let longer = part.add(bytes)?;
+            self.skip_all();
+            Ok(AtHand::Part(longer))
         }
     }
 
-    // Reads the next chunk, where all of the last one was used.
-    fn fill<S: Source>(&mut self, source: &mut S) -> Result<(), LineFault>
+    /// Calls the reader once, for 65,536 bytes at most. All bytes at hand have to be used: [`InputBuffer::line_at_hand`]
+    /// has returned an [`AtHand::Part`].
+    ///
+    /// # Errors
+    ///
+    /// `Read` if the reader failed in this call, or may not be called again. No byte was told then.
+    pub fn fill<S: Source>(&mut self, source: &mut S) -> Result<(), LineFault>
+        requires used { self.old.bytes ≡ [] }
         ensures { Filled (S.tape source.old) (S.tape source.new) self.old self.new result }
     {
         if self.reads_left == 0 {
@@ -137,6 +153,7 @@ impl InputBuffer {
         source: &mut S,
         output: &OutputBuffer,
     ) -> Result<(), LineFault>
+        requires used { self.old.bytes ≡ [] }
         requires nothing_waits { output.now ≡ [] }
         ensures { Filled (S.tape source.old) (S.tape source.new) self.old self.new result }
     {
@@ -157,15 +174,15 @@ impl InputBuffer {
         ensures nothing_written { result ≢ Err LineFault.Write }
         ensures smaller { IfOk result (λ line. IsSome line → weight self.new < weight self.old) }
     {
-        let mut line = Line::Whole(Vec::new(self.alloc));
-        while !self.has_ended() {
-            line = match self.take(line)? {
-                Taken::Whole(whole) => return Ok(Some(whole)),
-                Taken::Part(part) => part,
+        let mut part = Line::Whole(Vec::new(self.alloc));
+        'reads: loop {
+            part = match self.line_at_hand(part)? {
+                AtHand::Line(line) => return Ok(Some(line)),
+                AtHand::End(last) => return Ok(last),
+                AtHand::Part(longer) => longer,
             };
             self.fill(source)?;
         }
-        Ok(line.unless_empty())
     }
 
     /// The next line. It ends with a line feed, which is taken off; the last line may lack one. `None` says that the
@@ -193,15 +210,15 @@ impl InputBuffer {
         ensures prompt { IsPrompt (S.tape source.old) (S.tape source.new) output.new result }
         ensures smaller { IfOk result (λ line. IsSome line → weight self.new < weight self.old) }
     {
-        let mut line = Line::Whole(Vec::new(self.alloc));
-        while !self.has_ended() {
-            line = match self.take(line)? {
-                Taken::Whole(whole) => return Ok(Some(whole)),
-                Taken::Part(part) => part,
+        let mut part = Line::Whole(Vec::new(self.alloc));
+        'reads: loop {
+            part = match self.line_at_hand(part)? {
+                AtHand::Line(line) => return Ok(Some(line)),
+                AtHand::End(last) => return Ok(last),
+                AtHand::Part(longer) => longer,
             };
             output.flush(writer).map_err(|_| LineFault::Write)?;
             self.fill_in_turn(source, output)?;
         }
-        Ok(line.unless_empty())
     }
 }

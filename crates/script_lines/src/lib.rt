@@ -2,6 +2,7 @@
 //! what a reader tells, and the output of text that waits to be written.
 #![tactic(auto)]
 
+mod at_hand;
 mod buffer;
 mod counted;
 mod device;
@@ -9,11 +10,14 @@ mod input_buffer;
 mod line;
 mod line_fault;
 mod output_buffer;
+mod slice_source;
 mod tape;
 
+pub use at_hand::AtHand;
 pub use counted::Counted;
 pub use device::{DeviceFault, Sink, Source};
 pub use input_buffer::{InputBuffer, MAX_READS};
 pub use line::{Line, MAX_LINE};
 pub use line_fault::LineFault;
 pub use output_buffer::{OUTPUT_BUFFER_SIZE, OutputBuffer};
+pub use slice_source::SliceSource;

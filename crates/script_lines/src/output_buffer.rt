@@ -50,21 +50,35 @@ impl OutputBuffer {
         self.used == 0
     }
 
-    // How many bytes more may wait.
-    fn room(&self) -> usize
+    /// The bytes that wait.
+    pub fn waiting(&self) -> &[u8]
+        ensures { result.now ≡ self.now }
+    {
+        &self.buffer[..self.used]
+    }
+
+    /// How many bytes more may wait.
+    pub fn room(&self) -> usize
         ensures { result + length self.now ≡ OUTPUT_BUFFER_SIZE }
     {
         OUTPUT_BUFFER_SIZE - self.used
     }
 
-    // Adds a part that there is room for.
-    fn append(&mut self, part: &[u8])
+    /// Adds a part that there is room for. Nothing is written, and no memory is asked for.
+    pub fn append(&mut self, part: &[u8])
         requires { length self.old + length part.now ≤ OUTPUT_BUFFER_SIZE }
         ensures { self.new ≡ self.old ++ part.now }
     {
         let end = self.used + part.len();
         self.buffer[self.used..end].copy_from_slice(part);
         self.used = end;
+    }
+
+    /// Drops all that waits, after a caller passed it on by itself.
+    pub fn clear(&mut self)
+        ensures { self.new ≡ [] }
+    {
+        self.used = 0;
     }
 
     /// Adds `text` behind what waits, and writes the buffer each time that it is full and more is to come.

@@ -1,25 +1,34 @@
 -- What is done with the bytes at hand, and to have more of them.
-use Rattle.std.specs.Prelude.{◌≡◌, ◌⊎◌, ℕ, ◌+◌, ◌<◌, ◌≤◌, List, [], ◌∷◌, ◌++◌, true, false, length, take, drop, Result, OnOk, OnErr, IfErr}
+use Rattle.std.specs.Prelude.{◌≡◌, ◌⊎◌, ℕ, ◌+◌, ◌<◌, ◌≤◌, List, [], ◌∷◌, ◌++◌, true, false, length, take, drop, Option, Result, OnOk, OnErr, IfErr, MatchOption}
 use Rattle.script_lines.specs.declared.line.Line.{Line}
 use Rattle.script_lines.specs.declared.line_fault.LineFault.{LineFault}
 use Rattle.script_lines.specs.declared.line_fault.LineFault.TheVariants.{Read}
 use Rattle.script_lines.specs.declared.input_buffer.TheConstants.{CHUNK}
-use Rattle.script_lines.specs.declared.input_buffer.Taken.{Taken}
-use Rattle.script_lines.specs.declared.input_buffer.Taken.TheVariants.{Whole, Part}
+use Rattle.script_lines.specs.declared.at_hand.AtHand.{AtHand}
+use Rattle.script_lines.specs.declared.at_hand.AtHand.TheVariants as given
 use Rattle.script_lines.specs.Cut.{has_feed}
 use Rattle.script_lines.specs.Device.{Told, Tells}
-use Rattle.script_lines.specs.Unread.{Unread, skipped}
+use Rattle.script_lines.specs.Unread.{Unread, skipped, emptied}
 use Rattle.script_lines.specs.Lines.{Shows, HasEnded}
 
 -- a line with more bytes behind it
 abbrev pub IsLonger : Line → List ℕ → Line → Type 0
 IsLonger line more longer = (bytes : List ℕ) → Shows line bytes → Shows longer (bytes ++ more)
 
--- the bytes before the first line feed are taken off with it; where there is none, all are taken, and stay at hand
-abbrev pub IsTaken : Line → Unread → Unread → Taken → Type 0
-IsTaken line before after (Whole whole) = (at : ℕ) × (at < length before.bytes) × (has_feed (take at before.bytes) ≡ false)
-    × (drop at before.bytes ≡ 10 ∷ drop (at + 1) before.bytes) × (after ≡ skipped (at + 1) before) × IsLonger line (take at before.bytes) whole
-IsTaken line before after (Part part) = (after ≡ before) × (has_feed before.bytes ≡ false) × IsLonger line before.bytes part
+-- the last line is the part, if that isn't empty
+abbrev pub IsLast : Line → Option Line → Type 0
+IsLast part last = (bytes : List ℕ) → Shows part bytes → MatchOption last (bytes ≡ []) (λ line. Shows line bytes × (0 < length bytes))
+
+-- what the bytes at hand make of a line that begins with a part
+abbrev pub IsAtHand : Line → Unread → Unread → AtHand → Type 0
+-- the bytes before the first line feed are taken off with it
+IsAtHand part before after (given.Line line) = (before.ended ≡ false)
+    × ((at : ℕ) × (at < length before.bytes) × (has_feed (take at before.bytes) ≡ false)
+    × (drop at before.bytes ≡ 10 ∷ drop (at + 1) before.bytes) × (after ≡ skipped (at + 1) before) × IsLonger part (take at before.bytes) line)
+-- there is no line feed, and all bytes are taken off
+IsAtHand part before after (given.Part longer) = (before.ended ≡ false) × (after ≡ emptied before) × (has_feed before.bytes ≡ false) × IsLonger part before.bytes longer
+-- there are no bytes, and there will be none
+IsAtHand part before after (given.End last) = (before.ended ≡ true) × (after ≡ before) × (before.bytes ≡ []) × IsLast part last
 
 -- the reader was called once, and what it told is at hand; or it failed or may not be called again, and told nothing
 pub record Filled (old new : Told) (before after : Unread) (result : Result Unit LineFault) : Type 0 where
