@@ -75,6 +75,8 @@ pub record RanInMemory (script text : List ℕ) (result : Result Summary EngineF
   pub front : (rest : List ℕ) × (r'.left ≡ Some rest) × (script ≡ ran.input ++ rest)
   pub empty : w.contents ≡ Some []
   pub all : (w'.contents ≡ Some text) × (text ≡ ran.output)
+  -- no read failed, so that an answer Read comes at the bound on reads alone
+  pub calm : r'.failures ≡ r.failures
 
 -- the buffer holds the text of a script that was run to its end, or the line of its catalogue's fault
 abbrev pub HoldsReplies : List ℕ → List ℕ → Result Summary EngineFault → Type 0

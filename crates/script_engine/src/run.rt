@@ -9,7 +9,7 @@ use crate::fault::EngineFault;
 use crate::summary::Summary;
 use batch_ids::OutOfMemory;
 use jsl_model::Catalogue;
-use script_lines::{Counted, InputBuffer, OutputBuffer, Sink, Source};
+use script_lines::{Counted, InputBuffer, OutputBuffer, Sink, SliceSource, Source};
 use script_text::CommandReader;
 use seq_repository::Repository;
 use std::alloc::{AllocError, Global};
@@ -103,12 +103,13 @@ pub fn run_script<R: Source, W: Sink>(
 
 /// Runs a script that stands in memory, by [`run_script`]. Gives the text that was written beside how
 /// the run ended: the replies to all its lines, or the line of its catalogue's fault. At `OutOfMemory` it
-/// is the replies to the lines before, and at `Write`, where the text has no memory, a front of them.
+/// is the replies to the lines before, and at `Write`, if the text has no memory, a front of them. No read
+/// fails: `Read` could come after 2^40 reads alone.
 pub fn answer_script(alloc: Global, script: &[u8]) -> (Vec<u8>, Result<Summary, EngineFault>)
     ensures replies { HoldsReplies script.now result.0.items result.1 }
     ensures ran { RanInMemory script.now result.0.items result.1 }
 {
-    let mut reader = Counted::new(script);
+    let mut reader = SliceSource::new(script);
     let mut writer = Counted::new(Vec::new(alloc));
     let outcome = run_script(alloc, &mut reader, &mut writer);
     (writer.into_inner(), outcome)

@@ -1,5 +1,5 @@
 use Rattle.std.proofs.Common.{◌≡◌, ◌∙◌, ap, sym, subst, Some, List, ℕ, []}
-use Rattle.script_lines.specs.Tape.{told_by, held_by}
+use Rattle.script_lines.specs.Tape.{told_in_memory, held_by}
 use Rattle.script_engine.specs.Ran.{Ran, RanInMemory}
 use Rattle.script_engine.proofs.InMemory.{ran_in_memory}
 use Rattle.script_engine.proofs.run.answer_script.Goals as goal
@@ -10,11 +10,11 @@ returns-clause-ran c =
     let p' = c.run_script-outcome.new.reader.tape.past in
     let q = c.new-writer.result.tape.past in
     let q' = c.run_script-outcome.new.writer.tape.past in
-    let rest = c.run_script-outcome.new.reader.inner.now in
+    let rest = c.run_script-outcome.new.reader.rest.now in
     let text = c.run_script-outcome.new.writer.inner.items in
-    let read : c.new-reader.result.inner.now ≡ c.args.script.now = ap (λ s. s.now) c.new-reader.ensures.device in
+    let read : c.new-reader.result.rest.now ≡ c.args.script.now = c.new-reader.ensures.rest in
     let none : c.new-writer.result.inner.items ≡ [] = ap (λ v. v.items) c.new-writer.ensures.device ∙ c.new.ensures.items in
     let whole : c.into_inner.result.items ≡ text = ap (λ v. v.items) c.into_inner.ensures in
-    let R = subst (λ b. Ran (told_by p (Some b)) (told_by p' (Some rest)) (held_by q (Some c.new-writer.result.inner.items)) (held_by q' (Some text)) c.run_script-outcome.result) read c.run_script-outcome.ensures in
-    let R' = subst (λ b. Ran (told_by p (Some c.args.script.now)) (told_by p' (Some rest)) (held_by q (Some b)) (held_by q' (Some text)) c.run_script-outcome.result) none R in
+    let R = subst (λ b. Ran (told_in_memory p b) (told_in_memory p' rest) (held_by q (Some c.new-writer.result.inner.items)) (held_by q' (Some text)) c.run_script-outcome.result) read c.run_script-outcome.ensures in
+    let R' = subst (λ b. Ran (told_in_memory p c.args.script.now) (told_in_memory p' rest) (held_by q (Some b)) (held_by q' (Some text)) c.run_script-outcome.result) none R in
     subst (λ b. RanInMemory c.args.script.now b c.run_script-outcome.result) (sym whole) (ran_in_memory p p' q q' c.args.script.now rest text c.run_script-outcome.result R')
