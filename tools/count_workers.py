@@ -2,8 +2,8 @@
 
     python3 tools/count_workers.py [--program PATH]
 
-Jobs are run by the proved program, which `rt ci` or `rt run` has built, with 1 to 16 workers, and with none named, which means 2.
-A library of our own, count_threads.c, is loaded ahead of it and counts the threads that it makes. A run with one worker more
+Jobs are run by the proved program, which `rt ci` or `rt run` has built, with 1 to 16 workers, and with no number, which means
+2. A library of our own, count_threads.c, is loaded ahead of it and counts the threads that it makes. A run with one worker more
 makes one thread more. Says nothing if that is so. Needs a C compiler, `cc`.
 """
 

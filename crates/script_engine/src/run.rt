@@ -73,9 +73,10 @@ fn has_writer_failed(outcome: &Result<Summary, EngineFault>) -> bool
 /// A script is lines, each ended by a line feed; the last may lack it. The first line is the
 /// catalogue of jobs (no input at all counts as an empty first line), every other line a command or
 /// a query. An empty line has no reply; every other line has one, a line, in their order. A line of
-/// more than [`MAX_LINE`](crate::MAX_LINE) bytes is no command and no catalogue. At most
-/// 1,000,000 operations are accepted, of which none is kept as a call. Replies are collected, 65,536 bytes at most, and written before the
-/// reader is asked for more and at the end.
+/// more than [`MAX_LINE`](crate::MAX_LINE) bytes is no command and no catalogue. At most 1,000,000
+/// operations are accepted. They are entered into the rows of a repository, and none is kept as an entry.
+/// Replies are collected, 65,536 bytes at most, and written before the reader is asked for more and at
+/// the end.
 ///
 /// # Errors
 ///
