@@ -17,3 +17,4 @@ pub mod StepShown
 pub mod StepMoments
 pub mod StepOutcomes
 pub mod StepAnswers
+pub mod Wider

@@ -2,9 +2,11 @@
 //! What every legal history keeps, in the words of its subject: laws above the definitions of
 //! rows, replies and answers. Each function does nothing; its contract is a law.
 
+mod growth;
 mod law;
 mod partitions;
 
+pub use growth::legal_histories_stay_legal_over_more_jobs;
 pub use law::{
     chunks_go_on_from_their_checkpoints, ends_are_moments_of_operations,
     finished_job_executions_stay_finished, job_executions_go_by_the_plan_of_their_restart,
