@@ -27,7 +27,7 @@ pub record Cutting (start now : Told) (p : Unread) (done : List (List ℕ)) : Ty
   pub drained : p.ended ≡ true → p.bytes ≡ []
 
 -- a line was cut off, whatever comes
-cut_off : (bytes line : List ℕ) (q : Unread) → has_feed line ≡ false → Cuts bytes line q → (more : List ℕ) → (q.ended ≡ true → more ≡ []) → lines_of (bytes ++ more) ≡ line ∷ lines_of (q.bytes ++ more)
+pub cut_off : (bytes line : List ℕ) (q : Unread) → has_feed line ≡ false → Cuts bytes line q → (more : List ℕ) → (q.ended ≡ true → more ≡ []) → lines_of (bytes ++ more) ≡ line ∷ lines_of (q.bytes ++ more)
 cut_off bytes line q clean (inl e) more h =
     ap (λ b. lines_of (b ++ more)) e ∙ ap lines_of (append_assoc line (10 ∷ q.bytes) more) ∙ lines_of-cut line (q.bytes ++ more) clean
 cut_off bytes [] q clean (inr e) more h = absurd (omega (arith, e.1))
@@ -36,13 +36,13 @@ cut_off bytes (b ∷ bs) q clean (inr e) more h =
     let last = ap (λ x. lines_of (x ++ more)) e.0 ∙ ap (λ x. lines_of ((b ∷ bs) ++ x)) none ∙ ap lines_of (append-nil (b ∷ bs)) ∙ lines_of-last b bs clean in
     last ∙ sym (ap (λ x. (b ∷ bs) ∷ lines_of (x ++ more)) e.2 ∙ ap (λ x. (b ∷ bs) ∷ lines_of x) none ∙ ap (λ x. (b ∷ bs) ∷ x) lines_of-nil)
 
-cut_off_whole : (bytes line : List ℕ) (q : Unread) → has_feed line ≡ false → Cuts bytes line q → q.ended ≡ false → (more : List ℕ) → whole_lines (bytes ++ more) ≡ line ∷ whole_lines (q.bytes ++ more)
+pub cut_off_whole : (bytes line : List ℕ) (q : Unread) → has_feed line ≡ false → Cuts bytes line q → q.ended ≡ false → (more : List ℕ) → whole_lines (bytes ++ more) ≡ line ∷ whole_lines (q.bytes ++ more)
 cut_off_whole bytes line q clean (inl e) open_end more =
     ap (λ b. whole_lines (b ++ more)) e ∙ ap whole_lines (append_assoc line (10 ∷ q.bytes) more) ∙ whole_lines-cut line (q.bytes ++ more) clean
 cut_off_whole bytes line q clean (inr e) open_end more = absurd (false≢true (sym open_end ∙ e.3))
 
 -- of nothing no line is cut off
-something : (bytes line : List ℕ) (q : Unread) → Cuts bytes line q → bytes ≡ [] → ⊥
+pub something : (bytes line : List ℕ) (q : Unread) → Cuts bytes line q → bytes ≡ [] → ⊥
 something bytes line q (inl e) none =
     let l : length bytes ≡ length line + length (10 ∷ q.bytes) = ap length e ∙ length-append line (10 ∷ q.bytes) in
     let z : length bytes ≡ 0 = ap length none in
@@ -59,7 +59,7 @@ ends_by start now next p true e before going still h = subst (λ (t : Told). Has
 ends_by start now next p false e before going still (inl t) = absurd (false≢true (sym e ∙ t))
 ends_by start now next p false e before going still (inr h) = (h.0 ∙ ap (λ n. n + 1) (going e), h.1)
 
-ends_after : (start now next : Told) (p : Unread) → (p.ended ≡ true → HasEnded start now) → (p.ended ≡ false → now.ends ≡ start.ends) → (p.ended ≡ true → next ≡ now) → (p.ended ≡ true) ⊎ HasEnded now next → HasEnded start next
+pub ends_after : (start now next : Told) (p : Unread) → (p.ended ≡ true → HasEnded start now) → (p.ended ≡ false → now.ends ≡ start.ends) → (p.ended ≡ true → next ≡ now) → (p.ended ≡ true) ⊎ HasEnded now next → HasEnded start next
 ends_after start now next p = ends_by start now next p p.ended refl
 
 caused : (start now next : Told) (p q : Unread) → now.failures ≡ start.failures → now.calls + p.reads_left ≡ start.calls + MAX_READS → next.calls + q.reads_left ≡ now.calls + p.reads_left

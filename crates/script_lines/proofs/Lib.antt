@@ -4,3 +4,4 @@ pub mod Skipping
 pub mod Growing
 pub mod CutLaws
 pub mod Cutting
+pub mod Following

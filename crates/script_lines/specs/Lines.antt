@@ -1,5 +1,5 @@
 -- What a call for the next line does.
-use Rattle.std.specs.Prelude.{◌≡◌, ◌⊎◌, ℕ, ◌+◌, ◌<◌, ◌≤◌, List, [], ◌∷◌, ◌++◌, true, false, length, take, Option, Some, None, Result, Ok, Err}
+use Rattle.std.specs.Prelude.{◌≡◌, ◌⊎◌, ℕ, ◌+◌, ◌<◌, ◌≤◌, nat_lt, List, [], ◌∷◌, ◌++◌, Bool, true, false, ◌||◌, if◌then◌else◌, length, take, drop, Option, Some, None, Result, Ok, Err}
 use Rattle.script_lines.specs.declared.line.TheConstants.{MAX_LINE}
 use Rattle.script_lines.specs.declared.line.Line.{Line}
 use Rattle.script_lines.specs.declared.line.Line.TheVariants.{Whole, TooLong}
@@ -8,7 +8,7 @@ use Rattle.script_lines.specs.declared.line_fault.LineFault.TheVariants.{Read, W
 use Rattle.script_lines.specs.declared.input_buffer.TheConstants.{MAX_READS}
 use Rattle.std.specs.Io.KnownBytes.{IsAtEnd}
 use Rattle.script_lines.specs.Device.{Told, Held, Tells, Takes, wide}
-use Rattle.script_lines.specs.Cut.{has_feed, whole_lines, script_lines}
+use Rattle.script_lines.specs.Cut.{has_feed, lines_of, whole_lines, script_lines}
 use Rattle.script_lines.specs.Unread.{Unread}
 
 -- the bytes that a line stands for
@@ -79,6 +79,31 @@ pub record LineRead (old new : Told) (before after : Unread) (result : Result (O
   pub ended : after.ended ≡ true → (before.ended ≡ true) ⊎ HasEnded old new
   pub going : after.ended ≡ false → new.ends ≡ old.ends
   pub later : old.ends ≤ new.ends
+
+-- what the reader told since
+abbrev pub told_since : Told → Told → List ℕ
+told_since old new = drop (length old.bytes) new.bytes
+
+-- whether the reader has told its end
+abbrev pub has_told_end : Told → Told → Unread → Bool
+has_told_end old new before = before.ended || nat_lt old.ends new.ends
+
+-- the lines of a text that was told to its end, or those that have their line feed
+abbrev pub complete_lines : Bool → List ℕ → List (List ℕ)
+complete_lines ended text = if ended then lines_of text else whole_lines text
+
+-- the complete lines of the bytes that were at hand before and of what the reader told since
+abbrev pub lines_since : Told → Told → Unread → List (List ℕ)
+lines_since old new before = complete_lines (has_told_end old new before) (before.bytes ++ told_since old new)
+
+-- lines were cut off what a reader told since
+pub record LinesRead (old new : Told) (before after : Unread) : Type 0 where
+  pub told : Tells old new (told_since old new)
+  -- each call of the reader counts
+  pub calls : new.calls + after.reads_left ≡ old.calls + before.reads_left
+  -- it told its end once at most
+  pub later : old.ends ≤ new.ends
+  pub once : new.ends ≤ old.ends + 1
 
 -- what was written and what waits are together what they were, and the writer didn't fail
 abbrev pub IsPassedOn : Held → Held → List ℕ → List ℕ → Type 0

@@ -71,8 +71,8 @@ impl InputBuffer {
         &self.chunk[self.start..self.end]
     }
 
-    // Whether the reader told its end.
-    fn has_ended(&self) -> bool
+    /// Whether the reader told its end. No byte is at hand then.
+    pub fn has_ended(&self) -> bool
         ensures value { result ≡ self.now.ended }
         ensures nothing_left { self.now.ended ≡ true → self.now.bytes ≡ [] }
     {
