@@ -1,5 +1,5 @@
-ghost use Rattle.std.specs.Prelude.{◌≡◌};
-ghost use Rattle.job_threads.specs.Ports.{onward_of};
+ghost use Rattle.std.specs.Prelude.{◌≡◌, if◌then◌else◌};
+ghost use Rattle.job_threads.specs.Ports.{one_more, onward_of};
 
 use crate::port::{Claimed, Port};
 use crate::report::Onward;
@@ -74,6 +74,13 @@ fn is_unfinished(answer: &Answer) -> bool {
         }
         _ => false,
     }
+}
+
+/// How many looks found a stop, after one more look.
+fn finds_after(finds: u64, found: bool) -> u64
+    ensures { result ≡ (if found then one_more finds else finds) }
+{
+    if found { finds.wrapping_add(1) } else { finds }
 }
 
 impl<R: Wait, N: Site> Port for SessionPort<'_, R, N> {
@@ -158,9 +165,7 @@ impl<R: Wait, N: Site> Port for SessionPort<'_, R, N> {
 
     fn stop_seen(&mut self, execution: ExecutionId) -> bool {
         self.found_stop = self.operator.stop_seen(&mut self.session, execution);
-        if self.found_stop {
-            self.finds = self.finds.wrapping_add(1);
-        }
+        self.finds = finds_after(self.finds, self.found_stop);
         self.found_stop
     }
 

@@ -1,7 +1,7 @@
 -- What a repository stands for after a call.
-use Rattle.std.proofs.Common.{◌≡◌, ◌∙◌, ℕ, Bool, true, false, Result, Ok, Err, cond, refl, sym, ap, subst, length}
+use Rattle.std.proofs.Common.{◌≡◌, ◌∙◌, ℕ, Bool, true, false, Result, Ok, Err, List, cond, refl, sym, ap, subst, length}
 use Rattle.std.proofs.lemmas.List.{length-reverse}
-use Rattle.std.specs.Prelude.{IfOk, OnErr, reverse}
+use Rattle.std.specs.Prelude.{IfOk, OnOk, OnErr}
 use Rattle.batch_ids.specs.declared.refusal.Refusal.{Refusal}
 use Rattle.jsl_model.specs.Jobs.{JobTree}
 use Rattle.batch_history.specs.Legal.{IsLegal, after_call, grown, history_after, most_operations}
@@ -34,6 +34,11 @@ applied kept new h who call at (Ok given) s is after same =
     subst (λ r. Stands new (history_after h who call at r)) is (after_accepted new h who call at given s.1 (sym is) after)
 applied kept new h who call at (Err refusal) s is after same =
     subst (λ r. Stands new (history_after h who call at r)) is (subst (λ k. Stands k h) (sym same) s)
+
+-- what follows at an Ok
+pub when_ok : {T E : Type 0} (result : Result T E) (P Q : Type 0) → (P → Q) → OnOk result P → OnOk result Q
+when_ok (Ok value) P Q f p = f p
+when_ok (Err fault) P Q f p = p
 
 -- before the first operation
 pub begun : (kept : Kept) (catalogue : List JobTree) → StandsFor kept (begin catalogue) → Stands kept (begin catalogue)

@@ -13,8 +13,8 @@ ghost use Rattle.script_engine.specs.declared.summary.Kind.TheVariants.{Refused,
 use crate::summary::Kind;
 use batch_ids::{Moment, OutOfMemory, Refusal};
 use script_lines::Line;
-use seq_repository::{Answer, Call, Query, Reply, Repository};
 use script_text::{Command, CommandReader, answer_text, bad_line_text, reply_text};
+use seq_repository::{Answer, Call, Query, Reply, Repository};
 use std::alloc::{AllocError, Global};
 
 /// How many operations the log may have.
@@ -139,7 +139,11 @@ fn act(
 }
 
 /// Answers a query.
-fn ask(alloc: Global, repository: &Repository<LIMIT>, query: &Query) -> Result<Answered, OutOfMemory>
+fn ask(
+    alloc: Global,
+    repository: &Repository<LIMIT>,
+    query: &Query,
+) -> Result<Answered, OutOfMemory>
     ensures text { (h : History) → Stands repository.now h → IfOk result (λ answered. answered.text.items ≡ text_for h (Ask query.now)) }
     ensures kind { (h : History) → Stands repository.now h → IfOk result (λ answered. answered.kind ≡ kind_for h (Ask query.now)) }
 {

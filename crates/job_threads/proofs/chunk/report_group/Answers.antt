@@ -14,7 +14,7 @@ returns-then-len-gt65536-clause-marks g c =
 pub returns-in-Err-within : goal.returns-in-Err-within
 returns-in-Err-within g c = record {
   marks = ((mark-told c.args.reader c.in-Ok.mark _ _ c.in-Ok.ensures).0, refl);
-  stops = (λ x h. h, refl);
+  stops = (λ x h. h, refl, refl);
   refused = inr (c.from.ensures, refl);
 }
 
