@@ -1,13 +1,22 @@
 // All that is asked of the system's files. No contract says what it does.
 use crate::file_fault::FileFault;
 use std::alloc::Global;
-use std::fs;
+use std::error::Error;
 use std::fs::{File, Files, OpenOptions, TryLockError};
 use std::io::{ErrorKind, Read, Seek, SeekFrom, Write};
+use std::{fmt, fs};
 
 /// A call of a file failed.
 #[derive(Clone, Copy, Debug, PartialEq, Eq)]
 pub struct CallFault;
+
+impl fmt::Display for CallFault {
+    fn fmt<W: fmt::Write>(&self, f: &mut fmt::Formatter<W>) -> fmt::Result {
+        f.write_str("a call of the file failed")
+    }
+}
+
+impl Error for CallFault {}
 
 /// What is asked of a file.
 pub trait FileCalls {
@@ -159,8 +168,8 @@ fn fill(file: &mut File, bytes: &[u8]) -> Result<(), FileFault> {
 ///
 /// # Errors
 ///
-/// - `Unavailable` if there is a file `PATH` by now, or the file cannot be made, written, renamed or synced.
-/// - `InUse` if another program makes it.
+/// - `Unavailable` if the file cannot be made, written, renamed or synced.
+/// - `InUse` if another program makes it, or there is a file `PATH` already.
 /// - `OutOfMemory` if memory for the name `PATH.new` is refused.
 pub fn create_file<R: Files<File = File>>(
     files: &R,
@@ -170,9 +179,9 @@ pub fn create_file<R: Files<File = File>>(
 ) -> Result<File, FileFault> {
     let draft = format!(in alloc; "{path}.new")?;
     let mut file = open_draft(files, &draft)?;
-    // Whoever made the file has locked this one first. So behind the lock nobody makes it any more.
+    // Whoever makes the file has this lock. So if there is a file now, it was made before, and this may be it.
     if files.symlink_metadata(path).is_ok() {
-        return Err(FileFault::Unavailable);
+        return Err(FileFault::InUse);
     }
     fill(&mut file, bytes)?;
     if fs::rename(files, draft.as_str(), path).is_err() {
