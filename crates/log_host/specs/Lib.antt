@@ -1,0 +1,5 @@
+pub mod Host
+pub mod Past
+pub mod Noted
+pub mod Laws
+pub mod Tears
