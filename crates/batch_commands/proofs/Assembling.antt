@@ -33,7 +33,7 @@ use Rattle.batch_commands.specs.Putting.{Grows, Breaks, Puts, Writes, Flushes, h
 use Rattle.batch_commands.specs.Reads.{AreRead, AreReadTo}
 use Rattle.batch_commands.specs.Runs.{AreReplied, HasRun, IsDueText, IsPart, IsPoolText, IsRunText, IsUnopened, IsWhole, IsFaultText, LinesReplied, LinesRun}
 use Rattle.batch_commands.specs.Starts.{AreStarted}
-use Rattle.batch_commands.specs.Turns.{IsDueBehind, IsPartOf, IsUnopenedOf, ListsAll, PutsReply, Runs, RunsSoFar, Started, Starts}
+use Rattle.batch_commands.specs.Turns.{IsDueBehind, IsPartOf, IsUnopenedOf, ListsAll, PutsReply, Runs, RunsSoFar, Started, Starts, pool_text}
 use Rattle.batch_commands.proofs.Putting.{put_nothing, unchanged, put_behind, broken, grows_on, grows_broken, grows_no_more, broken_no_more}
 use Rattle.batch_commands.proofs.Reading.{read_none, read_done}
 use Rattle.batch_commands.proofs.Replying.{puts_refused}
@@ -110,6 +110,11 @@ pub record Replied (catalogue : List JobTree) (before after : SessionView) (r r'
   pub read : AreReadTo r p lines (Ok None) r' p'
   pub started : Started catalogue before lines replies made after.seen
   pub grown : Grows w waited w' waits (replies ++ refused)
+
+-- what is told of a pool is nothing or a refusal
+pub pool_text_is : {A : Type 0} (ran : Result A Refusal) → IsPoolText (pool_text ran)
+pool_text_is (Ok report) = inl refl
+pool_text_is (Err refusal) = inr (refusal, refl)
 
 -- the replies are written
 pub replies_written : (catalogue : List JobTree) (before after : SessionView) (r r' : Told) (p p' : Unread) (w held w' : Held) (waited between waits : List ℕ) (made : ℕ)

@@ -96,3 +96,7 @@ not_begun r w = record {
   written = (refl, refl);
   bounded = (omega arith, omega arith);
 }
+
+-- nothing waited at the beginning
+pub from_nothing : (r r' : Told) (w held : Held) (waited waits : List ℕ) (result : Result Unit EngineFault) → waited ≡ [] → RunsSoFar r r' w waited held waits result → RunsSoFar r r' w [] held waits result
+from_nothing r r' w held waited waits result none R = subst (λ b. RunsSoFar r r' w b held waits result) none R

@@ -6,3 +6,5 @@ pub mod Listing
 pub mod Assembling
 pub mod Opening
 pub mod Ending
+pub mod Taking
+pub mod Building

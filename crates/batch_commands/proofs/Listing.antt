@@ -83,24 +83,29 @@ listed_more catalogue begun now after place text log L begins grows =
     subst (λ n. AreListed catalogue begun.seen n (text ++ execution_line (history catalogue log) (history catalogue after.seen) n) after.seen) (sym (add-one place))
     (now.seen, log, text, L, begins, grows, refl)
 
-pub one_listed : (catalogue : List JobTree) (begun now after : SessionView) (place : ℕ) (w held new : Held) (waited between waits : List ℕ) → Listing catalogue begun now place w waited held between
+one_listed_of : (catalogue : List JobTree) (begun now after : SessionView) (place : ℕ) (w held new : Held) (waited between waits : List ℕ) → Listing catalogue begun now place w waited held between
     → Lists catalogue now after (place + 1) held between new waits (Ok tt) → Listing catalogue begun after (place + 1) w waited new waits
-one_listed catalogue begun now after place w held new waited between waits L M = record {
+one_listed_of catalogue begun now after place w held new waited between waits L M = record {
   text = L.text ++ execution_line (history catalogue M.log) (history catalogue after.seen) (place + 1);
   listed = listed_more catalogue begun now after place L.text M.log L.listed M.begins M.grows;
   legal = λ _. M.legal;
   grown = grows_on w held new waited between waits L.text _ L.grown M.put;
 }
 
+pub one_listed : (catalogue : List JobTree) (begun now after : SessionView) (place x : ℕ) (w held new : Held) (waited between waits : List ℕ) → x ≡ place + 1 → Listing catalogue begun now place w waited held between
+    → Lists catalogue now after x held between new waits (Ok tt) → Listing catalogue begun after (place + 1) w waited new waits
+one_listed catalogue begun now after place x w held new waited between waits is L M =
+    one_listed_of catalogue begun now after place w held new waited between waits L (subst (λ n. Lists catalogue now after n held between new waits (Ok tt)) is M)
+
 pub all_listed : (catalogue : List JobTree) (begun now : SessionView) (place count : ℕ) (w w' : Held) (waited waits : List ℕ) → place ≡ count → Listing catalogue begun now place w waited w' waits → ListsAll catalogue begun now count w waited w' waits (Ok tt)
 all_listed catalogue begun now place count w w' waited waits e L = record { told = place; text = L.text; last = now.seen; enough = e; listed = L.listed; legal = L.legal; put = L.grown }
 
 -- a line is not put, or not to its end
-pub listed_short : (catalogue : List JobTree) (begun now after : SessionView) (place count : ℕ) (w held new : Held) (waited between waits : List ℕ) (fault : EngineFault) → place + 1 ≤ count → Listing catalogue begun now place w waited held between
+listed_short_of : (catalogue : List JobTree) (begun now after : SessionView) (place count : ℕ) (w held new : Held) (waited between waits : List ℕ) (fault : EngineFault) → place + 1 ≤ count → Listing catalogue begun now place w waited held between
     → Lists catalogue now after (place + 1) held between new waits (Err fault) → ListsAll catalogue begun after count w waited new waits (Err fault)
-listed_short catalogue begun now after place count w held new waited between waits (Catalogue told) within L M = absurd M.put
-listed_short catalogue begun now after place count w held new waited between waits Read within L M = absurd M.put
-listed_short catalogue begun now after place count w held new waited between waits Write within L M = record {
+listed_short_of catalogue begun now after place count w held new waited between waits (Catalogue told) within L M = absurd M.put
+listed_short_of catalogue begun now after place count w held new waited between waits Read within L M = absurd M.put
+listed_short_of catalogue begun now after place count w held new waited between waits Write within L M = record {
   told = place + 1;
   text = L.text ++ execution_line (history catalogue M.log) (history catalogue after.seen) (place + 1);
   last = after.seen;
@@ -109,7 +114,7 @@ listed_short catalogue begun now after place count w held new waited between wai
   legal = λ _. M.legal;
   put = grows_broken w held new waited between L.text _ L.grown M.put;
 }
-listed_short catalogue begun now after place count w held new waited between waits OutOfMemory within L M = record {
+listed_short_of catalogue begun now after place count w held new waited between waits OutOfMemory within L M = record {
   told = place;
   text = L.text;
   last = now.seen;
@@ -118,3 +123,8 @@ listed_short catalogue begun now after place count w held new waited between wai
   legal = L.legal;
   put = grows_no_more w held new waited between waits L.text L.grown M.put;
 }
+
+pub listed_short : (catalogue : List JobTree) (begun now after : SessionView) (place x count : ℕ) (w held new : Held) (waited between waits : List ℕ) (fault : EngineFault) → x ≡ place + 1 → place + 1 ≤ count → Listing catalogue begun now place w waited held between
+    → Lists catalogue now after x held between new waits (Err fault) → ListsAll catalogue begun after count w waited new waits (Err fault)
+listed_short catalogue begun now after place x count w held new waited between waits fault is within L M =
+    listed_short_of catalogue begun now after place count w held new waited between waits fault within L (subst (λ n. Lists catalogue now after n held between new waits (Err fault)) is M)

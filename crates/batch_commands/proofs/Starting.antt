@@ -1,5 +1,5 @@
 -- Start lines that are replied to one after another.
-use Rattle.std.proofs.Common.{◌≡◌, ◌∙◌, inl, inr, ℕ, ◌+◌, ◌-◌, ◌^◌, ◌==◌, ◌<◌, ◌≤◌, Bool, true, false, cond, List, [], ◌∷◌, ◌++◌, length, Option, Some, None, Result, Ok, Err, refl, sym, ap, subst, arith, append_assoc, add_assoc, zero-add, add-zero}
+use Rattle.std.proofs.Common.{◌≡◌, ◌≢◌, ◌∙◌, inl, inr, ℕ, ◌+◌, ◌-◌, ◌^◌, ◌==◌, ◌<◌, ◌≤◌, Bool, true, false, cond, List, [], ◌∷◌, ◌++◌, length, Option, Some, None, Result, Ok, Err, refl, sym, ap, subst, arith, append_assoc, add_assoc, zero-add, add-zero}
 use Rattle.std.specs.Prelude.{min}
 use Rattle.std.proofs.lemmas.List.{append-nil}
 use mathlib.Core.List.{IsPrefix}
@@ -260,3 +260,28 @@ starts_broken catalogue begun now after r mid next p left rest w held new waited
   started_so_far catalogue begun now S.lines S.text made S.gone,
   grows_no_more w held new waited between waits S.text S.grown G,
 )
+
+-- an answer that isn't a failed write has another fault
+pub not_write : {A : Type 0} (fault : LineFault) (answer : Result A LineFault) → answer ≡ Err fault → answer ≢ Err line_faults.Write → fault ≡ line_faults.Write → ⊥
+not_write fault answer is other e = other (is ∙ ap Err e)
+
+-- a line is replied to, and makes a job execution, which is counted
+pub turn_counted : (catalogue : List JobTree) (begun now after : SessionView) (r mid next : Told) (p left rest : Unread) (w held new : Held) (waited between waits : List ℕ) (made count : ℕ) (shown : Line) (is_made : Bool)
+    → Starting catalogue begun now r p mid left w waited held between made → (call : LineRead mid next left rest (Ok (Some shown))) → is_made ≡ true → count ≡ min (made + 1) (2 ^ 64 - 1)
+    → TurnsToLine catalogue now after call.outcome.0 held between new waits (Ok is_made) → Starting catalogue begun after r p next rest w waited new waits count
+turn_counted catalogue begun now after r mid next p left rest w held new waited between waits made count shown is_made S call made_one e (log, G, one, put) =
+    let line : List ℕ = call.outcome.0 in
+    let is : count ≡ made + start_made now.number line (history catalogue log) =
+    counted catalogue now after log (start_after now.number line (history catalogue log)).log made (start_made now.number line (history catalogue log)) count G (ap one_if (sym made_one) ∙ one) S.gone.own e in
+    subst (λ n. Starting catalogue begun after r p next rest w waited new waits n) (sym is)
+    (one_more catalogue begun now after r mid next p left rest w held new waited between waits made shown log S call G put)
+
+-- a line is replied to, and makes none
+pub turn_kept : (catalogue : List JobTree) (begun now after : SessionView) (r mid next : Told) (p left rest : Unread) (w held new : Held) (waited between waits : List ℕ) (made : ℕ) (shown : Line) (is_made : Bool)
+    → Starting catalogue begun now r p mid left w waited held between made → (call : LineRead mid next left rest (Ok (Some shown))) → is_made ≡ false
+    → TurnsToLine catalogue now after call.outcome.0 held between new waits (Ok is_made) → Starting catalogue begun after r p next rest w waited new waits made
+turn_kept catalogue begun now after r mid next p left rest w held new waited between waits made shown is_made S call no_start (log, G, one, put) =
+    let line : List ℕ = call.outcome.0 in
+    let none : 0 ≡ start_made now.number line (history catalogue log) = ap one_if (sym no_start) ∙ one in
+    subst (λ n. Starting catalogue begun after r p next rest w waited new waits n) (ap (λ n. made + n) (sym none) ∙ add-zero made)
+    (one_more catalogue begun now after r mid next p left rest w held new waited between waits made shown log S call G put)

@@ -8,6 +8,8 @@ use Rattle.clap.specs.Words.{Text, takes}
 use Rattle.clap.specs.ValueTests.{is_numeral, is_unsigned_in}
 use Rattle.clap.proofs.OnLiterals.{clap_on_literals}
 use Rattle.batch_commands.specs.Asked.{IsAsked, IsNumberText, AsksFor, HasOptions}
+use Rattle.clap.specs.declared.error.kind.ErrorKind.{ErrorKind}
+use Rattle.clap.specs.declared.error.kind.ErrorKind.TheVariants.{DisplayHelp, DisplayVersion, OutOfMemory}
 use Rattle.batch_commands.specs.Commands.{batchctl_app}
 use Rattle.batch_commands.specs.declared.asked.Arguments.{Arguments}
 use Rattle.batch_commands.specs.declared.asked.Arguments.TheVariants.{Script, Run}
@@ -172,3 +174,8 @@ takes_rest workers rest options some few (inr is) asks = ap (λ (ws : List (List
 pub asked_taken : (arguments : Arguments) (words : List (List ℕ)) → IsAsked arguments words → takes batchctl_app words ≡ true
 asked_taken Script words is = ap (takes batchctl_app) is ∙ takes_script
 asked_taken (Run workers) words (some, few, (rest, options, is, has, asks)) = ap (takes batchctl_app) is ∙ takes_rest workers rest options some few has asks
+
+-- want of memory is no text that the words ask for
+pub not_shown : (kind : ErrorKind) → kind ≡ OutOfMemory → (kind ≡ DisplayHelp) ⊎ (kind ≡ DisplayVersion) → ⊥
+not_shown kind memory (inl help) = absurd (cc (sym memory ∙ help))
+not_shown kind memory (inr version) = absurd (cc (sym memory ∙ version))

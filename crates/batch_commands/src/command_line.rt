@@ -1,5 +1,5 @@
 ghost use Rattle.std.specs.Prelude.{◌≡◌, ◌≤◌, ◌↔◌, ◌∷◌, ◌++◌, List, ℕ, [], false, IsTrue, IfOk, IfSome, IfErr, IsErrAnd, codes, map};
-ghost use Rattle.clap.specs.Words.{app_of, fields_of, new_app, rule_of};
+ghost use Rattle.clap.specs.Words.{app_of, new_app, rule_of};
 ghost use Rattle.batch_commands.specs.Asked.{IsAsked, IsNumberText, AskForNone, AsksFor, HasOptions};
 ghost use Rattle.batch_commands.specs.Commands.{IsShown, bare_app, batchctl_app, run_app, script_app, scripts_app, workers_rule};
 
@@ -109,8 +109,7 @@ fn asked(matches: &ArgMatches<'_>, words: &[&str]) -> Option<Arguments>
 
 /// The command `script`.
 fn script_command<'a>(alloc: Global) -> Command<'a>
-    ensures shape { app_of result ≡ script_app }
-    ensures local { (fields_of result).has_globals ≡ false }
+    ensures { app_of result ≡ script_app }
 {
     Command::new(alloc, "script")
         .about(SCRIPT_ABOUT)
@@ -132,8 +131,7 @@ fn workers_argument<'a>(alloc: Global) -> Arg<'a>
 
 /// The command `run`.
 fn run_command<'a>(alloc: Global) -> Result<Command<'a>, AllocError>
-    ensures shape { IfOk result (λ command. app_of command ≡ run_app) }
-    ensures local { IfOk result (λ command. (fields_of command).has_globals ≡ false) }
+    ensures { IfOk result (λ command. app_of command ≡ run_app) }
 {
     Command::new(alloc, "run")
         .about(RUN_ABOUT)
