@@ -23,3 +23,7 @@ HasOptions options words = (words ≡ options) ⊎ (words ≡ options ++ codes "
 abbrev pub IsAsked : Arguments → List (List ℕ) → Type 0
 IsAsked Script words = words ≡ codes "script" ∷ []
 IsAsked (Run workers) words = (1 ≤ workers) × (workers ≤ 16) × ((rest : List (List ℕ)) × (options : List (List ℕ)) × (words ≡ codes "run" ∷ rest) × HasOptions options rest × AsksFor workers options)
+
+-- the words ask for neither a script nor a run
+abbrev pub AskForNone : List (List ℕ) → Type 0
+AskForNone words = (arguments : Arguments) → IsAsked arguments words → ⊥

@@ -1,2 +1,9 @@
 pub mod Asked
+pub mod Commands
+pub mod Putting
+pub mod Reads
+pub mod Starts
+pub mod Listing
+pub mod Runs
+pub mod Turns
 pub mod Statuses

@@ -5,7 +5,8 @@ use Rattle.script_engine.specs.declared.fault.EngineFault.TheVariants.{Catalogue
 use Rattle.script_engine.specs.declared.summary.Summary.{Summary}
 use Rattle.script_engine.specs.Ran.{Ran}
 use Rattle.script_lines.specs.Device.{Told, Held}
-use Rattle.batch_commands.specs.Asked.{IsAsked}
+use Rattle.batch_commands.specs.Asked.{IsAsked, AskForNone}
+use Rattle.batch_commands.specs.Runs.{HasRun}
 use Rattle.batch_commands.specs.declared.asked.Arguments.TheVariants.{Script, Run}
 
 -- 0 done, 3 the catalogue is refused, 4 a read or a write failed, 5 out of memory
@@ -20,18 +21,18 @@ exit_status (Err OutOfMemory) = 5
 abbrev pub IsRefused : Told → Told → Held → Held → ℕ → Type 0
 IsRefused r r' w w' status = (status ≡ 2) × (r' ≡ r) × (w' ≡ w)
 
--- the words ask for a text, as for help: it is written or the writer fails, and nothing is read
-abbrev pub IsText : Told → Told → ℕ → Type 0
-IsText r r' status = ((status ≡ 0) ⊎ (status ≡ 4)) × (r' ≡ r)
+-- the words ask for a text, as for help, and for neither a script nor a run: it is written or the writer fails, and nothing is read
+abbrev pub IsText : List (List ℕ) → Told → Told → ℕ → Type 0
+IsText words r r' status = AskForNone words × ((status ≡ 0) ⊎ (status ≡ 4)) × (r' ≡ r)
 
 -- the words ask for a script, which is run
 abbrev pub IsScript : List (List ℕ) → Told → Told → Held → Held → ℕ → Type 0
 IsScript words r r' w w' status = (outcome : Result Summary EngineFault) × IsAsked Script words × Ran r r' w w' outcome × (status ≡ exit_status outcome)
 
--- the words ask for a run by so many workers
-abbrev pub IsRun : List (List ℕ) → ℕ → Type 0
-IsRun words status = (workers : ℕ) × (outcome : Result Unit EngineFault) × IsAsked (Run workers) words × (status ≡ exit_status outcome)
+-- the words ask for a run by so many workers, which is done
+abbrev pub IsRun : List (List ℕ) → Told → Told → Held → Held → ℕ → Type 0
+IsRun words r r' w w' status = (workers : ℕ) × (outcome : Result Unit EngineFault) × IsAsked (Run workers) words × HasRun r r' w w' outcome × (status ≡ exit_status outcome)
 
 -- THE EXIT STATUS: it says what became of the words
 abbrev pub IsServed : List (List ℕ) → Told → Told → Held → Held → ℕ → Type 0
-IsServed words r r' w w' status = IsRefused r r' w w' status ⊎ IsText r r' status ⊎ IsScript words r r' w w' status ⊎ IsRun words status
+IsServed words r r' w w' status = IsRefused r r' w w' status ⊎ IsText words r r' status ⊎ IsScript words r r' w w' status ⊎ IsRun words r r' w w' status

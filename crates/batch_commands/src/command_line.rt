@@ -1,5 +1,7 @@
-ghost use Rattle.std.specs.Prelude.{◌≡◌, ◌≤◌, ◌↔◌, ◌∷◌, ◌++◌, List, ℕ, [], IsTrue, IfOk, IfSome, IsErr, codes, map};
-ghost use Rattle.batch_commands.specs.Asked.{IsAsked, IsNumberText, AsksFor, HasOptions};
+ghost use Rattle.std.specs.Prelude.{◌≡◌, ◌≤◌, ◌↔◌, ◌∷◌, ◌++◌, List, ℕ, [], false, IsTrue, IfOk, IfSome, IfErr, IsErrAnd, codes, map};
+ghost use Rattle.clap.specs.Words.{app_of, new_app, rule_of};
+ghost use Rattle.batch_commands.specs.Asked.{IsAsked, IsNumberText, AskForNone, AsksFor, HasOptions};
+ghost use Rattle.batch_commands.specs.Commands.{IsShown, bare_app, batchctl_app, run_app, script_app, scripts_app, workers_rule};
 
 use crate::asked::Arguments;
 use crate::help::{ABOUT, RUN_ABOUT, RUN_HELP, SCRIPT_ABOUT, SCRIPT_HELP, WORKERS_HELP};
@@ -106,14 +108,19 @@ fn asked(matches: &ArgMatches<'_>, words: &[&str]) -> Option<Arguments>
 }
 
 /// The command `script`.
-fn script_command<'a>(alloc: Global) -> Command<'a> {
+fn script_command<'a>(alloc: Global) -> Command<'a>
+    ensures { app_of result ≡ script_app }
+{
     Command::new(alloc, "script")
         .about(SCRIPT_ABOUT)
         .after_help(SCRIPT_HELP)
 }
 
 /// The argument `--workers` of the command `run`.
-fn workers_argument<'a>(alloc: Global) -> Arg<'a> {
+fn workers_argument<'a>(alloc: Global) -> Arg<'a>
+    ensures rule { rule_of result ≡ workers_rule }
+    ensures local { result.global ≡ false }
+{
     Arg::new(alloc, "workers")
         .long("workers")
         .value_name("N")
@@ -123,7 +130,9 @@ fn workers_argument<'a>(alloc: Global) -> Arg<'a> {
 }
 
 /// The command `run`.
-fn run_command<'a>(alloc: Global) -> Result<Command<'a>, AllocError> {
+fn run_command<'a>(alloc: Global) -> Result<Command<'a>, AllocError>
+    ensures { IfOk result (λ command. app_of command ≡ run_app) }
+{
     Command::new(alloc, "run")
         .about(RUN_ABOUT)
         .after_help(RUN_HELP)
@@ -138,9 +147,10 @@ fn run_command<'a>(alloc: Global) -> Result<Command<'a>, AllocError> {
 /// # Errors
 ///
 /// `clap`'s, where they are other words, also for a request for help or for the version; and where
-/// memory is refused.
+/// memory is refused. None of them asks for a text where the words ask for a script or a run.
 pub fn arguments<'a>(alloc: Global, words: &'a [&'a str]) -> Result<Arguments, Error>
     ensures only { IfOk result (λ arguments. IsAsked arguments (map (λ word. word.now) words.now)) }
+    ensures shown { IfErr result (λ error. IsShown error → AskForNone (map (λ word. word.now) words.now)) }
 {
     let mut command = batchctl_command(alloc)?;
     let read = read_words(&mut command, words);
@@ -149,12 +159,16 @@ pub fn arguments<'a>(alloc: Global, words: &'a [&'a str]) -> Result<Arguments, E
 }
 
 /// The program's name, which its help has before each command.
-fn named_command<'a>(alloc: Global) -> Result<Command<'a>, AllocError> {
+fn named_command<'a>(alloc: Global) -> Result<Command<'a>, AllocError>
+    ensures { IfOk result (λ command. app_of command ≡ new_app (codes "batchctl")) }
+{
     Command::new(alloc, "batchctl").bin_name("batchctl")
 }
 
 /// The command of the program without its subcommands.
-fn bare_command<'a>(alloc: Global) -> Result<Command<'a>, AllocError> {
+fn bare_command<'a>(alloc: Global) -> Result<Command<'a>, AllocError>
+    ensures { IfOk result (λ command. app_of command ≡ bare_app) }
+{
     let named = named_command(alloc)?;
     Ok(
         named
@@ -167,12 +181,16 @@ fn bare_command<'a>(alloc: Global) -> Result<Command<'a>, AllocError> {
 }
 
 /// The same with `script`.
-fn command_of_scripts<'a>(alloc: Global) -> Result<Command<'a>, AllocError> {
+fn command_of_scripts<'a>(alloc: Global) -> Result<Command<'a>, AllocError>
+    ensures { IfOk result (λ command. app_of command ≡ scripts_app) }
+{
     bare_command(alloc)?.subcommand(script_command(alloc))
 }
 
 /// The command of the program.
-fn batchctl_command<'a>(alloc: Global) -> Result<Command<'a>, AllocError> {
+fn batchctl_command<'a>(alloc: Global) -> Result<Command<'a>, AllocError>
+    ensures { IfOk result (λ command. app_of command ≡ batchctl_app) }
+{
     let command = command_of_scripts(alloc)?;
     match run_command(alloc) {
         Ok(run) => command.subcommand(run),
@@ -185,7 +203,9 @@ fn batchctl_command<'a>(alloc: Global) -> Result<Command<'a>, AllocError> {
 
 /// What the words ask for by this command.
 fn read_words<'a>(command: &mut Command<'a>, words: &'a [&'a str]) -> Result<Arguments, Error>
-    ensures { IfOk result (λ arguments. IsAsked arguments (map (λ word. word.now) words.now)) }
+    requires { app_of command.old ≡ batchctl_app }
+    ensures only { IfOk result (λ arguments. IsAsked arguments (map (λ word. word.now) words.now)) }
+    ensures shown { IfErr result (λ error. IsShown error → AskForNone (map (λ word. word.now) words.now)) }
 {
     let matches = command.try_get_matches_from_mut(words)?;
     let asked = asked(&matches, words);
@@ -198,7 +218,7 @@ fn read_words<'a>(command: &mut Command<'a>, words: &'a [&'a str]) -> Result<Arg
 
 /// Refuses words that ask for nothing, though the command accepts them.
 fn refuse_others(command: &mut Command<'_>) -> Result<Arguments, Error>
-    ensures { IsErr result }
+    ensures { IsErrAnd result (λ error. IsShown error → ⊥) }
 {
     Err(command.error(
         ErrorKind::InvalidSubcommand,

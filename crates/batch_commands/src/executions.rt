@@ -1,9 +1,13 @@
 // What is told of the job executions of a run.
-use crate::replies::Replies;
+ghost use Rattle.batch_commands.specs.Listing.{text_of};
+ghost use Rattle.batch_commands.specs.Putting.{Puts};
+ghost use Rattle.batch_commands.specs.Turns.{Lists, ListsAll, ListsWith};
+
+use crate::replies::{put, put_refusal};
 use batch_history::Answer;
 use batch_ids::ExecutionId;
 use batch_operator::Operator;
-use script_engine::{EngineFault, Sink, execution_text};
+use script_engine::{EngineFault, OutputBuffer, Sink, execution_text};
 use seat_rules::Site;
 use sessions::Session;
 use std::alloc::Global;
@@ -15,8 +19,11 @@ fn put_line<W: Sink>(
     alloc: Global,
     execution: &Answer,
     steps: &Answer,
-    replies: &mut Replies<'_, W>,
-) -> Result<(), EngineFault> {
+    output: &mut OutputBuffer,
+    writer: &mut W,
+) -> Result<(), EngineFault>
+    ensures { Puts (W.tape writer.old) output.old (W.tape writer.new) output.new (text_of steps.now execution.now) result }
+{
     let Answer::JobExecution(execution) = execution else {
         return Ok(());
     };
@@ -24,7 +31,7 @@ fn put_line<W: Sink>(
         return Ok(());
     };
     let line = execution_text(alloc, execution, steps.as_slice())?;
-    replies.put(&line)
+    put(output, writer, &line)
 }
 
 /// Adds the line of a job execution, whose step executions these are.
@@ -34,15 +41,18 @@ fn put_with_steps<N: Site, R: Wait + AllocGlobal, W: Sink>(
     session: &mut Session<N>,
     x: ExecutionId,
     steps: &Answer,
-    replies: &mut Replies<'_, W>,
-) -> Result<(), EngineFault> {
+    output: &mut OutputBuffer,
+    writer: &mut W,
+) -> Result<(), EngineFault>
+    ensures { ListsWith N.place.catalogue session.old session.new x steps.now (W.tape writer.old) output.old (W.tape writer.new) output.new result }
+{
     match operator.get_job_execution(rt, session, x) {
         Ok(execution) => {
-            let put = put_line(rt.alloc(), &execution, steps, replies);
+            let put = put_line(rt.alloc(), &execution, steps, output, writer);
             drop(execution);
             put
         }
-        Err(refusal) => replies.refuse(refusal),
+        Err(refusal) => put_refusal(rt.alloc(), refusal, output, writer),
     }
 }
 
@@ -52,15 +62,18 @@ fn put_execution<N: Site, R: Wait + AllocGlobal, W: Sink>(
     operator: &Operator<N>,
     session: &mut Session<N>,
     x: ExecutionId,
-    replies: &mut Replies<'_, W>,
-) -> Result<(), EngineFault> {
+    output: &mut OutputBuffer,
+    writer: &mut W,
+) -> Result<(), EngineFault>
+    ensures { Lists N.place.catalogue session.old session.new x (W.tape writer.old) output.old (W.tape writer.new) output.new result }
+{
     match operator.get_step_executions(rt, session, x) {
         Ok(steps) => {
-            let put = put_with_steps(rt, operator, session, x, &steps, replies);
+            let put = put_with_steps(rt, operator, session, x, &steps, output, writer);
             drop(steps);
             put
         }
-        Err(refusal) => replies.refuse(refusal),
+        Err(refusal) => put_refusal(rt.alloc(), refusal, output, writer),
     }
 }
 
@@ -70,10 +83,20 @@ pub(crate) fn put_executions<N: Site, R: Wait + AllocGlobal, W: Sink>(
     operator: &Operator<N>,
     session: &mut Session<N>,
     count: u64,
-    replies: &mut Replies<'_, W>,
-) -> Result<(), EngineFault> {
+    output: &mut OutputBuffer,
+    writer: &mut W,
+) -> Result<(), EngineFault>
+    ensures { ListsAll N.place.catalogue session.old session.new count (W.tape writer.old) output.old (W.tape writer.new) output.new result }
+{
     for place in 0..count {
-        put_execution(rt, operator, session, ExecutionId::new(place + 1), replies)?;
+        put_execution(
+            rt,
+            operator,
+            session,
+            ExecutionId::new(place + 1),
+            output,
+            writer,
+        )?;
     }
     Ok(())
 }

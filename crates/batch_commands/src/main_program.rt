@@ -1,6 +1,8 @@
 ghost use Rattle.std.specs.Prelude.{◌≡◌, ◌≢◌, ◌≤◌, ◌⊎◌, map};
 ghost use Rattle.std.specs.IoError.{error_kind};
 ghost use Rattle.script_engine.specs.Ran.{Ran};
+ghost use Rattle.batch_commands.specs.Commands.{IsShown};
+ghost use Rattle.batch_commands.specs.Runs.{HasRun};
 ghost use Rattle.batch_commands.specs.Statuses.{exit_status, IsServed};
 
 use crate::asked::Arguments;
@@ -71,6 +73,22 @@ fn end<T: Drop, F: Write>(outcome: Result<T, EngineFault>, faults: &mut F) -> u8
     }
 }
 
+/// Runs the jobs of a catalogue by so many workers, and gives the exit status.
+fn serve_run<R: Threads + Wait + AllocGlobal + Sync, S: Source, W: Sink, F: Write>(
+    rt: &R,
+    workers: u64,
+    source: &mut S,
+    sink: &mut W,
+    faults: &mut F,
+) -> u8
+    requires some { 1 ≤ workers }
+    requires few { workers ≤ 16 }
+    ensures { (outcome : _) × HasRun (S.tape source.old) (S.tape source.new) (W.tape sink.old) (W.tape sink.new) outcome × (result ≡ exit_status outcome) }
+{
+    let outcome = run_jobs(rt, workers, source, sink);
+    end(outcome, faults)
+}
+
 /// Answers a script, and gives the exit status.
 fn serve_script<S: Source, W: Sink, F: Write>(
     alloc: Global,
@@ -121,7 +139,7 @@ fn tell_text<W: Sink, F: Write>(error: &Error, sink: &mut W, faults: &mut F) -> 
 
 /// Tells why the words were refused, or the text that they asked for, and gives the exit status.
 fn tell_words<W: Sink, F: Write>(error: &Error, sink: &mut W, faults: &mut F) -> u8
-    ensures { ((result ≡ REFUSED) × (W.tape sink.new ≡ W.tape sink.old)) ⊎ ((result ≡ DONE) ⊎ (result ≡ DEVICE_FAILED)) }
+    ensures { ((result ≡ REFUSED) × (W.tape sink.new ≡ W.tape sink.old)) ⊎ (((result ≡ DONE) ⊎ (result ≡ DEVICE_FAILED)) × IsShown error.now) }
 {
     if error.use_stderr() {
         let _ = write!(faults, "{error}");
@@ -142,7 +160,7 @@ fn serve<R: Threads + Wait + AllocGlobal + Sync, S: Source, W: Sink, F: Write>(
 {
     match arguments(rt.alloc(), words) {
         Ok(Arguments::Script) => serve_script(rt.alloc(), source, sink, faults),
-        Ok(Arguments::Run { workers }) => end(run_jobs(rt, workers, source, sink), faults),
+        Ok(Arguments::Run { workers }) => serve_run(rt, workers, source, sink, faults),
         Err(error) => {
             let status = tell_words(&error, sink, faults);
             drop(error);

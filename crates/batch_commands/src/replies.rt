@@ -1,58 +1,86 @@
 // The lines that are written, which wait in a buffer until it is full or the run needs them out.
+ghost use Rattle.std.specs.Prelude.{◌≡◌, Err};
+ghost use Rattle.batch_commands.specs.Putting.{Flushes, Puts};
+ghost use Rattle.batch_commands.specs.Turns.{PutsReply, pool_text, wants_memory};
+
 use batch_history::Reply;
 use batch_ids::Refusal;
-use script_engine::{EngineFault, OutputBuffer, ReadFault, Sink, reply_text, tell_fault};
+use script_engine::{EngineFault, OutputBuffer, Sink, reply_text};
 use std::alloc::Global;
 
-/// Lines on their way to a writer.
-#[derive(Drop)]
-pub(crate) struct Replies<'w, W: Sink> {
-    alloc: Global,
-    buffer: OutputBuffer,
-    writer: &'w mut W,
+/// Adds a line.
+pub(crate) fn put<W: Sink>(
+    output: &mut OutputBuffer,
+    writer: &mut W,
+    line: &[u8],
+) -> Result<(), EngineFault>
+    ensures { Puts (W.tape writer.old) output.old (W.tape writer.new) output.new line.now result }
+{
+    output.put(writer, line)?;
+    Ok(())
 }
 
-impl<'w, W: Sink> Replies<'w, W> {
-    /// No line so far.
-    pub(crate) fn new(alloc: Global, writer: &'w mut W) -> Result<Replies<'w, W>, EngineFault> {
-        Ok(Replies {
-            alloc,
-            buffer: OutputBuffer::new(alloc)?,
-            writer,
-        })
-    }
+/// Writes what waits.
+pub(crate) fn flush<W: Sink>(output: &mut OutputBuffer, writer: &mut W) -> Result<(), EngineFault>
+    ensures { Flushes (W.tape writer.old) output.old (W.tape writer.new) output.new result }
+{
+    output.flush(writer)?;
+    Ok(())
+}
 
-    /// Adds a line.
-    pub(crate) fn put(&mut self, line: &[u8]) -> Result<(), EngineFault> {
-        self.buffer.put(self.writer, line)?;
-        Ok(())
+/// Whether a reply is that memory was refused.
+fn wants_memory(reply: &Result<Reply, Refusal>) -> bool
+    ensures { result ≡ wants_memory reply.now }
+{
+    match reply {
+        Ok(_) => false,
+        Err(Refusal::OutOfMemory) => true,
+        Err(_) => false,
     }
+}
 
-    /// Writes what waits.
-    pub(crate) fn flush(&mut self) -> Result<(), EngineFault> {
-        self.buffer.flush(self.writer)?;
-        Ok(())
+/// Adds the line of a reply. Want of memory ends the run in its place.
+pub(crate) fn put_reply<W: Sink>(
+    alloc: Global,
+    reply: &Result<Reply, Refusal>,
+    output: &mut OutputBuffer,
+    writer: &mut W,
+) -> Result<(), EngineFault>
+    ensures { PutsReply reply.now (W.tape writer.old) output.old (W.tape writer.new) output.new result }
+{
+    if wants_memory(reply) {
+        return Err(EngineFault::OutOfMemory);
     }
+    let line = reply_text(alloc, reply)?;
+    put(output, writer, &line)
+}
 
-    /// Adds the line of a reply. Want of memory ends the run in its place.
-    pub(crate) fn reply(&mut self, reply: &Result<Reply, Refusal>) -> Result<(), EngineFault> {
-        if matches!(reply, Err(Refusal::OutOfMemory)) {
-            return Err(EngineFault::OutOfMemory);
-        }
-        let line = reply_text(self.alloc, reply)?;
-        self.put(&line)
-    }
+/// The same of a refusal.
+pub(crate) fn put_refusal<W: Sink>(
+    alloc: Global,
+    refusal: Refusal,
+    output: &mut OutputBuffer,
+    writer: &mut W,
+) -> Result<(), EngineFault>
+    ensures { PutsReply (Err refusal) (W.tape writer.old) output.old (W.tape writer.new) output.new result }
+{
+    let refused = Err(refusal);
+    let put = put_reply(alloc, &refused, output, writer);
+    drop(refused);
+    put
+}
 
-    /// The same of a refusal.
-    pub(crate) fn refuse(&mut self, refusal: Refusal) -> Result<(), EngineFault> {
-        let refused = Err(refusal);
-        let put = self.reply(&refused);
-        drop(refused);
-        put
-    }
-
-    /// Adds the line of a catalogue's fault, and answers how the run ends by that.
-    pub(crate) fn refuse_catalogue(&mut self, fault: ReadFault) -> EngineFault {
-        tell_fault(self.alloc, &mut self.buffer, self.writer, fault)
+/// Adds the line of a pool's refusal, if it has one.
+pub(crate) fn put_pool<P: Drop, W: Sink>(
+    alloc: Global,
+    ran: Result<P, Refusal>,
+    output: &mut OutputBuffer,
+    writer: &mut W,
+) -> Result<(), EngineFault>
+    ensures { Puts (W.tape writer.old) output.old (W.tape writer.new) output.new (pool_text ran) result }
+{
+    match ran {
+        Ok(_) => Ok(()),
+        Err(refusal) => put_refusal(alloc, refusal, output, writer),
     }
 }

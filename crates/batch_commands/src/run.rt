@@ -1,8 +1,13 @@
 // The run of a catalogue's jobs by workers with built-in artifacts.
-ghost use Rattle.std.specs.Prelude.{◌≡◌, ◌≤◌};
+ghost use Rattle.std.specs.Prelude.{◌≡◌, ◌≤◌, List, ℕ, []};
+ghost use Rattle.seat_rules.specs.Places.{IsLegalLog};
+ghost use Rattle.script_lines.specs.Unread.{nothing_read};
+ghost use Rattle.batch_commands.specs.Putting.{Puts, has_writer_failed};
+ghost use Rattle.batch_commands.specs.Runs.{HasRun, IsPoolText};
+ghost use Rattle.batch_commands.specs.Turns.{Runs, RunsSoFar};
 
 use crate::executions::put_executions;
-use crate::replies::Replies;
+use crate::replies::{flush, put_pool, put_refusal};
 use crate::starts::answer_starts;
 use batch_history::WorkItem;
 use batch_ids::Moment;
@@ -10,7 +15,7 @@ use batch_operator::{CopyCount, Operator};
 use built_in_artifacts::pool_with_built_ins;
 use job_threads::Gate;
 use jsl_model::Catalogue;
-use script_engine::{EngineFault, Sink, Source, catalogue_in};
+use script_engine::{EngineFault, OutputBuffer, Sink, Source, catalogue_in, tell_fault};
 use script_lines::InputBuffer;
 use seat_rules::{BookSeat, SeatTable, Site};
 use sessions::Session;
@@ -41,7 +46,8 @@ fn run_over<N: Site + Send + Sync, R: Threads + Wait + AllocGlobal + Sync, S: So
     workers: u64,
     input: &mut InputBuffer,
     source: &mut S,
-    replies: &mut Replies<'_, W>,
+    output: &mut OutputBuffer,
+    writer: &mut W,
     names: &[&str],
     table: SeatTable,
     seat: BookSeat,
@@ -52,12 +58,13 @@ fn run_over<N: Site + Send + Sync, R: Threads + Wait + AllocGlobal + Sync, S: So
     requires table { table ≡ N.place }
     requires seat { seat ≡ N.place.table }
     requires catalogue { catalogue ≡ N.place.catalogue }
+    ensures { Runs N.place.catalogue (S.tape source.old) (S.tape source.new) input.old input.new (W.tape writer.old) output.old (W.tape writer.new) output.new result }
 {
     let Some(copies) = CopyCount::new(1) else {
         unreachable!();
     };
     let operator = Operator::<N>::new(rt.alloc(), table, seat, catalogue, copies)?;
-    let ran = run_on(rt, workers, input, source, replies, &operator, names);
+    let ran = run_on(rt, workers, input, source, output, writer, &operator, names);
     operator.close();
     ran
 }
@@ -68,12 +75,14 @@ fn run_on<N: Site + Send + Sync, R: Threads + Wait + AllocGlobal + Sync, S: Sour
     workers: u64,
     input: &mut InputBuffer,
     source: &mut S,
-    replies: &mut Replies<'_, W>,
+    output: &mut OutputBuffer,
+    writer: &mut W,
     operator: &Operator<N>,
     names: &[&str],
 ) -> Result<(), EngineFault>
     requires some { 1 ≤ workers }
     requires few { workers ≤ 16 }
+    ensures { Runs N.place.catalogue (S.tape source.old) (S.tape source.new) input.old input.new (W.tape writer.old) output.old (W.tape writer.new) output.new result }
 {
     match operator.open_session(rt) {
         Ok(session) => {
@@ -83,7 +92,8 @@ fn run_on<N: Site + Send + Sync, R: Threads + Wait + AllocGlobal + Sync, S: Sour
                 workers,
                 input,
                 source,
-                replies,
+                output,
+                writer,
                 operator,
                 &mut session,
                 names,
@@ -91,7 +101,7 @@ fn run_on<N: Site + Send + Sync, R: Threads + Wait + AllocGlobal + Sync, S: Sour
             drop(session);
             ran
         }
-        Err(refusal) => replies.refuse(refusal),
+        Err(refusal) => put_refusal(rt.alloc(), refusal, output, writer),
     }
 }
 
@@ -101,20 +111,38 @@ fn run_in<N: Site + Send + Sync, R: Threads + Wait + AllocGlobal + Sync, S: Sour
     workers: u64,
     input: &mut InputBuffer,
     source: &mut S,
-    replies: &mut Replies<'_, W>,
+    output: &mut OutputBuffer,
+    writer: &mut W,
     operator: &Operator<N>,
     session: &mut Session<N>,
     names: &[&str],
 ) -> Result<(), EngineFault>
     requires some { 1 ≤ workers }
     requires few { workers ≤ 16 }
+    requires legal { IsLegalLog N.place.catalogue session.old.seen }
+    ensures { Runs N.place.catalogue (S.tape source.old) (S.tape source.new) input.old input.new (W.tape writer.old) output.old (W.tape writer.new) output.new result }
 {
-    let started = answer_starts(rt, operator, session, input, source, replies)?;
-    replies.flush()?;
-    if let Err(refusal) = pool_with_built_ins(rt, rt.alloc(), operator, names, workers, &Host) {
-        replies.refuse(refusal)?;
-    }
-    put_executions(rt, operator, session, started, replies)
+    let started = answer_starts(rt, operator, session, input, source, output, writer)?;
+    flush(output, writer)?;
+    run_pool(rt, workers, output, writer, operator, names)?;
+    put_executions(rt, operator, session, started, output, writer)
+}
+
+/// Runs what was started by a pool, and adds the line of its refusal, if it has one.
+fn run_pool<N: Site + Send + Sync, R: Threads + Wait + AllocGlobal + Sync, W: Sink>(
+    rt: &R,
+    workers: u64,
+    output: &mut OutputBuffer,
+    writer: &mut W,
+    operator: &Operator<N>,
+    names: &[&str],
+) -> Result<(), EngineFault>
+    requires some { 1 ≤ workers }
+    requires few { workers ≤ 16 }
+    ensures { (text : List ℕ) × IsPoolText text × Puts (W.tape writer.old) output.old (W.tape writer.new) output.new text result }
+{
+    let ran = pool_with_built_ins(rt, rt.alloc(), operator, names, workers, &Host);
+    put_pool(rt.alloc(), ran, output, writer)
 }
 
 /// Runs the jobs of a catalogue, with the names of its artifacts.
@@ -123,16 +151,18 @@ fn run_catalogue<R: Threads + Wait + AllocGlobal + Sync, S: Source, W: Sink>(
     workers: u64,
     input: &mut InputBuffer,
     source: &mut S,
-    replies: &mut Replies<'_, W>,
+    output: &mut OutputBuffer,
+    writer: &mut W,
     names: &[&str],
     catalogue: Catalogue,
 ) -> Result<(), EngineFault>
     requires some { 1 ≤ workers }
     requires few { workers ≤ 16 }
+    ensures { Runs catalogue (S.tape source.old) (S.tape source.new) input.old input.new (W.tape writer.old) output.old (W.tape writer.new) output.new result }
 {
     let (table, seat) = SeatTable::new(rt.alloc(), &catalogue)?;
     run_over::<Brand, R, S, W>(
-        rt, workers, input, source, replies, names, table, seat, catalogue,
+        rt, workers, input, source, output, writer, names, table, seat, catalogue,
     )
 }
 
@@ -142,11 +172,13 @@ fn run_jobs_of<R: Threads + Wait + AllocGlobal + Sync, S: Source, W: Sink>(
     workers: u64,
     input: &mut InputBuffer,
     source: &mut S,
-    replies: &mut Replies<'_, W>,
+    output: &mut OutputBuffer,
+    writer: &mut W,
     catalogue: &Catalogue,
 ) -> Result<(), EngineFault>
     requires some { 1 ≤ workers }
     requires few { workers ≤ 16 }
+    ensures { Runs catalogue.now (S.tape source.old) (S.tape source.new) input.old input.new (W.tape writer.old) output.old (W.tape writer.new) output.new result }
 {
     let names = catalogue.artifacts()?;
     run_catalogue(
@@ -154,7 +186,8 @@ fn run_jobs_of<R: Threads + Wait + AllocGlobal + Sync, S: Source, W: Sink>(
         workers,
         input,
         source,
-        replies,
+        output,
+        writer,
         names.as_slice(),
         catalogue.try_clone()?,
     )
@@ -167,21 +200,24 @@ fn run_lines<R: Threads + Wait + AllocGlobal + Sync, S: Source, W: Sink>(
     workers: u64,
     input: &mut InputBuffer,
     source: &mut S,
-    replies: &mut Replies<'_, W>,
+    output: &mut OutputBuffer,
+    writer: &mut W,
 ) -> Result<(), EngineFault>
     requires some { 1 ≤ workers }
     requires few { workers ≤ 16 }
+    requires unread { input.old ≡ nothing_read }
+    ensures { RunsSoFar (S.tape source.old) (S.tape source.new) (W.tape writer.old) output.old (W.tape writer.new) output.new result }
 {
     let first = input.line_alone(source)?;
     let read = catalogue_in(rt.alloc(), &first);
     drop(first);
     match read {
         Ok(catalogue) => {
-            let ran = run_jobs_of(rt, workers, input, source, replies, &catalogue);
+            let ran = run_jobs_of(rt, workers, input, source, output, writer, &catalogue);
             drop(catalogue);
             ran
         }
-        Err(fault) => Err(replies.refuse_catalogue(fault)),
+        Err(fault) => Err(tell_fault(rt.alloc(), output, writer, fault)),
     }
 }
 
@@ -190,15 +226,28 @@ fn run_source<R: Threads + Wait + AllocGlobal + Sync, S: Source, W: Sink>(
     rt: &R,
     workers: u64,
     source: &mut S,
-    replies: &mut Replies<'_, W>,
+    output: &mut OutputBuffer,
+    writer: &mut W,
 ) -> Result<(), EngineFault>
     requires some { 1 ≤ workers }
     requires few { workers ≤ 16 }
+    ensures { RunsSoFar (S.tape source.old) (S.tape source.new) (W.tape writer.old) output.old (W.tape writer.new) output.new result }
 {
     let mut input = InputBuffer::new(rt.alloc())?;
-    let ran = run_lines(rt, workers, &mut input, source, replies);
+    let ran = run_lines(rt, workers, &mut input, source, output, writer);
     drop(input);
     ran
+}
+
+/// Whether a run ended by a failure of the writer.
+fn has_writer_failed(outcome: &Result<(), EngineFault>) -> bool
+    ensures { result ≡ has_writer_failed outcome.now }
+{
+    match outcome {
+        Ok(()) => false,
+        Err(EngineFault::Write) => true,
+        Err(_) => false,
+    }
 }
 
 /// The same, with the last replies written, where the writer has not failed.
@@ -206,15 +255,19 @@ fn run_to_end<R: Threads + Wait + AllocGlobal + Sync, S: Source, W: Sink>(
     rt: &R,
     workers: u64,
     source: &mut S,
-    replies: &mut Replies<'_, W>,
+    output: &mut OutputBuffer,
+    writer: &mut W,
 ) -> Result<(), EngineFault>
     requires some { 1 ≤ workers }
     requires few { workers ≤ 16 }
+    requires nothing_waits { output.old ≡ [] }
+    ensures { HasRun (S.tape source.old) (S.tape source.new) (W.tape writer.old) (W.tape writer.new) result }
 {
-    let outcome = run_source(rt, workers, source, replies);
-    if !matches!(outcome, Err(EngineFault::Write)) {
-        replies.flush()?;
+    let outcome = run_source(rt, workers, source, output, writer);
+    if has_writer_failed(&outcome) {
+        return outcome;
     }
+    flush(output, writer)?;
     outcome
 }
 
@@ -240,9 +293,10 @@ pub fn run_jobs<R: Threads + Wait + AllocGlobal + Sync, S: Source, W: Sink>(
 ) -> Result<(), EngineFault>
     requires some { 1 ≤ workers }
     requires few { workers ≤ 16 }
+    ensures { HasRun (S.tape source.old) (S.tape source.new) (W.tape writer.old) (W.tape writer.new) result }
 {
-    let mut replies = Replies::new(rt.alloc(), writer)?;
-    let outcome = run_to_end(rt, workers, source, &mut replies);
-    drop(replies);
+    let mut output = OutputBuffer::new(rt.alloc())?;
+    let outcome = run_to_end(rt, workers, source, &mut output, writer);
+    drop(output);
     outcome
 }

@@ -1,9 +1,17 @@
 // The start lines of a run.
-use crate::replies::Replies;
+ghost use Rattle.std.specs.Prelude.{◌≡◌, ◌==◌, List, ℕ, length};
+ghost use Rattle.script_lines.specs.Lines.{Shows};
+ghost use Rattle.batch_history.specs.declared.call.Call.TheVariants.{Start};
+ghost use Rattle.script_text.specs.Starts.{IsStart};
+ghost use Rattle.script_text.specs.declared.command.Command.TheVariants.{Act};
+ghost use Rattle.script_engine.specs.Script.{start_at};
+ghost use Rattle.batch_commands.specs.Turns.{PutsFault, TurnsTo, TurnsToLine, Starts};
+
+use crate::replies::{put, put_refusal, put_reply};
 use batch_ids::Refusal;
 use batch_operator::Operator;
 use script_engine::{
-    EngineFault, Line, Sink, Source, StartFault, StartLine, bad_line_text, read_start,
+    EngineFault, Line, OutputBuffer, Sink, Source, StartFault, StartLine, bad_line_text, read_start,
 };
 use script_lines::InputBuffer;
 use seat_rules::Site;
@@ -12,7 +20,9 @@ use std::alloc::Global;
 use std::sync::Wait;
 
 /// What a line asks to be started. One above the bound of a line starts nothing.
-fn start_in(alloc: Global, line: &Line) -> Result<StartLine, StartFault> {
+fn start_in(alloc: Global, line: &Line) -> Result<StartLine, StartFault>
+    ensures { (bytes : List ℕ) → Shows line.now bytes → IsStart (start_at bytes) result }
+{
     match line {
         Line::Whole(bytes) => read_start(alloc, bytes),
         Line::TooLong => Err(StartFault::BadLine),
@@ -23,11 +33,14 @@ fn start_in(alloc: Global, line: &Line) -> Result<StartLine, StartFault> {
 fn refuse_line<W: Sink>(
     alloc: Global,
     fault: StartFault,
-    replies: &mut Replies<'_, W>,
-) -> Result<(), EngineFault> {
+    output: &mut OutputBuffer,
+    writer: &mut W,
+) -> Result<(), EngineFault>
+    ensures { PutsFault fault (W.tape writer.old) output.old (W.tape writer.new) output.new result }
+{
     match fault {
-        StartFault::BadLine => replies.put(&bad_line_text(alloc)?),
-        StartFault::TextTooLong => replies.refuse(Refusal::TextTooLong),
+        StartFault::BadLine => put(output, writer, &bad_line_text(alloc)?),
+        StartFault::TextTooLong => put_refusal(alloc, Refusal::TextTooLong, output, writer),
         StartFault::OutOfMemory => Err(EngineFault::OutOfMemory),
     }
 }
@@ -39,38 +52,46 @@ fn answer_line<N: Site, R: Wait + AllocGlobal, W: Sink>(
     operator: &Operator<N>,
     session: &mut Session<N>,
     line: &Line,
-    replies: &mut Replies<'_, W>,
-) -> Result<bool, EngineFault> {
+    output: &mut OutputBuffer,
+    writer: &mut W,
+) -> Result<bool, EngineFault>
+    ensures { (bytes : List ℕ) → Shows line.now bytes → TurnsToLine N.place.catalogue session.old session.new bytes (W.tape writer.old) output.old (W.tape writer.new) output.new result }
+{
     if is_empty(line) {
         return Ok(false);
     }
     match start_in(rt.alloc(), line) {
-        Ok(start) => start_job(rt, operator, session, start, replies),
+        Ok(start) => start_job(rt, operator, session, start, output, writer),
         Err(fault) => {
-            refuse_line(rt.alloc(), fault, replies)?;
+            refuse_line(rt.alloc(), fault, output, writer)?;
             Ok(false)
         }
     }
 }
 
 /// Starts a job, and adds the reply. Says whether a job execution was made.
-fn start_job<N: Site, R: Wait, W: Sink>(
+fn start_job<N: Site, R: Wait + AllocGlobal, W: Sink>(
     rt: &R,
     operator: &Operator<N>,
     session: &mut Session<N>,
     start: StartLine,
-    replies: &mut Replies<'_, W>,
-) -> Result<bool, EngineFault> {
+    output: &mut OutputBuffer,
+    writer: &mut W,
+) -> Result<bool, EngineFault>
+    ensures { TurnsTo N.place.catalogue session.old session.new (Act session.old.number 0 (Start start.job start.parameters)) (W.tape writer.old) output.old (W.tape writer.new) output.new result }
+{
     let reply = operator.start(rt, session, start.job, start.parameters, 0);
     let is_started = reply.is_ok();
-    let put = replies.reply(&reply);
+    let put = put_reply(rt.alloc(), &reply, output, writer);
     drop(reply);
     put?;
     Ok(is_started)
 }
 
 /// Whether a line has no byte.
-fn is_empty(line: &Line) -> bool {
+fn is_empty(line: &Line) -> bool
+    ensures { (bytes : List ℕ) → Shows line.now bytes → result ≡ (length bytes == 0) }
+{
     match line {
         Line::Whole(bytes) => bytes.is_empty(),
         Line::TooLong => false,
@@ -84,11 +105,14 @@ pub(crate) fn answer_starts<N: Site, R: Wait + AllocGlobal, S: Source, W: Sink>(
     session: &mut Session<N>,
     input: &mut InputBuffer,
     source: &mut S,
-    replies: &mut Replies<'_, W>,
-) -> Result<u64, EngineFault> {
+    output: &mut OutputBuffer,
+    writer: &mut W,
+) -> Result<u64, EngineFault>
+    ensures { Starts N.place.catalogue session.old session.new (S.tape source.old) (S.tape source.new) input.old input.new (W.tape writer.old) output.old (W.tape writer.new) output.new result }
+{
     let mut started: u64 = 0;
     while let Some(line) = input.line_alone(source)? {
-        let answered = answer_line(rt, operator, session, &line, replies);
+        let answered = answer_line(rt, operator, session, &line, output, writer);
         drop(line);
         if answered? {
             started = started.saturating_add(1);
