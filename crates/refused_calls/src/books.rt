@@ -1,0 +1,218 @@
+//! Books and repositories, which answer the lines of a script.
+ghost use Rattle.std.specs.Prelude.{◌≤◌};
+
+use crate::scripts::{Answers, Case, Script, answer_lines, catalogue_of};
+use crate::telling::{Asked, call, mark, show, tell, tell_answer, tell_reply};
+use anyhow::Result;
+use batch_ids::{Moment, OutOfMemory, Refusal};
+use jsl_model::Catalogue;
+use op_log::{Book, Call, Query, Reply, Repository};
+use std::alloc::Global;
+use std::sync::Wait;
+
+/// A repository whose previews are the cases.
+#[derive(Drop)]
+struct Previews {
+    repository: Repository<1_000_000>,
+}
+
+/// A repository whose calls and replies are copied.
+#[derive(Drop)]
+struct Clones {
+    repository: Repository<1_000_000>,
+}
+
+impl<const LIMIT: u64> Answers for Book<LIMIT> {
+    fn on_call<R: Wait + Print + AllocGlobal>(
+        &mut self,
+        rt: &R,
+        case: Case<'_>,
+        by: u64,
+        call: &Call,
+        at: Moment,
+    ) -> Result<()> {
+        let turn = case.turn;
+        show(rt, turn, "before", &*self)?;
+        let reply = call!(rt, turn, Err(Refusal::OutOfMemory), show(rt, turn, "now", &*self)?,
+            given = call.try_clone()?, self.act(by, given, at));
+        tell_reply(rt, case.name, reply)?;
+        show(rt, turn, "after", &*self)
+    }
+
+    fn on_query<R: Wait + Print + AllocGlobal>(
+        &mut self,
+        rt: &R,
+        case: Case<'_>,
+        query: &Query,
+    ) -> Result<()> {
+        let turn = case.turn;
+        show(rt, turn, "before", &*self)?;
+        let answer = call!(rt, turn, Err(Refusal::OutOfMemory), show(rt, turn, "now", &*self)?,
+            self.ask(query));
+        tell_answer(rt, case.name, answer)?;
+        show(rt, turn, "after", &*self)
+    }
+}
+
+impl<const LIMIT: u64> Answers for Repository<LIMIT> {
+    fn on_call<R: Wait + Print + AllocGlobal>(
+        &mut self,
+        rt: &R,
+        case: Case<'_>,
+        by: u64,
+        call: &Call,
+        at: Moment,
+    ) -> Result<()> {
+        let turn = case.turn;
+        show(rt, turn, "before", &*self)?;
+        let reply = call!(rt, turn, Err(Refusal::OutOfMemory), show(rt, turn, "now", &*self)?,
+            self.apply(by, call, at));
+        tell_reply(rt, case.name, reply)?;
+        show(rt, turn, "after", &*self)
+    }
+
+    fn on_query<R: Wait + Print + AllocGlobal>(
+        &mut self,
+        rt: &R,
+        case: Case<'_>,
+        query: &Query,
+    ) -> Result<()> {
+        let turn = case.turn;
+        show(rt, turn, "before", &*self)?;
+        let answer = call!(rt, turn, Err(Refusal::OutOfMemory), show(rt, turn, "now", &*self)?,
+            self.ask(query));
+        tell_answer(rt, case.name, answer)?;
+        show(rt, turn, "after", &*self)
+    }
+}
+
+impl Answers for Previews {
+    fn on_call<R: Wait + Print + AllocGlobal>(
+        &mut self,
+        rt: &R,
+        case: Case<'_>,
+        by: u64,
+        call: &Call,
+        at: Moment,
+    ) -> Result<()> {
+        let turn = case.turn;
+        let repository = &self.repository;
+        show(rt, turn, "before", repository)?;
+        let reply = call!(rt, turn, Err(Refusal::OutOfMemory), show(rt, turn, "now", repository)?,
+            repository.preview(by, call));
+        tell_reply(rt, case.name, reply)?;
+        show(rt, turn, "after", repository)?;
+        drop(self.repository.apply(by, call, at));
+        Ok(())
+    }
+
+    fn on_query<R: Wait + Print + AllocGlobal>(
+        &mut self,
+        rt: &R,
+        case: Case<'_>,
+        query: &Query,
+    ) -> Result<()> {
+        tell_answer(rt, case.name, self.repository.ask(query))
+    }
+}
+
+/// Copies a reply.
+fn copy_reply<R: Print + AllocGlobal>(
+    rt: &R,
+    case: Case<'_>,
+    reply: &Result<Reply, Refusal>,
+) -> Result<()> {
+    let turn = case.turn;
+    if let Ok(reply) = reply {
+        let copy = call!(rt, turn, Err(_), show(rt, turn, "now", reply)?, reply.try_clone());
+        tell(rt, case.name, copy)?;
+    }
+    Ok(())
+}
+
+impl Answers for Clones {
+    fn on_call<R: Wait + Print + AllocGlobal>(
+        &mut self,
+        rt: &R,
+        case: Case<'_>,
+        by: u64,
+        call: &Call,
+        at: Moment,
+    ) -> Result<()> {
+        let turn = case.turn;
+        show(rt, turn, "before", call)?;
+        let copy = call!(rt, turn, Err(_), show(rt, turn, "now", call)?, call.try_clone());
+        tell(rt, case.name, copy)?;
+        let reply = self.repository.apply(by, call, at);
+        let copied = copy_reply(rt, case, &reply);
+        drop(reply);
+        copied
+    }
+
+    fn on_query<R: Wait + Print + AllocGlobal>(
+        &mut self,
+        rt: &R,
+        case: Case<'_>,
+        query: &Query,
+    ) -> Result<()> {
+        tell_answer(rt, case.name, self.repository.ask(query))
+    }
+}
+
+/// A book answers a script.
+pub(crate) fn run_book<R: Wait + Print + AllocGlobal, const LIMIT: u64>(
+    rt: &R,
+    asked: Asked<'_>,
+    script: Script<'_>,
+) -> Result<()>
+    requires { LIMIT ≤ 1000000 }
+{
+    let catalogue = catalogue_of(rt, script)?;
+    let mut book = Book::<LIMIT>::new(rt.alloc(), catalogue)?;
+    let answered = answer_lines(rt, asked, script, &mut book);
+    drop(book);
+    answered
+}
+
+/// A repository answers a script.
+pub(crate) fn run_repository<R: Wait + Print + AllocGlobal, const LIMIT: u64>(
+    rt: &R,
+    asked: Asked<'_>,
+    script: Script<'_>,
+) -> Result<()>
+    requires { LIMIT ≤ 1000000 }
+{
+    let catalogue = catalogue_of(rt, script)?;
+    let mut repository = Repository::<LIMIT>::new(rt.alloc(), catalogue)?;
+    let answered = answer_lines(rt, asked, script, &mut repository);
+    drop(repository);
+    answered
+}
+
+/// A repository answers a script, whose previews are the cases.
+pub(crate) fn run_previews<R: Wait + Print + AllocGlobal>(
+    rt: &R,
+    asked: Asked<'_>,
+    script: Script<'_>,
+) -> Result<()> {
+    let catalogue = catalogue_of(rt, script)?;
+    let repository = Repository::new(rt.alloc(), catalogue)?;
+    let mut previews = Previews { repository };
+    let answered = answer_lines(rt, asked, script, &mut previews);
+    drop(previews);
+    answered
+}
+
+/// A repository answers a script, whose calls and replies are copied.
+pub(crate) fn run_clones<R: Wait + Print + AllocGlobal>(
+    rt: &R,
+    asked: Asked<'_>,
+    script: Script<'_>,
+) -> Result<()> {
+    let catalogue = catalogue_of(rt, script)?;
+    let repository = Repository::new(rt.alloc(), catalogue)?;
+    let mut clones = Clones { repository };
+    let answered = answer_lines(rt, asked, script, &mut clones);
+    drop(clones);
+    answered
+}
