@@ -1,12 +1,12 @@
 //! Books and repositories, which answer the lines of a script.
 ghost use Rattle.std.specs.Prelude.{◌≤◌};
 
-use crate::scripts::{Answers, Case, Script, answer_lines, catalogue_of};
+use crate::scripts::{Answers, Case, Script, answer_lines, catalogue_of, query_in};
 use crate::telling::{Asked, call, mark, show, tell, tell_answer, tell_reply};
 use anyhow::Result;
 use batch_ids::{Moment, OutOfMemory, Refusal};
 use jsl_model::Catalogue;
-use op_log::{Book, Call, Query, Reply, Repository};
+use op_log::{Book, Call, Reply, Repository};
 use std::alloc::Global;
 use std::sync::Wait;
 
@@ -43,12 +43,14 @@ impl<const LIMIT: u64> Answers for Book<LIMIT> {
         &mut self,
         rt: &R,
         case: Case<'_>,
-        query: &Query,
+        line: &str,
     ) -> Result<()> {
         let turn = case.turn;
+        let query = query_in(rt.alloc(), line)?;
         show(rt, turn, "before", &*self)?;
         let answer = call!(rt, turn, Err(Refusal::OutOfMemory), show(rt, turn, "now", &*self)?,
-            self.ask(query));
+            self.ask(&query));
+        drop(query);
         tell_answer(rt, case.name, answer)?;
         show(rt, turn, "after", &*self)
     }
@@ -75,12 +77,14 @@ impl<const LIMIT: u64> Answers for Repository<LIMIT> {
         &mut self,
         rt: &R,
         case: Case<'_>,
-        query: &Query,
+        line: &str,
     ) -> Result<()> {
         let turn = case.turn;
+        let query = query_in(rt.alloc(), line)?;
         show(rt, turn, "before", &*self)?;
         let answer = call!(rt, turn, Err(Refusal::OutOfMemory), show(rt, turn, "now", &*self)?,
-            self.ask(query));
+            self.ask(&query));
+        drop(query);
         tell_answer(rt, case.name, answer)?;
         show(rt, turn, "after", &*self)
     }
@@ -110,9 +114,12 @@ impl Answers for Previews {
         &mut self,
         rt: &R,
         case: Case<'_>,
-        query: &Query,
+        line: &str,
     ) -> Result<()> {
-        tell_answer(rt, case.name, self.repository.ask(query))
+        let query = query_in(rt.alloc(), line)?;
+        let answer = self.repository.ask(&query);
+        drop(query);
+        tell_answer(rt, case.name, answer)
     }
 }
 
@@ -153,9 +160,12 @@ impl Answers for Clones {
         &mut self,
         rt: &R,
         case: Case<'_>,
-        query: &Query,
+        line: &str,
     ) -> Result<()> {
-        tell_answer(rt, case.name, self.repository.ask(query))
+        let query = query_in(rt.alloc(), line)?;
+        let answer = self.repository.ask(&query);
+        drop(query);
+        tell_answer(rt, case.name, answer)
     }
 }
 

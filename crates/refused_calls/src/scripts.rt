@@ -3,7 +3,7 @@
 //! `data/scripts` holds them, with an empty line between two. The first line of a script says who answers it, one after the
 //! other, and its name; the second line is the catalogue. So `book.night.3` is the case of the third line behind these, if a book
 //! answers the script `night`.
-use crate::books;
+use crate::{books, copies, desks, operators, worlds};
 use crate::telling::{Asked, Turn};
 use anyhow::{Result, bail};
 use batch_ids::Moment;
@@ -11,6 +11,7 @@ use jsl_json::read_catalogue;
 use jsl_model::Catalogue;
 use op_log::{Call, Query};
 use script_text::{Command, read_command};
+use std::alloc::Global;
 use std::fs;
 use std::rt::Files;
 use std::sync::Wait;
@@ -36,12 +37,12 @@ pub(crate) trait Answers {
         at: Moment,
     ) -> Result<()>;
 
-    /// Asks a query.
+    /// Asks the query that a line is.
     fn on_query<R: Wait + Print + AllocGlobal>(
         &mut self,
         rt: &R,
         case: Case<'_>,
-        query: &Query,
+        line: &str,
     ) -> Result<()>;
 
     /// Does what a line says that is no call and no query.
@@ -76,9 +77,8 @@ fn answer_line<A: Answers, R: Wait + Print + AllocGlobal>(
             answered
         }
         Command::Ask(query) => {
-            let answered = answers.on_query(rt, case, &query);
             drop(query);
-            answered
+            answers.on_query(rt, case, line)
         }
         Command::BadLine => answers.on_line(rt, case, line),
         Command::TextTooLong => bail!("a text is too long"),
@@ -105,6 +105,14 @@ pub(crate) fn answer_lines<A: Answers, R: Wait + Print + AllocGlobal>(
     Ok(())
 }
 
+/// The query that a line is.
+pub(crate) fn query_in(alloc: Global, line: &str) -> Result<Query> {
+    match read_command(alloc, line.as_bytes())? {
+        Command::Ask(query) => Ok(query),
+        _ => bail!("no query"),
+    }
+}
+
 /// The catalogue of a script.
 pub(crate) fn catalogue_of(rt: &impl AllocGlobal, script: Script<'_>) -> Result<Catalogue> {
     Ok(read_catalogue(rt.alloc(), script.catalogue.as_bytes())?)
@@ -123,6 +131,11 @@ fn run_by<R: Wait + Print + AllocGlobal>(
         "full_repository" => books::run_repository::<_, 2>(rt, asked, script),
         "preview" => books::run_previews(rt, asked, script),
         "clones" => books::run_clones(rt, asked, script),
+        "world" => worlds::run_world(rt, asked, script),
+        "desk" => desks::run_desk::<_, 1_000_000>(rt, asked, script),
+        "full_desk" => desks::run_desk::<_, 2>(rt, asked, script),
+        "copies" => copies::run_copies(rt, asked, script),
+        "operator" => operators::run_operator(rt, asked, script),
         _ => bail!("nobody is called {kind}"),
     }
 }

@@ -1,0 +1,278 @@
+//! What reads and writes texts: catalogues, lines of a script and of a run, replies.
+use crate::telling::{Asked, Turn, call, case, mark, show, tell};
+use anyhow::{Result, bail};
+use batch_ids::{Metrics, OutOfMemory};
+use jsl_json::{ReadFault, read_catalogue};
+use script_engine::{
+    Counted, EngineFault, Line, Lines, StartFault, answer_script, bad_line_text, fault_text,
+    metrics_value, read_start, run_script,
+};
+use script_text::CommandReader;
+use std::alloc::Global;
+use std::fs;
+use std::rt::Files;
+
+/// Catalogues, one a line: accepted ones, and one of each fault.
+const CATALOGUES: &str = "catalogues";
+
+/// Lines that start a job, and lines that do not.
+const STARTS: &str = "starts";
+
+/// Lines of a script, which are read in one pass or into a tree.
+const COMMANDS: &str = "commands";
+
+/// The script of `batchctl`.
+const SCRIPT: &str = "batchctl";
+
+/// How much room a writer has, so that it asks for no memory of its own.
+const ROOM: usize = 65_536;
+
+fn text_of(rt: &(impl Files + AllocGlobal), name: &str) -> Result<String> {
+    Ok(fs::read_to_string(rt, name)?)
+}
+
+/// Tells bytes that are lines.
+fn tell_lines(rt: &(impl Print + AllocGlobal), name: &str, bytes: &[u8]) -> Result<()> {
+    for line in bytes.split(|byte| *byte == b'\n') {
+        if !line.is_empty() {
+            println!(rt; "{name}: {}", std::str::from_utf8(line)?)?;
+        }
+    }
+    Ok(())
+}
+
+/// The line of a fault.
+fn run_fault<R: Print + AllocGlobal>(
+    rt: &R,
+    asked: Asked<'_>,
+    number: u64,
+    fault: ReadFault,
+) -> Result<()> {
+    let name = format!(in rt.alloc(); "fault_text.{number}")?;
+    if fault.is_out_of_memory() {
+        bail!("{name}: out of memory");
+    }
+    if let Some(turn) = asked.turn(name.as_str()) {
+        let text = call!(rt, turn, Err(_), show(rt, turn, "now", &fault)?, fault_text(rt.alloc(), &fault))?;
+        tell_lines(rt, name.as_str(), text.as_slice())?;
+    }
+    Ok(())
+}
+
+fn run_catalogue<R: Print + AllocGlobal>(
+    rt: &R,
+    asked: Asked<'_>,
+    number: u64,
+    line: &str,
+) -> Result<()> {
+    let alloc = rt.alloc();
+    let name = format!(in alloc; "read_catalogue.{number}")?;
+    case!(rt, asked, name.as_str(), Err(ReadFault::OutOfMemory), &(), read_catalogue(alloc, line.as_bytes()));
+    match read_catalogue(alloc, line.as_bytes()) {
+        Ok(catalogue) => {
+            drop(catalogue);
+            Ok(())
+        }
+        Err(fault) => run_fault(rt, asked, number, fault),
+    }
+}
+
+fn run_start<R: Print + AllocGlobal>(
+    rt: &R,
+    asked: Asked<'_>,
+    number: u64,
+    line: &str,
+) -> Result<()> {
+    let alloc = rt.alloc();
+    let name = format!(in alloc; "read_start.{number}")?;
+    case!(rt, asked, name.as_str(), Err(StartFault::OutOfMemory), &(), read_start(alloc, line.as_bytes()));
+    Ok(())
+}
+
+fn run_command<R: Print + AllocGlobal>(
+    rt: &R,
+    asked: Asked<'_>,
+    number: u64,
+    line: &str,
+    reader: &mut CommandReader,
+) -> Result<()> {
+    let name = format!(in rt.alloc(); "command_reader.{number}")?;
+    let turn = asked.turn_of_many(name.as_str());
+    let command = call!(rt, turn, Err(_), show(rt, turn, "now", &())?, reader.read(line.as_bytes()));
+    tell(rt, name.as_str(), command)
+}
+
+/// One call for each line.
+pub(crate) fn run_catalogues<R: Files + Print + AllocGlobal>(
+    rt: &R,
+    asked: Asked<'_>,
+) -> Result<()> {
+    let catalogues = text_of(rt, CATALOGUES)?;
+    let mut number = 0u64;
+    for line in catalogues.as_str().lines() {
+        number = number.saturating_add(1);
+        run_catalogue(rt, asked, number, line)?;
+    }
+    Ok(())
+}
+
+/// One call for each line.
+pub(crate) fn run_starts<R: Files + Print + AllocGlobal>(rt: &R, asked: Asked<'_>) -> Result<()> {
+    let starts = text_of(rt, STARTS)?;
+    let mut number = 0u64;
+    for line in starts.as_str().lines() {
+        number = number.saturating_add(1);
+        run_start(rt, asked, number, line)?;
+    }
+    Ok(())
+}
+
+/// One reader reads all lines.
+pub(crate) fn run_commands<R: Files + Print + AllocGlobal>(
+    rt: &R,
+    asked: Asked<'_>,
+) -> Result<()> {
+    let commands = text_of(rt, COMMANDS)?;
+    let mut reader = CommandReader::new(rt.alloc());
+    let mut number = 0u64;
+    for line in commands.as_str().lines() {
+        number = number.saturating_add(1);
+        run_command(rt, asked, number, line, &mut reader)?;
+    }
+    Ok(())
+}
+
+/// The lines of a reader, of which one is a case: it is read again by new lines from the beginning, since these have failed.
+fn run_line<R: Print + AllocGlobal>(
+    rt: &R,
+    asked: Asked<'_>,
+    number: u64,
+    bytes: &[u8],
+) -> Result<()> {
+    let name = format!(in rt.alloc(); "lines.next_line.{number}")?;
+    if let Some(turn) = asked.turn(name.as_str()) {
+        let mut line = line_at(rt.alloc(), turn, number, bytes)?;
+        if matches!(line, Err(EngineFault::OutOfMemory)) {
+            drop(line);
+            println!(rt; "refused")?;
+            line = line_at(rt.alloc(), UNMARKED, number, bytes)?;
+        }
+        tell(rt, name.as_str(), line)?;
+    }
+    Ok(())
+}
+
+/// The turn of a call that is no case.
+pub(crate) const UNMARKED: Turn = Turn {
+    marks: false,
+    shows: false,
+};
+
+/// The line of this number. After a fault the lines have failed.
+fn line_at(
+    alloc: Global,
+    turn: Turn,
+    number: u64,
+    bytes: &[u8],
+) -> Result<std::result::Result<Option<Line>, EngineFault>> {
+    let mut lines = Lines::new(alloc, Counted::new(bytes))?;
+    for _before in 1..number {
+        if lines.has_failed() {
+            bail!("an earlier line failed");
+        }
+        drop(lines.next_line());
+    }
+    if lines.has_failed() {
+        bail!("an earlier line failed");
+    }
+    mark(alloc, turn);
+    let line = lines.next_line();
+    mark(alloc, turn);
+    if line.is_err() != lines.has_failed() {
+        bail!("lines fail if a line does");
+    }
+    Ok(line)
+}
+
+/// New lines, their lines, and the end behind them.
+pub(crate) fn run_lines<R: Files + Print + AllocGlobal>(rt: &R, asked: Asked<'_>) -> Result<()> {
+    let script = text_of(rt, STARTS)?;
+    let bytes = script.as_str().as_bytes();
+    if let Some(turn) = asked.turn("lines.new") {
+        let lines = call!(rt, turn, Err(_), show(rt, turn, "now", &())?,
+            Lines::new(rt.alloc(), Counted::new(bytes)));
+        println!(rt; "lines.new: {}", lines.is_ok())?;
+        drop(lines);
+    }
+    for number in 1..5u64 {
+        run_line(rt, asked, number, bytes)?;
+    }
+    Ok(())
+}
+
+/// The replies of a script, in room that was made ahead of the mark.
+fn run_once<R: Print + AllocGlobal>(
+    rt: &R,
+    turn: Turn,
+    name: &str,
+    script: &[u8],
+) -> Result<bool> {
+    let mut written = Vec::<u8>::with_capacity(rt.alloc(), ROOM)?;
+    mark(rt.alloc(), turn);
+    let outcome = run_script(
+        rt.alloc(),
+        &mut Counted::new(script),
+        &mut Counted::new(&mut written),
+    );
+    mark(rt.alloc(), turn);
+    println!(rt; "{name}: {outcome:?}")?;
+    tell_lines(rt, name, written.as_slice())?;
+    Ok(outcome != Err(EngineFault::OutOfMemory))
+}
+
+fn answer_once<R: Print + AllocGlobal>(
+    rt: &R,
+    turn: Turn,
+    name: &str,
+    script: &[u8],
+) -> Result<bool> {
+    mark(rt.alloc(), turn);
+    let (written, outcome) = answer_script(rt.alloc(), script);
+    mark(rt.alloc(), turn);
+    println!(rt; "{name}: {outcome:?}")?;
+    tell_lines(rt, name, written.as_slice())?;
+    Ok(outcome != Err(EngineFault::OutOfMemory))
+}
+
+/// A whole script. If it is refused memory, what it wrote until then is told, and it runs again.
+pub(crate) fn run_whole<R: Files + Print + AllocGlobal>(rt: &R, asked: Asked<'_>) -> Result<()> {
+    let script = text_of(rt, SCRIPT)?;
+    let bytes = script.as_str().as_bytes();
+    if let Some(turn) = asked.turn("run_script") {
+        if !run_once(rt, turn, "run_script", bytes)? {
+            println!(rt; "refused")?;
+            run_once(rt, UNMARKED, "run_script", bytes)?;
+        }
+    }
+    if let Some(turn) = asked.turn("answer_script") {
+        if !answer_once(rt, turn, "answer_script", bytes)? {
+            println!(rt; "refused")?;
+            answer_once(rt, UNMARKED, "answer_script", bytes)?;
+        }
+    }
+    Ok(())
+}
+
+/// Values and lines of their own.
+pub(crate) fn run_values<R: Print + AllocGlobal>(rt: &R, asked: Asked<'_>) -> Result<()> {
+    let metrics = Metrics {
+        read_count: 5,
+        filter_count: 2,
+        write_count: 3,
+        commit_count: 3,
+        ..Metrics::zero()
+    };
+    case!(rt, asked, "metrics_value", Err(_), &metrics, metrics_value(rt.alloc(), &metrics));
+    case!(rt, asked, "bad_line_text", Err(_), &(), bad_line_text(rt.alloc()));
+    Ok(())
+}
