@@ -2,13 +2,16 @@
 ghost use Rattle.std.specs.Prelude.{◌≤◌};
 
 use crate::scripts::{Answers, Case, Script, answer_lines, catalogue_of, query_in};
-use crate::telling::{Asked, call, mark, show, tell, tell_answer, tell_reply};
+use crate::telling::{Asked, call, mark, show, tell, tell_answer, tell_line, tell_reply};
 use anyhow::Result;
-use batch_ids::{Moment, OutOfMemory, Refusal};
-use jsl_model::Catalogue;
-use op_log::{Book, Call, Reply, Repository};
-use std::alloc::Global;
+use batch_ids::{Moment, Refusal};
+use op_log::{Answer, Book, Call, Reply, Repository};
+use script_text::{answer_text, reply_text};
 use std::sync::Wait;
+
+type Replied = std::result::Result<Reply, Refusal>;
+
+type Answered = std::result::Result<Answer, Refusal>;
 
 /// A repository whose previews are the cases.
 #[derive(Drop)]
@@ -16,10 +19,19 @@ struct Previews {
     repository: Repository<1_000_000>,
 }
 
-/// A repository whose calls and replies are copied.
+/// What is made of the calls and replies of a repository.
+#[derive(Clone, Copy)]
+pub(crate) enum Made {
+    CopyOfCall,
+    CopyOfReply,
+    Text,
+}
+
+/// A repository of whose calls and replies something is made.
 #[derive(Drop)]
-struct Clones {
+struct Maker {
     repository: Repository<1_000_000>,
+    made: Made,
 }
 
 impl<const LIMIT: u64> Answers for Book<LIMIT> {
@@ -33,8 +45,14 @@ impl<const LIMIT: u64> Answers for Book<LIMIT> {
     ) -> Result<()> {
         let turn = case.turn;
         show(rt, turn, "before", &*self)?;
-        let reply = call!(rt, turn, Err(Refusal::OutOfMemory), show(rt, turn, "now", &*self)?,
-            given = call.try_clone()?, self.act(by, given, at));
+        let reply = call!(
+            rt,
+            turn,
+            Err(Refusal::OutOfMemory),
+            show(rt, turn, "now", &*self)?,
+            given = call.try_clone()?,
+            self.act(by, given, at)
+        );
         tell_reply(rt, case.name, reply)?;
         show(rt, turn, "after", &*self)
     }
@@ -48,8 +66,13 @@ impl<const LIMIT: u64> Answers for Book<LIMIT> {
         let turn = case.turn;
         let query = query_in(rt.alloc(), line)?;
         show(rt, turn, "before", &*self)?;
-        let answer = call!(rt, turn, Err(Refusal::OutOfMemory), show(rt, turn, "now", &*self)?,
-            self.ask(&query));
+        let answer = call!(
+            rt,
+            turn,
+            Err(Refusal::OutOfMemory),
+            show(rt, turn, "now", &*self)?,
+            self.ask(&query)
+        );
         drop(query);
         tell_answer(rt, case.name, answer)?;
         show(rt, turn, "after", &*self)
@@ -67,8 +90,13 @@ impl<const LIMIT: u64> Answers for Repository<LIMIT> {
     ) -> Result<()> {
         let turn = case.turn;
         show(rt, turn, "before", &*self)?;
-        let reply = call!(rt, turn, Err(Refusal::OutOfMemory), show(rt, turn, "now", &*self)?,
-            self.apply(by, call, at));
+        let reply = call!(
+            rt,
+            turn,
+            Err(Refusal::OutOfMemory),
+            show(rt, turn, "now", &*self)?,
+            self.apply(by, call, at)
+        );
         tell_reply(rt, case.name, reply)?;
         show(rt, turn, "after", &*self)
     }
@@ -82,8 +110,13 @@ impl<const LIMIT: u64> Answers for Repository<LIMIT> {
         let turn = case.turn;
         let query = query_in(rt.alloc(), line)?;
         show(rt, turn, "before", &*self)?;
-        let answer = call!(rt, turn, Err(Refusal::OutOfMemory), show(rt, turn, "now", &*self)?,
-            self.ask(&query));
+        let answer = call!(
+            rt,
+            turn,
+            Err(Refusal::OutOfMemory),
+            show(rt, turn, "now", &*self)?,
+            self.ask(&query)
+        );
         drop(query);
         tell_answer(rt, case.name, answer)?;
         show(rt, turn, "after", &*self)
@@ -102,8 +135,13 @@ impl Answers for Previews {
         let turn = case.turn;
         let repository = &self.repository;
         show(rt, turn, "before", repository)?;
-        let reply = call!(rt, turn, Err(Refusal::OutOfMemory), show(rt, turn, "now", repository)?,
-            repository.preview(by, call));
+        let reply = call!(
+            rt,
+            turn,
+            Err(Refusal::OutOfMemory),
+            show(rt, turn, "now", repository)?,
+            repository.preview(by, call)
+        );
         tell_reply(rt, case.name, reply)?;
         show(rt, turn, "after", repository)?;
         drop(self.repository.apply(by, call, at));
@@ -112,32 +150,70 @@ impl Answers for Previews {
 
     fn on_query<R: Wait + Print + AllocGlobal>(
         &mut self,
-        rt: &R,
-        case: Case<'_>,
-        line: &str,
+        _rt: &R,
+        _case: Case<'_>,
+        _line: &str,
     ) -> Result<()> {
-        let query = query_in(rt.alloc(), line)?;
-        let answer = self.repository.ask(&query);
-        drop(query);
-        tell_answer(rt, case.name, answer)
+        Ok(())
     }
 }
 
-/// Copies a reply.
-fn copy_reply<R: Print + AllocGlobal>(
-    rt: &R,
-    case: Case<'_>,
-    reply: &Result<Reply, Refusal>,
-) -> Result<()> {
+fn copy_call<R: Print + AllocGlobal>(rt: &R, case: Case<'_>, call: &Call) -> Result<()> {
     let turn = case.turn;
+    show(rt, turn, "before", call)?;
+    let copy = call!(
+        rt,
+        turn,
+        Err(_),
+        show(rt, turn, "now", call)?,
+        call.try_clone()
+    );
+    tell(rt, case.name, copy)
+}
+
+fn copy_reply<R: Print + AllocGlobal>(rt: &R, case: Case<'_>, reply: &Replied) -> Result<()> {
+    let turn = case.turn;
+    show(rt, turn, "before", reply)?;
     if let Ok(reply) = reply {
-        let copy = call!(rt, turn, Err(_), show(rt, turn, "now", reply)?, reply.try_clone());
+        let copy = call!(
+            rt,
+            turn,
+            Err(_),
+            show(rt, turn, "now", reply)?,
+            reply.try_clone()
+        );
         tell(rt, case.name, copy)?;
     }
     Ok(())
 }
 
-impl Answers for Clones {
+fn write_reply<R: Print + AllocGlobal>(rt: &R, case: Case<'_>, reply: &Replied) -> Result<()> {
+    let turn = case.turn;
+    show(rt, turn, "before", reply)?;
+    let text = call!(
+        rt,
+        turn,
+        Err(_),
+        show(rt, turn, "now", reply)?,
+        reply_text(rt.alloc(), reply)
+    )?;
+    tell_line(rt, case.name, text)
+}
+
+fn write_answer<R: Print + AllocGlobal>(rt: &R, case: Case<'_>, answer: &Answered) -> Result<()> {
+    let turn = case.turn;
+    show(rt, turn, "before", answer)?;
+    let text = call!(
+        rt,
+        turn,
+        Err(_),
+        show(rt, turn, "now", answer)?,
+        answer_text(rt.alloc(), answer)
+    )?;
+    tell_line(rt, case.name, text)
+}
+
+impl Answers for Maker {
     fn on_call<R: Wait + Print + AllocGlobal>(
         &mut self,
         rt: &R,
@@ -146,14 +222,14 @@ impl Answers for Clones {
         call: &Call,
         at: Moment,
     ) -> Result<()> {
-        let turn = case.turn;
-        show(rt, turn, "before", call)?;
-        let copy = call!(rt, turn, Err(_), show(rt, turn, "now", call)?, call.try_clone());
-        tell(rt, case.name, copy)?;
         let reply = self.repository.apply(by, call, at);
-        let copied = copy_reply(rt, case, &reply);
+        let made = match self.made {
+            Made::CopyOfCall => copy_call(rt, case, call),
+            Made::CopyOfReply => copy_reply(rt, case, &reply),
+            Made::Text => write_reply(rt, case, &reply),
+        };
         drop(reply);
-        copied
+        made
     }
 
     fn on_query<R: Wait + Print + AllocGlobal>(
@@ -165,7 +241,12 @@ impl Answers for Clones {
         let query = query_in(rt.alloc(), line)?;
         let answer = self.repository.ask(&query);
         drop(query);
-        tell_answer(rt, case.name, answer)
+        let made = match self.made {
+            Made::Text => write_answer(rt, case, &answer),
+            _ => Ok(()),
+        };
+        drop(answer);
+        made
     }
 }
 
@@ -213,16 +294,17 @@ pub(crate) fn run_previews<R: Wait + Print + AllocGlobal>(
     answered
 }
 
-/// A repository answers a script, whose calls and replies are copied.
-pub(crate) fn run_clones<R: Wait + Print + AllocGlobal>(
+/// Something is made of the calls and replies of a script.
+pub(crate) fn run_maker<R: Wait + Print + AllocGlobal>(
     rt: &R,
     asked: Asked<'_>,
     script: Script<'_>,
+    made: Made,
 ) -> Result<()> {
     let catalogue = catalogue_of(rt, script)?;
     let repository = Repository::new(rt.alloc(), catalogue)?;
-    let mut clones = Clones { repository };
-    let answered = answer_lines(rt, asked, script, &mut clones);
-    drop(clones);
+    let mut maker = Maker { repository, made };
+    let answered = answer_lines(rt, asked, script, &mut maker);
+    drop(maker);
     answered
 }

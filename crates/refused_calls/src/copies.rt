@@ -1,5 +1,7 @@
 //! Read copies of a desk: alone, and behind their locks.
-ghost use Rattle.std.specs.Prelude.{◌≡◌, ◌<◌, []};
+ghost use Rattle.std.specs.Prelude.{◌≡◌, ◌<◌, [], IfOk, vec_len};
+ghost use Rattle.std.specs.List.{All};
+ghost use Rattle.read_copies.specs.States.{StandsForCounts};
 
 use crate::desks::show_session;
 use crate::scripts::{Answers, Case, Script, answer_lines, catalogue_of, query_in};
@@ -62,7 +64,8 @@ impl<N: Site> Shelf<N> {
     }
 
     fn publish<R: Wait>(&mut self, rt: &R) -> std::result::Result<(), OutOfMemory> {
-        self.repositories.publish(rt, 0, &mut self.desk, &self.table)
+        self.repositories
+            .publish(rt, 0, &mut self.desk, &self.table)
     }
 
     fn publish_counts<R: Wait>(&mut self, rt: &R) -> std::result::Result<(), OutOfMemory> {
@@ -79,7 +82,11 @@ impl<N: Site> Shelf<N> {
         if !turn.shows {
             return Ok(());
         }
-        println!(rt; "{when}: {} operations, of them {}", self.desk.len(), self.alone.len())?;
+        println!(rt;
+            "{when}: {} operations, of them {}",
+            self.desk.len(),
+            self.alone.len()
+        )?;
         show_session(rt, when, &self.of_alone)?;
         show_session(rt, when, &self.of_repositories)?;
         show_session(rt, when, &self.of_counts)?;
@@ -93,7 +100,9 @@ impl<N: Site> Shelf<N> {
         let said = self.read_shared(rt, &query);
         drop(query);
         tell_said(rt, when, said)?;
-        let counts = self.counts.read(rt, 0, &mut self.of_counts, &(), &self.table);
+        let counts = self
+            .counts
+            .read(rt, 0, &mut self.of_counts, &(), &self.table);
         println!(rt; "{when}: {counts:?}")?;
         Ok(())
     }
@@ -113,7 +122,7 @@ impl<N: Site> Answers for Shelf<N> {
     ) -> Result<()> {
         let given = call.try_clone()?;
         let reply = self.desk.act(&mut self.caller, given, at, &self.table);
-        println!(rt; "{}: {}", case.name, reply.is_ok())?;
+        println!(rt; "{}, no case: {}", case.name, reply.is_ok())?;
         drop(reply);
         Ok(())
     }
@@ -128,11 +137,21 @@ impl<N: Site> Answers for Shelf<N> {
         let turn = case.turn;
         let query = query_in(rt.alloc(), line)?;
         self.show(rt, turn, "before")?;
-        let said = call!(rt, turn, Some(Err(Refusal::OutOfMemory)), self.show(rt, turn, "now")?,
-            self.read_alone(&query));
+        let said = call!(
+            rt,
+            turn,
+            Some(Err(Refusal::OutOfMemory)),
+            self.show(rt, turn, "now")?,
+            self.read_alone(&query)
+        );
         tell_said(rt, case.name, said)?;
-        let said = call!(rt, turn, Some(Err(Refusal::OutOfMemory)), self.show(rt, turn, "now")?,
-            self.read_shared(rt, &query));
+        let said = call!(
+            rt,
+            turn,
+            Some(Err(Refusal::OutOfMemory)),
+            self.show(rt, turn, "now")?,
+            self.read_shared(rt, &query)
+        );
         drop(query);
         tell_said(rt, case.name, said)?;
         self.show(rt, turn, "after")
@@ -149,13 +168,85 @@ impl<N: Site> Answers for Shelf<N> {
         self.show(rt, turn, "before")?;
         let brought = match line {
             "bring" => call!(rt, turn, Err(_), self.show(rt, turn, "now")?, self.bring()),
-            "publish" => call!(rt, turn, Err(_), self.show(rt, turn, "now")?, self.publish(rt)),
-            "counts" => call!(rt, turn, Err(_), self.show(rt, turn, "now")?, self.publish_counts(rt)),
+            "publish" => call!(
+                rt,
+                turn,
+                Err(_),
+                self.show(rt, turn, "now")?,
+                self.publish(rt)
+            ),
+            "counts" => call!(
+                rt,
+                turn,
+                Err(_),
+                self.show(rt, turn, "now")?,
+                self.publish_counts(rt)
+            ),
             _ => bail!("{}: nobody follows {line}", case.name),
         };
         tell(rt, case.name, brought)?;
         self.show(rt, turn, "after")
     }
+}
+
+/// Counts of nothing, for one copy.
+fn states_of(alloc: Global, catalogue: &Catalogue) -> Result<Vec<StatusCounts>>
+    ensures empty { IfOk result (λ states. All (λ s. StandsForCounts s catalogue.now []) states.items) }
+    ensures one { IfOk result (λ states. vec_len states ≡ 1) }
+{
+    let mut states = Vec::new(alloc);
+    states.push(StatusCounts::new(alloc, catalogue.try_clone()?)?)?;
+    Ok(states)
+}
+
+/// A copy of the counts, whose making is a case.
+fn counts_of<N: Site, R: Print + AllocGlobal>(
+    rt: &R,
+    asked: Asked<'_>,
+    script: Script<'_>,
+    desk: &mut Desk<N, 1_000_000>,
+    table: &SeatTable,
+    catalogue: &Catalogue,
+) -> Result<Copies<StatusCounts, N>>
+    requires table { table.now ≡ N.place }
+    requires alone { desk.old.hosted ≡ [] }
+    requires catalogue { catalogue.now ≡ N.place.catalogue }
+    ensures desk { desk.new ≡ desk.old }
+    ensures one { IfOk result (λ copies. copies ≡ 1) }
+{
+    let alloc = rt.alloc();
+    let name = format!(in alloc; "{}.new", script.name)?;
+    let turn = asked.turn_of_many(name.as_str());
+    Ok(call!(
+        rt,
+        turn,
+        Err(_),
+        show(rt, turn, "now", &())?,
+        given = states_of(alloc, catalogue)?,
+        Copies::new(alloc, given, desk, table)
+    )?)
+}
+
+/// New counts.
+fn run_counts<R: Print + AllocGlobal>(
+    rt: &R,
+    asked: Asked<'_>,
+    script: Script<'_>,
+    catalogue: &Catalogue,
+) -> Result<()> {
+    let name = format!(in rt.alloc(); "{}.counts", script.name)?;
+    let turn = asked.turn_of_many(name.as_str());
+    let made = call!(
+        rt,
+        turn,
+        Err(_),
+        show(rt, turn, "now", &())?,
+        given = catalogue.try_clone()?,
+        StatusCounts::new(rt.alloc(), given)
+    );
+    println!(rt; "{name}: {}", made.is_ok())?;
+    drop(made);
+    Ok(())
 }
 
 fn answer_with<N: Site, R: Wait + Print + AllocGlobal>(
@@ -172,11 +263,11 @@ fn answer_with<N: Site, R: Wait + Print + AllocGlobal>(
 {
     let alloc = rt.alloc();
     let mut desk = desk;
-    let alone = Copied::new(Repository::new(alloc, catalogue.try_clone()?)?, &mut desk, &table);
+    let state = Repository::new(alloc, catalogue.try_clone()?)?;
+    let alone = Copied::new(state, &mut desk, &table);
     let states = vec![in alloc; Repository::new(alloc, catalogue.try_clone()?)?]?;
     let repositories = Copies::new(alloc, states, &mut desk, &table)?;
-    let states = vec![in alloc; StatusCounts::new(alloc, catalogue.try_clone()?)?]?;
-    let counts = Copies::new(alloc, states, &mut desk, &table)?;
+    let counts = counts_of(rt, asked, script, &mut desk, &table, catalogue)?;
     let mut shelf = Shelf {
         caller: desk.open(&table)?,
         of_alone: desk.open(&table)?,
@@ -216,6 +307,7 @@ pub(crate) fn run_copies<R: Wait + Print + AllocGlobal>(
     script: Script<'_>,
 ) -> Result<()> {
     let catalogue = catalogue_of(rt, script)?;
+    run_counts(rt, asked, script, &catalogue)?;
     let (table, seat) = SeatTable::new(rt.alloc(), &catalogue)?;
     let answered = answer_at::<Brand, _>(rt, asked, script, table, seat, &catalogue);
     drop(catalogue);

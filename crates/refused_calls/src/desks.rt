@@ -2,12 +2,11 @@
 ghost use Rattle.std.specs.Prelude.{◌≡◌, ◌≤◌, ◌<◌, []};
 
 use crate::scripts::{Answers, Case, Script, answer_lines, catalogue_of, query_in};
-use crate::telling::{Asked, Turn, call, mark, show, tell, tell_answer, tell_reply};
+use crate::telling::{Asked, Turn, call, mark, show, tell_answer, tell_reply};
 use anyhow::{Result, bail};
 use batch_ids::{Moment, Refusal};
 use jsl_model::Catalogue;
-use op_log::{Call, Repository};
-use read_copies::{Copied, Copies, StatusCounts};
+use op_log::{Call, Reply};
 use seat_rules::{BookSeat, SeatTable, Site};
 use sessions::{Desk, Session};
 use std::marker::Brand;
@@ -80,7 +79,7 @@ impl<N: Site, const LIMIT: u64> Held<N, LIMIT> {
     }
 
     /// The session of this number.
-    fn act(&mut self, by: u64, call: Call, at: Moment) -> std::result::Result<op_log::Reply, Refusal> {
+    fn act(&mut self, by: u64, call: Call, at: Moment) -> std::result::Result<Reply, Refusal> {
         if by == 1 {
             self.desk.act(&mut self.one, call, at, &self.table)
         } else {
@@ -100,8 +99,14 @@ impl<N: Site, const LIMIT: u64> Answers for Held<N, LIMIT> {
     ) -> Result<()> {
         let turn = case.turn;
         self.show(rt, turn, "before")?;
-        let reply = call!(rt, turn, Err(Refusal::OutOfMemory), self.show(rt, turn, "now")?,
-            given = call.try_clone()?, self.act(by, given, at));
+        let reply = call!(
+            rt,
+            turn,
+            Err(Refusal::OutOfMemory),
+            self.show(rt, turn, "now")?,
+            given = call.try_clone()?,
+            self.act(by, given, at)
+        );
         tell_reply(rt, case.name, reply)?;
         self.show(rt, turn, "after")
     }
@@ -115,8 +120,13 @@ impl<N: Site, const LIMIT: u64> Answers for Held<N, LIMIT> {
         let turn = case.turn;
         let query = query_in(rt.alloc(), line)?;
         self.show(rt, turn, "before")?;
-        let answer = call!(rt, turn, Err(Refusal::OutOfMemory), self.show(rt, turn, "now")?,
-            self.desk.ask(&mut self.one, &query, &self.table));
+        let answer = call!(
+            rt,
+            turn,
+            Err(Refusal::OutOfMemory),
+            self.show(rt, turn, "now")?,
+            self.desk.ask(&mut self.one, &query, &self.table)
+        );
         drop(query);
         tell_answer(rt, case.name, answer)?;
         self.show(rt, turn, "after")
@@ -132,8 +142,14 @@ fn run_table<R: Print + AllocGlobal>(
 ) -> Result<()> {
     let name = format!(in rt.alloc(); "{}.table", script.name)?;
     if let Some(turn) = asked.turn(name.as_str()) {
-        let made = call!(rt, turn, Err(_), show(rt, turn, "now", catalogue)?,
-            SeatTable::new(rt.alloc(), catalogue));
+        show(rt, turn, "before", catalogue)?;
+        let made = call!(
+            rt,
+            turn,
+            Err(_),
+            show(rt, turn, "now", catalogue)?,
+            SeatTable::new(rt.alloc(), catalogue)
+        );
         println!(rt; "{name}: {}", made.is_ok())?;
         drop(made);
     }
@@ -179,8 +195,15 @@ fn answer_at<N: Site, R: Wait + Print + AllocGlobal, const LIMIT: u64>(
     requires seat { seat ≡ N.place.table }
     requires catalogue { catalogue ≡ N.place.catalogue }
 {
-    let desk = Desk::<N, LIMIT>::new(rt.alloc(), seat, catalogue)?;
-    answer_with(rt, asked, script, desk, table)
+    let name = format!(in rt.alloc(); "{}.new", script.name)?;
+    let turn = asked.turn_of_many(name.as_str());
+    mark(rt.alloc(), turn);
+    let made = Desk::<N, LIMIT>::new(rt.alloc(), seat, catalogue);
+    mark(rt.alloc(), turn);
+    match made {
+        Ok(desk) => answer_with(rt, asked, script, desk, table),
+        Err(_) => bail!("{name}: refused"),
+    }
 }
 
 /// A desk answers a script.

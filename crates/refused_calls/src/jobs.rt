@@ -38,20 +38,61 @@ const FAULTLESS: Shape = Shape {
     partitions: Some(3),
 };
 
-const LONG: &str = "0123456789abcdef0123456789abcdef0123456789abcdef0123456789abcdef0123456789abcdef0123456789abcdef0123456789abcdef0123456789abcdef0123456789abcdef0123456789abcdef0123456789abcdef0123456789abcdef0123456789abcdef0123456789abcdef0123456789abcdef0123456789abcdef+";
+const LONG: &str =
+    "0123456789abcdef0123456789abcdef0123456789abcdef0123456789abcdef0123456789abcdef0123456789abcdef0123456789abcdef0123456789abcdef0123456789abcdef0123456789abcdef0123456789abcdef0123456789abcdef0123456789abcdef0123456789abcdef0123456789abcdef0123456789abcdef+";
 
 /// A job without a fault, and one of each fault.
 const SHAPES: [Shape; 10] = [
     FAULTLESS,
-    Shape { name: "job.check.in_flows", flows: 3, next: "f", restart: "f", ..FAULTLESS },
-    Shape { name: "job.check.TextTooLong", ids: (LONG, "t"), ..FAULTLESS },
-    Shape { name: "job.check.Empty", item_count: 0, ..FAULTLESS },
-    Shape { name: "job.check.TooDeep", flows: 16, next: "f", restart: "f", ..FAULTLESS },
-    Shape { name: "job.check.TooMany", partitions: Some(65), ..FAULTLESS },
-    Shape { name: "job.check.DuplicateId", ids: ("t", "t"), ..FAULTLESS },
-    Shape { name: "job.check.NoSuchTarget", next: "u", ..FAULTLESS },
-    Shape { name: "job.check.Loop", next: "s", ..FAULTLESS },
-    Shape { name: "job.check.RestartNotJobLevel", restart: "u", ..FAULTLESS },
+    Shape {
+        name: "job.check.in_flows",
+        flows: 3,
+        next: "f",
+        restart: "f",
+        ..FAULTLESS
+    },
+    Shape {
+        name: "job.check.TextTooLong",
+        ids: (LONG, "t"),
+        ..FAULTLESS
+    },
+    Shape {
+        name: "job.check.Empty",
+        item_count: 0,
+        ..FAULTLESS
+    },
+    Shape {
+        name: "job.check.TooDeep",
+        flows: 16,
+        next: "f",
+        restart: "f",
+        ..FAULTLESS
+    },
+    Shape {
+        name: "job.check.TooMany",
+        partitions: Some(65),
+        ..FAULTLESS
+    },
+    Shape {
+        name: "job.check.DuplicateId",
+        ids: ("t", "t"),
+        ..FAULTLESS
+    },
+    Shape {
+        name: "job.check.NoSuchTarget",
+        next: "u",
+        ..FAULTLESS
+    },
+    Shape {
+        name: "job.check.Loop",
+        next: "s",
+        ..FAULTLESS
+    },
+    Shape {
+        name: "job.check.RestartNotJobLevel",
+        restart: "u",
+        ..FAULTLESS
+    },
 ];
 
 fn step(alloc: Global, id: &str, shape: &Shape) -> Result<(String, StepParts), AllocError> {
@@ -126,8 +167,15 @@ fn parts(alloc: Global, id: &str, shape: &Shape) -> Result<JobParts, AllocError>
 
 fn run_check<R: Print + AllocGlobal>(rt: &R, asked: Asked<'_>, shape: &Shape) -> Result<()> {
     let alloc = rt.alloc();
-    case!(rt, asked, shape.name, Err(JobFault::OutOfMemory), &(),
-        given = parts(alloc, "night", shape)?, Job::check(alloc, given));
+    case!(
+        rt,
+        asked,
+        shape.name,
+        Err(JobFault::OutOfMemory),
+        &(),
+        given = parts(alloc, "night", shape)?,
+        Job::check(alloc, given)
+    );
     Ok(())
 }
 
@@ -180,11 +228,21 @@ fn add<R: Print + AllocGlobal>(
 ) -> Result<()> {
     let alloc = rt.alloc();
     show(rt, turn, "before", &*catalogue)?;
-    let answer = call!(rt, turn, Err(JobFault::OutOfMemory), show(rt, turn, "now", &*catalogue)?,
-        given = job(alloc, id)?, catalogue.add(given));
+    let answer = call!(
+        rt,
+        turn,
+        Err(JobFault::OutOfMemory),
+        show(rt, turn, "now", &*catalogue)?,
+        given = job(alloc, id)?,
+        catalogue.add(given)
+    );
     tell(rt, name, answer)?;
     show(rt, turn, "after", &*catalogue)?;
-    println!(rt; "{name}: then {:?} of {}", catalogue.job(id).is_some(), catalogue.len())?;
+    println!(rt;
+        "{name}: then {:?} of {}",
+        catalogue.job(id).is_some(),
+        catalogue.len()
+    )?;
     Ok(())
 }
 
@@ -209,10 +267,31 @@ fn run_copies<R: Print + AllocGlobal>(
         bail!("there is no job");
     };
     case!(rt, asked, "job.try_clone", Err(_), job, job.try_clone());
-    case!(rt, asked, "catalogue.artifacts", Err(_), catalogue, catalogue.artifacts());
-    case!(rt, asked, "catalogue.try_clone", Err(_), catalogue, catalogue.try_clone());
+    case!(
+        rt,
+        asked,
+        "catalogue.artifacts",
+        Err(_),
+        catalogue,
+        catalogue.artifacts()
+    );
+    case!(
+        rt,
+        asked,
+        "catalogue.try_clone",
+        Err(_),
+        catalogue,
+        catalogue.try_clone()
+    );
     let copy = catalogue.try_clone()?;
-    case!(rt, asked, "catalogue.artifacts.of_a_copy", Err(_), &copy, copy.artifacts());
+    case!(
+        rt,
+        asked,
+        "catalogue.artifacts.of_a_copy",
+        Err(_),
+        &copy,
+        copy.artifacts()
+    );
     drop(copy);
     Ok(())
 }

@@ -82,12 +82,75 @@ fn ask_query<N: Site>(
 
 impl<N: Site> Stage<'_, N> {
     /// Tells what a query of the watcher is answered, who is shown all operations first.
-    fn look<R: Wait + Print + AllocGlobal>(&mut self, rt: &R, when: &str, line: &str) -> Result<()> {
+    fn look<R: Wait + Print + AllocGlobal>(
+        &mut self,
+        rt: &R,
+        when: &str,
+        line: &str,
+    ) -> Result<()> {
         let query = query_in(rt.alloc(), line)?;
         let shown = self.operator.operations_at_least(&mut self.watcher);
         let answer = ask_query(rt, self.operator, &mut self.watcher, query);
         println!(rt; "{when}: {shown} operations")?;
         tell_answer(rt, when, answer)
+    }
+
+    /// The same, and how many job instances the session has that started them.
+    fn show_with_count<R: Wait + Print + AllocGlobal>(
+        &mut self,
+        rt: &R,
+        turn: Turn,
+        when: &str,
+    ) -> Result<()> {
+        self.show(rt, turn, when)?;
+        let query = query_in(rt.alloc(), COUNT)?;
+        let answer = ask_query(rt, self.operator, &mut self.one, query);
+        tell_answer(rt, when, answer)
+    }
+
+    fn ask_other<R: Wait + Print + AllocGlobal>(
+        &mut self,
+        rt: &R,
+        case: Case<'_>,
+        line: &str,
+    ) -> Result<()> {
+        let turn = case.turn;
+        self.show(rt, turn, "before")?;
+        let answer = call!(
+            rt,
+            turn,
+            Err(Refusal::OutOfMemory),
+            self.show(rt, turn, "now")?,
+            given = query_in(rt.alloc(), line)?,
+            ask_query(rt, self.operator, &mut self.other, given)
+        );
+        tell_answer(rt, case.name, answer)?;
+        self.show(rt, turn, "after")
+    }
+
+    fn bring_copies<R: Wait + Print + AllocGlobal>(
+        &mut self,
+        rt: &R,
+        case: Case<'_>,
+    ) -> Result<()> {
+        let turn = case.turn;
+        self.show_with_count(rt, turn, "before")?;
+        let published = call!(
+            rt,
+            turn,
+            Err(_),
+            self.show_with_count(rt, turn, "now")?,
+            self.publish(rt)
+        );
+        tell(rt, case.name, published)?;
+        self.show_with_count(rt, turn, "after")
+    }
+
+    fn look_for_stops(&mut self, rt: &impl Print, case: Case<'_>) -> Result<()> {
+        let first = self.operator.stop_seen(&mut self.one, ExecutionId::new(1));
+        let same_word = self.operator.stop_seen(&mut self.one, ExecutionId::new(65));
+        println!(rt; "{}, no case: {first}, {same_word}", case.name)?;
+        Ok(())
     }
 
     /// Tells how many job instances the copy of a repository has, and what the copy of the counts has.
@@ -156,8 +219,14 @@ impl<N: Site> Answers for Stage<'_, N> {
     ) -> Result<()> {
         let turn = case.turn;
         self.show(rt, turn, "before")?;
-        let reply = call!(rt, turn, Err(Refusal::OutOfMemory), self.show(rt, turn, "now")?,
-            given = call.try_clone()?, self.act(rt, by, given, at));
+        let reply = call!(
+            rt,
+            turn,
+            Err(Refusal::OutOfMemory),
+            self.show(rt, turn, "now")?,
+            given = call.try_clone()?,
+            self.act(rt, by, given, at)
+        );
         tell_reply(rt, case.name, reply)?;
         self.show(rt, turn, "after")
     }
@@ -170,39 +239,34 @@ impl<N: Site> Answers for Stage<'_, N> {
     ) -> Result<()> {
         let turn = case.turn;
         self.show(rt, turn, "before")?;
-        let answer = call!(rt, turn, Err(Refusal::OutOfMemory), self.show(rt, turn, "now")?,
+        let answer = call!(
+            rt,
+            turn,
+            Err(Refusal::OutOfMemory),
+            self.show(rt, turn, "now")?,
             given = query_in(rt.alloc(), line)?,
-            ask_query(rt, self.operator, &mut self.one, given));
+            ask_query(rt, self.operator, &mut self.one, given)
+        );
         tell_answer(rt, case.name, answer)?;
         self.show(rt, turn, "after")
     }
 
-    /// `publish` brings the read copies; `meet` lets both sessions meet; `stops` looks for stops; others are queries of the second
-    /// session.
+    /// `publish` brings the read copies; `meet` lets both sessions meet; `stops` looks for stops; `other` asks by the second session.
     fn on_line<R: Wait + Print + AllocGlobal>(
         &mut self,
         rt: &R,
         case: Case<'_>,
         line: &str,
     ) -> Result<()> {
-        let turn = case.turn;
-        match line {
-            "publish" => {
-                self.show(rt, turn, "before")?;
-                let published = call!(rt, turn, Err(_), self.show(rt, turn, "now")?, self.publish(rt));
-                tell(rt, case.name, published)?;
-                self.show(rt, turn, "after")
-            }
+        let (word, rest) = line.split_once(' ').unwrap_or((line, ""));
+        match word {
+            "publish" => self.bring_copies(rt, case),
             "meet" => {
                 meet(&mut self.one, &mut self.other, self.operator.table());
                 Ok(())
             }
-            "stops" => {
-                let first = self.operator.stop_seen(&mut self.one, ExecutionId::new(1));
-                let same_word = self.operator.stop_seen(&mut self.one, ExecutionId::new(65));
-                println!(rt; "{}: {first}, {same_word}", case.name)?;
-                Ok(())
-            }
+            "stops" => self.look_for_stops(rt, case),
+            "other" => self.ask_other(rt, case, rest),
             _ => bail!("{}: nobody follows {line}", case.name),
         }
     }

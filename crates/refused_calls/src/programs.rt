@@ -29,6 +29,16 @@ fn is_refused(read: &std::result::Result<Arguments, Error>) -> bool {
     }
 }
 
+fn tell_error(rt: &(impl Print + AllocGlobal), name: &str, error: &Error) -> Result<()> {
+    let text = format!(in rt.alloc(); "{error}")?;
+    println!(rt;
+        "{name}: {:?}, to standard error {}, {text:?}",
+        error.kind(),
+        error.use_stderr()
+    )?;
+    Ok(())
+}
+
 fn run_words<R: Print + AllocGlobal>(rt: &R, turn: Turn, name: &str, words: &[&str]) -> Result<()> {
     mark(rt.alloc(), turn);
     let first = arguments(rt.alloc(), words);
@@ -42,7 +52,7 @@ fn run_words<R: Print + AllocGlobal>(rt: &R, turn: Turn, name: &str, words: &[&s
     };
     match &read {
         Ok(words) => println!(rt; "{name}: {words:?}")?,
-        Err(error) => println!(rt; "{name}: {:?}, to standard error {}, {error}", error.kind(), error.use_stderr())?,
+        Err(error) => tell_error(rt, name, error)?,
     }
     drop(read);
     Ok(())

@@ -1,7 +1,7 @@
 //! What reads and writes texts: catalogues, lines of a script and of a run, replies.
-use crate::telling::{Asked, Turn, call, case, mark, show, tell};
+use crate::telling::{Asked, Turn, call, case, mark, show, tell, tell_line};
 use anyhow::{Result, bail};
-use batch_ids::{Metrics, OutOfMemory};
+use batch_ids::Metrics;
 use jsl_json::{ReadFault, read_catalogue};
 use script_engine::{
     Counted, EngineFault, Line, Lines, StartFault, answer_script, bad_line_text, fault_text,
@@ -53,8 +53,15 @@ fn run_fault<R: Print + AllocGlobal>(
         bail!("{name}: out of memory");
     }
     if let Some(turn) = asked.turn(name.as_str()) {
-        let text = call!(rt, turn, Err(_), show(rt, turn, "now", &fault)?, fault_text(rt.alloc(), &fault))?;
-        tell_lines(rt, name.as_str(), text.as_slice())?;
+        show(rt, turn, "before", &fault)?;
+        let text = call!(
+            rt,
+            turn,
+            Err(_),
+            show(rt, turn, "now", &fault)?,
+            fault_text(rt.alloc(), &fault)
+        )?;
+        tell_line(rt, name.as_str(), text)?;
     }
     Ok(())
 }
@@ -67,7 +74,14 @@ fn run_catalogue<R: Print + AllocGlobal>(
 ) -> Result<()> {
     let alloc = rt.alloc();
     let name = format!(in alloc; "read_catalogue.{number}")?;
-    case!(rt, asked, name.as_str(), Err(ReadFault::OutOfMemory), &(), read_catalogue(alloc, line.as_bytes()));
+    case!(
+        rt,
+        asked,
+        name.as_str(),
+        Err(ReadFault::OutOfMemory),
+        &(),
+        read_catalogue(alloc, line.as_bytes())
+    );
     match read_catalogue(alloc, line.as_bytes()) {
         Ok(catalogue) => {
             drop(catalogue);
@@ -85,7 +99,14 @@ fn run_start<R: Print + AllocGlobal>(
 ) -> Result<()> {
     let alloc = rt.alloc();
     let name = format!(in alloc; "read_start.{number}")?;
-    case!(rt, asked, name.as_str(), Err(StartFault::OutOfMemory), &(), read_start(alloc, line.as_bytes()));
+    case!(
+        rt,
+        asked,
+        name.as_str(),
+        Err(StartFault::OutOfMemory),
+        &(),
+        read_start(alloc, line.as_bytes())
+    );
     Ok(())
 }
 
@@ -98,7 +119,13 @@ fn run_command<R: Print + AllocGlobal>(
 ) -> Result<()> {
     let name = format!(in rt.alloc(); "command_reader.{number}")?;
     let turn = asked.turn_of_many(name.as_str());
-    let command = call!(rt, turn, Err(_), show(rt, turn, "now", &())?, reader.read(line.as_bytes()));
+    let command = call!(
+        rt,
+        turn,
+        Err(_),
+        show(rt, turn, "now", &())?,
+        reader.read(line.as_bytes())
+    );
     tell(rt, name.as_str(), command)
 }
 
@@ -128,10 +155,7 @@ pub(crate) fn run_starts<R: Files + Print + AllocGlobal>(rt: &R, asked: Asked<'_
 }
 
 /// One reader reads all lines.
-pub(crate) fn run_commands<R: Files + Print + AllocGlobal>(
-    rt: &R,
-    asked: Asked<'_>,
-) -> Result<()> {
+pub(crate) fn run_commands<R: Files + Print + AllocGlobal>(rt: &R, asked: Asked<'_>) -> Result<()> {
     let commands = text_of(rt, COMMANDS)?;
     let mut reader = CommandReader::new(rt.alloc());
     let mut number = 0u64;
@@ -157,7 +181,11 @@ fn run_line<R: Print + AllocGlobal>(
             println!(rt; "refused")?;
             line = line_at(rt.alloc(), UNMARKED, number, bytes)?;
         }
-        tell(rt, name.as_str(), line)?;
+        match line? {
+            Some(Line::Whole(bytes)) => tell_line(rt, name.as_str(), bytes)?,
+            Some(Line::TooLong) => bail!("a line is too long"),
+            None => println!(rt; "{name}: the end")?,
+        }
     }
     Ok(())
 }
@@ -199,24 +227,24 @@ pub(crate) fn run_lines<R: Files + Print + AllocGlobal>(rt: &R, asked: Asked<'_>
     let script = text_of(rt, STARTS)?;
     let bytes = script.as_str().as_bytes();
     if let Some(turn) = asked.turn("lines.new") {
-        let lines = call!(rt, turn, Err(_), show(rt, turn, "now", &())?,
-            Lines::new(rt.alloc(), Counted::new(bytes)));
+        let lines = call!(
+            rt,
+            turn,
+            Err(_),
+            show(rt, turn, "now", &())?,
+            Lines::new(rt.alloc(), Counted::new(bytes))
+        );
         println!(rt; "lines.new: {}", lines.is_ok())?;
         drop(lines);
     }
-    for number in 1..5u64 {
+    for number in 1..11u64 {
         run_line(rt, asked, number, bytes)?;
     }
     Ok(())
 }
 
 /// The replies of a script, in room that was made ahead of the mark.
-fn run_once<R: Print + AllocGlobal>(
-    rt: &R,
-    turn: Turn,
-    name: &str,
-    script: &[u8],
-) -> Result<bool> {
+fn run_once<R: Print + AllocGlobal>(rt: &R, turn: Turn, name: &str, script: &[u8]) -> Result<bool> {
     let mut written = Vec::<u8>::with_capacity(rt.alloc(), ROOM)?;
     mark(rt.alloc(), turn);
     let outcome = run_script(
@@ -272,7 +300,23 @@ pub(crate) fn run_values<R: Print + AllocGlobal>(rt: &R, asked: Asked<'_>) -> Re
         commit_count: 3,
         ..Metrics::zero()
     };
-    case!(rt, asked, "metrics_value", Err(_), &metrics, metrics_value(rt.alloc(), &metrics));
-    case!(rt, asked, "bad_line_text", Err(_), &(), bad_line_text(rt.alloc()));
+    case!(
+        rt,
+        asked,
+        "metrics_value",
+        Err(_),
+        &metrics,
+        metrics_value(rt.alloc(), &metrics)
+    );
+    if let Some(turn) = asked.turn("bad_line_text") {
+        let text = call!(
+            rt,
+            turn,
+            Err(_),
+            show(rt, turn, "now", &())?,
+            bad_line_text(rt.alloc())
+        )?;
+        tell_line(rt, "bad_line_text", text)?;
+    }
     Ok(())
 }

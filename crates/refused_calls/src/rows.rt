@@ -18,7 +18,8 @@ use restart_rules::{first_plan, may_restart};
 use std::alloc::Global;
 
 /// A step `s`, a step `t` in two partitions, and a step `u` with a start limit of 1. The job `once` is not restartable.
-const CATALOGUE: &[u8] = b"{\"jobs\":[{\"id\":\"j\",\"elements\":[{\"kind\":\"step\",\"id\":\"s\",\"next\":\"t\",\"batchlet\":{\"ref\":\"ok\"}},{\"kind\":\"step\",\"id\":\"t\",\"next\":\"u\",\"partitions\":2,\"batchlet\":{\"ref\":\"ok\"}},{\"kind\":\"step\",\"id\":\"u\",\"start-limit\":1,\"batchlet\":{\"ref\":\"ok\"}}]},{\"id\":\"once\",\"restartable\":false,\"elements\":[{\"kind\":\"step\",\"id\":\"s\",\"batchlet\":{\"ref\":\"ok\"}}]}]}";
+const CATALOGUE: &[u8] =
+    b"{\"jobs\":[{\"id\":\"j\",\"elements\":[{\"kind\":\"step\",\"id\":\"s\",\"next\":\"t\",\"batchlet\":{\"ref\":\"ok\"}},{\"kind\":\"step\",\"id\":\"t\",\"next\":\"u\",\"partitions\":2,\"batchlet\":{\"ref\":\"ok\"}},{\"kind\":\"step\",\"id\":\"u\",\"start-limit\":1,\"batchlet\":{\"ref\":\"ok\"}}]},{\"id\":\"once\",\"restartable\":false,\"elements\":[{\"kind\":\"step\",\"id\":\"s\",\"batchlet\":{\"ref\":\"ok\"}}]}]}";
 
 fn instance(alloc: Global, job: &str) -> Result<JobInstance> {
     let job = T256::new(alloc, job)?;
@@ -122,9 +123,18 @@ fn add_works(alloc: Global, records: &mut Records) -> Result<()>
 fn run_first<R: Print + AllocGlobal>(rt: &R, asked: Asked<'_>) -> Result<()> {
     let alloc = rt.alloc();
     let mut records = Records::new(alloc);
-    case!(rt, asked, "records.add_instance", Err(_), &records,
-        given = (instance(alloc, "j")?, execution(alloc, 1, "j", BatchStatus::Starting, false)?),
-        records.add_instance(given.0, given.1));
+    case!(
+        rt,
+        asked,
+        "records.add_instance",
+        Err(_),
+        &records,
+        given = (
+            instance(alloc, "j")?,
+            execution(alloc, 1, "j", BatchStatus::Starting, false)?
+        ),
+        records.add_instance(given.0, given.1)
+    );
     for found in records.instances_of("j") {
         println!(rt; "records.add_instance: then {found:?}")?;
     }
@@ -135,10 +145,23 @@ fn run_first<R: Print + AllocGlobal>(rt: &R, asked: Asked<'_>) -> Result<()> {
 fn run_second<R: Print + AllocGlobal>(rt: &R, asked: Asked<'_>) -> Result<()> {
     let alloc = rt.alloc();
     let mut records = records_of(alloc, "j", BatchStatus::Failed, false)?;
-    case!(rt, asked, "records.add_execution", Err(_), &records,
+    case!(
+        rt,
+        asked,
+        "records.add_execution",
+        Err(_),
+        &records,
         given = execution(alloc, 2, "j", BatchStatus::Starting, false)?,
-        records.add_execution(given));
-    case!(rt, asked, "records.running_of", Err(_), &records, records.running_of("j"));
+        records.add_execution(given)
+    );
+    case!(
+        rt,
+        asked,
+        "records.running_of",
+        Err(_),
+        &records,
+        records.running_of("j")
+    );
     for found in records.executions_of(InstanceId::new(1)) {
         println!(rt; "records.add_execution: then {:?}", found.execution)?;
     }
@@ -149,9 +172,15 @@ fn run_second<R: Print + AllocGlobal>(rt: &R, asked: Asked<'_>) -> Result<()> {
 fn run_work<R: Print + AllocGlobal>(rt: &R, asked: Asked<'_>) -> Result<()> {
     let alloc = rt.alloc();
     let mut records = records_of(alloc, "j", BatchStatus::Started, false)?;
-    case!(rt, asked, "records.add_work", Err(_), &records,
+    case!(
+        rt,
+        asked,
+        "records.add_work",
+        Err(_),
+        &records,
         given = work(alloc, 1, "s", None, WorkOutcome::Completed)?,
-        records.add_work(given));
+        records.add_work(given)
+    );
     for found in records.works_of(ExecutionId::new(1)) {
         println!(rt; "records.add_work: then {found:?}")?;
     }
@@ -172,9 +201,15 @@ fn run_checkpoint<R: Print + AllocGlobal>(rt: &R, asked: Asked<'_>, name: &str) 
         let mark = Text::new(alloc, "11")?;
         records.set_checkpoint(i, key.try_clone()?, Some(mark))?;
     }
-    case!(rt, asked, name, Err(_), &records,
+    case!(
+        rt,
+        asked,
+        name,
+        Err(_),
+        &records,
         given = (key.try_clone()?, Text::new(alloc, "12")?),
-        records.set_checkpoint(i, given.0, Some(given.1)));
+        records.set_checkpoint(i, given.0, Some(given.1))
+    );
     println!(rt; "{name}: then {:?}", records.checkpoint(i, &key))?;
     Ok(())
 }
@@ -184,8 +219,31 @@ fn run_reads<R: Print + AllocGlobal>(rt: &R, asked: Asked<'_>) -> Result<()> {
     let mut records = records_of(rt.alloc(), "j", BatchStatus::Failed, false)?;
     add_works(rt.alloc(), &mut records)?;
     let i = InstanceId::new(1);
-    case!(rt, asked, "records.works_of_instance", Err(_), &records, records.works_of_instance(i));
-    case!(rt, asked, "records.steps_made", Err(_), &records, records.steps_made(i));
+    let row = instance(rt.alloc(), "j")?;
+    case!(
+        rt,
+        asked,
+        "job_instance.try_clone",
+        Err(_),
+        &row,
+        row.try_clone()
+    );
+    case!(
+        rt,
+        asked,
+        "records.works_of_instance",
+        Err(_),
+        &records,
+        records.works_of_instance(i)
+    );
+    case!(
+        rt,
+        asked,
+        "records.steps_made",
+        Err(_),
+        &records,
+        records.steps_made(i)
+    );
     Ok(())
 }
 
@@ -216,16 +274,36 @@ const FAILED: Restart = Restart {
 /// It, and one of each refusal.
 const RESTARTS: [Restart; 7] = [
     FAILED,
-    Restart { name: "may_restart.NoSuchJobExecutionException", x: 9, ..FAILED },
-    Restart { name: "may_restart.JobExecutionNotMostRecentException", later: true, ..FAILED },
+    Restart {
+        name: "may_restart.NoSuchJobExecutionException",
+        x: 9,
+        ..FAILED
+    },
+    Restart {
+        name: "may_restart.JobExecutionNotMostRecentException",
+        later: true,
+        ..FAILED
+    },
     Restart {
         name: "may_restart.JobExecutionAlreadyCompleteException",
         bare: BatchStatus::Completed,
         ..FAILED
     },
-    Restart { name: "may_restart.JobRestartException.STARTED", bare: BatchStatus::Started, ..FAILED },
-    Restart { name: "may_restart.JobRestartException.ABANDONED", abandoned: true, ..FAILED },
-    Restart { name: "may_restart.JobRestartException.not_restartable", job: "once", ..FAILED },
+    Restart {
+        name: "may_restart.JobRestartException.STARTED",
+        bare: BatchStatus::Started,
+        ..FAILED
+    },
+    Restart {
+        name: "may_restart.JobRestartException.ABANDONED",
+        abandoned: true,
+        ..FAILED
+    },
+    Restart {
+        name: "may_restart.JobRestartException.not_restartable",
+        job: "once",
+        ..FAILED
+    },
 ];
 
 /// Whether the job of a job execution is in the catalogue, and its walk begins in it.
@@ -258,8 +336,14 @@ fn run_restart<R: Print + AllocGlobal>(
     if !is_placed(&records, catalogue, x) {
         bail!("no walk begins");
     }
-    case!(rt, asked, case.name, Err(Refusal::OutOfMemory), &records,
-        may_restart(alloc, &records, catalogue, x));
+    case!(
+        rt,
+        asked,
+        case.name,
+        Err(Refusal::OutOfMemory),
+        &records,
+        may_restart(alloc, &records, catalogue, x)
+    );
     Ok(())
 }
 

@@ -3,8 +3,9 @@
 //! `data/scripts` holds them, with an empty line between two. The first line of a script says who answers it, one after the
 //! other, and its name; the second line is the catalogue. So `book.night.3` is the case of the third line behind these, if a book
 //! answers the script `night`.
-use crate::{books, copies, desks, operators, worlds};
+use crate::books::Made;
 use crate::telling::{Asked, Turn};
+use crate::{books, copies, desks, operators, worlds};
 use anyhow::{Result, bail};
 use batch_ids::Moment;
 use jsl_json::read_catalogue;
@@ -130,7 +131,9 @@ fn run_by<R: Wait + Print + AllocGlobal>(
         "repository" => books::run_repository::<_, 1_000_000>(rt, asked, script),
         "full_repository" => books::run_repository::<_, 2>(rt, asked, script),
         "preview" => books::run_previews(rt, asked, script),
-        "clones" => books::run_clones(rt, asked, script),
+        "calls" => books::run_maker(rt, asked, script, Made::CopyOfCall),
+        "replies" => books::run_maker(rt, asked, script, Made::CopyOfReply),
+        "texts" => books::run_maker(rt, asked, script, Made::Text),
         "world" => worlds::run_world(rt, asked, script),
         "desk" => desks::run_desk::<_, 1_000_000>(rt, asked, script),
         "full_desk" => desks::run_desk::<_, 2>(rt, asked, script),
@@ -140,11 +143,7 @@ fn run_by<R: Wait + Print + AllocGlobal>(
     }
 }
 
-fn run_script<R: Wait + Print + AllocGlobal>(
-    rt: &R,
-    asked: Asked<'_>,
-    script: &str,
-) -> Result<()> {
+fn run_script<R: Wait + Print + AllocGlobal>(rt: &R, asked: Asked<'_>, script: &str) -> Result<()> {
     let (head, rest) = script.split_once('\n').unwrap_or((script, ""));
     let (catalogue, lines) = rest.split_once('\n').unwrap_or((rest, ""));
     let (kinds, script) = head.split_once(": ").unwrap_or((head, ""));

@@ -100,7 +100,8 @@ pub(crate) fn tell_answer(
     tell_line(rt, name, text?)
 }
 
-fn tell_line(rt: &impl Print, name: &str, line: Vec<u8>) -> Done<()> {
+/// Tells bytes that are a line.
+pub(crate) fn tell_line(rt: &impl Print, name: &str, line: Vec<u8>) -> Done<()> {
     let line = String::from_utf8(line)?;
     println!(rt; "{name}: {}", line.as_str().trim_end())?;
     Ok(())

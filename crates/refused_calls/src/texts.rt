@@ -9,12 +9,47 @@ pub(crate) fn run_texts<R: Print + AllocGlobal>(rt: &R, asked: Asked<'_>) -> Res
     let alloc = rt.alloc();
     let text = T256::new(alloc, "the nightly load of all accounts")?;
     let kept = Some(text.try_clone()?);
-    case!(rt, asked, "text.new", Err(Refusal::OutOfMemory), &(), T256::new(alloc, "the nightly load"));
-    case!(rt, asked, "text.new.TextTooLong", Err(Refusal::OutOfMemory), &(), Text::<4>::new(alloc, "night"));
-    case!(rt, asked, "text.within", Err(_), &(), T256::within(alloc, "the nightly load"));
+    case!(
+        rt,
+        asked,
+        "text.new",
+        Err(Refusal::OutOfMemory),
+        &(),
+        T256::new(alloc, "the nightly load")
+    );
+    case!(
+        rt,
+        asked,
+        "text.new.TextTooLong",
+        Err(Refusal::OutOfMemory),
+        &(),
+        Text::<4>::new(alloc, "night")
+    );
+    case!(
+        rt,
+        asked,
+        "text.within",
+        Err(_),
+        &(),
+        T256::within(alloc, "the nightly load")
+    );
     case!(rt, asked, "text.try_clone", Err(_), &text, text.try_clone());
-    case!(rt, asked, "text.try_clone_option", Err(_), &kept, try_clone_option(&kept));
-    case!(rt, asked, "shared.new", Err(_), &(), Shared::new(alloc, 7u64));
+    case!(
+        rt,
+        asked,
+        "text.try_clone_option",
+        Err(_),
+        &kept,
+        try_clone_option(&kept)
+    );
+    case!(
+        rt,
+        asked,
+        "shared.new",
+        Err(_),
+        &(),
+        Shared::new(alloc, 7u64)
+    );
     Ok(())
 }
 
@@ -37,12 +72,40 @@ fn pairs(alloc: Global, count: usize, length: usize) -> Result<Vec<(String, Stri
 pub(crate) fn run_parameters<R: Print + AllocGlobal>(rt: &R, asked: Asked<'_>) -> Result<()> {
     let alloc = rt.alloc();
     let parameters = Parameters::new(alloc, pairs(alloc, 3, 4)?)?;
-    case!(rt, asked, "parameters.new", Err(Refusal::OutOfMemory), &(),
-        given = pairs(alloc, 3, 4)?, Parameters::new(alloc, given));
-    case!(rt, asked, "parameters.new.TextTooLong", Err(Refusal::OutOfMemory), &(),
-        given = pairs(alloc, 3, 4_097)?, Parameters::new(alloc, given));
-    case!(rt, asked, "parameters.new.too_many", Err(Refusal::OutOfMemory), &(),
-        given = pairs(alloc, 64, 4)?, Parameters::new(alloc, given));
-    case!(rt, asked, "parameters.try_clone", Err(_), &parameters, parameters.try_clone());
+    case!(
+        rt,
+        asked,
+        "parameters.new",
+        Err(Refusal::OutOfMemory),
+        &(),
+        given = pairs(alloc, 3, 4)?,
+        Parameters::new(alloc, given)
+    );
+    case!(
+        rt,
+        asked,
+        "parameters.new.TextTooLong",
+        Err(Refusal::OutOfMemory),
+        &(),
+        given = pairs(alloc, 3, 4_097)?,
+        Parameters::new(alloc, given)
+    );
+    case!(
+        rt,
+        asked,
+        "parameters.new.too_many",
+        Err(Refusal::OutOfMemory),
+        &(),
+        given = pairs(alloc, 64, 4)?,
+        Parameters::new(alloc, given)
+    );
+    case!(
+        rt,
+        asked,
+        "parameters.try_clone",
+        Err(_),
+        &parameters,
+        parameters.try_clone()
+    );
     Ok(())
 }

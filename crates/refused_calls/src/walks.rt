@@ -8,7 +8,8 @@ use jsl_model::{Catalogue, Job};
 use std::alloc::Global;
 
 /// A step `a`, then a split of a flow with the step `s` in two partitions and a flow with `t`.
-const CATALOGUE: &[u8] = b"{\"jobs\":[{\"id\":\"j\",\"elements\":[{\"kind\":\"step\",\"id\":\"a\",\"next\":\"k\",\"batchlet\":{\"ref\":\"ok\"}},{\"kind\":\"split\",\"id\":\"k\",\"flows\":[{\"kind\":\"flow\",\"id\":\"f\",\"elements\":[{\"kind\":\"step\",\"id\":\"s\",\"partitions\":2,\"batchlet\":{\"ref\":\"ok\"}}]},{\"kind\":\"flow\",\"id\":\"g\",\"elements\":[{\"kind\":\"step\",\"id\":\"t\",\"batchlet\":{\"ref\":\"ok\"}}]}]}]}]}";
+const CATALOGUE: &[u8] =
+    b"{\"jobs\":[{\"id\":\"j\",\"elements\":[{\"kind\":\"step\",\"id\":\"a\",\"next\":\"k\",\"batchlet\":{\"ref\":\"ok\"}},{\"kind\":\"split\",\"id\":\"k\",\"flows\":[{\"kind\":\"flow\",\"id\":\"f\",\"elements\":[{\"kind\":\"step\",\"id\":\"s\",\"partitions\":2,\"batchlet\":{\"ref\":\"ok\"}}]},{\"kind\":\"flow\",\"id\":\"g\",\"elements\":[{\"kind\":\"step\",\"id\":\"t\",\"batchlet\":{\"ref\":\"ok\"}}]}]}]}]}";
 
 fn key(alloc: Global, id: &str, partition: u32) -> Result<WorkKey> {
     let element = T256::new(alloc, id)?;
@@ -84,7 +85,13 @@ fn take_case(
 ) -> Result<()> {
     let turn = asked.turn_of_many(name);
     show(rt, turn, "before", &*cursor)?;
-    let answer = call!(rt, turn, Err(_), show(rt, turn, "now", &*cursor)?, take(cursor, key));
+    let answer = call!(
+        rt,
+        turn,
+        Err(_),
+        show(rt, turn, "now", &*cursor)?,
+        take(cursor, key)
+    );
     tell(rt, name, answer)?;
     show(rt, turn, "after", &*cursor)
 }
@@ -99,7 +106,13 @@ fn report_case(
 ) -> Result<()> {
     let turn = asked.turn_of_many(name);
     show(rt, turn, "before", &*cursor)?;
-    let answer = call!(rt, turn, Err(_), show(rt, turn, "now", &*cursor)?, report(cursor, key, exit));
+    let answer = call!(
+        rt,
+        turn,
+        Err(_),
+        show(rt, turn, "now", &*cursor)?,
+        report(cursor, key, exit)
+    );
     tell(rt, name, answer)?;
     show(rt, turn, "after", &*cursor)
 }
@@ -116,9 +129,48 @@ fn run_new<R: Print + AllocGlobal>(
     if !plan.begins_in(job) {
         bail!("the walk begins at no element");
     }
-    case!(rt, asked, "cursor.new", Err(_), &(), Cursor::new(alloc, job, plan));
-    case!(rt, asked, "cursor.resume", Err(_), &(), Cursor::resume(alloc, job, plan, known));
-    case!(rt, asked, "value_at_first", Err(_), &(), value_at_first(alloc, job, plan, known));
+    case!(
+        rt,
+        asked,
+        "cursor.new",
+        Err(_),
+        &(),
+        Cursor::new(alloc, job, plan)
+    );
+    case!(
+        rt,
+        asked,
+        "cursor.resume",
+        Err(_),
+        &(),
+        Cursor::resume(alloc, job, plan, known)
+    );
+    if let Some(known) = known.first() {
+        case!(
+            rt,
+            asked,
+            "fact.try_clone",
+            Err(_),
+            &known.fact,
+            known.fact.try_clone()
+        );
+        case!(
+            rt,
+            asked,
+            "work_key.try_clone",
+            Err(_),
+            &known.key,
+            known.key.try_clone()
+        );
+    }
+    case!(
+        rt,
+        asked,
+        "value_at_first",
+        Err(_),
+        &(),
+        value_at_first(alloc, job, plan, known)
+    );
     Ok(())
 }
 
@@ -138,12 +190,27 @@ fn run_walk<R: Print + AllocGlobal>(
 ) -> Result<()> {
     let mut cursor = cursor_of(rt.alloc(), job, plan)?;
     let exit = T256::new(rt.alloc(), "COMPLETED")?;
-    case!(rt, asked, "cursor.try_clone", Err(_), &cursor, cursor.try_clone());
+    case!(
+        rt,
+        asked,
+        "value.try_clone",
+        Err(_),
+        cursor.value(),
+        cursor.value().try_clone()
+    );
+    case!(
+        rt,
+        asked,
+        "cursor.try_clone",
+        Err(_),
+        &cursor,
+        cursor.try_clone()
+    );
     let mut copy = cursor.try_clone()?;
     walk(rt, asked, &mut cursor, &exit)?;
-    println!(rt; "cursor: {:?}", cursor.value())?;
+    println!(rt; "cursor, over: {:?}", cursor.value())?;
     take(&mut copy, &key(rt.alloc(), "a", 0)?)?;
-    println!(rt; "cursor of a copy: {:?}", copy.value())?;
+    println!(rt; "cursor, a copy: {:?}", copy.value())?;
     Ok(())
 }
 

@@ -19,7 +19,8 @@ use std::sync::Wait;
 use std::thread::Threads;
 
 /// A job of one batchlet.
-const CATALOGUE: &[u8] = b"{\"jobs\":[{\"id\":\"a\",\"elements\":[{\"kind\":\"step\",\"id\":\"s\",\"batchlet\":{\"ref\":\"quiet\"}}]}]}";
+const CATALOGUE: &[u8] =
+    b"{\"jobs\":[{\"id\":\"a\",\"elements\":[{\"kind\":\"step\",\"id\":\"s\",\"batchlet\":{\"ref\":\"quiet\"}}]}]}";
 
 /// The built-in artifacts of the chunk.
 const NAMES: [&str; 3] = ["count:5", "odd", "sink"];
@@ -165,7 +166,12 @@ pub(crate) fn run_workers<R: Print + AllocGlobal>(rt: &R, asked: Asked<'_>) -> R
     run_one(rt, asked, "run_item.batchlet", &item(alloc, "quiet", None)?)?;
     run_one(rt, asked, "run_item.unknown", &item(alloc, "nobody", None)?)?;
     run_one(rt, asked, "run_item.chunk", &item(alloc, "chunk", None)?)?;
-    run_one(rt, asked, "run_item.partition", &item(alloc, "chunk", Some(1))?)?;
+    run_one(
+        rt,
+        asked,
+        "run_item.partition",
+        &item(alloc, "chunk", Some(1))?,
+    )?;
     let artifact = T256::new(alloc, "quiet")?;
     let decision = WorkItem {
         task: WorkTask::Decision { artifact },

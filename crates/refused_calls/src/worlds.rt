@@ -69,7 +69,13 @@ fn run_step<R: Print + AllocGlobal>(
 ) -> Result<()> {
     let turn = asked.turn_of_many(name);
     show(rt, turn, "before", &*world)?;
-    let outcome = call!(rt, turn, Err(_), show(rt, turn, "now", &*world)?, world.step(event));
+    let outcome = call!(
+        rt,
+        turn,
+        Err(_),
+        show(rt, turn, "now", &*world)?,
+        world.step(event)
+    );
     tell(rt, name, outcome)?;
     show(rt, turn, "after", &*world)
 }
@@ -99,8 +105,14 @@ fn run_whole<R: Print + AllocGlobal>(
 ) -> Result<()> {
     let name = format!(in rt.alloc(); "{}.run", script.name)?;
     if let Some(turn) = asked.turn(name.as_str()) {
-        let outcomes = call!(rt, turn, Err(_), show(rt, turn, "now", &())?,
-            given = catalogue_of(rt, script)?, run(rt.alloc(), given, SESSIONS, COPIES, events));
+        let outcomes = call!(
+            rt,
+            turn,
+            Err(_),
+            show(rt, turn, "now", &())?,
+            given = catalogue_of(rt, script)?,
+            run(rt.alloc(), given, SESSIONS, COPIES, events)
+        );
         tell(rt, name.as_str(), outcomes)?;
     }
     Ok(())
@@ -110,8 +122,14 @@ fn run_whole<R: Print + AllocGlobal>(
 fn run_new<R: Print + AllocGlobal>(rt: &R, asked: Asked<'_>, script: Script<'_>) -> Result<()> {
     let name = format!(in rt.alloc(); "{}.new", script.name)?;
     if let Some(turn) = asked.turn(name.as_str()) {
-        let world = call!(rt, turn, Err(_), show(rt, turn, "now", &())?,
-            given = catalogue_of(rt, script)?, World::new(rt.alloc(), given, SESSIONS, COPIES));
+        let world = call!(
+            rt,
+            turn,
+            Err(_),
+            show(rt, turn, "now", &())?,
+            given = catalogue_of(rt, script)?,
+            World::new(rt.alloc(), given, SESSIONS, COPIES)
+        );
         tell(rt, name.as_str(), world)?;
     }
     Ok(())
