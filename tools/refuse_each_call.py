@@ -345,13 +345,30 @@ EXCEPTIONS: list[tuple[str, Callable[[Refusal], None]]] = [
     (r"pool", left_to_the_next_pool),
 ]
 
-# Cases in which some requests may be refused without the call being so, with the reason. The state then differs as told.
-SWALLOWED: dict[str, str] = {}
+# Calls that do without some requests, with the reason.
+SWALLOWED = [
+    # A repository gives up its lists of unfinished job executions, and goes over all rows from then on; or it doesn't keep a
+    # walk, and walks anew the next time.
+    r"(full_)?(book|repository|desk)\.\w+\.\d+|(operator|world|copies)\.\w+\.\d+",
+    r"records\.add_(instance|execution)",
+]
 
 
-def is_swallowed(refusal: Refusal) -> bool:
-    """Whether the call may do without this request."""
-    return any(re.fullmatch(pattern, refusal.case) for pattern in SWALLOWED)
+def without_lists(line: str) -> str:
+    """A line in which no repository has lists of unfinished job executions."""
+    head = "running: Some(RunningLists "
+    while (place := line.find(head)) >= 0:
+        end = end_of(line, place + len(head))
+        line = line[:place] + "running: None" + line[end + 1 :]
+    return line
+
+
+def goes_on_without(refusal: Refusal) -> None:
+    """The call does without a request: its answer and all later ones are as in the whole run."""
+    if not any(re.fullmatch(pattern, refusal.case) for pattern in SWALLOWED):
+        raise refusal.fail("the call doesn't say that it was refused memory")
+    if not are_as_before(map(without_lists, refusal.run.lines), map(without_lists, refusal.whole.lines)):
+        raise refusal.fail("the call goes on without a request, and otherwise")
 
 
 def judge(refusal: Refusal) -> None:
@@ -363,10 +380,8 @@ def judge(refusal: Refusal) -> None:
         raise refusal.fail(f"there were {run.requests} requests")
     rule = next((rule for pattern, rule in EXCEPTIONS if re.fullmatch(pattern, refusal.case)), leaves_all)
     if REFUSED not in run.lines and rule is not reported_a_beginning:
-        if not is_swallowed(refusal):
-            raise refusal.fail("the call doesn't say that it was refused memory")
-        return
-    rule(refusal)
+        return goes_on_without(refusal)
+    return rule(refusal)
 
 
 @dataclass

@@ -2,7 +2,9 @@
 ghost use Rattle.std.specs.Prelude.{◌≤◌};
 
 use crate::scripts::{Answers, Case, Script, answer_lines, catalogue_of, query_in};
-use crate::telling::{Asked, call, mark, show, tell, tell_answer, tell_line, tell_reply};
+use crate::telling::{
+    Asked, call, is_refused, mark, refused, show, tell, tell_answer, tell_line, tell_reply,
+};
 use anyhow::Result;
 use batch_ids::{Moment, Refusal};
 use op_log::{Answer, Book, Call, Reply, Repository};
@@ -48,7 +50,7 @@ impl<const LIMIT: u64> Answers for Book<LIMIT> {
         let reply = call!(
             rt,
             turn,
-            Err(Refusal::OutOfMemory),
+            memory,
             show(rt, turn, "now", &*self)?,
             given = call.try_clone()?,
             self.act(by, given, at)
@@ -69,7 +71,7 @@ impl<const LIMIT: u64> Answers for Book<LIMIT> {
         let answer = call!(
             rt,
             turn,
-            Err(Refusal::OutOfMemory),
+            memory,
             show(rt, turn, "now", &*self)?,
             self.ask(&query)
         );
@@ -93,7 +95,7 @@ impl<const LIMIT: u64> Answers for Repository<LIMIT> {
         let reply = call!(
             rt,
             turn,
-            Err(Refusal::OutOfMemory),
+            memory,
             show(rt, turn, "now", &*self)?,
             self.apply(by, call, at)
         );
@@ -113,7 +115,7 @@ impl<const LIMIT: u64> Answers for Repository<LIMIT> {
         let answer = call!(
             rt,
             turn,
-            Err(Refusal::OutOfMemory),
+            memory,
             show(rt, turn, "now", &*self)?,
             self.ask(&query)
         );
@@ -138,7 +140,7 @@ impl Answers for Previews {
         let reply = call!(
             rt,
             turn,
-            Err(Refusal::OutOfMemory),
+            memory,
             show(rt, turn, "now", repository)?,
             repository.preview(by, call)
         );
@@ -164,7 +166,7 @@ fn copy_call<R: Print + AllocGlobal>(rt: &R, case: Case<'_>, call: &Call) -> Res
     let copy = call!(
         rt,
         turn,
-        Err(_),
+        any,
         show(rt, turn, "now", call)?,
         call.try_clone()
     );
@@ -178,7 +180,7 @@ fn copy_reply<R: Print + AllocGlobal>(rt: &R, case: Case<'_>, reply: &Replied) -
         let copy = call!(
             rt,
             turn,
-            Err(_),
+            any,
             show(rt, turn, "now", reply)?,
             reply.try_clone()
         );
@@ -193,7 +195,7 @@ fn write_reply<R: Print + AllocGlobal>(rt: &R, case: Case<'_>, reply: &Replied) 
     let text = call!(
         rt,
         turn,
-        Err(_),
+        any,
         show(rt, turn, "now", reply)?,
         reply_text(rt.alloc(), reply)
     )?;
@@ -206,7 +208,7 @@ fn write_answer<R: Print + AllocGlobal>(rt: &R, case: Case<'_>, answer: &Answere
     let text = call!(
         rt,
         turn,
-        Err(_),
+        any,
         show(rt, turn, "now", answer)?,
         answer_text(rt.alloc(), answer)
     )?;
@@ -258,8 +260,17 @@ pub(crate) fn run_book<R: Wait + Print + AllocGlobal, const LIMIT: u64>(
 ) -> Result<()>
     requires { LIMIT ≤ 1000000 }
 {
-    let catalogue = catalogue_of(rt, script)?;
-    let mut book = Book::<LIMIT>::new(rt.alloc(), catalogue)?;
+    let name = format!(in rt.alloc(); "{}.new", script.name)?;
+    let turn = asked.turn_of_many(name.as_str());
+    let mut book = call!(
+        rt,
+        turn,
+        any,
+        show(rt, turn, "now", &())?,
+        given = catalogue_of(rt, script)?,
+        Book::<LIMIT>::new(rt.alloc(), given)
+    )?;
+    println!(rt; "{name}: {} operations", book.len())?;
     let answered = answer_lines(rt, asked, script, &mut book);
     drop(book);
     answered
@@ -273,8 +284,17 @@ pub(crate) fn run_repository<R: Wait + Print + AllocGlobal, const LIMIT: u64>(
 ) -> Result<()>
     requires { LIMIT ≤ 1000000 }
 {
-    let catalogue = catalogue_of(rt, script)?;
-    let mut repository = Repository::<LIMIT>::new(rt.alloc(), catalogue)?;
+    let name = format!(in rt.alloc(); "{}.new", script.name)?;
+    let turn = asked.turn_of_many(name.as_str());
+    let mut repository = call!(
+        rt,
+        turn,
+        any,
+        show(rt, turn, "now", &())?,
+        given = catalogue_of(rt, script)?,
+        Repository::<LIMIT>::new(rt.alloc(), given)
+    )?;
+    println!(rt; "{name}: {} operations", repository.len())?;
     let answered = answer_lines(rt, asked, script, &mut repository);
     drop(repository);
     answered

@@ -5,7 +5,7 @@ ghost use Rattle.read_copies.specs.States.{StandsForCounts};
 
 use crate::desks::show_session;
 use crate::scripts::{Answers, Case, Script, answer_lines, catalogue_of, query_in};
-use crate::telling::{Asked, Turn, call, mark, show, tell, tell_answer};
+use crate::telling::{Asked, Turn, call, is_refused, mark, refused, show, tell, tell_answer};
 use anyhow::{Result, bail};
 use batch_ids::{Moment, OutOfMemory, Refusal};
 use jsl_model::Catalogue;
@@ -140,7 +140,7 @@ impl<N: Site> Answers for Shelf<N> {
         let said = call!(
             rt,
             turn,
-            Some(Err(Refusal::OutOfMemory)),
+            in_some,
             self.show(rt, turn, "now")?,
             self.read_alone(&query)
         );
@@ -148,7 +148,7 @@ impl<N: Site> Answers for Shelf<N> {
         let said = call!(
             rt,
             turn,
-            Some(Err(Refusal::OutOfMemory)),
+            in_some,
             self.show(rt, turn, "now")?,
             self.read_shared(rt, &query)
         );
@@ -167,18 +167,12 @@ impl<N: Site> Answers for Shelf<N> {
         let turn = case.turn;
         self.show(rt, turn, "before")?;
         let brought = match line {
-            "bring" => call!(rt, turn, Err(_), self.show(rt, turn, "now")?, self.bring()),
-            "publish" => call!(
-                rt,
-                turn,
-                Err(_),
-                self.show(rt, turn, "now")?,
-                self.publish(rt)
-            ),
+            "bring" => call!(rt, turn, any, self.show(rt, turn, "now")?, self.bring()),
+            "publish" => call!(rt, turn, any, self.show(rt, turn, "now")?, self.publish(rt)),
             "counts" => call!(
                 rt,
                 turn,
-                Err(_),
+                any,
                 self.show(rt, turn, "now")?,
                 self.publish_counts(rt)
             ),
@@ -220,7 +214,7 @@ fn counts_of<N: Site, R: Print + AllocGlobal>(
     Ok(call!(
         rt,
         turn,
-        Err(_),
+        any,
         show(rt, turn, "now", &())?,
         given = states_of(alloc, catalogue)?,
         Copies::new(alloc, given, desk, table)
@@ -239,7 +233,7 @@ fn run_counts<R: Print + AllocGlobal>(
     let made = call!(
         rt,
         turn,
-        Err(_),
+        any,
         show(rt, turn, "now", &())?,
         given = catalogue.try_clone()?,
         StatusCounts::new(rt.alloc(), given)

@@ -2,7 +2,7 @@
 ghost use Rattle.std.specs.Prelude.{◌≡◌, ◌≤◌, ◌<◌, []};
 
 use crate::scripts::{Answers, Case, Script, answer_lines, catalogue_of, query_in};
-use crate::telling::{Asked, Turn, call, mark, show, tell_answer, tell_reply};
+use crate::telling::{Asked, Turn, call, is_refused, mark, refused, show, tell_answer, tell_reply};
 use anyhow::{Result, bail};
 use batch_ids::{Moment, Refusal};
 use jsl_model::Catalogue;
@@ -102,7 +102,7 @@ impl<N: Site, const LIMIT: u64> Answers for Held<N, LIMIT> {
         let reply = call!(
             rt,
             turn,
-            Err(Refusal::OutOfMemory),
+            memory,
             self.show(rt, turn, "now")?,
             given = call.try_clone()?,
             self.act(by, given, at)
@@ -123,7 +123,7 @@ impl<N: Site, const LIMIT: u64> Answers for Held<N, LIMIT> {
         let answer = call!(
             rt,
             turn,
-            Err(Refusal::OutOfMemory),
+            memory,
             self.show(rt, turn, "now")?,
             self.desk.ask(&mut self.one, &query, &self.table)
         );
@@ -146,7 +146,7 @@ fn run_table<R: Print + AllocGlobal>(
         let made = call!(
             rt,
             turn,
-            Err(_),
+            any,
             show(rt, turn, "now", catalogue)?,
             SeatTable::new(rt.alloc(), catalogue)
         );

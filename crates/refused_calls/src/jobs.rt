@@ -1,10 +1,10 @@
 //! Jobs and catalogues.
-use crate::telling::{Asked, Turn, call, case, mark, show, tell};
+use crate::telling::{Asked, Turn, call, case, is_refused, mark, refused, show, tell};
 use anyhow::{Result, bail};
 use batch_ids::Listed;
 use jsl_model::{
-    BodyParts, Catalogue, ElementParts, Job, JobFault, JobParts, StepParts, TaskParts, ThenParts,
-    TransitionParts,
+    Body, BodyParts, Catalogue, ElementParts, Job, JobFault, JobParts, StepParts, TaskParts,
+    ThenParts, TransitionParts,
 };
 use std::alloc::{AllocError, Global};
 
@@ -171,7 +171,7 @@ fn run_check<R: Print + AllocGlobal>(rt: &R, asked: Asked<'_>, shape: &Shape) ->
         rt,
         asked,
         shape.name,
-        Err(JobFault::OutOfMemory),
+        memory,
         &(),
         given = parts(alloc, "night", shape)?,
         Job::check(alloc, given)
@@ -231,7 +231,7 @@ fn add<R: Print + AllocGlobal>(
     let answer = call!(
         rt,
         turn,
-        Err(JobFault::OutOfMemory),
+        memory,
         show(rt, turn, "now", &*catalogue)?,
         given = job(alloc, id)?,
         catalogue.add(given)
@@ -258,6 +258,24 @@ pub(crate) fn run_catalogues<R: Print + AllocGlobal>(rt: &R, asked: Asked<'_>) -
     ran
 }
 
+/// What the first step of a job runs is copied.
+fn run_task<R: Print + AllocGlobal>(rt: &R, asked: Asked<'_>, job: &Job) -> Result<()> {
+    let Some(element) = job.elements().first() else {
+        bail!("there is no element");
+    };
+    if let Body::Step(step) = &element.body {
+        case!(
+            rt,
+            asked,
+            "task.try_clone",
+            any,
+            &step.task,
+            step.task.try_clone()
+        );
+    }
+    Ok(())
+}
+
 fn run_copies<R: Print + AllocGlobal>(
     rt: &R,
     asked: Asked<'_>,
@@ -266,12 +284,13 @@ fn run_copies<R: Print + AllocGlobal>(
     let Some(job) = catalogue.job("j0") else {
         bail!("there is no job");
     };
-    case!(rt, asked, "job.try_clone", Err(_), job, job.try_clone());
+    case!(rt, asked, "job.try_clone", any, job, job.try_clone());
+    run_task(rt, asked, job)?;
     case!(
         rt,
         asked,
         "catalogue.artifacts",
-        Err(_),
+        any,
         catalogue,
         catalogue.artifacts()
     );
@@ -279,7 +298,7 @@ fn run_copies<R: Print + AllocGlobal>(
         rt,
         asked,
         "catalogue.try_clone",
-        Err(_),
+        any,
         catalogue,
         catalogue.try_clone()
     );
@@ -288,7 +307,7 @@ fn run_copies<R: Print + AllocGlobal>(
         rt,
         asked,
         "catalogue.artifacts.of_a_copy",
-        Err(_),
+        any,
         &copy,
         copy.artifacts()
     );

@@ -4,7 +4,7 @@ ghost use Rattle.batch_operator.specs.Calls.{IsAnswered, IsReplied};
 
 use crate::desks::{LOOKS, show_session};
 use crate::scripts::{Answers, Case, Script, answer_lines, catalogue_of, query_in};
-use crate::telling::{Asked, Turn, call, mark, tell, tell_answer, tell_reply};
+use crate::telling::{Asked, Turn, call, is_refused, mark, refused, tell, tell_answer, tell_reply};
 use anyhow::{Result, bail};
 use batch_ids::{ExecutionId, Moment, OutOfMemory, Refusal};
 use batch_operator::{CopyCount, Operator};
@@ -119,7 +119,7 @@ impl<N: Site> Stage<'_, N> {
         let answer = call!(
             rt,
             turn,
-            Err(Refusal::OutOfMemory),
+            memory,
             self.show(rt, turn, "now")?,
             given = query_in(rt.alloc(), line)?,
             ask_query(rt, self.operator, &mut self.other, given)
@@ -138,7 +138,7 @@ impl<N: Site> Stage<'_, N> {
         let published = call!(
             rt,
             turn,
-            Err(_),
+            any,
             self.show_with_count(rt, turn, "now")?,
             self.publish(rt)
         );
@@ -222,7 +222,7 @@ impl<N: Site> Answers for Stage<'_, N> {
         let reply = call!(
             rt,
             turn,
-            Err(Refusal::OutOfMemory),
+            memory,
             self.show(rt, turn, "now")?,
             given = call.try_clone()?,
             self.act(rt, by, given, at)
@@ -242,7 +242,7 @@ impl<N: Site> Answers for Stage<'_, N> {
         let answer = call!(
             rt,
             turn,
-            Err(Refusal::OutOfMemory),
+            memory,
             self.show(rt, turn, "now")?,
             given = query_in(rt.alloc(), line)?,
             ask_query(rt, self.operator, &mut self.one, given)

@@ -1,5 +1,5 @@
 //! The words of a command line, and the program that they start.
-use crate::telling::{Asked, Turn, call, mark, show};
+use crate::telling::{Asked, Turn, call, is_refused, mark, show};
 use anyhow::Result;
 use batch_commands::{Arguments, arguments, program};
 use clap::error::{Error, ErrorKind};
@@ -21,13 +21,6 @@ const COMMAND_LINES: [(&str, &[&str]); 7] = [
 
 /// How much room a writer has, so that it asks for no memory of its own.
 const ROOM: usize = 65_536;
-
-fn is_refused(read: &std::result::Result<Arguments, Error>) -> bool {
-    match read {
-        Ok(_) => false,
-        Err(error) => error.kind() == ErrorKind::OutOfMemory,
-    }
-}
 
 fn tell_error(rt: &(impl Print + AllocGlobal), name: &str, error: &Error) -> Result<()> {
     let text = format!(in rt.alloc(); "{error}")?;

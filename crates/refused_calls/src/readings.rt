@@ -1,5 +1,5 @@
 //! What reads and writes texts: catalogues, lines of a script and of a run, replies.
-use crate::telling::{Asked, Turn, call, case, mark, show, tell, tell_line};
+use crate::telling::{Asked, Turn, call, case, is_refused, mark, refused, show, tell, tell_line};
 use anyhow::{Result, bail};
 use batch_ids::Metrics;
 use jsl_json::{ReadFault, read_catalogue};
@@ -57,7 +57,7 @@ fn run_fault<R: Print + AllocGlobal>(
         let text = call!(
             rt,
             turn,
-            Err(_),
+            any,
             show(rt, turn, "now", &fault)?,
             fault_text(rt.alloc(), &fault)
         )?;
@@ -78,7 +78,7 @@ fn run_catalogue<R: Print + AllocGlobal>(
         rt,
         asked,
         name.as_str(),
-        Err(ReadFault::OutOfMemory),
+        memory,
         &(),
         read_catalogue(alloc, line.as_bytes())
     );
@@ -103,7 +103,7 @@ fn run_start<R: Print + AllocGlobal>(
         rt,
         asked,
         name.as_str(),
-        Err(StartFault::OutOfMemory),
+        memory,
         &(),
         read_start(alloc, line.as_bytes())
     );
@@ -122,7 +122,7 @@ fn run_command<R: Print + AllocGlobal>(
     let command = call!(
         rt,
         turn,
-        Err(_),
+        any,
         show(rt, turn, "now", &())?,
         reader.read(line.as_bytes())
     );
@@ -176,7 +176,7 @@ fn run_line<R: Print + AllocGlobal>(
     let name = format!(in rt.alloc(); "lines.next_line.{number}")?;
     if let Some(turn) = asked.turn(name.as_str()) {
         let mut line = line_at(rt.alloc(), turn, number, bytes)?;
-        if matches!(line, Err(EngineFault::OutOfMemory)) {
+        if is_refused(&line) {
             drop(line);
             println!(rt; "refused")?;
             line = line_at(rt.alloc(), UNMARKED, number, bytes)?;
@@ -230,7 +230,7 @@ pub(crate) fn run_lines<R: Files + Print + AllocGlobal>(rt: &R, asked: Asked<'_>
         let lines = call!(
             rt,
             turn,
-            Err(_),
+            any,
             show(rt, turn, "now", &())?,
             Lines::new(rt.alloc(), Counted::new(bytes))
         );
@@ -255,7 +255,7 @@ fn run_once<R: Print + AllocGlobal>(rt: &R, turn: Turn, name: &str, script: &[u8
     mark(rt.alloc(), turn);
     println!(rt; "{name}: {outcome:?}")?;
     tell_lines(rt, name, written.as_slice())?;
-    Ok(outcome != Err(EngineFault::OutOfMemory))
+    Ok(!is_refused(&outcome))
 }
 
 fn answer_once<R: Print + AllocGlobal>(
@@ -269,7 +269,7 @@ fn answer_once<R: Print + AllocGlobal>(
     mark(rt.alloc(), turn);
     println!(rt; "{name}: {outcome:?}")?;
     tell_lines(rt, name, written.as_slice())?;
-    Ok(outcome != Err(EngineFault::OutOfMemory))
+    Ok(!is_refused(&outcome))
 }
 
 /// A whole script. If it is refused memory, what it wrote until then is told, and it runs again.
@@ -304,7 +304,7 @@ pub(crate) fn run_values<R: Print + AllocGlobal>(rt: &R, asked: Asked<'_>) -> Re
         rt,
         asked,
         "metrics_value",
-        Err(_),
+        any,
         &metrics,
         metrics_value(rt.alloc(), &metrics)
     );
@@ -312,7 +312,7 @@ pub(crate) fn run_values<R: Print + AllocGlobal>(rt: &R, asked: Asked<'_>) -> Re
         let text = call!(
             rt,
             turn,
-            Err(_),
+            any,
             show(rt, turn, "now", &())?,
             bad_line_text(rt.alloc())
         )?;

@@ -3,7 +3,7 @@ ghost use Rattle.std.specs.Prelude.{◌≡◌, ◌∷◌, [], IfOk, IsTrue};
 ghost use Rattle.records.specs.Maps.{execution_numbers};
 ghost use Rattle.restart_rules.specs.Placed.{IsPlaced};
 
-use crate::telling::{Asked, call, case, mark, show, tell};
+use crate::telling::{Asked, call, case, is_refused, mark, refused, show, tell};
 use anyhow::{Result, bail};
 use batch_history::{ExecutionRow, JobInstance, WorkKind, WorkRow, WorkState};
 use batch_ids::{
@@ -127,7 +127,7 @@ fn run_first<R: Print + AllocGlobal>(rt: &R, asked: Asked<'_>) -> Result<()> {
         rt,
         asked,
         "records.add_instance",
-        Err(_),
+        any,
         &records,
         given = (
             instance(alloc, "j")?,
@@ -149,7 +149,7 @@ fn run_second<R: Print + AllocGlobal>(rt: &R, asked: Asked<'_>) -> Result<()> {
         rt,
         asked,
         "records.add_execution",
-        Err(_),
+        any,
         &records,
         given = execution(alloc, 2, "j", BatchStatus::Starting, false)?,
         records.add_execution(given)
@@ -158,7 +158,7 @@ fn run_second<R: Print + AllocGlobal>(rt: &R, asked: Asked<'_>) -> Result<()> {
         rt,
         asked,
         "records.running_of",
-        Err(_),
+        any,
         &records,
         records.running_of("j")
     );
@@ -176,7 +176,7 @@ fn run_work<R: Print + AllocGlobal>(rt: &R, asked: Asked<'_>) -> Result<()> {
         rt,
         asked,
         "records.add_work",
-        Err(_),
+        any,
         &records,
         given = work(alloc, 1, "s", None, WorkOutcome::Completed)?,
         records.add_work(given)
@@ -205,7 +205,7 @@ fn run_checkpoint<R: Print + AllocGlobal>(rt: &R, asked: Asked<'_>, name: &str) 
         rt,
         asked,
         name,
-        Err(_),
+        any,
         &records,
         given = (key.try_clone()?, Text::new(alloc, "12")?),
         records.set_checkpoint(i, given.0, Some(given.1))
@@ -224,7 +224,7 @@ fn run_reads<R: Print + AllocGlobal>(rt: &R, asked: Asked<'_>) -> Result<()> {
         rt,
         asked,
         "job_instance.try_clone",
-        Err(_),
+        any,
         &row,
         row.try_clone()
     );
@@ -232,7 +232,7 @@ fn run_reads<R: Print + AllocGlobal>(rt: &R, asked: Asked<'_>) -> Result<()> {
         rt,
         asked,
         "records.works_of_instance",
-        Err(_),
+        any,
         &records,
         records.works_of_instance(i)
     );
@@ -240,7 +240,7 @@ fn run_reads<R: Print + AllocGlobal>(rt: &R, asked: Asked<'_>) -> Result<()> {
         rt,
         asked,
         "records.steps_made",
-        Err(_),
+        any,
         &records,
         records.steps_made(i)
     );
@@ -340,7 +340,7 @@ fn run_restart<R: Print + AllocGlobal>(
         rt,
         asked,
         case.name,
-        Err(Refusal::OutOfMemory),
+        memory,
         &records,
         may_restart(alloc, &records, catalogue, x)
     );
@@ -349,7 +349,7 @@ fn run_restart<R: Print + AllocGlobal>(
 
 fn run_plan<R: Print + AllocGlobal>(rt: &R, asked: Asked<'_>, job: &Job) -> Result<()> {
     let alloc = rt.alloc();
-    case!(rt, asked, "first_plan", Err(_), &(), first_plan(alloc, job));
+    case!(rt, asked, "first_plan", any, &(), first_plan(alloc, job));
     Ok(())
 }
 

@@ -1,7 +1,10 @@
 //! What is told of a case, and the marks around its call.
 use anyhow::Result as Done;
 use batch_ids::Refusal;
+use clap::error::{Error, ErrorKind};
+use jsl_model::JobFault;
 use op_log::{Answer, Reply};
+use script_engine::{EngineFault, ReadFault, StartFault};
 use script_text::{answer_text, reply_text};
 use std::alloc::Global;
 use std::fmt::Debug;
@@ -107,18 +110,85 @@ pub(crate) fn tell_line(rt: &impl Print, name: &str, line: Vec<u8>) -> Done<()> 
     Ok(())
 }
 
+/// What may be want of memory.
+pub(crate) trait MayLackMemory {
+    /// Whether it is.
+    fn lacks_memory(&self) -> bool;
+}
+
+impl MayLackMemory for Refusal {
+    fn lacks_memory(&self) -> bool {
+        matches!(self, Refusal::OutOfMemory)
+    }
+}
+
+impl MayLackMemory for JobFault {
+    fn lacks_memory(&self) -> bool {
+        matches!(self, JobFault::OutOfMemory)
+    }
+}
+
+impl MayLackMemory for ReadFault {
+    fn lacks_memory(&self) -> bool {
+        self.is_out_of_memory()
+    }
+}
+
+impl MayLackMemory for StartFault {
+    fn lacks_memory(&self) -> bool {
+        matches!(self, StartFault::OutOfMemory)
+    }
+}
+
+impl MayLackMemory for EngineFault {
+    fn lacks_memory(&self) -> bool {
+        matches!(self, EngineFault::OutOfMemory)
+    }
+}
+
+impl MayLackMemory for Error {
+    fn lacks_memory(&self) -> bool {
+        matches!(self.kind(), ErrorKind::OutOfMemory)
+    }
+}
+
+/// Whether a call was refused memory.
+pub(crate) fn is_refused<T, E: MayLackMemory>(answer: &Result<T, E>) -> bool {
+    match answer {
+        Ok(_) => false,
+        Err(error) => error.lacks_memory(),
+    }
+}
+
+/// Whether an answer is that memory was refused: any error of a call that has no other, one error of others, or the same in a
+/// `Some`.
+macro_rules! refused {
+    (any, $answer:expr) => {
+        matches!($answer, Err(_))
+    };
+    (memory, $answer:expr) => {
+        is_refused(&$answer)
+    };
+    (in_some, $answer:expr) => {
+        match &$answer {
+            Some(answer) => is_refused(answer),
+            None => false,
+        }
+    };
+}
+
 /// Makes a call between two marks. If it is refused memory, says so and what can be read then, and makes it again. A call may
 /// take a value, which is made ahead of the mark.
 macro_rules! call {
-    ($rt:expr, $turn:expr, $refused:pat, $show:expr, $call:expr) => {
-        call!($rt, $turn, $refused, $show, _none = (), $call)
+    ($rt:expr, $turn:expr, $error:ident, $show:expr, $call:expr) => {
+        call!($rt, $turn, $error, $show, _none = (), $call)
     };
-    ($rt:expr, $turn:expr, $refused:pat, $show:expr, $given:pat = $made:expr, $call:expr) => {{
+    ($rt:expr, $turn:expr, $error:ident, $show:expr, $given:pat = $made:expr, $call:expr) => {{
         let $given = $made;
         mark($rt.alloc(), $turn);
         let first = $call;
         mark($rt.alloc(), $turn);
-        if matches!(first, $refused) {
+        if refused!($error, first) {
             drop(first);
             println!($rt; "refused")?;
             $show;
@@ -132,13 +202,13 @@ macro_rules! call {
 
 /// A case of this name, with what can be read before and after it.
 macro_rules! case {
-    ($rt:expr, $asked:expr, $name:expr, $refused:pat, $state:expr, $call:expr) => {
-        case!($rt, $asked, $name, $refused, $state, _none = (), $call)
+    ($rt:expr, $asked:expr, $name:expr, $error:ident, $state:expr, $call:expr) => {
+        case!($rt, $asked, $name, $error, $state, _none = (), $call)
     };
-    ($rt:expr, $asked:expr, $name:expr, $refused:pat, $state:expr, $given:pat = $made:expr, $call:expr) => {
+    ($rt:expr, $asked:expr, $name:expr, $error:ident, $state:expr, $given:pat = $made:expr, $call:expr) => {
         if let Some(turn) = $asked.turn($name) {
             show($rt, turn, "before", $state)?;
-            let answer = call!($rt, turn, $refused, show($rt, turn, "now", $state)?, $given = $made, $call);
+            let answer = call!($rt, turn, $error, show($rt, turn, "now", $state)?, $given = $made, $call);
             tell($rt, $name, answer)?;
             show($rt, turn, "after", $state)?;
         }
@@ -147,3 +217,4 @@ macro_rules! case {
 
 pub(crate) use call;
 pub(crate) use case;
+pub(crate) use refused;

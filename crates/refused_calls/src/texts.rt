@@ -1,5 +1,5 @@
 //! Texts and parameters.
-use crate::telling::{Asked, call, case, mark, show, tell};
+use crate::telling::{Asked, call, case, is_refused, mark, refused, show, tell};
 use anyhow::Result;
 use batch_ids::{Parameters, Refusal, Shared, T256, Text, try_clone_option};
 use std::alloc::{AllocError, Global};
@@ -13,7 +13,7 @@ pub(crate) fn run_texts<R: Print + AllocGlobal>(rt: &R, asked: Asked<'_>) -> Res
         rt,
         asked,
         "text.new",
-        Err(Refusal::OutOfMemory),
+        memory,
         &(),
         T256::new(alloc, "the nightly load")
     );
@@ -21,7 +21,7 @@ pub(crate) fn run_texts<R: Print + AllocGlobal>(rt: &R, asked: Asked<'_>) -> Res
         rt,
         asked,
         "text.new.TextTooLong",
-        Err(Refusal::OutOfMemory),
+        memory,
         &(),
         Text::<4>::new(alloc, "night")
     );
@@ -29,27 +29,20 @@ pub(crate) fn run_texts<R: Print + AllocGlobal>(rt: &R, asked: Asked<'_>) -> Res
         rt,
         asked,
         "text.within",
-        Err(_),
+        any,
         &(),
         T256::within(alloc, "the nightly load")
     );
-    case!(rt, asked, "text.try_clone", Err(_), &text, text.try_clone());
+    case!(rt, asked, "text.try_clone", any, &text, text.try_clone());
     case!(
         rt,
         asked,
         "text.try_clone_option",
-        Err(_),
+        any,
         &kept,
         try_clone_option(&kept)
     );
-    case!(
-        rt,
-        asked,
-        "shared.new",
-        Err(_),
-        &(),
-        Shared::new(alloc, 7u64)
-    );
+    case!(rt, asked, "shared.new", any, &(), Shared::new(alloc, 7u64));
     Ok(())
 }
 
@@ -76,7 +69,7 @@ pub(crate) fn run_parameters<R: Print + AllocGlobal>(rt: &R, asked: Asked<'_>) -
         rt,
         asked,
         "parameters.new",
-        Err(Refusal::OutOfMemory),
+        memory,
         &(),
         given = pairs(alloc, 3, 4)?,
         Parameters::new(alloc, given)
@@ -85,7 +78,7 @@ pub(crate) fn run_parameters<R: Print + AllocGlobal>(rt: &R, asked: Asked<'_>) -
         rt,
         asked,
         "parameters.new.TextTooLong",
-        Err(Refusal::OutOfMemory),
+        memory,
         &(),
         given = pairs(alloc, 3, 4_097)?,
         Parameters::new(alloc, given)
@@ -94,7 +87,7 @@ pub(crate) fn run_parameters<R: Print + AllocGlobal>(rt: &R, asked: Asked<'_>) -
         rt,
         asked,
         "parameters.new.too_many",
-        Err(Refusal::OutOfMemory),
+        memory,
         &(),
         given = pairs(alloc, 64, 4)?,
         Parameters::new(alloc, given)
@@ -103,7 +96,7 @@ pub(crate) fn run_parameters<R: Print + AllocGlobal>(rt: &R, asked: Asked<'_>) -
         rt,
         asked,
         "parameters.try_clone",
-        Err(_),
+        any,
         &parameters,
         parameters.try_clone()
     );

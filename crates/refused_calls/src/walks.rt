@@ -1,8 +1,8 @@
 //! Walks of a job.
-use crate::telling::{Asked, Turn, call, case, mark, show, tell};
+use crate::telling::{Asked, Turn, call, case, mark, refused, show, tell};
 use anyhow::{Result, bail};
 use batch_ids::{Listed, OutOfMemory, T256, WorkOutcome};
-use job_walk::{Cursor, Fact, Known, Plan, WorkKey, value_at_first};
+use job_walk::{Cursor, Fact, Known, Plan, Value, WorkKey, value_at_first};
 use jsl_json::read_catalogue;
 use jsl_model::{Catalogue, Job};
 use std::alloc::Global;
@@ -88,7 +88,7 @@ fn take_case(
     let answer = call!(
         rt,
         turn,
-        Err(_),
+        any,
         show(rt, turn, "now", &*cursor)?,
         take(cursor, key)
     );
@@ -109,7 +109,7 @@ fn report_case(
     let answer = call!(
         rt,
         turn,
-        Err(_),
+        any,
         show(rt, turn, "now", &*cursor)?,
         report(cursor, key, exit)
     );
@@ -133,7 +133,7 @@ fn run_new<R: Print + AllocGlobal>(
         rt,
         asked,
         "cursor.new",
-        Err(_),
+        any,
         &(),
         Cursor::new(alloc, job, plan)
     );
@@ -141,7 +141,7 @@ fn run_new<R: Print + AllocGlobal>(
         rt,
         asked,
         "cursor.resume",
-        Err(_),
+        any,
         &(),
         Cursor::resume(alloc, job, plan, known)
     );
@@ -150,7 +150,7 @@ fn run_new<R: Print + AllocGlobal>(
             rt,
             asked,
             "fact.try_clone",
-            Err(_),
+            any,
             &known.fact,
             known.fact.try_clone()
         );
@@ -158,7 +158,7 @@ fn run_new<R: Print + AllocGlobal>(
             rt,
             asked,
             "work_key.try_clone",
-            Err(_),
+            any,
             &known.key,
             known.key.try_clone()
         );
@@ -167,7 +167,7 @@ fn run_new<R: Print + AllocGlobal>(
         rt,
         asked,
         "value_at_first",
-        Err(_),
+        any,
         &(),
         value_at_first(alloc, job, plan, known)
     );
@@ -190,11 +190,21 @@ fn run_walk<R: Print + AllocGlobal>(
 ) -> Result<()> {
     let mut cursor = cursor_of(rt.alloc(), job, plan)?;
     let exit = T256::new(rt.alloc(), "COMPLETED")?;
+    if let Value::Open { ready, .. } = cursor.value() {
+        case!(
+            rt,
+            asked,
+            "work_keys.try_clone",
+            any,
+            ready,
+            ready.try_clone()
+        );
+    }
     case!(
         rt,
         asked,
         "value.try_clone",
-        Err(_),
+        any,
         cursor.value(),
         cursor.value().try_clone()
     );
@@ -202,7 +212,7 @@ fn run_walk<R: Print + AllocGlobal>(
         rt,
         asked,
         "cursor.try_clone",
-        Err(_),
+        any,
         &cursor,
         cursor.try_clone()
     );

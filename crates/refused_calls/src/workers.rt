@@ -3,7 +3,7 @@ ghost use Rattle.std.specs.Prelude.{◌≡◌};
 
 use crate::memory::{Memory, Open, Quiet};
 use crate::readings::UNMARKED;
-use crate::telling::{Asked, Turn, call, mark, show, tell};
+use crate::telling::{Asked, Turn, call, case, is_refused, mark, refused, show, tell};
 use anyhow::{Result, bail};
 use batch_history::{WorkItem, WorkTask};
 use batch_ids::{ExecutionId, Parameters, Refusal, T256, WorkId, WorkOutcome};
@@ -35,6 +35,10 @@ fn task(alloc: Global, name: &str) -> Result<WorkTask> {
             item_count: 2,
             checkpoint: None,
         });
+    }
+    if name == "decision" {
+        let artifact = T256::new(alloc, "quiet")?;
+        return Ok(WorkTask::Decision { artifact });
     }
     let artifact = T256::new(alloc, name)?;
     Ok(WorkTask::Batchlet { artifact })
@@ -95,7 +99,7 @@ fn run_one<R: Print + AllocGlobal>(
     };
     let mut port = Memory::new(alloc, None);
     let mut outcome = run_with_kit(alloc, turn, &mut port, item)?;
-    if outcome == Err(Refusal::OutOfMemory) {
+    if is_refused(&outcome) {
         println!(rt; "refused")?;
         show_port(rt, "now", &port)?;
         port = Memory::new(alloc, None);
@@ -127,7 +131,7 @@ fn run_worker<R: Print + AllocGlobal>(rt: &R, asked: Asked<'_>) -> Result<()> {
     };
     let mut port = Memory::new(alloc, Some(item(alloc, "quiet", None)?));
     let mut report = work_with_kit(alloc, turn, &mut port)?;
-    if report == Err(Refusal::OutOfMemory) {
+    if is_refused(&report) {
         println!(rt; "refused")?;
         show_port(rt, "now", &port)?;
         port = Memory::new(alloc, Some(item(alloc, "quiet", None)?));
@@ -159,25 +163,45 @@ fn run_add<R: Print + AllocGlobal>(rt: &R, asked: Asked<'_>) -> Result<()> {
     tell(rt, "kit.add", outcome)
 }
 
-/// The cases of one work item, one worker and one kit.
-pub(crate) fn run_workers<R: Print + AllocGlobal>(rt: &R, asked: Asked<'_>) -> Result<()> {
-    let alloc = rt.alloc();
-    run_add(rt, asked)?;
-    run_one(rt, asked, "run_item.batchlet", &item(alloc, "quiet", None)?)?;
-    run_one(rt, asked, "run_item.unknown", &item(alloc, "nobody", None)?)?;
-    run_one(rt, asked, "run_item.chunk", &item(alloc, "chunk", None)?)?;
-    run_one(
+/// Work items, each with the name of its case, what is run, and its partition.
+const ITEMS: [(&str, &str, Option<u32>); 5] = [
+    ("run_item.batchlet", "quiet", None),
+    ("run_item.unknown", "nobody", None),
+    ("run_item.decision", "decision", None),
+    ("run_item.chunk", "chunk", None),
+    ("run_item.partition", "chunk", Some(1)),
+];
+
+/// A work item is copied.
+fn run_copies<R: Print + AllocGlobal>(rt: &R, asked: Asked<'_>) -> Result<()> {
+    let item = item(rt.alloc(), "chunk", None)?;
+    case!(
         rt,
         asked,
-        "run_item.partition",
-        &item(alloc, "chunk", Some(1))?,
-    )?;
-    let artifact = T256::new(alloc, "quiet")?;
-    let decision = WorkItem {
-        task: WorkTask::Decision { artifact },
-        ..item(alloc, "quiet", None)?
-    };
-    run_one(rt, asked, "run_item.decision", &decision)?;
+        "work_item.try_clone",
+        any,
+        &item,
+        item.try_clone()
+    );
+    case!(
+        rt,
+        asked,
+        "work_task.try_clone",
+        any,
+        &item.task,
+        item.task.try_clone()
+    );
+    Ok(())
+}
+
+/// The cases of one work item, one worker and one kit.
+pub(crate) fn run_workers<R: Print + AllocGlobal>(rt: &R, asked: Asked<'_>) -> Result<()> {
+    run_copies(rt, asked)?;
+    run_add(rt, asked)?;
+    for (name, what, partition) in &ITEMS {
+        let item = item(rt.alloc(), what, *partition)?;
+        run_one(rt, asked, name, &item)?;
+    }
     run_worker(rt, asked)
 }
 
@@ -217,7 +241,7 @@ fn pool_on<N: Site + Send + Sync, R: Threads + Wait + Print + AllocGlobal + Sync
     operator: &Operator<N>,
 ) -> Result<()> {
     let mut report = pool_once(rt, turn, operator)?;
-    if report == Err(Refusal::OutOfMemory) {
+    if is_refused(&report) {
         println!(rt; "refused")?;
         show_counts(rt, "now", operator)?;
         report = pool_once(rt, UNMARKED, operator)?;

@@ -1,6 +1,6 @@
 //! Worlds, whose events are the lines of a script.
 use crate::scripts::{Script, catalogue_of, query_in};
-use crate::telling::{Asked, call, mark, show, tell};
+use crate::telling::{Asked, call, mark, refused, show, tell};
 use anyhow::{Result, anyhow, bail};
 use event_core::{Event, World, run};
 use script_text::{Command, read_command};
@@ -72,7 +72,7 @@ fn run_step<R: Print + AllocGlobal>(
     let outcome = call!(
         rt,
         turn,
-        Err(_),
+        any,
         show(rt, turn, "now", &*world)?,
         world.step(event)
     );
@@ -108,7 +108,7 @@ fn run_whole<R: Print + AllocGlobal>(
         let outcomes = call!(
             rt,
             turn,
-            Err(_),
+            any,
             show(rt, turn, "now", &())?,
             given = catalogue_of(rt, script)?,
             run(rt.alloc(), given, SESSIONS, COPIES, events)
@@ -125,7 +125,7 @@ fn run_new<R: Print + AllocGlobal>(rt: &R, asked: Asked<'_>, script: Script<'_>)
         let world = call!(
             rt,
             turn,
-            Err(_),
+            any,
             show(rt, turn, "now", &())?,
             given = catalogue_of(rt, script)?,
             World::new(rt.alloc(), given, SESSIONS, COPIES)
