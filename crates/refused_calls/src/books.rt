@@ -3,10 +3,10 @@ ghost use Rattle.std.specs.Prelude.{◌≤◌};
 
 use crate::scripts::{Answers, Case, Script, answer_lines, catalogue_of, query_in};
 use crate::telling::{
-    Asked, call, is_refused, mark, refused, show, tell, tell_answer, tell_line, tell_reply,
+    Asked, Shown, answer_case, called, case_with, nothing, reply_case, tell, tell_line,
 };
 use anyhow::Result;
-use batch_ids::{Moment, Refusal};
+use batch_ids::{Moment, OutOfMemory, Refusal};
 use op_log::{Answer, Book, Call, Reply, Repository};
 use script_text::{answer_text, reply_text};
 use std::sync::Wait;
@@ -36,6 +36,13 @@ struct Maker {
     made: Made,
 }
 
+impl<const LIMIT: u64> Shown for Book<LIMIT> {
+    fn tell_all<R: Wait + Print + AllocGlobal>(&mut self, rt: &R, when: &str) -> Result<()> {
+        println!(rt; "{when}: {self:?}")?;
+        Ok(())
+    }
+}
+
 impl<const LIMIT: u64> Answers for Book<LIMIT> {
     fn on_call<R: Wait + Print + AllocGlobal>(
         &mut self,
@@ -45,18 +52,14 @@ impl<const LIMIT: u64> Answers for Book<LIMIT> {
         call: &Call,
         at: Moment,
     ) -> Result<()> {
-        let turn = case.turn;
-        show(rt, turn, "before", &*self)?;
-        let reply = call!(
+        reply_case(
             rt,
-            turn,
-            memory,
-            show(rt, turn, "now", &*self)?,
-            given = call.try_clone()?,
-            self.act(by, given, at)
-        );
-        tell_reply(rt, case.name, reply)?;
-        show(rt, turn, "after", &*self)
+            case.turn,
+            case.name,
+            self,
+            || Ok(call.try_clone()?),
+            |book, given| book.act(by, given, at),
+        )
     }
 
     fn on_query<R: Wait + Print + AllocGlobal>(
@@ -65,19 +68,22 @@ impl<const LIMIT: u64> Answers for Book<LIMIT> {
         case: Case<'_>,
         line: &str,
     ) -> Result<()> {
-        let turn = case.turn;
-        let query = query_in(rt.alloc(), line)?;
-        show(rt, turn, "before", &*self)?;
-        let answer = call!(
+        let alloc = rt.alloc();
+        answer_case(
             rt,
-            turn,
-            memory,
-            show(rt, turn, "now", &*self)?,
-            self.ask(&query)
-        );
-        drop(query);
-        tell_answer(rt, case.name, answer)?;
-        show(rt, turn, "after", &*self)
+            case.turn,
+            case.name,
+            self,
+            || query_in(alloc, line),
+            |state, given| state.ask(&given),
+        )
+    }
+}
+
+impl<const LIMIT: u64> Shown for Repository<LIMIT> {
+    fn tell_all<R: Wait + Print + AllocGlobal>(&mut self, rt: &R, when: &str) -> Result<()> {
+        println!(rt; "{when}: {self:?}")?;
+        Ok(())
     }
 }
 
@@ -90,17 +96,9 @@ impl<const LIMIT: u64> Answers for Repository<LIMIT> {
         call: &Call,
         at: Moment,
     ) -> Result<()> {
-        let turn = case.turn;
-        show(rt, turn, "before", &*self)?;
-        let reply = call!(
-            rt,
-            turn,
-            memory,
-            show(rt, turn, "now", &*self)?,
-            self.apply(by, call, at)
-        );
-        tell_reply(rt, case.name, reply)?;
-        show(rt, turn, "after", &*self)
+        reply_case(rt, case.turn, case.name, self, nothing, |state, _none| {
+            state.apply(by, call, at)
+        })
     }
 
     fn on_query<R: Wait + Print + AllocGlobal>(
@@ -109,19 +107,15 @@ impl<const LIMIT: u64> Answers for Repository<LIMIT> {
         case: Case<'_>,
         line: &str,
     ) -> Result<()> {
-        let turn = case.turn;
-        let query = query_in(rt.alloc(), line)?;
-        show(rt, turn, "before", &*self)?;
-        let answer = call!(
+        let alloc = rt.alloc();
+        answer_case(
             rt,
-            turn,
-            memory,
-            show(rt, turn, "now", &*self)?,
-            self.ask(&query)
-        );
-        drop(query);
-        tell_answer(rt, case.name, answer)?;
-        show(rt, turn, "after", &*self)
+            case.turn,
+            case.name,
+            self,
+            || query_in(alloc, line),
+            |state, given| state.ask(&given),
+        )
     }
 }
 
@@ -134,20 +128,16 @@ impl Answers for Previews {
         call: &Call,
         at: Moment,
     ) -> Result<()> {
-        let turn = case.turn;
-        let repository = &self.repository;
-        show(rt, turn, "before", repository)?;
-        let reply = call!(
+        let previewed = reply_case(
             rt,
-            turn,
-            memory,
-            show(rt, turn, "now", repository)?,
-            repository.preview(by, call)
+            case.turn,
+            case.name,
+            &mut self.repository,
+            nothing,
+            |state, _none| state.preview(by, call),
         );
-        tell_reply(rt, case.name, reply)?;
-        show(rt, turn, "after", repository)?;
         drop(self.repository.apply(by, call, at));
-        Ok(())
+        previewed
     }
 
     fn on_query<R: Wait + Print + AllocGlobal>(
@@ -160,59 +150,62 @@ impl Answers for Previews {
     }
 }
 
-fn copy_call<R: Print + AllocGlobal>(rt: &R, case: Case<'_>, call: &Call) -> Result<()> {
-    let turn = case.turn;
-    show(rt, turn, "before", call)?;
-    let copy = call!(
+/// An equal reply, if it is no refusal.
+fn copy_of(reply: &Replied) -> std::result::Result<Option<Reply>, OutOfMemory> {
+    match reply {
+        Ok(reply) => Ok(Some(reply.try_clone()?)),
+        Err(_) => Ok(None),
+    }
+}
+
+fn write_reply<R: Wait + Print + AllocGlobal>(
+    rt: &R,
+    case: Case<'_>,
+    reply: &Replied,
+) -> Result<()> {
+    let alloc = rt.alloc();
+    let text = called(rt, case.turn, &mut (), nothing, |_none, _nothing| {
+        reply_text(alloc, reply)
+    })?;
+    tell_line(rt, case.name, text?)
+}
+
+fn write_answer<R: Wait + Print + AllocGlobal>(
+    rt: &R,
+    case: Case<'_>,
+    answer: &Answered,
+) -> Result<()> {
+    let alloc = rt.alloc();
+    let text = called(rt, case.turn, &mut (), nothing, |_none, _nothing| {
+        answer_text(alloc, answer)
+    })?;
+    tell_line(rt, case.name, text?)
+}
+
+fn copy_call<R: Wait + Print + AllocGlobal>(rt: &R, case: Case<'_>, call: &Call) -> Result<()> {
+    let copy = called(
         rt,
-        turn,
-        any,
-        show(rt, turn, "now", call)?,
-        call.try_clone()
-    );
+        case.turn,
+        &mut (),
+        nothing,
+        |_none, _nothing| call.try_clone(),
+    )?;
     tell(rt, case.name, copy)
 }
 
-fn copy_reply<R: Print + AllocGlobal>(rt: &R, case: Case<'_>, reply: &Replied) -> Result<()> {
-    let turn = case.turn;
-    show(rt, turn, "before", reply)?;
-    if let Ok(reply) = reply {
-        let copy = call!(
-            rt,
-            turn,
-            any,
-            show(rt, turn, "now", reply)?,
-            reply.try_clone()
-        );
-        tell(rt, case.name, copy)?;
-    }
-    Ok(())
-}
-
-fn write_reply<R: Print + AllocGlobal>(rt: &R, case: Case<'_>, reply: &Replied) -> Result<()> {
-    let turn = case.turn;
-    show(rt, turn, "before", reply)?;
-    let text = call!(
+fn copy_reply<R: Wait + Print + AllocGlobal>(
+    rt: &R,
+    case: Case<'_>,
+    reply: &Replied,
+) -> Result<()> {
+    let copy = called(
         rt,
-        turn,
-        any,
-        show(rt, turn, "now", reply)?,
-        reply_text(rt.alloc(), reply)
+        case.turn,
+        &mut (),
+        nothing,
+        |_none, _nothing| copy_of(reply),
     )?;
-    tell_line(rt, case.name, text)
-}
-
-fn write_answer<R: Print + AllocGlobal>(rt: &R, case: Case<'_>, answer: &Answered) -> Result<()> {
-    let turn = case.turn;
-    show(rt, turn, "before", answer)?;
-    let text = call!(
-        rt,
-        turn,
-        any,
-        show(rt, turn, "now", answer)?,
-        answer_text(rt.alloc(), answer)
-    )?;
-    tell_line(rt, case.name, text)
+    tell(rt, case.name, copy)
 }
 
 impl Answers for Maker {
@@ -240,16 +233,56 @@ impl Answers for Maker {
         case: Case<'_>,
         line: &str,
     ) -> Result<()> {
+        if !matches!(self.made, Made::Text) {
+            return Ok(());
+        }
         let query = query_in(rt.alloc(), line)?;
         let answer = self.repository.ask(&query);
         drop(query);
-        let made = match self.made {
-            Made::Text => write_answer(rt, case, &answer),
-            _ => Ok(()),
-        };
+        let written = write_answer(rt, case, &answer);
         drop(answer);
-        made
+        written
     }
+}
+
+/// A new book.
+fn run_new_book<R: Wait + Print + AllocGlobal, const LIMIT: u64>(
+    rt: &R,
+    asked: Asked<'_>,
+    script: Script<'_>,
+) -> Result<()>
+    requires { LIMIT ≤ 1000000 }
+{
+    let alloc = rt.alloc();
+    let name = format!(in alloc; "{}.new", script.name)?;
+    case_with(
+        rt,
+        asked,
+        name.as_str(),
+        &mut (),
+        || catalogue_of(rt, script),
+        |_none, given| Book::<LIMIT>::new(alloc, given),
+    )
+}
+
+/// A new repository.
+fn run_new_repository<R: Wait + Print + AllocGlobal, const LIMIT: u64>(
+    rt: &R,
+    asked: Asked<'_>,
+    script: Script<'_>,
+) -> Result<()>
+    requires { LIMIT ≤ 1000000 }
+{
+    let alloc = rt.alloc();
+    let name = format!(in alloc; "{}.new", script.name)?;
+    case_with(
+        rt,
+        asked,
+        name.as_str(),
+        &mut (),
+        || catalogue_of(rt, script),
+        |_none, given| Repository::<LIMIT>::new(alloc, given),
+    )
 }
 
 /// A book answers a script.
@@ -260,17 +293,9 @@ pub(crate) fn run_book<R: Wait + Print + AllocGlobal, const LIMIT: u64>(
 ) -> Result<()>
     requires { LIMIT ≤ 1000000 }
 {
-    let name = format!(in rt.alloc(); "{}.new", script.name)?;
-    let turn = asked.turn_of_many(name.as_str());
-    let mut book = call!(
-        rt,
-        turn,
-        any,
-        show(rt, turn, "now", &())?,
-        given = catalogue_of(rt, script)?,
-        Book::<LIMIT>::new(rt.alloc(), given)
-    )?;
-    println!(rt; "{name}: {} operations", book.len())?;
+    run_new_book::<_, LIMIT>(rt, asked, script)?;
+    let catalogue = catalogue_of(rt, script)?;
+    let mut book = Book::<LIMIT>::new(rt.alloc(), catalogue)?;
     let answered = answer_lines(rt, asked, script, &mut book);
     drop(book);
     answered
@@ -284,17 +309,9 @@ pub(crate) fn run_repository<R: Wait + Print + AllocGlobal, const LIMIT: u64>(
 ) -> Result<()>
     requires { LIMIT ≤ 1000000 }
 {
-    let name = format!(in rt.alloc(); "{}.new", script.name)?;
-    let turn = asked.turn_of_many(name.as_str());
-    let mut repository = call!(
-        rt,
-        turn,
-        any,
-        show(rt, turn, "now", &())?,
-        given = catalogue_of(rt, script)?,
-        Repository::<LIMIT>::new(rt.alloc(), given)
-    )?;
-    println!(rt; "{name}: {} operations", repository.len())?;
+    run_new_repository::<_, LIMIT>(rt, asked, script)?;
+    let catalogue = catalogue_of(rt, script)?;
+    let mut repository = Repository::<LIMIT>::new(rt.alloc(), catalogue)?;
     let answered = answer_lines(rt, asked, script, &mut repository);
     drop(repository);
     answered

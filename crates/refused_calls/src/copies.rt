@@ -1,12 +1,12 @@
 //! Read copies of a desk: alone, and behind their locks.
 ghost use Rattle.std.specs.Prelude.{◌≡◌, ◌<◌, [], IfOk, vec_len};
 ghost use Rattle.std.specs.List.{All};
-ghost use Rattle.read_copies.specs.States.{StandsForCounts};
+ghost use Rattle.read_copies.specs.States.{StandsForCounts, StandsForLog};
 
 use crate::desks::show_session;
 use crate::scripts::{Answers, Case, Script, answer_lines, catalogue_of, query_in};
-use crate::telling::{Asked, Turn, call, is_refused, mark, refused, show, tell, tell_answer};
-use anyhow::{Result, bail};
+use crate::telling::{Asked, Shown, called, case_with, mark, nothing, show, tell, tell_answer};
+use anyhow::Result;
 use batch_ids::{Moment, OutOfMemory, Refusal};
 use jsl_model::Catalogue;
 use op_log::{Answer, Call, Query, Repository};
@@ -17,79 +17,98 @@ use std::alloc::Global;
 use std::marker::Brand;
 use std::sync::Wait;
 
-/// A desk with copies: one of a repository alone, and one of each kind behind a lock. One session calls, the others know of
-/// nothing but the copies.
+/// Sessions of a desk: one calls, the others know of nothing but the copies.
 #[derive(Drop)]
-struct Shelf<N: Site> {
-    desk: Desk<N, 1_000_000>,
-    table: SeatTable,
-    alone: Copied<Repository<1_000_000>, N>,
-    repositories: Copies<Repository<1_000_000>, N>,
-    counts: Copies<StatusCounts, N>,
+struct Readers<N: Site> {
     caller: Session<N>,
     of_alone: Session<N>,
     of_repositories: Session<N>,
     of_counts: Session<N>,
-    ghost free: { desk.hosted ≡ [] },
-    ghost named: { table ≡ N.place },
+}
+
+/// Read copies of a desk: one of a repository alone, and one of each kind behind a lock.
+#[derive(Drop)]
+struct Held<N: Site> {
+    alone: Copied<Repository<1_000_000>, N>,
+    repositories: Copies<Repository<1_000_000>, N>,
+    counts: Copies<StatusCounts, N>,
     ghost one_repository: { 0 < repositories },
     ghost one_of_counts: { 0 < counts },
 }
 
+/// A desk with its sessions and copies.
+#[derive(Drop)]
+struct Shelf<N: Site> {
+    desk: Desk<N, 1_000_000>,
+    table: SeatTable,
+    readers: Readers<N>,
+    held: Held<N>,
+    ghost free: { desk.hosted ≡ [] },
+    ghost named: { table ≡ N.place },
+}
+
 /// What a copy answers, if it has all that the session has seen.
-type Said = Option<std::result::Result<Answer, Refusal>>;
+type Said = std::result::Result<Option<Answer>, Refusal>;
+
+/// The same, with what is refused outside.
+fn said(read: Option<std::result::Result<Answer, Refusal>>) -> Said {
+    match read {
+        None => Ok(None),
+        Some(Ok(answer)) => Ok(Some(answer)),
+        Some(Err(refusal)) => Err(refusal),
+    }
+}
 
 fn tell_said(rt: &(impl Print + AllocGlobal), name: &str, said: Said) -> Result<()> {
     match said {
-        Some(answer) => tell_answer(rt, name, answer),
-        None => {
+        Ok(Some(answer)) => tell_answer(rt, name, Ok(answer)),
+        Ok(None) => {
             println!(rt; "{name}: the copy lacks operations")?;
             Ok(())
         }
+        Err(refusal) => tell_answer(rt, name, Err(refusal)),
     }
 }
 
 impl<N: Site> Shelf<N> {
     fn read_alone(&mut self, query: &Query) -> Said {
-        self.alone.read(&mut self.of_alone, query, &self.table)
+        let session = &mut self.readers.of_alone;
+        said(self.held.alone.read(session, query, &self.table))
     }
 
     fn read_shared<R: Wait>(&mut self, rt: &R, query: &Query) -> Said {
-        self.repositories
-            .read(rt, 0, &mut self.of_repositories, query, &self.table)
+        let session = &mut self.readers.of_repositories;
+        said(
+            self.held
+                .repositories
+                .read(rt, 0, session, query, &self.table),
+        )
     }
 
     fn bring(&mut self) -> std::result::Result<(), OutOfMemory> {
-        self.alone.bring(&mut self.desk, &self.table)
+        self.held.alone.bring(&mut self.desk, &self.table)
     }
 
     fn publish<R: Wait>(&mut self, rt: &R) -> std::result::Result<(), OutOfMemory> {
-        self.repositories
+        self.held
+            .repositories
             .publish(rt, 0, &mut self.desk, &self.table)
     }
 
     fn publish_counts<R: Wait>(&mut self, rt: &R) -> std::result::Result<(), OutOfMemory> {
-        self.counts.publish(rt, 0, &mut self.desk, &self.table)
+        self.held.counts.publish(rt, 0, &mut self.desk, &self.table)
     }
 
     /// Tells how many job instances the copies have, and what the counts are.
-    fn show<R: Wait + Print + AllocGlobal>(
-        &mut self,
-        rt: &R,
-        turn: Turn,
-        when: &str,
-    ) -> Result<()> {
-        if !turn.shows {
-            return Ok(());
-        }
+    fn tell_shelf<R: Wait + Print + AllocGlobal>(&mut self, rt: &R, when: &str) -> Result<()> {
+        let operations = self.desk.len();
         println!(rt;
-            "{when}: {} operations, of them {}",
-            self.desk.len(),
-            self.alone.len()
+            "{when}: {operations} operations, of them {}",
+            self.held.alone.len()
         )?;
-        show_session(rt, when, &self.of_alone)?;
-        show_session(rt, when, &self.of_repositories)?;
-        show_session(rt, when, &self.of_counts)?;
+        show_session(rt, when, &self.readers.of_alone)?;
+        show_session(rt, when, &self.readers.of_repositories)?;
+        show_session(rt, when, &self.readers.of_counts)?;
         self.show_answers(rt, when)
     }
 
@@ -101,8 +120,9 @@ impl<N: Site> Shelf<N> {
         drop(query);
         tell_said(rt, when, said)?;
         let counts = self
+            .held
             .counts
-            .read(rt, 0, &mut self.of_counts, &(), &self.table);
+            .read(rt, 0, &mut self.readers.of_counts, &(), &self.table);
         println!(rt; "{when}: {counts:?}")?;
         Ok(())
     }
@@ -110,6 +130,12 @@ impl<N: Site> Shelf<N> {
 
 /// How many job instances a job has.
 const COUNT: &str = "{\"ask\":\"job_instance_count\",\"job\":\"a\"}";
+
+impl<N: Site> Shown for Shelf<N> {
+    fn tell_all<R: Wait + Print + AllocGlobal>(&mut self, rt: &R, when: &str) -> Result<()> {
+        self.tell_shelf(rt, when)
+    }
+}
 
 impl<N: Site> Answers for Shelf<N> {
     fn on_call<R: Wait + Print + AllocGlobal>(
@@ -121,9 +147,12 @@ impl<N: Site> Answers for Shelf<N> {
         at: Moment,
     ) -> Result<()> {
         let given = call.try_clone()?;
-        let reply = self.desk.act(&mut self.caller, given, at, &self.table);
-        println!(rt; "{}, no case: {}", case.name, reply.is_ok())?;
+        let reply = self
+            .desk
+            .act(&mut self.readers.caller, given, at, &self.table);
+        let accepted = reply.is_ok();
         drop(reply);
+        println!(rt; "{}, no case: {accepted}", case.name)?;
         Ok(())
     }
 
@@ -134,27 +163,21 @@ impl<N: Site> Answers for Shelf<N> {
         case: Case<'_>,
         line: &str,
     ) -> Result<()> {
-        let turn = case.turn;
-        let query = query_in(rt.alloc(), line)?;
-        self.show(rt, turn, "before")?;
-        let said = call!(
+        let alloc = rt.alloc();
+        let prepare = || query_in(alloc, line);
+        let read = called(
             rt,
-            turn,
-            in_some,
-            self.show(rt, turn, "now")?,
-            self.read_alone(&query)
-        );
-        tell_said(rt, case.name, said)?;
-        let said = call!(
-            rt,
-            turn,
-            in_some,
-            self.show(rt, turn, "now")?,
-            self.read_shared(rt, &query)
-        );
-        drop(query);
-        tell_said(rt, case.name, said)?;
-        self.show(rt, turn, "after")
+            case.turn,
+            self,
+            prepare,
+            |shelf, given| shelf.read_alone(&given),
+        )?;
+        tell_said(rt, case.name, read)?;
+        let read = called(rt, case.turn, self, prepare, |shelf, given| {
+            shelf.read_shared(rt, &given)
+        })?;
+        tell_said(rt, case.name, read)?;
+        show(rt, case.turn, "after", self)
     }
 
     /// `bring` brings the copy that is alone, `publish` the one of a repository, `counts` that of the counts.
@@ -164,27 +187,28 @@ impl<N: Site> Answers for Shelf<N> {
         case: Case<'_>,
         line: &str,
     ) -> Result<()> {
-        let turn = case.turn;
-        self.show(rt, turn, "before")?;
-        let brought = match line {
-            "bring" => call!(rt, turn, any, self.show(rt, turn, "now")?, self.bring()),
-            "publish" => call!(rt, turn, any, self.show(rt, turn, "now")?, self.publish(rt)),
-            "counts" => call!(
-                rt,
-                turn,
-                any,
-                self.show(rt, turn, "now")?,
-                self.publish_counts(rt)
-            ),
-            _ => bail!("{}: nobody follows {line}", case.name),
-        };
+        let brought = called(rt, case.turn, self, nothing, |shelf, _none| match line {
+            "bring" => shelf.bring(),
+            "publish" => shelf.publish(rt),
+            _ => shelf.publish_counts(rt),
+        })?;
         tell(rt, case.name, brought)?;
-        self.show(rt, turn, "after")
+        show(rt, case.turn, "after", self)
     }
 }
 
+/// A repository without an operation, for one copy.
+fn repositories_of(alloc: Global, catalogue: &Catalogue) -> Result<Vec<Repository<1_000_000>>>
+    ensures empty { IfOk result (λ states. All (λ s. StandsForLog s catalogue.now []) states.items) }
+    ensures one { IfOk result (λ states. vec_len states ≡ 1) }
+{
+    let mut states = Vec::new(alloc);
+    states.push(Repository::new(alloc, catalogue.try_clone()?)?)?;
+    Ok(states)
+}
+
 /// Counts of nothing, for one copy.
-fn states_of(alloc: Global, catalogue: &Catalogue) -> Result<Vec<StatusCounts>>
+fn counts_of(alloc: Global, catalogue: &Catalogue) -> Result<Vec<StatusCounts>>
     ensures empty { IfOk result (λ states. All (λ s. StandsForCounts s catalogue.now []) states.items) }
     ensures one { IfOk result (λ states. vec_len states ≡ 1) }
 {
@@ -193,15 +217,15 @@ fn states_of(alloc: Global, catalogue: &Catalogue) -> Result<Vec<StatusCounts>>
     Ok(states)
 }
 
-/// A copy of the counts, whose making is a case.
-fn counts_of<N: Site, R: Print + AllocGlobal>(
+/// Read copies of repositories, whose making is a case.
+fn shared_of<N: Site, R: Print + AllocGlobal>(
     rt: &R,
     asked: Asked<'_>,
     script: Script<'_>,
     desk: &mut Desk<N, 1_000_000>,
     table: &SeatTable,
     catalogue: &Catalogue,
-) -> Result<Copies<StatusCounts, N>>
+) -> Result<Copies<Repository<1_000_000>, N>>
     requires table { table.now ≡ N.place }
     requires alone { desk.old.hosted ≡ [] }
     requires catalogue { catalogue.now ≡ N.place.catalogue }
@@ -211,36 +235,82 @@ fn counts_of<N: Site, R: Print + AllocGlobal>(
     let alloc = rt.alloc();
     let name = format!(in alloc; "{}.new", script.name)?;
     let turn = asked.turn_of_many(name.as_str());
-    Ok(call!(
-        rt,
-        turn,
-        any,
-        show(rt, turn, "now", &())?,
-        given = states_of(alloc, catalogue)?,
-        Copies::new(alloc, given, desk, table)
-    )?)
+    println!(rt; "{name}: one copy")?;
+    let states = repositories_of(alloc, catalogue)?;
+    mark(alloc, turn);
+    let first = Copies::new(alloc, states, desk, table);
+    mark(alloc, turn);
+    if let Ok(copies) = first {
+        return Ok(copies);
+    }
+    println!(rt; "refused")?;
+    let states = repositories_of(alloc, catalogue)?;
+    Ok(Copies::new(alloc, states, desk, table)?)
+}
+
+/// The copies of a desk.
+fn held_of<N: Site, R: Print + AllocGlobal>(
+    rt: &R,
+    asked: Asked<'_>,
+    script: Script<'_>,
+    desk: &mut Desk<N, 1_000_000>,
+    table: &SeatTable,
+    catalogue: &Catalogue,
+) -> Result<Held<N>>
+    requires table { table.now ≡ N.place }
+    requires alone { desk.old.hosted ≡ [] }
+    requires catalogue { catalogue.now ≡ N.place.catalogue }
+    ensures desk { desk.new ≡ desk.old }
+{
+    let alloc = rt.alloc();
+    let state = Repository::new(alloc, catalogue.try_clone()?)?;
+    let states = counts_of(alloc, catalogue)?;
+    let counts = Copies::new(alloc, states, desk, table)?;
+    let repositories = shared_of(rt, asked, script, desk, table, catalogue)?;
+    Ok(Held {
+        alone: Copied::new(state, desk, table),
+        repositories,
+        counts,
+    })
+}
+
+/// New sessions.
+fn readers_of<N: Site>(desk: &mut Desk<N, 1_000_000>, table: &SeatTable) -> Result<Readers<N>>
+    requires table { table.now ≡ N.place }
+    requires alone { desk.old.hosted ≡ [] }
+    ensures alone { desk.new.hosted ≡ [] }
+{
+    Ok(Readers {
+        caller: desk.open(table)?,
+        of_alone: desk.open(table)?,
+        of_repositories: desk.open(table)?,
+        of_counts: desk.open(table)?,
+    })
+}
+
+/// New counts; whether they are made.
+fn counted(catalogue: Catalogue, alloc: Global) -> std::result::Result<bool, OutOfMemory> {
+    drop(StatusCounts::new(alloc, catalogue)?);
+    Ok(true)
 }
 
 /// New counts.
-fn run_counts<R: Print + AllocGlobal>(
+fn run_counts<R: Wait + Print + AllocGlobal>(
     rt: &R,
     asked: Asked<'_>,
     script: Script<'_>,
     catalogue: &Catalogue,
 ) -> Result<()> {
-    let name = format!(in rt.alloc(); "{}.counts", script.name)?;
-    let turn = asked.turn_of_many(name.as_str());
-    let made = call!(
+    let alloc = rt.alloc();
+    let name = format!(in alloc; "{}.counts", script.name)?;
+    case_with(
         rt,
-        turn,
-        any,
-        show(rt, turn, "now", &())?,
-        given = catalogue.try_clone()?,
-        StatusCounts::new(rt.alloc(), given)
-    );
-    println!(rt; "{name}: {}", made.is_ok())?;
-    drop(made);
-    Ok(())
+        asked,
+        name.as_str(),
+        &mut (),
+        || Ok(catalogue.try_clone()?),
+        |_none, given| counted(given, alloc),
+    )
 }
 
 fn answer_with<N: Site, R: Wait + Print + AllocGlobal>(
@@ -255,23 +325,14 @@ fn answer_with<N: Site, R: Wait + Print + AllocGlobal>(
     requires alone { desk.hosted ≡ [] }
     requires catalogue { catalogue.now ≡ N.place.catalogue }
 {
-    let alloc = rt.alloc();
     let mut desk = desk;
-    let state = Repository::new(alloc, catalogue.try_clone()?)?;
-    let alone = Copied::new(state, &mut desk, &table);
-    let states = vec![in alloc; Repository::new(alloc, catalogue.try_clone()?)?]?;
-    let repositories = Copies::new(alloc, states, &mut desk, &table)?;
-    let counts = counts_of(rt, asked, script, &mut desk, &table, catalogue)?;
+    let held = held_of(rt, asked, script, &mut desk, &table, catalogue)?;
+    let readers = readers_of(&mut desk, &table)?;
     let mut shelf = Shelf {
-        caller: desk.open(&table)?,
-        of_alone: desk.open(&table)?,
-        of_repositories: desk.open(&table)?,
-        of_counts: desk.open(&table)?,
         desk,
         table,
-        alone,
-        repositories,
-        counts,
+        readers,
+        held,
     };
     let answered = answer_lines(rt, asked, script, &mut shelf);
     drop(shelf);

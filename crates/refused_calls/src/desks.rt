@@ -2,13 +2,14 @@
 ghost use Rattle.std.specs.Prelude.{◌≡◌, ◌≤◌, ◌<◌, []};
 
 use crate::scripts::{Answers, Case, Script, answer_lines, catalogue_of, query_in};
-use crate::telling::{Asked, Turn, call, is_refused, mark, refused, show, tell_answer, tell_reply};
+use crate::telling::{Asked, Shown, answer_case, case, mark, reply_case, tell_answer};
 use anyhow::{Result, bail};
-use batch_ids::{Moment, Refusal};
+use batch_ids::{Moment, OutOfMemory, Refusal};
 use jsl_model::Catalogue;
 use op_log::{Call, Reply};
 use seat_rules::{BookSeat, SeatTable, Site};
 use sessions::{Desk, Session};
+use std::alloc::Global;
 use std::marker::Brand;
 use std::sync::Wait;
 
@@ -63,10 +64,7 @@ impl<N: Site, const LIMIT: u64> Held<N, LIMIT> {
     }
 
     /// Tells what the desk holds and its sessions know.
-    fn show<R: Print + AllocGlobal>(&mut self, rt: &R, turn: Turn, when: &str) -> Result<()> {
-        if !turn.shows {
-            return Ok(());
-        }
+    fn tell_desk<R: Print + AllocGlobal>(&mut self, rt: &R, when: &str) -> Result<()> {
         show_session(rt, when, &self.one)?;
         show_session(rt, when, &self.other)?;
         for k in 0..self.desk.len() {
@@ -88,6 +86,12 @@ impl<N: Site, const LIMIT: u64> Held<N, LIMIT> {
     }
 }
 
+impl<N: Site, const LIMIT: u64> Shown for Held<N, LIMIT> {
+    fn tell_all<R: Wait + Print + AllocGlobal>(&mut self, rt: &R, when: &str) -> Result<()> {
+        self.tell_desk(rt, when)
+    }
+}
+
 impl<N: Site, const LIMIT: u64> Answers for Held<N, LIMIT> {
     fn on_call<R: Wait + Print + AllocGlobal>(
         &mut self,
@@ -97,18 +101,14 @@ impl<N: Site, const LIMIT: u64> Answers for Held<N, LIMIT> {
         call: &Call,
         at: Moment,
     ) -> Result<()> {
-        let turn = case.turn;
-        self.show(rt, turn, "before")?;
-        let reply = call!(
+        reply_case(
             rt,
-            turn,
-            memory,
-            self.show(rt, turn, "now")?,
-            given = call.try_clone()?,
-            self.act(by, given, at)
-        );
-        tell_reply(rt, case.name, reply)?;
-        self.show(rt, turn, "after")
+            case.turn,
+            case.name,
+            self,
+            || Ok(call.try_clone()?),
+            |held, given| held.act(by, given, at),
+        )
     }
 
     fn on_query<R: Wait + Print + AllocGlobal>(
@@ -117,43 +117,34 @@ impl<N: Site, const LIMIT: u64> Answers for Held<N, LIMIT> {
         case: Case<'_>,
         line: &str,
     ) -> Result<()> {
-        let turn = case.turn;
-        let query = query_in(rt.alloc(), line)?;
-        self.show(rt, turn, "before")?;
-        let answer = call!(
+        let alloc = rt.alloc();
+        answer_case(
             rt,
-            turn,
-            memory,
-            self.show(rt, turn, "now")?,
-            self.desk.ask(&mut self.one, &query, &self.table)
-        );
-        drop(query);
-        tell_answer(rt, case.name, answer)?;
-        self.show(rt, turn, "after")
+            case.turn,
+            case.name,
+            self,
+            || query_in(alloc, line),
+            |held, given| held.desk.ask(&mut held.one, &given, &held.table),
+        )
     }
 }
 
+/// A new table of seats; whether it is made.
+fn made(alloc: Global, catalogue: &Catalogue) -> std::result::Result<bool, OutOfMemory> {
+    drop(SeatTable::new(alloc, catalogue)?);
+    Ok(true)
+}
+
 /// A new table of seats.
-fn run_table<R: Print + AllocGlobal>(
+fn run_table<R: Wait + Print + AllocGlobal>(
     rt: &R,
     asked: Asked<'_>,
     script: Script<'_>,
     catalogue: &Catalogue,
 ) -> Result<()> {
-    let name = format!(in rt.alloc(); "{}.table", script.name)?;
-    if let Some(turn) = asked.turn(name.as_str()) {
-        show(rt, turn, "before", catalogue)?;
-        let made = call!(
-            rt,
-            turn,
-            any,
-            show(rt, turn, "now", catalogue)?,
-            SeatTable::new(rt.alloc(), catalogue)
-        );
-        println!(rt; "{name}: {}", made.is_ok())?;
-        drop(made);
-    }
-    Ok(())
+    let alloc = rt.alloc();
+    let name = format!(in alloc; "{}.table", script.name)?;
+    case(rt, asked, name.as_str(), || made(alloc, catalogue))
 }
 
 fn answer_with<N: Site, R: Wait + Print + AllocGlobal, const LIMIT: u64>(
@@ -197,6 +188,7 @@ fn answer_at<N: Site, R: Wait + Print + AllocGlobal, const LIMIT: u64>(
 {
     let name = format!(in rt.alloc(); "{}.new", script.name)?;
     let turn = asked.turn_of_many(name.as_str());
+    println!(rt; "{name}: one desk")?;
     mark(rt.alloc(), turn);
     let made = Desk::<N, LIMIT>::new(rt.alloc(), seat, catalogue);
     mark(rt.alloc(), turn);

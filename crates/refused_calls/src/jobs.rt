@@ -1,12 +1,13 @@
 //! Jobs and catalogues.
-use crate::telling::{Asked, Turn, call, case, is_refused, mark, refused, show, tell};
+use crate::telling::{Asked, Shown, case, case_with};
 use anyhow::{Result, bail};
 use batch_ids::Listed;
 use jsl_model::{
-    Body, BodyParts, Catalogue, ElementParts, Job, JobFault, JobParts, StepParts, TaskParts,
-    ThenParts, TransitionParts,
+    Body, BodyParts, Catalogue, ElementParts, Job, JobParts, StepParts, TaskParts, ThenParts,
+    TransitionParts,
 };
 use std::alloc::{AllocError, Global};
+use std::sync::Wait;
 
 /// A job of two steps, the second inside so many flows.
 #[derive(Clone, Copy)]
@@ -46,7 +47,7 @@ const SHAPES: [Shape; 10] = [
     FAULTLESS,
     Shape {
         name: "job.check.in_flows",
-        flows: 3,
+        flows: 2,
         next: "f",
         restart: "f",
         ..FAULTLESS
@@ -165,24 +166,18 @@ fn parts(alloc: Global, id: &str, shape: &Shape) -> Result<JobParts, AllocError>
     })
 }
 
-fn run_check<R: Print + AllocGlobal>(rt: &R, asked: Asked<'_>, shape: &Shape) -> Result<()> {
-    let alloc = rt.alloc();
-    case!(
-        rt,
-        asked,
-        shape.name,
-        memory,
-        &(),
-        given = parts(alloc, "night", shape)?,
-        Job::check(alloc, given)
-    );
-    Ok(())
-}
-
 /// `Job::check`, of a job without a fault and one of each.
-pub(crate) fn run_checks<R: Print + AllocGlobal>(rt: &R, asked: Asked<'_>) -> Result<()> {
+pub(crate) fn run_checks<R: Wait + Print + AllocGlobal>(rt: &R, asked: Asked<'_>) -> Result<()> {
+    let alloc = rt.alloc();
     for shape in &SHAPES {
-        run_check(rt, asked, shape)?;
+        case_with(
+            rt,
+            asked,
+            shape.name,
+            &mut (),
+            || Ok(parts(alloc, "night", shape)?),
+            |_none, given| Job::check(alloc, given),
+        )?;
     }
     Ok(())
 }
@@ -201,82 +196,65 @@ fn catalogue_of(alloc: Global, count: usize) -> Result<Catalogue> {
     Ok(catalogue)
 }
 
-/// A job is added to a catalogue, and is there then.
-fn run_add<R: Print + AllocGlobal>(
+impl Shown for Catalogue {
+    fn tell_all<R: Wait + Print + AllocGlobal>(&mut self, rt: &R, when: &str) -> Result<()> {
+        println!(rt; "{when}: {self:?}")?;
+        Ok(())
+    }
+}
+
+/// A job is added to a catalogue of so many, and is looked for then.
+fn run_add<R: Wait + Print + AllocGlobal>(
     rt: &R,
     asked: Asked<'_>,
     name: &str,
     id: &str,
     count: usize,
 ) -> Result<()> {
-    let alloc = rt.alloc();
-    if let Some(turn) = asked.turn(name) {
-        let mut catalogue = catalogue_of(alloc, count)?;
-        let added = add(rt, turn, name, id, &mut catalogue);
-        drop(catalogue);
-        added?;
+    if !asked.begins(name) {
+        return Ok(());
     }
-    Ok(())
-}
-
-fn add<R: Print + AllocGlobal>(
-    rt: &R,
-    turn: Turn,
-    name: &str,
-    id: &str,
-    catalogue: &mut Catalogue,
-) -> Result<()> {
     let alloc = rt.alloc();
-    show(rt, turn, "before", &*catalogue)?;
-    let answer = call!(
+    let mut catalogue = catalogue_of(alloc, count)?;
+    case_with(
         rt,
-        turn,
-        memory,
-        show(rt, turn, "now", &*catalogue)?,
-        given = job(alloc, id)?,
-        catalogue.add(given)
-    );
-    tell(rt, name, answer)?;
-    show(rt, turn, "after", &*catalogue)?;
-    println!(rt;
-        "{name}: then {:?} of {}",
-        catalogue.job(id).is_some(),
-        catalogue.len()
+        asked,
+        name,
+        &mut catalogue,
+        || job(alloc, id),
+        |catalogue, given| catalogue.add(given),
     )?;
+    let found = catalogue.job(id).is_some();
+    println!(rt; "{name}: then {found} of {}", catalogue.len())?;
     Ok(())
 }
 
 /// The catalogue of the chunk whose artifacts are compared, and its copies.
-pub(crate) fn run_catalogues<R: Print + AllocGlobal>(rt: &R, asked: Asked<'_>) -> Result<()> {
-    let alloc = rt.alloc();
+pub(crate) fn run_catalogues<R: Wait + Print + AllocGlobal>(
+    rt: &R,
+    asked: Asked<'_>,
+) -> Result<()> {
     run_add(rt, asked, "catalogue.add", "night", 2)?;
     run_add(rt, asked, "catalogue.add.DuplicateId", "j1", 2)?;
     run_add(rt, asked, "catalogue.add.TooMany", "night", 256)?;
-    let catalogue = catalogue_of(alloc, 1)?;
-    let ran = run_copies(rt, asked, &catalogue);
-    drop(catalogue);
-    ran
+    let catalogue = catalogue_of(rt.alloc(), 1)?;
+    case(rt, asked, "catalogue.try_clone", || catalogue.try_clone())?;
+    run_artifacts(rt, asked, "catalogue.artifacts", &catalogue)?;
+    let copy = catalogue.try_clone()?;
+    run_artifacts(rt, asked, "catalogue.artifacts.of_a_copy", &copy)?;
+    run_copies(rt, asked, &catalogue)
 }
 
-/// What the first step of a job runs is copied.
-fn run_task<R: Print + AllocGlobal>(rt: &R, asked: Asked<'_>, job: &Job) -> Result<()> {
-    let Some(element) = job.elements().first() else {
-        bail!("there is no element");
-    };
-    if let Body::Step(step) = &element.body {
-        case!(
-            rt,
-            asked,
-            "task.try_clone",
-            any,
-            &step.task,
-            step.task.try_clone()
-        );
-    }
-    Ok(())
+fn run_artifacts<R: Wait + Print + AllocGlobal>(
+    rt: &R,
+    asked: Asked<'_>,
+    name: &str,
+    catalogue: &Catalogue,
+) -> Result<()> {
+    case(rt, asked, name, || catalogue.artifacts())
 }
 
-fn run_copies<R: Print + AllocGlobal>(
+fn run_copies<R: Wait + Print + AllocGlobal>(
     rt: &R,
     asked: Asked<'_>,
     catalogue: &Catalogue,
@@ -284,33 +262,12 @@ fn run_copies<R: Print + AllocGlobal>(
     let Some(job) = catalogue.job("j0") else {
         bail!("there is no job");
     };
-    case!(rt, asked, "job.try_clone", any, job, job.try_clone());
-    run_task(rt, asked, job)?;
-    case!(
-        rt,
-        asked,
-        "catalogue.artifacts",
-        any,
-        catalogue,
-        catalogue.artifacts()
-    );
-    case!(
-        rt,
-        asked,
-        "catalogue.try_clone",
-        any,
-        catalogue,
-        catalogue.try_clone()
-    );
-    let copy = catalogue.try_clone()?;
-    case!(
-        rt,
-        asked,
-        "catalogue.artifacts.of_a_copy",
-        any,
-        &copy,
-        copy.artifacts()
-    );
-    drop(copy);
-    Ok(())
+    case(rt, asked, "job.try_clone", || job.try_clone())?;
+    let Some(element) = job.elements().first() else {
+        bail!("there is no element");
+    };
+    match &element.body {
+        Body::Step(step) => case(rt, asked, "task.try_clone", || step.task.try_clone()),
+        _ => bail!("there is no step"),
+    }
 }

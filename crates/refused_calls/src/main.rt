@@ -34,7 +34,7 @@ use std::thread::Threads;
 use telling::Asked;
 
 /// Values of their own.
-fn run_values<R: Files + Print + AllocGlobal>(rt: &R, asked: Asked<'_>) -> Result<()> {
+fn run_values<R: Wait + Files + Print + AllocGlobal>(rt: &R, asked: Asked<'_>) -> Result<()> {
     texts::run_texts(rt, asked)?;
     texts::run_parameters(rt, asked)?;
     jobs::run_checks(rt, asked)?;
@@ -44,7 +44,7 @@ fn run_values<R: Files + Print + AllocGlobal>(rt: &R, asked: Asked<'_>) -> Resul
 }
 
 /// What reads and writes texts.
-fn run_readings<R: Files + Print + AllocGlobal>(rt: &R, asked: Asked<'_>) -> Result<()> {
+fn run_readings<R: Wait + Files + Print + AllocGlobal>(rt: &R, asked: Asked<'_>) -> Result<()> {
     readings::run_values(rt, asked)?;
     readings::run_catalogues(rt, asked)?;
     readings::run_starts(rt, asked)?;

@@ -4,7 +4,9 @@ ghost use Rattle.batch_operator.specs.Calls.{IsAnswered, IsReplied};
 
 use crate::desks::{LOOKS, show_session};
 use crate::scripts::{Answers, Case, Script, answer_lines, catalogue_of, query_in};
-use crate::telling::{Asked, Turn, call, is_refused, mark, refused, tell, tell_answer, tell_reply};
+use crate::telling::{
+    Asked, Shown, answer_case, called, mark, nothing, reply_case, show, tell, tell_answer,
+};
 use anyhow::{Result, bail};
 use batch_ids::{ExecutionId, Moment, OutOfMemory, Refusal};
 use batch_operator::{CopyCount, Operator};
@@ -95,55 +97,38 @@ impl<N: Site> Stage<'_, N> {
         tell_answer(rt, when, answer)
     }
 
-    /// The same, and how many job instances the session has that started them.
-    fn show_with_count<R: Wait + Print + AllocGlobal>(
-        &mut self,
-        rt: &R,
-        turn: Turn,
-        when: &str,
-    ) -> Result<()> {
-        self.show(rt, turn, when)?;
-        let query = query_in(rt.alloc(), COUNT)?;
-        let answer = ask_query(rt, self.operator, &mut self.one, query);
-        tell_answer(rt, when, answer)
-    }
-
     fn ask_other<R: Wait + Print + AllocGlobal>(
         &mut self,
         rt: &R,
         case: Case<'_>,
         line: &str,
     ) -> Result<()> {
-        let turn = case.turn;
-        self.show(rt, turn, "before")?;
-        let answer = call!(
+        let alloc = rt.alloc();
+        answer_case(
             rt,
-            turn,
-            memory,
-            self.show(rt, turn, "now")?,
-            given = query_in(rt.alloc(), line)?,
-            ask_query(rt, self.operator, &mut self.other, given)
-        );
-        tell_answer(rt, case.name, answer)?;
-        self.show(rt, turn, "after")
+            case.turn,
+            case.name,
+            self,
+            || query_in(alloc, line),
+            |stage, given| ask_query(rt, stage.operator, &mut stage.other, given),
+        )
     }
 
+    /// Brings the read copies, and tells how many job instances the session has that calls.
     fn bring_copies<R: Wait + Print + AllocGlobal>(
         &mut self,
         rt: &R,
         case: Case<'_>,
     ) -> Result<()> {
-        let turn = case.turn;
-        self.show_with_count(rt, turn, "before")?;
-        let published = call!(
+        let published = called(
             rt,
-            turn,
-            any,
-            self.show_with_count(rt, turn, "now")?,
-            self.publish(rt)
-        );
+            case.turn,
+            self,
+            nothing,
+            |stage, _none| stage.publish(rt),
+        )?;
         tell(rt, case.name, published)?;
-        self.show_with_count(rt, turn, "after")
+        show(rt, case.turn, "after", self)
     }
 
     fn look_for_stops(&mut self, rt: &impl Print, case: Case<'_>) -> Result<()> {
@@ -165,15 +150,7 @@ impl<N: Site> Stage<'_, N> {
     }
 
     /// Tells what can be read of the operator, and what its sessions know.
-    fn show<R: Wait + Print + AllocGlobal>(
-        &mut self,
-        rt: &R,
-        turn: Turn,
-        when: &str,
-    ) -> Result<()> {
-        if !turn.shows {
-            return Ok(());
-        }
+    fn tell_operator<R: Wait + Print + AllocGlobal>(&mut self, rt: &R, when: &str) -> Result<()> {
         show_session(rt, when, &self.one)?;
         show_session(rt, when, &self.other)?;
         for line in &LOOKS {
@@ -208,6 +185,12 @@ impl<N: Site> Stage<'_, N> {
 /// How many job instances a job has.
 const COUNT: &str = "{\"ask\":\"job_instance_count\",\"job\":\"a\"}";
 
+impl<N: Site> Shown for Stage<'_, N> {
+    fn tell_all<R: Wait + Print + AllocGlobal>(&mut self, rt: &R, when: &str) -> Result<()> {
+        self.tell_operator(rt, when)
+    }
+}
+
 impl<N: Site> Answers for Stage<'_, N> {
     fn on_call<R: Wait + Print + AllocGlobal>(
         &mut self,
@@ -217,18 +200,14 @@ impl<N: Site> Answers for Stage<'_, N> {
         call: &Call,
         at: Moment,
     ) -> Result<()> {
-        let turn = case.turn;
-        self.show(rt, turn, "before")?;
-        let reply = call!(
+        reply_case(
             rt,
-            turn,
-            memory,
-            self.show(rt, turn, "now")?,
-            given = call.try_clone()?,
-            self.act(rt, by, given, at)
-        );
-        tell_reply(rt, case.name, reply)?;
-        self.show(rt, turn, "after")
+            case.turn,
+            case.name,
+            self,
+            || Ok(call.try_clone()?),
+            |stage, given| stage.act(rt, by, given, at),
+        )
     }
 
     fn on_query<R: Wait + Print + AllocGlobal>(
@@ -237,18 +216,15 @@ impl<N: Site> Answers for Stage<'_, N> {
         case: Case<'_>,
         line: &str,
     ) -> Result<()> {
-        let turn = case.turn;
-        self.show(rt, turn, "before")?;
-        let answer = call!(
+        let alloc = rt.alloc();
+        answer_case(
             rt,
-            turn,
-            memory,
-            self.show(rt, turn, "now")?,
-            given = query_in(rt.alloc(), line)?,
-            ask_query(rt, self.operator, &mut self.one, given)
-        );
-        tell_answer(rt, case.name, answer)?;
-        self.show(rt, turn, "after")
+            case.turn,
+            case.name,
+            self,
+            || query_in(alloc, line),
+            |stage, given| ask_query(rt, stage.operator, &mut stage.one, given),
+        )
     }
 
     /// `publish` brings the read copies; `meet` lets both sessions meet; `stops` looks for stops; `other` asks by the second session.
@@ -315,6 +291,7 @@ fn answer_at<N: Site, R: Wait + Print + AllocGlobal>(
     };
     let name = format!(in rt.alloc(); "{}.new", script.name)?;
     let turn = asked.turn_of_many(name.as_str());
+    println!(rt; "{name}: one copy")?;
     mark(rt.alloc(), turn);
     let made = Operator::<N>::new(rt.alloc(), table, seat, catalogue, copies);
     mark(rt.alloc(), turn);
@@ -322,7 +299,6 @@ fn answer_at<N: Site, R: Wait + Print + AllocGlobal>(
         println!(rt; "refused")?;
         return Ok(false);
     };
-    println!(rt; "{name}: {} copies", operator.copies())?;
     let answered = answer_by(rt, asked, script, &operator);
     operator.close();
     answered?;

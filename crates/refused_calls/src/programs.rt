@@ -1,5 +1,5 @@
 //! The words of a command line, and the program that they start.
-use crate::telling::{Asked, Turn, call, is_refused, mark, show};
+use crate::telling::{Asked, Turn, is_refused, mark};
 use anyhow::Result;
 use batch_commands::{Arguments, arguments, program};
 use clap::error::{Error, ErrorKind};

@@ -1,7 +1,9 @@
 //! What reads and writes texts: catalogues, lines of a script and of a run, replies.
-use crate::telling::{Asked, Turn, call, case, is_refused, mark, refused, show, tell, tell_line};
+use crate::telling::{
+    Asked, Shown, Turn, called, case, is_refused, mark, nothing, tell, tell_line,
+};
 use anyhow::{Result, bail};
-use batch_ids::Metrics;
+use batch_ids::{Metrics, OutOfMemory};
 use jsl_json::{ReadFault, read_catalogue};
 use script_engine::{
     Counted, EngineFault, Line, Lines, StartFault, answer_script, bad_line_text, fault_text,
@@ -11,6 +13,7 @@ use script_text::CommandReader;
 use std::alloc::Global;
 use std::fs;
 use std::rt::Files;
+use std::sync::Wait;
 
 /// Catalogues, one a line: accepted ones, and one of each fault.
 const CATALOGUES: &str = "catalogues";
@@ -41,32 +44,15 @@ fn tell_lines(rt: &(impl Print + AllocGlobal), name: &str, bytes: &[u8]) -> Resu
     Ok(())
 }
 
-/// The line of a fault.
-fn run_fault<R: Print + AllocGlobal>(
-    rt: &R,
-    asked: Asked<'_>,
-    number: u64,
-    fault: ReadFault,
-) -> Result<()> {
-    let name = format!(in rt.alloc(); "fault_text.{number}")?;
+/// The line of a fault of a catalogue, if it has one.
+fn line_of(alloc: Global, fault: &ReadFault) -> std::result::Result<Option<String>, OutOfMemory> {
     if fault.is_out_of_memory() {
-        bail!("{name}: out of memory");
+        return Ok(None);
     }
-    if let Some(turn) = asked.turn(name.as_str()) {
-        show(rt, turn, "before", &fault)?;
-        let text = call!(
-            rt,
-            turn,
-            any,
-            show(rt, turn, "now", &fault)?,
-            fault_text(rt.alloc(), &fault)
-        )?;
-        tell_line(rt, name.as_str(), text)?;
-    }
-    Ok(())
+    Ok(String::from_utf8(fault_text(alloc, fault)?).ok())
 }
 
-fn run_catalogue<R: Print + AllocGlobal>(
+fn run_catalogue<R: Wait + Print + AllocGlobal>(
     rt: &R,
     asked: Asked<'_>,
     number: u64,
@@ -74,24 +60,20 @@ fn run_catalogue<R: Print + AllocGlobal>(
 ) -> Result<()> {
     let alloc = rt.alloc();
     let name = format!(in alloc; "read_catalogue.{number}")?;
-    case!(
+    case(
         rt,
         asked,
         name.as_str(),
-        memory,
-        &(),
-        read_catalogue(alloc, line.as_bytes())
-    );
-    match read_catalogue(alloc, line.as_bytes()) {
-        Ok(catalogue) => {
-            drop(catalogue);
-            Ok(())
-        }
-        Err(fault) => run_fault(rt, asked, number, fault),
-    }
+        || read_catalogue(alloc, line.as_bytes()),
+    )?;
+    let Err(fault) = read_catalogue(alloc, line.as_bytes()) else {
+        return Ok(());
+    };
+    let name = format!(in alloc; "fault_text.{number}")?;
+    case(rt, asked, name.as_str(), || line_of(alloc, &fault))
 }
 
-fn run_start<R: Print + AllocGlobal>(
+fn run_start<R: Wait + Print + AllocGlobal>(
     rt: &R,
     asked: Asked<'_>,
     number: u64,
@@ -99,18 +81,22 @@ fn run_start<R: Print + AllocGlobal>(
 ) -> Result<()> {
     let alloc = rt.alloc();
     let name = format!(in alloc; "read_start.{number}")?;
-    case!(
+    case(
         rt,
         asked,
         name.as_str(),
-        memory,
-        &(),
-        read_start(alloc, line.as_bytes())
-    );
-    Ok(())
+        || read_start(alloc, line.as_bytes()),
+    )
 }
 
-fn run_command<R: Print + AllocGlobal>(
+/// What a reader has kept of earlier lines is nothing that can be read.
+impl Shown for CommandReader {
+    fn tell_all<R: Wait + Print + AllocGlobal>(&mut self, _rt: &R, _when: &str) -> Result<()> {
+        Ok(())
+    }
+}
+
+fn run_command<R: Wait + Print + AllocGlobal>(
     rt: &R,
     asked: Asked<'_>,
     number: u64,
@@ -119,18 +105,14 @@ fn run_command<R: Print + AllocGlobal>(
 ) -> Result<()> {
     let name = format!(in rt.alloc(); "command_reader.{number}")?;
     let turn = asked.turn_of_many(name.as_str());
-    let command = call!(
-        rt,
-        turn,
-        any,
-        show(rt, turn, "now", &())?,
+    let command = called(rt, turn, reader, nothing, |reader, _none| {
         reader.read(line.as_bytes())
-    );
+    })?;
     tell(rt, name.as_str(), command)
 }
 
 /// One call for each line.
-pub(crate) fn run_catalogues<R: Files + Print + AllocGlobal>(
+pub(crate) fn run_catalogues<R: Wait + Files + Print + AllocGlobal>(
     rt: &R,
     asked: Asked<'_>,
 ) -> Result<()> {
@@ -144,7 +126,10 @@ pub(crate) fn run_catalogues<R: Files + Print + AllocGlobal>(
 }
 
 /// One call for each line.
-pub(crate) fn run_starts<R: Files + Print + AllocGlobal>(rt: &R, asked: Asked<'_>) -> Result<()> {
+pub(crate) fn run_starts<R: Wait + Files + Print + AllocGlobal>(
+    rt: &R,
+    asked: Asked<'_>,
+) -> Result<()> {
     let starts = text_of(rt, STARTS)?;
     let mut number = 0u64;
     for line in starts.as_str().lines() {
@@ -155,7 +140,10 @@ pub(crate) fn run_starts<R: Files + Print + AllocGlobal>(rt: &R, asked: Asked<'_
 }
 
 /// One reader reads all lines.
-pub(crate) fn run_commands<R: Files + Print + AllocGlobal>(rt: &R, asked: Asked<'_>) -> Result<()> {
+pub(crate) fn run_commands<R: Wait + Files + Print + AllocGlobal>(
+    rt: &R,
+    asked: Asked<'_>,
+) -> Result<()> {
     let commands = text_of(rt, COMMANDS)?;
     let mut reader = CommandReader::new(rt.alloc());
     let mut number = 0u64;
@@ -222,21 +210,21 @@ fn line_at(
     Ok(line)
 }
 
+/// New lines over these bytes; whether they are made.
+fn made(alloc: Global, bytes: &[u8]) -> std::result::Result<bool, OutOfMemory> {
+    drop(Lines::new(alloc, Counted::new(bytes))?);
+    Ok(true)
+}
+
 /// New lines, their lines, and the end behind them.
-pub(crate) fn run_lines<R: Files + Print + AllocGlobal>(rt: &R, asked: Asked<'_>) -> Result<()> {
+pub(crate) fn run_lines<R: Wait + Files + Print + AllocGlobal>(
+    rt: &R,
+    asked: Asked<'_>,
+) -> Result<()> {
+    let alloc = rt.alloc();
     let script = text_of(rt, STARTS)?;
     let bytes = script.as_str().as_bytes();
-    if let Some(turn) = asked.turn("lines.new") {
-        let lines = call!(
-            rt,
-            turn,
-            any,
-            show(rt, turn, "now", &())?,
-            Lines::new(rt.alloc(), Counted::new(bytes))
-        );
-        println!(rt; "lines.new: {}", lines.is_ok())?;
-        drop(lines);
-    }
+    case(rt, asked, "lines.new", || made(alloc, bytes))?;
     for number in 1..11u64 {
         run_line(rt, asked, number, bytes)?;
     }
@@ -273,7 +261,10 @@ fn answer_once<R: Print + AllocGlobal>(
 }
 
 /// A whole script. If it is refused memory, what it wrote until then is told, and it runs again.
-pub(crate) fn run_whole<R: Files + Print + AllocGlobal>(rt: &R, asked: Asked<'_>) -> Result<()> {
+pub(crate) fn run_whole<R: Wait + Files + Print + AllocGlobal>(
+    rt: &R,
+    asked: Asked<'_>,
+) -> Result<()> {
     let script = text_of(rt, SCRIPT)?;
     let bytes = script.as_str().as_bytes();
     if let Some(turn) = asked.turn("run_script") {
@@ -291,8 +282,9 @@ pub(crate) fn run_whole<R: Files + Print + AllocGlobal>(rt: &R, asked: Asked<'_>
     Ok(())
 }
 
-/// Values and lines of their own.
-pub(crate) fn run_values<R: Print + AllocGlobal>(rt: &R, asked: Asked<'_>) -> Result<()> {
+/// Metrics as a value.
+pub(crate) fn run_values<R: Wait + Print + AllocGlobal>(rt: &R, asked: Asked<'_>) -> Result<()> {
+    let alloc = rt.alloc();
     let metrics = Metrics {
         read_count: 5,
         filter_count: 2,
@@ -300,23 +292,11 @@ pub(crate) fn run_values<R: Print + AllocGlobal>(rt: &R, asked: Asked<'_>) -> Re
         commit_count: 3,
         ..Metrics::zero()
     };
-    case!(
+    case(
         rt,
         asked,
         "metrics_value",
-        any,
-        &metrics,
-        metrics_value(rt.alloc(), &metrics)
-    );
-    if let Some(turn) = asked.turn("bad_line_text") {
-        let text = call!(
-            rt,
-            turn,
-            any,
-            show(rt, turn, "now", &())?,
-            bad_line_text(rt.alloc())
-        )?;
-        tell_line(rt, "bad_line_text", text)?;
-    }
-    Ok(())
+        || metrics_value(alloc, &metrics),
+    )?;
+    case(rt, asked, "bad_line_text", || bad_line_text(alloc))
 }

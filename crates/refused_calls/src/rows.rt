@@ -3,7 +3,7 @@ ghost use Rattle.std.specs.Prelude.{◌≡◌, ◌∷◌, [], IfOk, IsTrue};
 ghost use Rattle.records.specs.Maps.{execution_numbers};
 ghost use Rattle.restart_rules.specs.Placed.{IsPlaced};
 
-use crate::telling::{Asked, call, case, is_refused, mark, refused, show, tell};
+use crate::telling::{Asked, Shown, Turn, case, case_with, mark, show};
 use anyhow::{Result, bail};
 use batch_history::{ExecutionRow, JobInstance, WorkKind, WorkRow, WorkState};
 use batch_ids::{
@@ -12,10 +12,11 @@ use batch_ids::{
 };
 use job_walk::{Plan, WorkKey};
 use jsl_json::read_catalogue;
-use jsl_model::{Catalogue, Job};
+use jsl_model::Catalogue;
 use records::Records;
 use restart_rules::{first_plan, may_restart};
 use std::alloc::Global;
+use std::sync::Wait;
 
 /// A step `s`, a step `t` in two partitions, and a step `u` with a start limit of 1. The job `once` is not restartable.
 const CATALOGUE: &[u8] =
@@ -119,132 +120,155 @@ fn add_works(alloc: Global, records: &mut Records) -> Result<()>
     Ok(())
 }
 
+impl Shown for Records {
+    fn tell_all<R: Wait + Print + AllocGlobal>(&mut self, rt: &R, when: &str) -> Result<()> {
+        println!(rt; "{when}: {self:?}")?;
+        Ok(())
+    }
+}
+
 /// The first rows are added.
-fn run_first<R: Print + AllocGlobal>(rt: &R, asked: Asked<'_>) -> Result<()> {
+fn run_first<R: Wait + Print + AllocGlobal>(rt: &R, asked: Asked<'_>) -> Result<()> {
     let alloc = rt.alloc();
+    let turn = asked.turn_of_many("records.add_instance");
     let mut records = Records::new(alloc);
-    case!(
-        rt,
-        asked,
-        "records.add_instance",
-        any,
-        &records,
-        given = (
-            instance(alloc, "j")?,
-            execution(alloc, 1, "j", BatchStatus::Starting, false)?
-        ),
-        records.add_instance(given.0, given.1)
-    );
+    show(rt, turn, "before", &mut records)?;
+    let made = instance(alloc, "j")?;
+    let first = execution(alloc, 1, "j", BatchStatus::Starting, false)?;
+    mark(alloc, turn);
+    let added = records.add_instance(made, first);
+    mark(alloc, turn);
+    if added.is_err() {
+        println!(rt; "refused")?;
+        show(rt, turn, "now", &mut records)?;
+        let made = instance(alloc, "j")?;
+        let first = execution(alloc, 1, "j", BatchStatus::Starting, false)?;
+        records.add_instance(made, first)?;
+    }
+    end(rt, turn, "records.add_instance", &mut records)
+}
+
+/// Tells what rows there are after a call.
+fn end<R: Wait + Print + AllocGlobal>(
+    rt: &R,
+    turn: Turn,
+    name: &str,
+    records: &mut Records,
+) -> Result<()> {
+    println!(rt; "{name}: done")?;
+    show(rt, turn, "after", records)?;
     for found in records.instances_of("j") {
-        println!(rt; "records.add_instance: then {found:?}")?;
+        println!(rt; "{name}: then {found:?}")?;
+    }
+    for found in records.executions_of(InstanceId::new(1)) {
+        println!(rt; "{name}: then {:?}", found.execution)?;
+    }
+    for found in records.works_of(ExecutionId::new(1)) {
+        println!(rt; "{name}: then {:?}", found.work)?;
     }
     Ok(())
 }
 
 /// A second job execution is added.
-fn run_second<R: Print + AllocGlobal>(rt: &R, asked: Asked<'_>) -> Result<()> {
+fn run_second<R: Wait + Print + AllocGlobal>(rt: &R, asked: Asked<'_>) -> Result<()> {
     let alloc = rt.alloc();
+    let turn = asked.turn_of_many("records.add_execution");
     let mut records = records_of(alloc, "j", BatchStatus::Failed, false)?;
-    case!(
-        rt,
-        asked,
-        "records.add_execution",
-        any,
-        &records,
-        given = execution(alloc, 2, "j", BatchStatus::Starting, false)?,
-        records.add_execution(given)
-    );
-    case!(
-        rt,
-        asked,
-        "records.running_of",
-        any,
-        &records,
-        records.running_of("j")
-    );
-    for found in records.executions_of(InstanceId::new(1)) {
-        println!(rt; "records.add_execution: then {:?}", found.execution)?;
+    show(rt, turn, "before", &mut records)?;
+    let second = execution(alloc, 2, "j", BatchStatus::Starting, false)?;
+    mark(alloc, turn);
+    let added = records.add_execution(second);
+    mark(alloc, turn);
+    if added.is_err() {
+        println!(rt; "refused")?;
+        show(rt, turn, "now", &mut records)?;
+        records.add_execution(execution(alloc, 2, "j", BatchStatus::Starting, false)?)?;
     }
-    Ok(())
+    end(rt, turn, "records.add_execution", &mut records)
 }
 
 /// A work item is added.
-fn run_work<R: Print + AllocGlobal>(rt: &R, asked: Asked<'_>) -> Result<()> {
+fn run_work<R: Wait + Print + AllocGlobal>(rt: &R, asked: Asked<'_>) -> Result<()> {
     let alloc = rt.alloc();
+    let turn = asked.turn_of_many("records.add_work");
     let mut records = records_of(alloc, "j", BatchStatus::Started, false)?;
-    case!(
-        rt,
-        asked,
-        "records.add_work",
-        any,
-        &records,
-        given = work(alloc, 1, "s", None, WorkOutcome::Completed)?,
-        records.add_work(given)
-    );
-    for found in records.works_of(ExecutionId::new(1)) {
-        println!(rt; "records.add_work: then {found:?}")?;
+    show(rt, turn, "before", &mut records)?;
+    let row = work(alloc, 1, "s", None, WorkOutcome::Completed)?;
+    mark(alloc, turn);
+    let added = records.add_work(row);
+    mark(alloc, turn);
+    if added.is_err() {
+        println!(rt; "refused")?;
+        show(rt, turn, "now", &mut records)?;
+        records.add_work(work(alloc, 1, "s", None, WorkOutcome::Completed)?)?;
     }
-    Ok(())
+    end(rt, turn, "records.add_work", &mut records)
 }
 
-/// A checkpoint is set, and set anew.
-fn run_checkpoint<R: Print + AllocGlobal>(rt: &R, asked: Asked<'_>, name: &str) -> Result<()> {
+/// A checkpoint of the step `s`.
+fn checkpoint(alloc: Global, mark: &str) -> Result<(WorkKey, Option<Text<65536>>)> {
+    let element = T256::new(alloc, "s")?;
+    let mark = Text::new(alloc, mark)?;
+    Ok((
+        WorkKey {
+            element,
+            partition: 0,
+        },
+        Some(mark),
+    ))
+}
+
+/// A checkpoint is set, after this one, if there is one.
+fn run_checkpoint<R: Wait + Print + AllocGlobal>(
+    rt: &R,
+    asked: Asked<'_>,
+    name: &str,
+    before: Option<&str>,
+) -> Result<()> {
     let alloc = rt.alloc();
-    let step = T256::new(alloc, "s")?;
-    let key = WorkKey {
-        element: step,
-        partition: 0,
-    };
     let i = InstanceId::new(1);
     let mut records = Records::new(alloc);
-    if name == "records.set_checkpoint.anew" {
-        let mark = Text::new(alloc, "11")?;
-        records.set_checkpoint(i, key.try_clone()?, Some(mark))?;
+    if let Some(before) = before {
+        let (key, mark) = checkpoint(alloc, before)?;
+        records.set_checkpoint(i, key, mark)?;
     }
-    case!(
+    case_with(
         rt,
         asked,
         name,
-        any,
-        &records,
-        given = (key.try_clone()?, Text::new(alloc, "12")?),
-        records.set_checkpoint(i, given.0, Some(given.1))
-    );
+        &mut records,
+        || checkpoint(alloc, "12"),
+        |records, given| records.set_checkpoint(i, given.0, given.1),
+    )?;
+    let (key, _mark) = checkpoint(alloc, "12")?;
     println!(rt; "{name}: then {:?}", records.checkpoint(i, &key))?;
     Ok(())
 }
 
 /// What is read of rows in memory of its own.
-fn run_reads<R: Print + AllocGlobal>(rt: &R, asked: Asked<'_>) -> Result<()> {
-    let mut records = records_of(rt.alloc(), "j", BatchStatus::Failed, false)?;
-    add_works(rt.alloc(), &mut records)?;
+fn run_reads<R: Wait + Print + AllocGlobal>(rt: &R, asked: Asked<'_>) -> Result<()> {
+    let alloc = rt.alloc();
+    let mut records = records_of(alloc, "j", BatchStatus::Started, false)?;
+    add_works(alloc, &mut records)?;
+    read_rows(rt, asked, &records)?;
+    let row = instance(alloc, "j")?;
+    case(rt, asked, "job_instance.try_clone", || row.try_clone())
+}
+
+fn read_rows<R: Wait + Print + AllocGlobal>(
+    rt: &R,
+    asked: Asked<'_>,
+    records: &Records,
+) -> Result<()> {
     let i = InstanceId::new(1);
-    let row = instance(rt.alloc(), "j")?;
-    case!(
-        rt,
-        asked,
-        "job_instance.try_clone",
-        any,
-        &row,
-        row.try_clone()
-    );
-    case!(
+    case(
         rt,
         asked,
         "records.works_of_instance",
-        any,
-        &records,
-        records.works_of_instance(i)
-    );
-    case!(
-        rt,
-        asked,
-        "records.steps_made",
-        any,
-        &records,
-        records.steps_made(i)
-    );
-    Ok(())
+        || records.works_of_instance(i),
+    )?;
+    case(rt, asked, "records.steps_made", || records.steps_made(i))?;
+    case(rt, asked, "records.running_of", || records.running_of("j"))
 }
 
 /// A job execution that is to be restarted.
@@ -319,61 +343,64 @@ fn is_placed(records: &Records, catalogue: &Catalogue, x: ExecutionId) -> bool
     }
 }
 
-fn run_restart<R: Print + AllocGlobal>(
+/// The plan of a restart, if the job execution is placed.
+fn restart(
+    alloc: Global,
+    records: &Records,
+    catalogue: &Catalogue,
+    x: ExecutionId,
+) -> Result<Option<Plan>, Refusal> {
+    if is_placed(records, catalogue, x) {
+        return Ok(Some(may_restart(alloc, records, catalogue, x)?));
+    }
+    Ok(None)
+}
+
+fn run_restart<R: Wait + Print + AllocGlobal>(
     rt: &R,
     asked: Asked<'_>,
     catalogue: &Catalogue,
-    case: &Restart,
+    kind: &Restart,
 ) -> Result<()> {
     let alloc = rt.alloc();
-    let mut records = records_of(alloc, case.job, case.bare, case.abandoned)?;
+    let mut records = records_of(alloc, kind.job, kind.bare, kind.abandoned)?;
     add_works(alloc, &mut records)?;
-    if case.later {
-        let later = execution(alloc, 2, case.job, case.bare, case.abandoned)?;
+    if kind.later {
+        let later = execution(alloc, 2, kind.job, kind.bare, kind.abandoned)?;
         records.add_execution(later)?;
     }
-    let x = ExecutionId::new(case.x);
-    if !is_placed(&records, catalogue, x) {
-        bail!("no walk begins");
-    }
-    case!(
+    let x = ExecutionId::new(kind.x);
+    case(
         rt,
         asked,
-        case.name,
-        memory,
-        &records,
-        may_restart(alloc, &records, catalogue, x)
-    );
-    Ok(())
+        kind.name,
+        || restart(alloc, &records, catalogue, x),
+    )
 }
 
-fn run_plan<R: Print + AllocGlobal>(rt: &R, asked: Asked<'_>, job: &Job) -> Result<()> {
-    let alloc = rt.alloc();
-    case!(rt, asked, "first_plan", any, &(), first_plan(alloc, job));
-    Ok(())
-}
-
-fn run_plans<R: Print + AllocGlobal>(
+fn run_plans<R: Wait + Print + AllocGlobal>(
     rt: &R,
     asked: Asked<'_>,
     catalogue: &Catalogue,
 ) -> Result<()> {
-    if let Some(job) = catalogue.job("j") {
-        run_plan(rt, asked, job)?;
-    }
-    for case in &RESTARTS {
-        run_restart(rt, asked, catalogue, case)?;
+    let Some(job) = catalogue.job("j") else {
+        bail!("there is no job");
+    };
+    let alloc = rt.alloc();
+    case(rt, asked, "first_plan", || first_plan(alloc, job))?;
+    for kind in &RESTARTS {
+        run_restart(rt, asked, catalogue, kind)?;
     }
     Ok(())
 }
 
 /// The cases of rows and of plans.
-pub(crate) fn run_rows<R: Print + AllocGlobal>(rt: &R, asked: Asked<'_>) -> Result<()> {
+pub(crate) fn run_rows<R: Wait + Print + AllocGlobal>(rt: &R, asked: Asked<'_>) -> Result<()> {
     run_first(rt, asked)?;
     run_second(rt, asked)?;
     run_work(rt, asked)?;
-    run_checkpoint(rt, asked, "records.set_checkpoint")?;
-    run_checkpoint(rt, asked, "records.set_checkpoint.anew")?;
+    run_checkpoint(rt, asked, "records.set_checkpoint", None)?;
+    run_checkpoint(rt, asked, "records.set_checkpoint.anew", Some("11"))?;
     run_reads(rt, asked)?;
     let catalogue = read_catalogue(rt.alloc(), CATALOGUE)?;
     let ran = run_plans(rt, asked, &catalogue);

@@ -1,6 +1,6 @@
 //! What is told of a case, and the marks around its call.
 use anyhow::Result as Done;
-use batch_ids::Refusal;
+use batch_ids::{OutOfMemory as NoMemory, Refusal};
 use clap::error::{Error, ErrorKind};
 use jsl_model::JobFault;
 use op_log::{Answer, Reply};
@@ -8,6 +8,7 @@ use script_engine::{EngineFault, ReadFault, StartFault};
 use script_text::{answer_text, reply_text};
 use std::alloc::Global;
 use std::fmt::Debug;
+use std::sync::Wait;
 
 /// How many bytes a mark asks for. Nothing else asks for so many.
 const MARK: usize = 1_000_003;
@@ -67,14 +68,6 @@ pub(crate) fn mark(alloc: Global, turn: Turn) {
     }
 }
 
-/// Tells what can be read of a value.
-pub(crate) fn show(rt: &impl Print, turn: Turn, when: &str, value: &impl Debug) -> Done<()> {
-    if turn.shows {
-        println!(rt; "{when}: {value:?}")?;
-    }
-    Ok(())
-}
-
 /// Tells an answer.
 pub(crate) fn tell<T: Debug + Drop>(rt: &impl Print, name: &str, answer: T) -> Done<()> {
     println!(rt; "{name}: {answer:?}")?;
@@ -122,6 +115,12 @@ impl MayLackMemory for Refusal {
     }
 }
 
+impl MayLackMemory for NoMemory {
+    fn lacks_memory(&self) -> bool {
+        true
+    }
+}
+
 impl MayLackMemory for JobFault {
     fn lacks_memory(&self) -> bool {
         matches!(self, JobFault::OutOfMemory)
@@ -160,61 +159,165 @@ pub(crate) fn is_refused<T, E: MayLackMemory>(answer: &Result<T, E>) -> bool {
     }
 }
 
-/// Whether an answer is that memory was refused: any error of a call that has no other, one error of others, or the same in a
-/// `Some`.
-macro_rules! refused {
-    (any, $answer:expr) => {
-        matches!($answer, Err(_))
-    };
-    (memory, $answer:expr) => {
-        is_refused(&$answer)
-    };
-    (in_some, $answer:expr) => {
-        match &$answer {
-            Some(answer) => is_refused(answer),
-            None => false,
-        }
-    };
+/// What can be read of, in lines.
+pub(crate) trait Shown {
+    /// Tells what can be read.
+    fn tell_all<R: Wait + Print + AllocGlobal>(&mut self, rt: &R, when: &str) -> Done<()>;
+}
+
+/// There is nothing to read of a call without an object.
+impl Shown for () {
+    fn tell_all<R: Wait + Print + AllocGlobal>(&mut self, _rt: &R, _when: &str) -> Done<()> {
+        Ok(())
+    }
+}
+
+/// Tells what can be read, if it is to be told.
+pub(crate) fn show<S: Shown, R: Wait + Print + AllocGlobal>(
+    rt: &R,
+    turn: Turn,
+    when: &str,
+    state: &mut S,
+) -> Done<()> {
+    if turn.shows {
+        state.tell_all(rt, when)?;
+    }
+    Ok(())
+}
+
+/// What a call takes that takes nothing.
+pub(crate) fn nothing() -> Done<()> {
+    Ok(())
 }
 
 /// Makes a call between two marks. If it is refused memory, says so and what can be read then, and makes it again. A call may
 /// take a value, which is made ahead of the mark.
-macro_rules! call {
-    ($rt:expr, $turn:expr, $error:ident, $show:expr, $call:expr) => {
-        call!($rt, $turn, $error, $show, _none = (), $call)
-    };
-    ($rt:expr, $turn:expr, $error:ident, $show:expr, $given:pat = $made:expr, $call:expr) => {{
-        let $given = $made;
-        mark($rt.alloc(), $turn);
-        let first = $call;
-        mark($rt.alloc(), $turn);
-        if refused!($error, first) {
-            drop(first);
-            println!($rt; "refused")?;
-            $show;
-            let $given = $made;
-            $call
-        } else {
-            first
-        }
-    }};
+pub(crate) fn called<S, G, T, E, P, F, R>(
+    rt: &R,
+    turn: Turn,
+    state: &mut S,
+    prepare: P,
+    call: F,
+) -> Done<Result<T, E>>
+where
+    S: Shown,
+    G: Drop,
+    T: Drop,
+    E: MayLackMemory + Drop,
+    P: Fn() -> Done<G>,
+    F: Fn(&mut S, G) -> Result<T, E>,
+    R: Wait + Print + AllocGlobal,
+    requires prepare { P.IsAlwaysCallable prepare }
+    requires call { F.IsAlwaysCallable call }
+{
+    show(rt, turn, "before", state)?;
+    let given = prepare()?;
+    mark(rt.alloc(), turn);
+    let first = call(state, given);
+    mark(rt.alloc(), turn);
+    if !is_refused(&first) {
+        return Ok(first);
+    }
+    drop(first);
+    println!(rt; "refused")?;
+    show(rt, turn, "now", state)?;
+    let given = prepare()?;
+    Ok(call(state, given))
 }
 
-/// A case of this name, with what can be read before and after it.
-macro_rules! case {
-    ($rt:expr, $asked:expr, $name:expr, $error:ident, $state:expr, $call:expr) => {
-        case!($rt, $asked, $name, $error, $state, _none = (), $call)
-    };
-    ($rt:expr, $asked:expr, $name:expr, $error:ident, $state:expr, $given:pat = $made:expr, $call:expr) => {
-        if let Some(turn) = $asked.turn($name) {
-            show($rt, turn, "before", $state)?;
-            let answer = call!($rt, turn, $error, show($rt, turn, "now", $state)?, $given = $made, $call);
-            tell($rt, $name, answer)?;
-            show($rt, turn, "after", $state)?;
-        }
-    };
+/// A case of this name: a call that takes a value, with what can be read before and after it.
+pub(crate) fn case_with<S, G, T, E, P, F, R>(
+    rt: &R,
+    asked: Asked<'_>,
+    name: &str,
+    state: &mut S,
+    prepare: P,
+    call: F,
+) -> Done<()>
+where
+    S: Shown,
+    G: Drop,
+    T: Debug + Drop,
+    E: MayLackMemory + Debug + Drop,
+    P: Fn() -> Done<G>,
+    F: Fn(&mut S, G) -> Result<T, E>,
+    R: Wait + Print + AllocGlobal,
+    requires prepare { P.IsAlwaysCallable prepare }
+    requires call { F.IsAlwaysCallable call }
+{
+    if let Some(turn) = asked.turn(name) {
+        let answer = called(rt, turn, state, prepare, call)?;
+        tell(rt, name, answer)?;
+        show(rt, turn, "after", state)?;
+    }
+    Ok(())
 }
 
-pub(crate) use call;
-pub(crate) use case;
-pub(crate) use refused;
+/// A case of this name: a call without an object.
+pub(crate) fn case<T, E, F, R>(rt: &R, asked: Asked<'_>, name: &str, call: F) -> Done<()>
+where
+    T: Debug + Drop,
+    E: MayLackMemory + Debug + Drop,
+    F: Fn() -> Result<T, E>,
+    R: Print + AllocGlobal,
+    requires { F.IsAlwaysCallable call }
+{
+    let Some(turn) = asked.turn(name) else {
+        return Ok(());
+    };
+    mark(rt.alloc(), turn);
+    let first = call();
+    mark(rt.alloc(), turn);
+    if !is_refused(&first) {
+        return tell(rt, name, first);
+    }
+    drop(first);
+    println!(rt; "refused")?;
+    tell(rt, name, call())
+}
+
+/// A line of a script whose call is replied to.
+pub(crate) fn reply_case<S, G, P, F, R>(
+    rt: &R,
+    turn: Turn,
+    name: &str,
+    state: &mut S,
+    prepare: P,
+    call: F,
+) -> Done<()>
+where
+    S: Shown,
+    G: Drop,
+    P: Fn() -> Done<G>,
+    F: Fn(&mut S, G) -> Result<Reply, Refusal>,
+    R: Wait + Print + AllocGlobal,
+    requires prepare { P.IsAlwaysCallable prepare }
+    requires call { F.IsAlwaysCallable call }
+{
+    let reply = called(rt, turn, state, prepare, call)?;
+    tell_reply(rt, name, reply)?;
+    show(rt, turn, "after", state)
+}
+
+/// A line of a script whose query is answered.
+pub(crate) fn answer_case<S, G, P, F, R>(
+    rt: &R,
+    turn: Turn,
+    name: &str,
+    state: &mut S,
+    prepare: P,
+    call: F,
+) -> Done<()>
+where
+    S: Shown,
+    G: Drop,
+    P: Fn() -> Done<G>,
+    F: Fn(&mut S, G) -> Result<Answer, Refusal>,
+    R: Wait + Print + AllocGlobal,
+    requires prepare { P.IsAlwaysCallable prepare }
+    requires call { F.IsAlwaysCallable call }
+{
+    let answer = called(rt, turn, state, prepare, call)?;
+    tell_answer(rt, name, answer)?;
+    show(rt, turn, "after", state)
+}

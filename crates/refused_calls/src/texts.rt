@@ -1,49 +1,41 @@
 //! Texts and parameters.
-use crate::telling::{Asked, call, case, is_refused, mark, refused, show, tell};
+use crate::telling::{Asked, case, case_with};
 use anyhow::Result;
-use batch_ids::{Parameters, Refusal, Shared, T256, Text, try_clone_option};
+use batch_ids::{Parameters, Shared, T256, Text, try_clone_option};
 use std::alloc::{AllocError, Global};
+use std::sync::Wait;
 
 /// Texts, with a bound that one of them is above.
-pub(crate) fn run_texts<R: Print + AllocGlobal>(rt: &R, asked: Asked<'_>) -> Result<()> {
+pub(crate) fn run_texts<R: Wait + Print + AllocGlobal>(rt: &R, asked: Asked<'_>) -> Result<()> {
     let alloc = rt.alloc();
     let text = T256::new(alloc, "the nightly load of all accounts")?;
-    let kept = Some(text.try_clone()?);
-    case!(
+    case(
         rt,
         asked,
         "text.new",
-        memory,
-        &(),
-        T256::new(alloc, "the nightly load")
-    );
-    case!(
+        || T256::new(alloc, "the nightly load"),
+    )?;
+    case(
         rt,
         asked,
         "text.new.TextTooLong",
-        memory,
-        &(),
-        Text::<4>::new(alloc, "night")
-    );
-    case!(
+        || Text::<4>::new(alloc, "night"),
+    )?;
+    case(
         rt,
         asked,
         "text.within",
-        any,
-        &(),
-        T256::within(alloc, "the nightly load")
-    );
-    case!(rt, asked, "text.try_clone", any, &text, text.try_clone());
-    case!(
+        || T256::within(alloc, "the nightly load"),
+    )?;
+    case(rt, asked, "text.try_clone", || text.try_clone())?;
+    case(rt, asked, "shared.new", || Shared::new(alloc, 7u64))?;
+    let kept = Some(text);
+    case(
         rt,
         asked,
         "text.try_clone_option",
-        any,
-        &kept,
-        try_clone_option(&kept)
-    );
-    case!(rt, asked, "shared.new", any, &(), Shared::new(alloc, 7u64));
-    Ok(())
+        || try_clone_option(&kept),
+    )
 }
 
 /// So many pairs, of which the last one has a value of so many bytes.
@@ -62,43 +54,28 @@ fn pairs(alloc: Global, count: usize, length: usize) -> Result<Vec<(String, Stri
 }
 
 /// Parameters, of which some are above their bounds.
-pub(crate) fn run_parameters<R: Print + AllocGlobal>(rt: &R, asked: Asked<'_>) -> Result<()> {
+pub(crate) fn run_parameters<R: Wait + Print + AllocGlobal>(
+    rt: &R,
+    asked: Asked<'_>,
+) -> Result<()> {
     let alloc = rt.alloc();
+    for (name, count, length) in &PARAMETERS {
+        case_with(
+            rt,
+            asked,
+            name,
+            &mut (),
+            || Ok(pairs(alloc, *count, *length)?),
+            |_none, given| Parameters::new(alloc, given),
+        )?;
+    }
     let parameters = Parameters::new(alloc, pairs(alloc, 3, 4)?)?;
-    case!(
-        rt,
-        asked,
-        "parameters.new",
-        memory,
-        &(),
-        given = pairs(alloc, 3, 4)?,
-        Parameters::new(alloc, given)
-    );
-    case!(
-        rt,
-        asked,
-        "parameters.new.TextTooLong",
-        memory,
-        &(),
-        given = pairs(alloc, 3, 4_097)?,
-        Parameters::new(alloc, given)
-    );
-    case!(
-        rt,
-        asked,
-        "parameters.new.too_many",
-        memory,
-        &(),
-        given = pairs(alloc, 64, 4)?,
-        Parameters::new(alloc, given)
-    );
-    case!(
-        rt,
-        asked,
-        "parameters.try_clone",
-        any,
-        &parameters,
-        parameters.try_clone()
-    );
-    Ok(())
+    case(rt, asked, "parameters.try_clone", || parameters.try_clone())
 }
+
+/// Names of cases, each with a number of parameters and the bytes of the last value.
+const PARAMETERS: [(&str, usize, usize); 3] = [
+    ("parameters.new", 3, 4),
+    ("parameters.new.TextTooLong", 3, 4_097),
+    ("parameters.new.too_many", 64, 4),
+];

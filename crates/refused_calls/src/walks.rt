@@ -1,11 +1,12 @@
 //! Walks of a job.
-use crate::telling::{Asked, Turn, call, case, mark, refused, show, tell};
+use crate::telling::{Asked, Shown, called, case, nothing, show, tell};
 use anyhow::{Result, bail};
 use batch_ids::{Listed, OutOfMemory, T256, WorkOutcome};
 use job_walk::{Cursor, Fact, Known, Plan, Value, WorkKey, value_at_first};
 use jsl_json::read_catalogue;
 use jsl_model::{Catalogue, Job};
 use std::alloc::Global;
+use std::sync::Wait;
 
 /// A step `a`, then a split of a flow with the step `s` in two partitions and a flow with `t`.
 const CATALOGUE: &[u8] =
@@ -59,66 +60,82 @@ fn report(cursor: &mut Cursor, key: &WorkKey, exit: &T256) -> Result<(), OutOfMe
     Ok(())
 }
 
-/// Takes each work key in turn and reports it COMPLETED.
-fn walk(
-    rt: &(impl Print + AllocGlobal),
-    asked: Asked<'_>,
-    cursor: &mut Cursor,
-    exit: &T256,
-) -> Result<()> {
-    for (id, partition) in &[("a", 0u32), ("t", 0), ("s", 0)] {
-        let key = key(rt.alloc(), id, *partition)?;
-        let take_name = format!(in rt.alloc(); "cursor.take.{id}")?;
-        let report_name = format!(in rt.alloc(); "cursor.report.{id}")?;
-        take_case(rt, asked, take_name.as_str(), cursor, &key)?;
-        report_case(rt, asked, report_name.as_str(), cursor, &key, exit)?;
+impl Shown for Cursor {
+    fn tell_all<R: Wait + Print + AllocGlobal>(&mut self, rt: &R, when: &str) -> Result<()> {
+        println!(rt; "{when}: {self:?}")?;
+        Ok(())
     }
-    Ok(())
 }
 
-fn take_case(
-    rt: &(impl Print + AllocGlobal),
+/// Takes a step, and then reports it COMPLETED.
+fn run_step<R: Wait + Print + AllocGlobal>(
+    rt: &R,
     asked: Asked<'_>,
-    name: &str,
     cursor: &mut Cursor,
-    key: &WorkKey,
+    id: &str,
 ) -> Result<()> {
-    let turn = asked.turn_of_many(name);
-    show(rt, turn, "before", &*cursor)?;
-    let answer = call!(
+    let key = key(rt.alloc(), id, 0)?;
+    let exit = T256::new(rt.alloc(), "COMPLETED")?;
+    let name = format!(in rt.alloc(); "cursor.take.{id}")?;
+    let turn = asked.turn_of_many(name.as_str());
+    let taken = called(
         rt,
         turn,
-        any,
-        show(rt, turn, "now", &*cursor)?,
-        take(cursor, key)
-    );
-    tell(rt, name, answer)?;
-    show(rt, turn, "after", &*cursor)
+        cursor,
+        nothing,
+        |cursor, _none| take(cursor, &key),
+    )?;
+    tell(rt, name.as_str(), taken)?;
+    show(rt, turn, "after", cursor)?;
+    let name = format!(in rt.alloc(); "cursor.report.{id}")?;
+    let turn = asked.turn_of_many(name.as_str());
+    let reported = called(
+        rt,
+        turn,
+        cursor,
+        nothing,
+        |cursor, _none| report(cursor, &key, &exit),
+    )?;
+    tell(rt, name.as_str(), reported)?;
+    show(rt, turn, "after", cursor)
 }
 
-fn report_case(
-    rt: &(impl Print + AllocGlobal),
-    asked: Asked<'_>,
-    name: &str,
-    cursor: &mut Cursor,
-    key: &WorkKey,
-    exit: &T256,
-) -> Result<()> {
-    let turn = asked.turn_of_many(name);
-    show(rt, turn, "before", &*cursor)?;
-    let answer = call!(
-        rt,
-        turn,
-        any,
-        show(rt, turn, "now", &*cursor)?,
-        report(cursor, key, exit)
-    );
-    tell(rt, name, answer)?;
-    show(rt, turn, "after", &*cursor)
+/// A walk of the job by the plan, which begins at an element of it.
+fn begun(alloc: Global, job: &Job, plan: &Plan) -> Result<Option<Cursor>, OutOfMemory> {
+    if plan.begins_in(job) {
+        return Ok(Some(Cursor::new(alloc, job, plan)?));
+    }
+    Ok(None)
+}
+
+/// The same, where this is known of work keys.
+fn resumed(
+    alloc: Global,
+    job: &Job,
+    plan: &Plan,
+    known: &[Known],
+) -> Result<Option<Cursor>, OutOfMemory> {
+    if plan.begins_in(job) {
+        return Ok(Some(Cursor::resume(alloc, job, plan, known)?));
+    }
+    Ok(None)
+}
+
+/// What it comes to.
+fn first_value(
+    alloc: Global,
+    job: &Job,
+    plan: &Plan,
+    known: &[Known],
+) -> Result<Option<Value>, OutOfMemory> {
+    if plan.begins_in(job) {
+        return Ok(Some(value_at_first(alloc, job, plan, known)?));
+    }
+    Ok(None)
 }
 
 /// New and resumed walks of a job.
-fn run_new<R: Print + AllocGlobal>(
+fn run_new<R: Wait + Print + AllocGlobal>(
     rt: &R,
     asked: Asked<'_>,
     job: &Job,
@@ -126,116 +143,83 @@ fn run_new<R: Print + AllocGlobal>(
     known: &[Known],
 ) -> Result<()> {
     let alloc = rt.alloc();
-    if !plan.begins_in(job) {
-        bail!("the walk begins at no element");
-    }
-    case!(
-        rt,
-        asked,
-        "cursor.new",
-        any,
-        &(),
-        Cursor::new(alloc, job, plan)
-    );
-    case!(
+    case(rt, asked, "cursor.new", || begun(alloc, job, plan))?;
+    case(
         rt,
         asked,
         "cursor.resume",
-        any,
-        &(),
-        Cursor::resume(alloc, job, plan, known)
-    );
-    if let Some(known) = known.first() {
-        case!(
-            rt,
-            asked,
-            "fact.try_clone",
-            any,
-            &known.fact,
-            known.fact.try_clone()
-        );
-        case!(
-            rt,
-            asked,
-            "work_key.try_clone",
-            any,
-            &known.key,
-            known.key.try_clone()
-        );
-    }
-    case!(
+        || resumed(alloc, job, plan, known),
+    )?;
+    case(
         rt,
         asked,
         "value_at_first",
-        any,
-        &(),
-        value_at_first(alloc, job, plan, known)
-    );
-    Ok(())
+        || first_value(alloc, job, plan, known),
+    )
 }
 
-fn cursor_of(alloc: Global, job: &Job, plan: &Plan) -> Result<Cursor> {
-    if !plan.begins_in(job) {
-        bail!("the walk begins at no element");
+fn run_known<R: Wait + Print + AllocGlobal>(
+    rt: &R,
+    asked: Asked<'_>,
+    known: &[Known],
+) -> Result<()> {
+    let Some(known) = known.first() else {
+        bail!("nothing is known");
+    };
+    case(rt, asked, "fact.try_clone", || known.fact.try_clone())?;
+    case(rt, asked, "work_key.try_clone", || known.key.try_clone())
+}
+
+fn run_copies<R: Wait + Print + AllocGlobal>(
+    rt: &R,
+    asked: Asked<'_>,
+    cursor: &Cursor,
+) -> Result<()> {
+    case(rt, asked, "cursor.try_clone", || cursor.try_clone())?;
+    case(rt, asked, "value.try_clone", || cursor.value().try_clone())?;
+    match cursor.value() {
+        Value::Open { ready, .. } => case(rt, asked, "work_keys.try_clone", || ready.try_clone()),
+        _ => bail!("the walk is over"),
     }
-    Ok(Cursor::new(alloc, job, plan)?)
 }
 
 /// A walk from its beginning to its end, and then the walk of a copy of it that was made at the beginning.
-fn run_walk<R: Print + AllocGlobal>(
+fn run_walk<R: Wait + Print + AllocGlobal>(
     rt: &R,
     asked: Asked<'_>,
-    job: &Job,
-    plan: &Plan,
+    mut cursor: Cursor,
 ) -> Result<()> {
-    let mut cursor = cursor_of(rt.alloc(), job, plan)?;
-    let exit = T256::new(rt.alloc(), "COMPLETED")?;
-    if let Value::Open { ready, .. } = cursor.value() {
-        case!(
-            rt,
-            asked,
-            "work_keys.try_clone",
-            any,
-            ready,
-            ready.try_clone()
-        );
-    }
-    case!(
-        rt,
-        asked,
-        "value.try_clone",
-        any,
-        cursor.value(),
-        cursor.value().try_clone()
-    );
-    case!(
-        rt,
-        asked,
-        "cursor.try_clone",
-        any,
-        &cursor,
-        cursor.try_clone()
-    );
+    run_copies(rt, asked, &cursor)?;
     let mut copy = cursor.try_clone()?;
-    walk(rt, asked, &mut cursor, &exit)?;
+    for id in &["a", "t", "s"] {
+        run_step(rt, asked, &mut cursor, id)?;
+    }
     println!(rt; "cursor, over: {:?}", cursor.value())?;
     take(&mut copy, &key(rt.alloc(), "a", 0)?)?;
     println!(rt; "cursor, a copy: {:?}", copy.value())?;
     Ok(())
 }
 
-fn run_by<R: Print + AllocGlobal>(rt: &R, asked: Asked<'_>, catalogue: &Catalogue) -> Result<()> {
+fn run_by<R: Wait + Print + AllocGlobal>(
+    rt: &R,
+    asked: Asked<'_>,
+    catalogue: &Catalogue,
+) -> Result<()> {
     let Some(job) = catalogue.job("j") else {
         bail!("there is no job");
     };
     let plan = plan_of(rt.alloc())?;
     let known = known_of(rt.alloc())?;
     run_new(rt, asked, job, &plan, known.as_slice())?;
-    run_walk(rt, asked, job, &plan)
+    run_known(rt, asked, known.as_slice())?;
+    match begun(rt.alloc(), job, &plan)? {
+        Some(cursor) => run_walk(rt, asked, cursor),
+        None => bail!("the walk begins at no element"),
+    }
 }
 
 /// The cases of a walk.
-pub(crate) fn run_walks<R: Print + AllocGlobal>(rt: &R, asked: Asked<'_>) -> Result<()> {
+pub(crate) fn run_walks<R: Wait + Print + AllocGlobal>(rt: &R, asked: Asked<'_>) -> Result<()> {
     let catalogue = read_catalogue(rt.alloc(), CATALOGUE)?;
     let ran = run_by(rt, asked, &catalogue);
     drop(catalogue);

@@ -3,7 +3,7 @@ ghost use Rattle.std.specs.Prelude.{◌≡◌};
 
 use crate::memory::{Memory, Open, Quiet};
 use crate::readings::UNMARKED;
-use crate::telling::{Asked, Turn, call, case, is_refused, mark, refused, show, tell};
+use crate::telling::{Asked, Turn, case, is_refused, mark, tell};
 use anyhow::{Result, bail};
 use batch_history::{WorkItem, WorkTask};
 use batch_ids::{ExecutionId, Parameters, Refusal, T256, WorkId, WorkOutcome};
@@ -173,29 +173,14 @@ const ITEMS: [(&str, &str, Option<u32>); 5] = [
 ];
 
 /// A work item is copied.
-fn run_copies<R: Print + AllocGlobal>(rt: &R, asked: Asked<'_>) -> Result<()> {
+fn run_copies<R: Wait + Print + AllocGlobal>(rt: &R, asked: Asked<'_>) -> Result<()> {
     let item = item(rt.alloc(), "chunk", None)?;
-    case!(
-        rt,
-        asked,
-        "work_item.try_clone",
-        any,
-        &item,
-        item.try_clone()
-    );
-    case!(
-        rt,
-        asked,
-        "work_task.try_clone",
-        any,
-        &item.task,
-        item.task.try_clone()
-    );
-    Ok(())
+    case(rt, asked, "work_item.try_clone", || item.try_clone())?;
+    case(rt, asked, "work_task.try_clone", || item.task.try_clone())
 }
 
 /// The cases of one work item, one worker and one kit.
-pub(crate) fn run_workers<R: Print + AllocGlobal>(rt: &R, asked: Asked<'_>) -> Result<()> {
+pub(crate) fn run_workers<R: Wait + Print + AllocGlobal>(rt: &R, asked: Asked<'_>) -> Result<()> {
     run_copies(rt, asked)?;
     run_add(rt, asked)?;
     for (name, what, partition) in &ITEMS {

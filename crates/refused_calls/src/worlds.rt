@@ -1,10 +1,11 @@
 //! Worlds, whose events are the lines of a script.
 use crate::scripts::{Script, catalogue_of, query_in};
-use crate::telling::{Asked, call, mark, refused, show, tell};
+use crate::telling::{Asked, Shown, called, case_with, nothing, show, tell};
 use anyhow::{Result, anyhow, bail};
 use event_core::{Event, World, run};
 use script_text::{Command, read_command};
 use std::alloc::Global;
+use std::sync::Wait;
 
 /// How many sessions a world has.
 const SESSIONS: u64 = 2;
@@ -60,7 +61,14 @@ fn events_in(alloc: Global, lines: &str) -> Result<Vec<Event>> {
     Ok(events)
 }
 
-fn run_step<R: Print + AllocGlobal>(
+impl Shown for World {
+    fn tell_all<R: Wait + Print + AllocGlobal>(&mut self, rt: &R, when: &str) -> Result<()> {
+        println!(rt; "{when}: {self:?}")?;
+        Ok(())
+    }
+}
+
+fn run_step<R: Wait + Print + AllocGlobal>(
     rt: &R,
     asked: Asked<'_>,
     name: &str,
@@ -68,19 +76,12 @@ fn run_step<R: Print + AllocGlobal>(
     event: &Event,
 ) -> Result<()> {
     let turn = asked.turn_of_many(name);
-    show(rt, turn, "before", &*world)?;
-    let outcome = call!(
-        rt,
-        turn,
-        any,
-        show(rt, turn, "now", &*world)?,
-        world.step(event)
-    );
+    let outcome = called(rt, turn, world, nothing, |world, _none| world.step(event))?;
     tell(rt, name, outcome)?;
-    show(rt, turn, "after", &*world)
+    show(rt, turn, "after", world)
 }
 
-fn run_steps<R: Print + AllocGlobal>(
+fn run_steps<R: Wait + Print + AllocGlobal>(
     rt: &R,
     asked: Asked<'_>,
     script: Script<'_>,
@@ -96,52 +97,40 @@ fn run_steps<R: Print + AllocGlobal>(
     Ok(())
 }
 
-/// All events of a script in one call.
-fn run_whole<R: Print + AllocGlobal>(
+/// All events of a script in one call, and a new world.
+fn run_whole<R: Wait + Print + AllocGlobal>(
     rt: &R,
     asked: Asked<'_>,
     script: Script<'_>,
     events: &[Event],
 ) -> Result<()> {
-    let name = format!(in rt.alloc(); "{}.run", script.name)?;
-    if let Some(turn) = asked.turn(name.as_str()) {
-        let outcomes = call!(
-            rt,
-            turn,
-            any,
-            show(rt, turn, "now", &())?,
-            given = catalogue_of(rt, script)?,
-            run(rt.alloc(), given, SESSIONS, COPIES, events)
-        );
-        tell(rt, name.as_str(), outcomes)?;
-    }
-    Ok(())
-}
-
-/// A new world.
-fn run_new<R: Print + AllocGlobal>(rt: &R, asked: Asked<'_>, script: Script<'_>) -> Result<()> {
-    let name = format!(in rt.alloc(); "{}.new", script.name)?;
-    if let Some(turn) = asked.turn(name.as_str()) {
-        let world = call!(
-            rt,
-            turn,
-            any,
-            show(rt, turn, "now", &())?,
-            given = catalogue_of(rt, script)?,
-            World::new(rt.alloc(), given, SESSIONS, COPIES)
-        );
-        tell(rt, name.as_str(), world)?;
-    }
-    Ok(())
+    let alloc = rt.alloc();
+    let name = format!(in alloc; "{}.run", script.name)?;
+    case_with(
+        rt,
+        asked,
+        name.as_str(),
+        &mut (),
+        || catalogue_of(rt, script),
+        |_none, given| run(alloc, given, SESSIONS, COPIES, events),
+    )?;
+    let name = format!(in alloc; "{}.new", script.name)?;
+    case_with(
+        rt,
+        asked,
+        name.as_str(),
+        &mut (),
+        || catalogue_of(rt, script),
+        |_none, given| World::new(alloc, given, SESSIONS, COPIES),
+    )
 }
 
 /// A world with two sessions and a copy has the events of a script.
-pub(crate) fn run_world<R: Print + AllocGlobal>(
+pub(crate) fn run_world<R: Wait + Print + AllocGlobal>(
     rt: &R,
     asked: Asked<'_>,
     script: Script<'_>,
 ) -> Result<()> {
-    run_new(rt, asked, script)?;
     let events = events_in(rt.alloc(), script.lines)?;
     run_whole(rt, asked, script, events.as_slice())?;
     let catalogue = catalogue_of(rt, script)?;
