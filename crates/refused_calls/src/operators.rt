@@ -114,7 +114,7 @@ impl<N: Site> Stage<'_, N> {
         )
     }
 
-    /// Brings the read copies, and tells how many job instances the session has that calls.
+    /// Brings the read copies.
     fn bring_copies<R: Wait + Print + AllocGlobal>(
         &mut self,
         rt: &R,
@@ -149,13 +149,16 @@ impl<N: Site> Stage<'_, N> {
         show_session(rt, when, &self.of_counts)
     }
 
-    /// Tells what can be read of the operator, and what its sessions know.
+    /// Tells what can be read of the operator, what its sessions know, and what the first of them finds.
     fn tell_operator<R: Wait + Print + AllocGlobal>(&mut self, rt: &R, when: &str) -> Result<()> {
         show_session(rt, when, &self.one)?;
         show_session(rt, when, &self.other)?;
         for line in &LOOKS {
             self.look(rt, when, line)?;
         }
+        let query = query_in(rt.alloc(), COUNT)?;
+        let answer = ask_query(rt, self.operator, &mut self.one, query);
+        tell_answer(rt, when, answer)?;
         self.look_at_copies(rt, when)
     }
 

@@ -344,7 +344,7 @@ fn is_placed(records: &Records, catalogue: &Catalogue, x: ExecutionId) -> bool
 }
 
 /// The plan of a restart, if the job execution is placed.
-fn restart(
+fn plan_of_restart(
     alloc: Global,
     records: &Records,
     catalogue: &Catalogue,
@@ -374,7 +374,7 @@ fn run_restart<R: Wait + Print + AllocGlobal>(
         rt,
         asked,
         kind.name,
-        || restart(alloc, &records, catalogue, x),
+        || plan_of_restart(alloc, &records, catalogue, x),
     )
 }
 
