@@ -1,0 +1,156 @@
+//! A port in memory, and artifacts that do nothing.
+use batch_history::WorkItem;
+use batch_ids::{ExecutionId, MetricStep, Moment, Refusal, T256, Text, WorkId, WorkOutcome};
+use job_threads::{Artifact, ArtifactFault, Claimed, Gate, Onward, Port, Report};
+use std::alloc::Global;
+
+/// A port that hands out one work item at most, and keeps what is reported of it.
+#[derive(Drop)]
+pub(crate) struct Memory {
+    pub(crate) item: Option<WorkItem>,
+    pub(crate) losses: u64,
+    pub(crate) reports: Vec<Report>,
+    pub(crate) refused: Option<Refusal>,
+}
+
+impl Memory {
+    pub(crate) fn new(alloc: Global, item: Option<WorkItem>) -> Memory {
+        Memory {
+            item,
+            losses: 0,
+            reports: Vec::new(alloc),
+            refused: None,
+        }
+    }
+}
+
+impl Port for Memory {
+    ghost use Rattle.std.specs.Prelude.{[], false};
+    ghost use Rattle.job_threads.specs.Ports.{stops_of};
+
+    ghost reports = { λ p. p.reports.items };
+
+    ghost stops = { λ _. stops_of [] false };
+
+    ghost refused = { λ p. p.refused };
+
+    fn claim(&mut self, _at: Moment) -> Result<Claimed, Refusal> {
+        match self.item.take() {
+            None => Ok(Claimed::Nothing),
+            Some(item) => Ok(Claimed::Work(item)),
+        }
+    }
+
+    fn checkpoint(
+        &mut self,
+        work: WorkId,
+        mark: Text<65536>,
+        step: MetricStep,
+        at: Moment,
+    ) -> Result<Onward, Refusal> {
+        let reply = Onward::Go;
+        match self.reports.push(Report::Checkpoint {
+            work,
+            mark,
+            step,
+            at,
+            reply,
+        }) {
+            Ok(()) => Ok(reply),
+            Err(_) => {
+                self.refused = Some(Refusal::OutOfMemory);
+                Err(Refusal::OutOfMemory)
+            }
+        }
+    }
+
+    fn finish(
+        &mut self,
+        work: WorkId,
+        outcome: WorkOutcome,
+        exit: Option<T256>,
+        step: MetricStep,
+        at: Moment,
+    ) -> Result<(), Refusal> {
+        match self.reports.push(Report::Finish {
+            work,
+            outcome,
+            exit,
+            step,
+            at,
+        }) {
+            Ok(()) => Ok(()),
+            Err(_) => {
+                self.refused = Some(Refusal::OutOfMemory);
+                Err(Refusal::OutOfMemory)
+            }
+        }
+    }
+
+    fn lose(&mut self, _work: WorkId, _at: Moment) -> Result<(), Refusal> {
+        self.losses = self.losses.saturating_add(1);
+        Ok(())
+    }
+
+    fn stop_seen(&mut self, _execution: ExecutionId) -> bool {
+        false
+    }
+
+    fn unfinished(&mut self) -> Result<bool, Refusal> {
+        Ok(false)
+    }
+}
+
+/// A batchlet and decider that completes, and takes no memory.
+#[derive(Drop)]
+pub(crate) struct Quiet {
+    pub(crate) alloc: Global,
+}
+
+impl Artifact for Quiet {
+    ghost use Rattle.job_threads.specs.Meaning.{nobody};
+
+    ghost meaning = { λ _. nobody };
+
+    fn begin(&mut self, _partition: Option<u32>) -> Result<(), ArtifactFault> {
+        Ok(())
+    }
+
+    fn run(&mut self) -> Result<Option<T256>, ArtifactFault> {
+        Ok(None)
+    }
+
+    fn open(&mut self, _checkpoint: Option<&str>) -> Result<(), ArtifactFault> {
+        Ok(())
+    }
+
+    fn read(&mut self) -> Result<Option<String>, ArtifactFault> {
+        Ok(None)
+    }
+
+    fn process(&mut self, _item: &str) -> Result<Option<String>, ArtifactFault> {
+        Ok(None)
+    }
+
+    fn write(&mut self, _items: &[String]) -> Result<(), ArtifactFault> {
+        Ok(())
+    }
+
+    fn checkpoint(&mut self) -> Result<String, ArtifactFault> {
+        Ok(String::new(self.alloc))
+    }
+}
+
+/// A gate that does nothing.
+#[derive(Drop)]
+pub(crate) struct Open;
+
+impl Gate for Open {
+    fn before(&self, _worker: u64, _item: &WorkItem) {}
+
+    fn idle(&self, _worker: u64) {}
+
+    fn now(&self) -> Moment {
+        0
+    }
+}
