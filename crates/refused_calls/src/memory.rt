@@ -25,14 +25,16 @@ impl Memory {
 }
 
 impl Port for Memory {
-    ghost use Rattle.std.specs.Prelude.{[], false};
+    ghost use Rattle.std.specs.Prelude.{[], false, None};
     ghost use Rattle.job_threads.specs.Ports.{stops_of};
 
     ghost reports = { λ p. p.reports.items };
 
-    ghost stops = { λ _. stops_of [] false };
+    ghost stops = { λ _. stops_of [] false 0 };
 
     ghost refused = { λ p. p.refused };
+
+    ghost refused_loss = { λ _. None };
 
     fn claim(&mut self, _at: Moment) -> Result<Claimed, Refusal> {
         match self.item.take() {
