@@ -13,10 +13,6 @@ SERVICE = ""
 SERVICE_SESSION = 1
 
 
-def nothing_follows(reply: dict[str, Any]) -> list[bytes]:
-    return []
-
-
 def nobody_left() -> bool:
     return False
 
@@ -25,10 +21,8 @@ def nobody_left() -> bool:
 class Call:
     """A command of a client.
 
-    `follow` gives the queries whose answers belong to the first reply. They ask for what never changes, as the parameters of a
-    job execution, since they may see later operations. `resolve` gives members that a query tells.
-
-    With `wait`, a claim that is answered Nothing is made again until so many seconds are over, or until the client is gone.
+    `resolve` gives members that a query tells. With `wait`, a claim that is answered Nothing is made again until so many
+    seconds are over, or until the client is gone.
     """
 
     client: str
@@ -36,7 +30,6 @@ class Call:
     members: Members
     key: str | None = None
     fingerprint: bytes = b""
-    follow: Callable[[dict[str, Any]], list[bytes]] = nothing_follows
     resolve: Callable[[], Awaitable[Members]] | None = None
     log: str | None = None
     wait: float = 0.0

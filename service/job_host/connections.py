@@ -11,6 +11,7 @@ from aiohttp.web_protocol import RequestHandler
 from job_host.settings import Bounds
 
 IDLE_SECONDS = 75.0
+LINGERING_SECONDS = 1.0
 
 
 class GuardedHandler(RequestHandler):
@@ -76,6 +77,7 @@ class GuardedServer(web.Server):
             request_factory=application._make_request,
             access_log=None,
             keepalive_timeout=IDLE_SECONDS,
+            lingering_time=LINGERING_SECONDS,
         )
         self._bounds = bounds
 

@@ -70,15 +70,15 @@ class Engine:
             if reply is None:
                 heard(None, None, self.entered)
             elif is_accepted(reply):
-                self._enter(line, reply)
+                self.enter(line, reply)
                 heard(reply, self.entered, self.entered)
             else:
                 heard(reply, None, self.entered)
 
         self.process.send(line, hear)
 
-    def _enter(self, line: bytes, reply: bytes) -> None:
-        """Notes what an operation says of work items: who claimed one, and which is over."""
+    def enter(self, line: bytes, reply: bytes) -> int:
+        """Notes what an operation says of work items: who claimed one, and which is over. Returns its moment."""
         self.entered += 1
         told = json.loads(line)
         do, moment = told["do"], told["at"]
@@ -92,6 +92,7 @@ class Engine:
             self.held.pop(told["work"], None)
         if do not in ("claim", "checkpoint"):
             self.may_give_work()
+        return int(moment)
 
     async def replay(self, records: Sequence[Record]) -> None:
         """Hands on kept operations, and compares the replies. Raises ReplayDiffers at the first that differs."""
@@ -110,7 +111,7 @@ class Engine:
             if reply != record.reply or record.number != self.entered + 1:
                 replayed.set_exception(ReplayDiffers(record, reply))
                 return
-            self._enter(record.line, reply)
+            self.enter(record.line, reply)
             if record is records[-1]:
                 replayed.set_result(None)
 

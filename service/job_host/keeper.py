@@ -2,11 +2,12 @@
 
 from __future__ import annotations
 
+import asyncio
 from abc import ABC, abstractmethod
-from collections.abc import Awaitable, Callable, Sequence
+from collections.abc import AsyncIterator, Awaitable, Callable, Sequence
 from contextlib import asynccontextmanager
 from dataclasses import dataclass
-from collections.abc import AsyncIterator
+from typing import Any
 
 from job_host.calls import Call, Kept, WorkLog
 from job_host.engine import Answers, Engine, Held
@@ -145,3 +146,20 @@ class Steps:
         answers = await self._engine.ask(queries)
         self.seen = answers.seen
         return answers.replies
+
+
+async def first_of(waits: Sequence[Awaitable[Any]]) -> None:
+    """Returns, or raises, after the first of these has ended. The others are cancelled."""
+    tasks = [asyncio.ensure_future(_ended(wait)) for wait in waits]
+    try:
+        done, _ = await asyncio.wait(tasks, return_when=asyncio.FIRST_COMPLETED)
+        for task in done:
+            task.result()
+    finally:
+        for task in tasks:
+            task.cancel()
+        await asyncio.gather(*tasks, return_exceptions=True)
+
+
+async def _ended(wait: Awaitable[Any]) -> None:
+    await wait

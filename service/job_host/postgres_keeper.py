@@ -8,7 +8,7 @@ import os
 import socket
 import time
 import uuid
-from collections.abc import Awaitable, Sequence
+from collections.abc import Sequence
 from contextlib import suppress
 from typing import Any
 
@@ -16,7 +16,7 @@ from job_host import job_catalogue
 from job_host.calls import Item, KeptRequest, WorkLog
 from job_host.coprocess import CatalogueRefused, CoProcess, CoProcessEnded
 from job_host.engine import Engine, ReplayDiffers
-from job_host.keeper import Fatal, Keeper
+from job_host.keeper import Fatal, Keeper, first_of
 from job_host.leases import Leases
 from job_host.postgres_store import LOST, Leader, NoPrimary, NotDurable, PostgresStore
 from job_host.problems import Problem, unavailable
@@ -75,6 +75,7 @@ class PostgresKeeper(Keeper):
         self._file = job_catalogue.read_file(settings.catalogue)
         self._catalogue = b""
         self._bring: bytes | None = None
+        self._has_begun = False
         self._store: PostgresStore | None = None
         self._sessions = Sessions({}, settings.bounds.clients)
         self._poke = asyncio.Event()
@@ -121,16 +122,20 @@ class PostgresKeeper(Keeper):
 
     async def _start_engine(self, store: PostgresStore) -> Engine:
         self._catalogue, self._bring = self._choose(await store.catalogue())
+        self._has_begun = True
         return Engine(await CoProcess.start([*self._settings.batchctl, "script"], self._catalogue))
 
     def _choose(self, kept: bytes | None) -> tuple[bytes, bytes | None]:
-        """The kept catalogue or that of the file, whichever has more jobs; and the file's, if it is to be kept."""
+        """The catalogue to go by; and again, if it is to be kept.
+
+        At its start an instance has a file with each kept job. Later another instance may bring more jobs, which it takes over.
+        """
         if kept is None:
             return self._file, self._file
-        if not job_catalogue.difference(self._file, kept):
+        if self._has_begun and not job_catalogue.difference(self._file, kept):
             return kept, None
         merged = job_catalogue.merged(kept, self._file)
-        return merged, merged
+        return (kept, None) if job_catalogue.jobs_of(merged) == job_catalogue.jobs_of(kept) else (merged, merged)
 
     async def _follow(self, store: PostgresStore, engine: Engine) -> int | None:
         """Follows the table until it may lead. Returns the epoch, or none if the service is to end."""
@@ -185,7 +190,7 @@ class PostgresKeeper(Keeper):
             self._followed.notify_all()
         rounds = [term.commit_rounds(), term.desk.serve(), self.leases.watch(term), self._prune(store)]
         try:
-            await _first_of([*rounds, engine.process.wait(), self._closing.wait()])
+            await first_of([*rounds, engine.process.wait(), self._closing.wait()])
         finally:
             self.term = None
             if self._closing.is_set() and term.failure is None:
@@ -228,20 +233,3 @@ class PostgresKeeper(Keeper):
 
     async def close(self) -> None:
         self._closing.set()
-
-
-async def _first_of(waits: Sequence[Awaitable[Any]]) -> None:
-    """Returns, or raises, after the first of these has ended. The others are cancelled."""
-    tasks = [asyncio.ensure_future(_ended(wait)) for wait in waits]
-    try:
-        done, _ = await asyncio.wait(tasks, return_when=asyncio.FIRST_COMPLETED)
-        for task in done:
-            task.result()
-    finally:
-        for task in tasks:
-            task.cancel()
-        await asyncio.gather(*tasks, return_exceptions=True)
-
-
-async def _ended(wait: Awaitable[Any]) -> None:
-    await wait

@@ -22,11 +22,6 @@ def answer_of(reply: bytes) -> dict[str, Any]:
     return told
 
 
-def instance_of(reply: dict[str, Any]) -> list[bytes]:
-    """The query that belongs to a start or restart."""
-    return [query("job_instance", execution=reply["execution"])]
-
-
 async def list_instances(asked: Asked) -> web.StreamResponse:
     """The newest job instances of one job, or of all, page by page."""
     bounds = asked.host.settings.bounds
@@ -52,7 +47,7 @@ async def start_instance(asked: Asked) -> web.StreamResponse:
     if job is None:
         raise bad_request("jobName or jobXMLName is missing")
     members = {"job": job, "parameters": body.get("jobParameters", {})}
-    call = Call(asked.client, "start", members, asked.key, fingerprint("start", members), instance_of)
+    call = Call(asked.client, "start", members, asked.key, fingerprint("start", members))
     return begun(asked, await asked.keeper.submit(call), 201)
 
 
@@ -85,7 +80,7 @@ async def change_instance(asked: Asked) -> web.StreamResponse:
         return {"execution": newest, "parameters": parameters}
 
     print_of = fingerprint("restart instance", instance, parameters)
-    call = Call(asked.client, "restart", {}, asked.key, print_of, instance_of, resolve)
+    call = Call(asked.client, "restart", {}, asked.key, print_of, resolve)
     return begun(asked, await asked.keeper.submit(call), 200)
 
 
@@ -126,7 +121,7 @@ async def change_execution(asked: Asked) -> web.StreamResponse:
     members: dict[str, Any] = {"execution": execution}
     if action == "restart":
         members["parameters"] = await parameters_of(asked)
-        call = Call(asked.client, action, members, asked.key, fingerprint(action, members), instance_of)
+        call = Call(asked.client, action, members, asked.key, fingerprint(action, members))
         return begun(asked, await asked.keeper.submit(call), 200)
     expect_members(await asked.body())
     kept = await asked.keeper.submit(Call(asked.client, action, members, asked.key, fingerprint(action, members)))

@@ -8,7 +8,7 @@ from aiohttp import web
 
 from job_host import views
 from job_host.calls import Call
-from job_host.lines import Members, fingerprint, query, read
+from job_host.lines import Members, fingerprint, read
 from job_host.problems import Problem, bad_request
 from job_host.requests import Asked, Handler, expect_members
 from job_host.routes_jobs import answer_of
@@ -20,14 +20,6 @@ ACTIONS = {
 }
 
 
-def job_of(reply: dict[str, Any]) -> list[bytes]:
-    """The queries that belong to a work item: what never changes of its job execution."""
-    if "work" not in reply:
-        return []
-    execution = reply["work"]["execution"]
-    return [query("job_instance", execution=execution), query("parameters", execution=execution)]
-
-
 async def claim(asked: Asked) -> web.StreamResponse:
     """Claims a work item. With `wait` it takes up to so many seconds until there is one."""
     body = await asked.body()
@@ -37,7 +29,7 @@ async def claim(asked: Asked) -> web.StreamResponse:
     if isinstance(wait, bool) or not isinstance(wait, (int, float)) or not 0 <= wait <= longest:
         raise bad_request(f"wait is a number of seconds from 0 to {longest:g}")
     client = asked.named_client()
-    call = Call(client, "claim", {}, asked.key, fingerprint("claim"), job_of, wait=float(wait), is_gone=asked.is_gone)
+    call = Call(client, "claim", {}, asked.key, fingerprint("claim"), wait=float(wait), is_gone=asked.is_gone)
     kept = await asked.keeper.submit(call)
     told = answer_of(kept.reply)
     if "work" in told:

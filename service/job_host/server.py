@@ -13,6 +13,7 @@ from prometheus_client import CONTENT_TYPE_LATEST
 
 from job_host import routes_jobs, routes_work
 from job_host.access import Access, tls_context
+from job_host.embedded_keeper import EmbeddedKeeper
 from job_host.connections import GuardedHandler, GuardedServer
 from job_host.keeper import Fatal, Keeper
 from job_host.leases import Leases
@@ -34,8 +35,6 @@ def make_keeper(settings: ServeSettings, metrics: Metrics) -> Keeper:
     leases = Leases(settings.lease)
     if settings.postgres:
         return PostgresKeeper(settings, leases, metrics.observers())
-    from job_host.embedded_keeper import EmbeddedKeeper
-
     return EmbeddedKeeper(settings, leases, metrics.observers())
 
 

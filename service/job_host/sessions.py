@@ -30,6 +30,9 @@ class Sessions:
             self._names[number] = name
         return number
 
+    def numbers(self) -> list[int]:
+        return [SERVICE_SESSION, *self._names]
+
     def name(self, number: int) -> str | None:
         return self._names.get(number)
 

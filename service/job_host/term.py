@@ -13,6 +13,7 @@ from dataclasses import dataclass, replace
 from job_host.calls import SERVICE, Call, Item, Kept, KeptRequest, WorkLog
 from job_host.claims import ClaimDesk
 from job_host.engine import Answers, Engine
+from job_host.follow_ups import follow_ups
 from job_host.lines import Moments, command, is_accepted, read
 from job_host.problems import Problem, unavailable
 from job_host.sessions import Sessions
@@ -136,7 +137,7 @@ class Term(ABC):
             item.log = None
         if not item.heard.done():
             item.heard.set_result(reply)
-        queries = item.call.follow(read(reply)) if is_accepted(reply) else []
+        queries = follow_ups(item.call.do, read(reply))
         if queries:
             self.engine.ask(queries).add_done_callback(lambda answered: self._hear_answers(item, answered))
         else:

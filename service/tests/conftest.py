@@ -3,6 +3,7 @@
 from __future__ import annotations
 
 import json
+import subprocess
 import sys
 from collections.abc import Callable, Iterator
 from pathlib import Path
@@ -64,3 +65,13 @@ def settings(dsn: str, catalogue: Path) -> Callable[..., ServeSettings]:
         return ServeSettings(catalogue=given.pop("catalogue", catalogue), batchctl=find_batchctl(None), **given)
 
     return make
+
+
+@pytest.fixture(scope="session")
+def has_log(tmp_path_factory: pytest.TempPathFactory) -> None:
+    """Skips if the program that is tested has no `script --log`."""
+    log = tmp_path_factory.mktemp("log") / "history.log"
+    words = [*find_batchctl(None), "script", "--log", str(log)]
+    done = subprocess.run(words, input=b'{"jobs":[]}\n', capture_output=True, check=False)
+    if done.returncode == 2:
+        pytest.skip("this batchctl has no `script --log`")

@@ -176,8 +176,30 @@ async def test_a_catalogue_may_add_jobs_and_change_none(settings: Make, tmp_path
     with pytest.raises(Fatal, match="'nightly' is changed.*restartable"):
         async with running(settings(catalogue=write(SHORT, changed))):
             pass
-    async with running(settings(catalogue=write(NIGHTLY))) as instance:
-        assert (await Caller(instance.url).start("short")).status == 201
+    with pytest.raises(Fatal, match="'short' is dropped"):
+        async with running(settings(catalogue=write(NIGHTLY))):
+            pass
+
+
+async def test_a_follower_takes_over_the_jobs_that_a_new_leader_brings(settings: Make, tmp_path: Path) -> None:
+    fewer, more = tmp_path / "fewer.json", tmp_path / "more.json"
+    fewer.write_text(json.dumps({"jobs": [NIGHTLY]}))
+    more.write_text(json.dumps({"jobs": [NIGHTLY, SHORT]}))
+    async with running(settings(catalogue=fewer)) as one, running(settings(catalogue=fewer), "follower") as two:
+        waiting: Any = two.service.keeper
+
+        async def wait(*given: Any) -> None:
+            return None
+
+        waiting._store.take_over = wait
+        async with running(settings(catalogue=more), "follower") as three:
+            await one.stop()
+            await three.until_role("leader")
+            assert (await Caller(three.url).start("short", key="a")).status == 201
+            read = await Caller(two.url).ask("GET", "/batch/jobexecutions/1?atLeast=1")
+            assert (read.status, read.told["jobName"]) == (200, "short")
+        await two.until_role("leader")
+        assert (await Caller(two.url).start("short")).told["executionId"] == 2
 
 
 async def test_a_catalogue_that_is_none_is_refused(settings: Make, tmp_path: Path) -> None:
