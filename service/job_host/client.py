@@ -15,7 +15,8 @@ from typing import Any
 
 import aiohttp
 
-from job_host.requests import AT_LEAST, CLIENT, OPERATIONS, REQUEST_KEY
+from job_host.problems import OPERATIONS
+from job_host.requests import AT_LEAST, CLIENT, REQUEST_KEY
 
 PAUSE = 0.2
 LONGEST_PAUSE = 2.0

@@ -101,6 +101,11 @@ def status_text(status: str) -> Text:
     return Text(status, style=COLOURS.get(status, "cyan"))
 
 
+def short(moment: str | None) -> Text:
+    """A moment to the second, in UTC."""
+    return plain(moment.partition(".")[0] if moment else None)
+
+
 def metrics_text(metrics: dict[str, int]) -> str:
     return " ".join(f"{name.removesuffix('_COUNT').lower()}={count}" for name, count in metrics.items())
 
@@ -111,9 +116,9 @@ def execution_table(told: dict[str, Any]) -> Table:
     table = Table("step", "status", "exit status", "start", "end", "counts", title=Text(title))
     for step in told["stepExecutions"]:
         shown = [plain(step["stepName"]), status_text(step["batchStatus"]), plain(step["exitStatus"])]
-        table.add_row(*shown, plain(step["startTime"]), plain(step["endTime"]), metrics_text(step["metrics"]))
+        table.add_row(*shown, short(step["startTime"]), short(step["endTime"]), metrics_text(step["metrics"]))
     whole = [Text("(job)"), status_text(told["batchStatus"]), plain(told["exitStatus"])]
-    table.add_row(*whole, plain(told["startTime"]), plain(told["endTime"]), "")
+    table.add_row(*whole, short(told["startTime"]), short(told["endTime"]), "")
     return table
 
 
@@ -131,7 +136,7 @@ def instance_table(told: list[dict[str, Any]]) -> Table:
     table = Table("job instance", "job", "job execution", "status", "exit status", "last updated")
     for one in told:
         shown = [plain(one["instanceId"]), plain(one["jobName"]), plain(one["executionId"]), status_text(one["batchStatus"])]
-        table.add_row(*shown, plain(one["exitStatus"]), plain(one["lastUpdatedTime"]))
+        table.add_row(*shown, plain(one["exitStatus"]), short(one["lastUpdatedTime"]))
     return table
 
 

@@ -9,6 +9,8 @@ from typing import Any
 from aiohttp import web
 
 CONTENT_TYPE = "application/problem+json"
+# The header that says how many operations an answer saw.
+OPERATIONS = "Batch-Operations"
 
 # The repository's refusals. What each means is in docs/LINES.md, "Refusals".
 STATUS_OF_REFUSAL = {
@@ -41,6 +43,7 @@ class Problem(Exception):
         self.status = status
         self.detail = detail
         self.members = members
+        self.operations: int | None = None
 
     def document(self) -> dict[str, Any]:
         told = {"type": f"urn:jobhost:{self.name}", "title": self.name, "status": self.status, **self.members}
@@ -48,16 +51,20 @@ class Problem(Exception):
 
     def response(self) -> web.Response:
         headers = {"Retry-After": "1"} if self.status in (429, 503) else {}
+        if self.operations is not None:
+            headers[OPERATIONS] = str(self.operations)
         text = json.dumps(self.document())
         return web.Response(text=text, status=self.status, content_type=CONTENT_TYPE, headers=headers)
 
 
-def of_refusal(reply: Mapping[str, Any]) -> Problem | None:
-    """The problem of a reply, if it is a refusal."""
+def of_refusal(reply: Mapping[str, Any], seen: int | None = None) -> Problem | None:
+    """The problem of a reply that saw so many operations, if it is a refusal."""
     name = reply.get("refused")
     if not isinstance(name, str):
         return None
-    return Problem(name, STATUS_OF_REFUSAL.get(name, 409))
+    problem = Problem(name, STATUS_OF_REFUSAL.get(name, 409))
+    problem.operations = seen
+    return problem
 
 
 def bad_request(detail: str) -> Problem:

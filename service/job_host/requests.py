@@ -17,7 +17,7 @@ from aiohttp import web
 from job_host.access import NAME, Access, Caller
 from job_host.keeper import Keeper
 from job_host.lines import MOST_NUMBER
-from job_host.problems import Problem, bad_request
+from job_host.problems import OPERATIONS, Problem, bad_request
 from job_host.settings import Bounds, ServeSettings
 
 KEY = re.compile(r"[\x21-\x7e]+")
@@ -28,7 +28,6 @@ ANYBODY = "anybody"
 CLIENT = "Batch-Client"
 REQUEST_KEY = "Idempotency-Key"
 AT_LEAST = "Batch-At-Least"
-OPERATIONS = "Batch-Operations"
 
 
 def number(text: str, what: str) -> int:

@@ -9,14 +9,14 @@ from aiohttp import web
 from job_host import views
 from job_host.calls import Call, Kept
 from job_host.lines import Members, fingerprint, query, read
-from job_host.problems import bad_request, of_refusal
-from job_host.requests import OPERATIONS, Asked, Handler, expect_members
+from job_host.problems import OPERATIONS, bad_request, of_refusal
+from job_host.requests import Asked, Handler, expect_members
 
 
-def answer_of(reply: bytes) -> dict[str, Any]:
+def answer_of(reply: bytes, seen: int | None = None) -> dict[str, Any]:
     """A reply that isn't refused. Raises the refusal's problem."""
     told = read(reply)
-    problem = of_refusal(told)
+    problem = of_refusal(told, seen)
     if problem is not None:
         raise problem
     return told
@@ -52,19 +52,19 @@ async def start_instance(asked: Asked) -> web.StreamResponse:
 
 
 def begun(asked: Asked, kept: Kept, status: int) -> web.StreamResponse:
-    told = answer_of(kept.reply)
+    told = answer_of(kept.reply, kept.seen)
     return asked.answer(views.begun(told["execution"], read(kept.answers[0])), kept.seen, status)
 
 
 async def show_instance(asked: Asked) -> web.StreamResponse:
     answers = await asked.keeper.ask([query("job_executions", instance=asked.path_number())], asked.at_least)
-    return asked.answer(views.job_instance(answer_of(answers.replies[0])["job_executions"]), answers.seen)
+    return asked.answer(views.job_instance(answer_of(answers.replies[0], answers.seen)["job_executions"]), answers.seen)
 
 
 async def purge_instance(asked: Asked) -> web.StreamResponse:
     members = {"instance": asked.path_number()}
     kept = await asked.keeper.submit(Call(asked.client, "purge", members, asked.key, fingerprint("purge", members)))
-    answer_of(kept.reply)
+    answer_of(kept.reply, kept.seen)
     return asked.answer({**members, "purged": True}, kept.seen)
 
 
@@ -76,7 +76,7 @@ async def change_instance(asked: Asked) -> web.StreamResponse:
 
     async def resolve() -> Members:
         answers = await asked.keeper.ask([query("job_executions", instance=instance)])
-        newest = answer_of(answers.replies[0])["job_executions"][0]["execution"]
+        newest = answer_of(answers.replies[0], answers.seen)["job_executions"][0]["execution"]
         return {"execution": newest, "parameters": parameters}
 
     print_of = fingerprint("restart instance", instance, parameters)
@@ -125,7 +125,7 @@ async def change_execution(asked: Asked) -> web.StreamResponse:
         return begun(asked, await asked.keeper.submit(call), 200)
     expect_members(await asked.body())
     kept = await asked.keeper.submit(Call(asked.client, action, members, asked.key, fingerprint(action, members)))
-    answer_of(kept.reply)
+    answer_of(kept.reply, kept.seen)
     return asked.answer({"executionId": execution, "action": action}, kept.seen)
 
 
@@ -142,7 +142,7 @@ async def show_logs(asked: Asked) -> web.StreamResponse:
     """What the workers of a job execution handed in as logs, by work item; with `type=text`, one behind the other."""
     execution = asked.path_number()
     answers = await asked.keeper.ask([query("job_instance", execution=execution)], asked.at_least)
-    answer_of(answers.replies[0])
+    answer_of(answers.replies[0], answers.seen)
     logs = await asked.keeper.logs(execution)
     if asked.request.query.get("type") == "text":
         text = "".join(f"# work item {log.work}, {log.element}\n{log.text}\n" for log in logs)

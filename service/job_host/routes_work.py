@@ -31,7 +31,7 @@ async def claim(asked: Asked) -> web.StreamResponse:
     client = asked.named_client()
     call = Call(client, "claim", {}, asked.key, fingerprint("claim"), wait=float(wait), is_gone=asked.is_gone)
     kept = await asked.keeper.submit(call)
-    told = answer_of(kept.reply)
+    told = answer_of(kept.reply, kept.seen)
     if "work" in told:
         told = views.work_item(told["work"], read(kept.answers[0]), read(kept.answers[1]))
         told["lease"] = asked.host.settings.lease
@@ -72,7 +72,7 @@ async def change_work(asked: Asked) -> web.StreamResponse:
     client = asked.client if action == "lose" else asked.named_client()
     call = Call(client, action, members, asked.key, fingerprint(action, members), log=log)
     kept = await asked.keeper.submit(call)
-    told = answer_of(kept.reply)
+    told = answer_of(kept.reply, kept.seen)
     if action == "checkpoint":
         asked.keeper.leases.renew(asked.path_number())
     return asked.answer(told, kept.seen)
