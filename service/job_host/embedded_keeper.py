@@ -120,6 +120,10 @@ class EmbeddedKeeper(Keeper):
                 log.warning("begins again: %s", fault)
             except job_catalogue.CatalogueChanged as fault:
                 raise Fatal(f"CatalogueChanged: {fault}") from fault
+            except Fatal:
+                raise
+            except Exception:
+                log.exception("begins again")
             with suppress(asyncio.TimeoutError):
                 await asyncio.wait_for(self._closing.wait(), RETRY)
 

@@ -91,6 +91,8 @@ class PostgresKeeper(Keeper):
                 log.warning("begins again: %s %s", type(fault).__name__, fault)
             except (ReplayDiffers, NotDurable, job_catalogue.CatalogueChanged) as fault:
                 raise Fatal(f"{type(fault).__name__}: {fault}") from fault
+            except Exception:
+                log.exception("begins again")
             with suppress(asyncio.TimeoutError):
                 await asyncio.wait_for(self._closing.wait(), RETRY)
 

@@ -18,7 +18,7 @@ from job_host.postgres_schema import BEAT, RESIGN, ROUND, SCHEMA, SCHEMA_LOCK, T
 log = logging.getLogger(__name__)
 
 # What a lost or refused connection raises.
-LOST = (OSError, asyncio.TimeoutError, asyncpg.PostgresError, asyncpg.InterfaceError)
+LOST = (OSError, asyncio.TimeoutError, asyncpg.PostgresError, asyncpg.InterfaceError, asyncpg.InternalClientError)
 
 CONNECT_SECONDS = 3.0
 # Without a just-in-time compiler: it takes seconds for statements that take milliseconds.

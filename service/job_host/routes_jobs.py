@@ -95,7 +95,7 @@ async def list_executions(asked: Asked) -> web.StreamResponse:
         told = await steps.ask([query("job_executions", instance=asked.path_number())])
         executions = [one["execution"] for one in answer_of(told[0])["job_executions"]]
         replies = await steps.ask([line for execution in executions for line in execution_queries(execution)])
-    shown = [show(replies[place : place + 3]) for place in range(0, len(replies), 3)]
+    shown = [show(replies[place : place + 3], steps.seen) for place in range(0, len(replies), 3)]
     return asked.answer(shown, steps.seen)
 
 
@@ -104,14 +104,14 @@ def execution_queries(execution: int) -> list[bytes]:
     return [query(ask, execution=execution) for ask in asks]
 
 
-def show(replies: list[bytes]) -> dict[str, Any]:
-    execution, parameters, steps = [answer_of(reply) for reply in replies]
+def show(replies: list[bytes], seen: int) -> dict[str, Any]:
+    execution, parameters, steps = [answer_of(reply, seen) for reply in replies]
     return views.job_execution(execution["job_execution"], parameters["parameters"], steps["step_executions"])
 
 
 async def show_execution(asked: Asked) -> web.StreamResponse:
     answers = await asked.keeper.ask(execution_queries(asked.path_number()), asked.at_least)
-    return asked.answer(show(answers.replies), answers.seen)
+    return asked.answer(show(answers.replies, answers.seen), answers.seen)
 
 
 async def change_execution(asked: Asked) -> web.StreamResponse:

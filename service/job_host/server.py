@@ -104,8 +104,8 @@ class Service:
         except web.HTTPException as refused:
             self.access_or_nothing(request)
             return Problem(type(refused).__name__.removeprefix("HTTP"), refused.status).response()
-        except asyncio.CancelledError:
-            raise
+        except ConnectionError:
+            return Problem("ClientGone", 408).response()
         except Exception:
             log.exception("a request failed: %s %s", request.method, request.path)
             return Problem("InternalError", 500, "the service's log says more").response()

@@ -179,8 +179,9 @@ class Term(ABC):
             try:
                 await self._commit(items)
             except Problem as problem:
-                self._fail_items(items, problem)
                 self.fail(problem)
+            finally:
+                self._fail_items(items, self.failure or unavailable("CommitFailed", "the operation may have been kept"))
 
     async def _commit(self, items: list[Item]) -> None:
         begun = time.monotonic()

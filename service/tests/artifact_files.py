@@ -4,7 +4,7 @@ from __future__ import annotations
 
 from pathlib import Path
 
-# A reader of numbers, a processor that drops the even ones, and a writer that appends. As long as there is a file `fail-at`, the
+# A reader of numbers, a processor that drops the even ones, and a writer that appends. While there is a file `fail-at`, the
 # writer fails at the group that it names.
 CHUNK_PART = """#!/usr/bin/python3
 import json, os, sys, time

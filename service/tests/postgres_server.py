@@ -85,8 +85,8 @@ class PostgresServer:
         words = [str(programs() / "psql"), "-X", "-A", "-t", "-q", "-d", self.dsn, "-c", statement]
         return subprocess.run(words, check=True, capture_output=True, text=True).stdout.strip()
 
-    def make_standby(self, **options: str) -> PostgresServer:
-        """A standby of this server, which streams from it. It is started, and the server waits for it from now on."""
+    def make_standby(self, port: int | None = None, **options: str) -> PostgresServer:
+        """A standby of this server, which streams from it. It is started."""
         folder = self._folder()
         words = [
             str(programs() / "pg_basebackup"),
@@ -101,7 +101,7 @@ class PostgresServer:
             "fast",
         ]
         run(as_account(words))
-        standby = PostgresServer(folder, free_port(), {**self.options, **options})
+        standby = PostgresServer(folder, port or free_port(), {**self.options, **options})
         standby.start()
         return standby
 
