@@ -3,6 +3,7 @@
 from __future__ import annotations
 
 import asyncio
+import logging
 from typing import Any, cast
 
 from aiohttp import web
@@ -12,6 +13,9 @@ from job_host.settings import Bounds
 
 IDLE_SECONDS = 75.0
 LINGERING_SECONDS = 1.0
+# aiohttp writes a trace for what is no HTTP, by which any client could fill the log. The service logs its own failures.
+QUIET = logging.getLogger("job_host.http")
+QUIET.setLevel(logging.CRITICAL)
 
 
 class GuardedHandler(RequestHandler):
@@ -51,6 +55,16 @@ class GuardedHandler(RequestHandler):
         self._is_served = is_served
         self._begun = None
 
+    def handle_error(
+        self, request: web.BaseRequest, status: int = 500, exc: BaseException | None = None, message: str | None = None
+    ) -> web.StreamResponse:
+        """Answers what is no HTTP. Nothing of it stands in a log, which anybody could fill otherwise."""
+        if request.writer.output_size > 0:
+            raise ConnectionError("an answer was begun")
+        response = web.Response(status=status)
+        response.force_close()
+        return response
+
     def _watch(self) -> None:
         """Looks twice in the time that a slow client has."""
         if self.transport is None:
@@ -78,6 +92,8 @@ class GuardedServer(web.Server):
             access_log=None,
             keepalive_timeout=IDLE_SECONDS,
             lingering_time=LINGERING_SECONDS,
+            auto_decompress=False,
+            logger=QUIET,
         )
         self._bounds = bounds
 

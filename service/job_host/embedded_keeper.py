@@ -15,7 +15,7 @@ from job_host.calls import Call, Item, Kept, KeptRequest, WorkLog
 from job_host.coprocess import CatalogueRefused, CoProcess, CoProcessEnded
 from job_host.engine import Engine
 from job_host.follow_ups import follow_ups
-from job_host.keeper import Fatal, Keeper, first_of
+from job_host.keeper import Fatal, Keeper, check_catalogue, first_of
 from job_host.leases import Leases
 from job_host.lines import query, read
 from job_host.problems import Problem, unavailable
@@ -157,7 +157,8 @@ class EmbeddedKeeper(Keeper):
     async def _start(self) -> CoProcess:
         """The co-process over its log. One that is still in use by a program that ends is waited for."""
         kept = log_file.catalogue_of(self._log)
-        catalogue = await self._merged(kept)
+        await check_catalogue(self._settings.batchctl, self._file)
+        catalogue = self._file if kept is None else job_catalogue.merged(kept, self._file)
         words = [*self._settings.batchctl, "script", "--log", str(self._log)]
         for _ in range(int(IN_USE_SECONDS / RETRY)):
             try:
@@ -167,15 +168,6 @@ class EmbeddedKeeper(Keeper):
                     raise Fatal(f"{self._log}: {refused}") from refused
             await asyncio.sleep(RETRY)
         raise Fatal(f"{self._log} is in use by another program")
-
-    async def _merged(self, kept: bytes | None) -> bytes:
-        """The catalogue of the file behind the jobs that the log has already."""
-        try:
-            process = await CoProcess.start([*self._settings.batchctl, "script"], self._file)
-        except CatalogueRefused as refused:
-            raise Fatal(f"the catalogue was refused: {refused}") from refused
-        await process.close()
-        return self._file if kept is None else job_catalogue.merged(kept, self._file)
 
     async def _replay(self, engine: Engine, store: SqliteStore) -> list[tuple[OpenRequest, Kept | None]]:
         """Replays the log in a program of its own. It tells which work items are busy, and the replies of open request keys."""

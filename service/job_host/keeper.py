@@ -10,6 +10,7 @@ from dataclasses import dataclass
 from typing import Any
 
 from job_host.calls import Call, Kept, WorkLog
+from job_host.coprocess import CatalogueRefused, CoProcess
 from job_host.engine import Answers, Engine, Held
 from job_host.leases import Leases
 from job_host.lines import query, read
@@ -146,6 +147,17 @@ class Steps:
         answers = await self._engine.ask(queries)
         self.seen = answers.seen
         return answers.replies
+
+
+async def check_catalogue(batchctl: Sequence[str], catalogue: bytes) -> None:
+    """Lets batchctl read a catalogue, before its jobs are compared with those that were kept."""
+    try:
+        process = await CoProcess.start([*batchctl, "script"], catalogue)
+    except CatalogueRefused as fault:
+        raise Fatal(f"the catalogue was refused: {fault}") from fault
+    except (FileNotFoundError, PermissionError) as fault:
+        raise Fatal(f"there is no program {batchctl[0]}: {fault}") from fault
+    await process.close()
 
 
 async def first_of(waits: Sequence[Awaitable[Any]]) -> None:

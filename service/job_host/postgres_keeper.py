@@ -14,9 +14,9 @@ from typing import Any
 
 from job_host import job_catalogue
 from job_host.calls import Item, KeptRequest, WorkLog
-from job_host.coprocess import CatalogueRefused, CoProcess, CoProcessEnded
+from job_host.coprocess import CoProcess, CoProcessEnded
 from job_host.engine import Engine, ReplayDiffers
-from job_host.keeper import Fatal, Keeper, first_of
+from job_host.keeper import Fatal, Keeper, check_catalogue, first_of
 from job_host.leases import Leases
 from job_host.postgres_store import LOST, Leader, NoPrimary, NotDurable, PostgresStore
 from job_host.problems import Problem, unavailable
@@ -83,7 +83,7 @@ class PostgresKeeper(Keeper):
         self._closing = asyncio.Event()
 
     async def run(self) -> None:
-        await self._check_file()
+        await check_catalogue(self._settings.batchctl, self._file)
         while not self._closing.is_set():
             try:
                 await self._serve_once()
@@ -95,14 +95,6 @@ class PostgresKeeper(Keeper):
                 log.exception("begins again")
             with suppress(asyncio.TimeoutError):
                 await asyncio.wait_for(self._closing.wait(), RETRY)
-
-    async def _check_file(self) -> None:
-        """Lets batchctl read the file, so that the jobs of it can be compared with those that were kept."""
-        try:
-            process = await CoProcess.start([*self._settings.batchctl, "script"], self._file)
-        except CatalogueRefused as fault:
-            raise Fatal(f"the catalogue was refused: {fault}") from fault
-        await process.close()
 
     async def _serve_once(self) -> None:
         """Follows, then leads, until something fails. What fails throws the co-process and the connections away."""

@@ -160,6 +160,7 @@ class Service:
         """Serves until SIGTERM or SIGINT. Raises Fatal if the keeper can't go on."""
         ending = asyncio.Event()
         loop = asyncio.get_running_loop()
+        loop.set_exception_handler(note_failure)
         for number in (signal.SIGTERM, signal.SIGINT):
             loop.add_signal_handler(number, ending.set)
         await self.listen()
@@ -176,6 +177,11 @@ class Service:
         await asyncio.wait([keeping], timeout=SHUTDOWN_SECONDS)
         if keeping.done():
             keeping.result()
+
+
+def note_failure(loop: asyncio.AbstractEventLoop, context: dict[str, object]) -> None:
+    """Says in one line what failed beside a request, as a path that aiohttp can't read."""
+    log.warning("%s: %r", context.get("message"), context.get("exception"))
 
 
 def serve(settings: ServeSettings) -> int:
