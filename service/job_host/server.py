@@ -14,12 +14,13 @@ from prometheus_client import CONTENT_TYPE_LATEST
 from job_host import routes_jobs, routes_work
 from job_host.access import Access, tls_context
 from job_host.embedded_keeper import EmbeddedKeeper
+from job_host.coprocess import CoProcessEnded
 from job_host.connections import GuardedHandler, GuardedServer
 from job_host.keeper import Fatal, Keeper
 from job_host.leases import Leases
 from job_host.metrics import Metrics
 from job_host.postgres_keeper import PostgresKeeper
-from job_host.problems import Problem
+from job_host.problems import Problem, unavailable
 from job_host.requests import Asked, Gate, Handler, Host
 from job_host.settings import MOST_OPERATIONS, ServeSettings
 
@@ -104,6 +105,8 @@ class Service:
         except web.HTTPException as refused:
             self.access_or_nothing(request)
             return Problem(type(refused).__name__.removeprefix("HTTP"), refused.status).response()
+        except CoProcessEnded:
+            return unavailable("CoProcessEnded", "batchctl has ended, and is begun again").response()
         except ConnectionError:
             return Problem("ClientGone", 408).response()
         except Exception:

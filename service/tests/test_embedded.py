@@ -7,7 +7,7 @@ import json
 import sqlite3
 from collections.abc import Callable
 from pathlib import Path
-from typing import Any
+from typing import Any, cast
 
 import pytest
 from conftest import NIGHTLY, SHORT
@@ -66,12 +66,13 @@ async def test_a_crash_between_log_and_key(embedded: Make) -> None:
     async with running(embedded()) as instance:
         caller, term = Caller(instance.url), instance.service.keeper.term
         assert isinstance(term, EmbeddedTerm)
+        store: Any = term._beside._store
         await caller.start(key="first")
 
         def fail(*given: Any) -> None:
             raise sqlite3.OperationalError("the disk is full")
 
-        term._beside._store.answer = fail  # type: ignore[method-assign]
+        store.answer = fail
         answers = await asyncio.gather(caller.start(key="second"), caller.change(9, "stop", key="refused"))
         assert {answer.status for answer in answers} == {503}
         await instance.until_role("starting")
@@ -86,14 +87,14 @@ async def test_a_crash_between_key_and_log(embedded: Make) -> None:
     """The key is kept, and its line was never entered: asked again, the operation is made."""
     async with running(embedded()) as instance:
         caller, term = Caller(instance.url), instance.service.keeper.term
-        assert term is not None
-        hand = term.hand
+        assert isinstance(term, EmbeddedTerm)
+        process, hand, open_term = term.engine.process, term.hand, cast(Any, term)
 
         def kill_and_hand(item: Any) -> None:
-            term.engine.process.kill()
+            process.kill()
             hand(item)
 
-        term.hand = kill_and_hand  # type: ignore[method-assign]
+        open_term.hand = kill_and_hand
         assert (await caller.start(key="a")).status == 503
         await instance.until_role("starting")
         await instance.until_role("leader")

@@ -258,7 +258,8 @@ async def test_a_token_speaks_for_its_own_clients_alone(settings: Make, tmp_path
 
 
 def test_elsewhere_than_on_loopback_tokens_and_tls_are_needed(settings: Make, tokens: Path, tmp_path: Path) -> None:
-    for more in ({}, {"tokens": tokens}, {"certificate": tmp_path, "certificate_key": tmp_path}):
+    given: list[dict[str, Any]] = [{}, {"tokens": tokens}, {"certificate": tmp_path, "certificate_key": tmp_path}]
+    for more in given:
         with pytest.raises(SettingsRefused):
             Access(settings(host="0.0.0.0", **more))
     Access(settings(host="0.0.0.0", tokens=tokens, certificate=tmp_path, certificate_key=tmp_path))
