@@ -6,11 +6,11 @@ import asyncio
 import logging
 import signal
 import uuid
-from collections.abc import Callable
+from collections.abc import Awaitable, Callable
 from contextlib import suppress
 from dataclasses import dataclass, replace
 from pathlib import Path
-from typing import Any
+from typing import Any, TypeVar
 
 from job_host import artifacts
 from job_host.artifacts import Ended, FirstLine, NoArtifact, Tail
@@ -22,10 +22,28 @@ log = logging.getLogger(__name__)
 CLAIM_SECONDS = 10.0
 FOREVER = 10.0**9
 DRAIN_SECONDS = 5.0
+HURRY_SECONDS = 5.0
+
+T = TypeVar("T")
 
 
 class Lost(Exception):
     """The work item isn't this worker's any more."""
+
+
+async def until_told(call: Awaitable[T], event: asyncio.Event, seconds: float) -> T:
+    """Makes a call. After the event it has some seconds more. Raises Lost if they don't suffice."""
+    calling, telling = asyncio.ensure_future(call), asyncio.ensure_future(event.wait())
+    try:
+        await asyncio.wait([calling, telling], return_when=asyncio.FIRST_COMPLETED)
+        await asyncio.wait([calling], timeout=seconds)
+        if not calling.done():
+            raise Lost("the service doesn't answer, and the worker was told to end")
+        return calling.result()
+    finally:
+        calling.cancel()
+        telling.cancel()
+        await asyncio.gather(calling, telling, return_exceptions=True)
 
 
 class Told:
@@ -96,12 +114,15 @@ class Worker:
 
     async def _slot(self) -> None:
         while not self.ending.is_set():
+            claim = self._client.operate("POST", "/batch/work", {"wait": CLAIM_SECONDS}, CLAIM_SECONDS, FOREVER)
             try:
-                claimed = await self._client.operate("POST", "/batch/work", {"wait": CLAIM_SECONDS}, CLAIM_SECONDS, FOREVER)
+                claimed = await until_told(claim, self.ending, CLAIM_SECONDS)
             except Refused as refused:
                 log.warning("a claim was refused: %s", refused)
                 await asyncio.sleep(1.0)
                 continue
+            except Lost:
+                return
             if "work" in claimed:
                 await self._run(claimed)
 
@@ -159,7 +180,7 @@ class Worker:
     async def _report(self, claimed: dict[str, Any], action: str, body: dict[str, Any]) -> dict[str, Any]:
         path = f"/batch/work/{claimed['work']['work']}?action={action}"
         try:
-            told = await self._client.operate("PUT", path, body, patience=FOREVER)
+            told = await until_told(self._client.operate("PUT", path, body, patience=FOREVER), self.hurry, HURRY_SECONDS)
         except Refused as refused:
             raise Lost(f"{action} was refused: {refused}") from refused
         return dict(told)

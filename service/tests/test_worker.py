@@ -247,6 +247,18 @@ async def test_a_worker_that_is_told_to_end_ends_its_work_first(settings: Make, 
         assert await caller.status(1) == "COMPLETED"
 
 
+async def test_a_worker_ends_though_the_service_is_gone(settings: Make, night: Path, artifacts: Path) -> None:
+    async with running(settings(catalogue=night)) as instance:
+        worker = WorkerProcess(instance.url, artifacts)
+        await Caller(instance.url).start("says")
+        await end_of(Caller(instance.url), 1)
+    try:
+        worker.process.send_signal(signal.SIGTERM)
+        assert await asyncio.to_thread(worker.process.wait, 40) == 0
+    finally:
+        worker.stop()
+
+
 async def test_commands(settings: Make, night: Path, artifacts: Path) -> None:
     async with running(settings(catalogue=night)) as instance, working(instance.url, artifacts):
         url = instance.url
