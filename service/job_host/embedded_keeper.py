@@ -225,13 +225,15 @@ class EmbeddedKeeper(Keeper):
         try:
             await first_of([*tasks, engine.process.wait(), self._closing.wait()])
         finally:
-            self.term = None
+            self.role, self.term, self.engine = "starting", None, None
             term.fail(unavailable("Starting", "this instance ends, or begins again"))
 
     async def _prune(self, beside: Beside) -> None:
         days = self._settings.bounds.days_of_keys
         while True:
             await beside.do(lambda store: store.drop_old_keys(days))
+            gone = await self.purged(await beside.do(lambda store: store.logged_executions()))
+            await beside.do(lambda store, gone=gone: store.drop_logs(gone))  # type: ignore[misc]
             await asyncio.sleep(PRUNE_SECONDS)
 
     async def reach(self, at_least: int) -> None:

@@ -4,7 +4,7 @@ from __future__ import annotations
 
 import asyncio
 from abc import ABC, abstractmethod
-from collections.abc import AsyncIterator, Awaitable, Callable, Sequence
+from collections.abc import AsyncIterator, Awaitable, Sequence
 from contextlib import asynccontextmanager
 from dataclasses import dataclass
 from typing import Any
@@ -17,7 +17,7 @@ from job_host.lines import query, read
 from job_host.problems import Problem, of_refusal, unavailable
 from job_host.term import Term
 
-Ask = Callable[[Sequence[bytes]], Awaitable[list[bytes]]]
+QUERIES_AT_ONCE = 1_000
 
 
 @dataclass(frozen=True)
@@ -93,14 +93,29 @@ class Keeper(ABC):
 
     @asynccontextmanager
     async def steps(self, at_least: int) -> AsyncIterator[Steps]:
-        """Reads in several steps, all of one state. At the end of the block all that they saw is kept."""
+        """Reads in several steps, all of one state. At the end of the block, refused or not, all that they saw is kept."""
         await self.reach(at_least)
         engine, term = self.reading(), self.term
+        refusal: Problem | None = None
         async with engine.turn:
             steps = Steps(engine)
-            yield steps
+            try:
+                yield steps
+            except Problem as problem:
+                refusal = problem
         if term is not None:
             await term.until_committed(steps.seen)
+        if refusal is not None:
+            raise refusal
+
+    async def purged(self, executions: Sequence[int]) -> list[int]:
+        """Those of these job executions that a purge has removed."""
+        gone = []
+        for place in range(0, len(executions), QUERIES_AT_ONCE):
+            some = executions[place : place + QUERIES_AT_ONCE]
+            answers = await self.ask([query("job_instance", execution=one) for one in some])
+            gone += [one for one, reply in zip(some, answers.replies) if of_refusal(read(reply)) is not None]
+        return gone
 
     async def held_work(self, at_least: int) -> tuple[list[HeldBy], int]:
         """Who holds which work item since when, and how many operations that saw."""

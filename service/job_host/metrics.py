@@ -6,6 +6,7 @@ from typing import Any
 
 from prometheus_client import CollectorRegistry, Counter, Gauge, Histogram, generate_latest
 
+from job_host.coprocess import CoProcessEnded
 from job_host.keeper import Keeper
 from job_host.lines import query, read
 from job_host.problems import Problem
@@ -54,7 +55,7 @@ class Metrics:
         self.executions.clear()
         try:
             answers = await keeper.ask([query("status_counts")])
-        except Problem:
+        except (Problem, CoProcessEnded):
             return generate_latest(self.registry)
         for status, count in read(answers.replies[0])["counts"].items():
             self.executions.labels(status).set(count)

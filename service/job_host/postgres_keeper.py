@@ -186,7 +186,8 @@ class PostgresKeeper(Keeper):
         try:
             await first_of([*rounds, engine.process.wait(), self._closing.wait()])
         finally:
-            self.term = None
+            # Its co-process may know more than the table: nobody reads it any more.
+            self.role, self.term, self.engine = "starting", None, None
             if self._closing.is_set() and term.failure is None:
                 with suppress(*LOST):
                     await store.resign(epoch)
@@ -195,6 +196,7 @@ class PostgresKeeper(Keeper):
     async def _prune(self, store: PostgresStore) -> None:
         while True:
             await store.drop_old_keys(self._settings.bounds.days_of_keys)
+            await store.drop_logs(await self.purged(await store.logged_executions()))
             await asyncio.sleep(PRUNE_SECONDS)
 
     async def reach(self, at_least: int) -> None:

@@ -156,6 +156,13 @@ class PostgresStore:
             return await self._commits.fetchval(BEAT, epoch) is not None
         return await self._commits.fetchval(ROUND, epoch, *_columns(items, clients)) is not None
 
+    async def logged_executions(self) -> list[int]:
+        return [row["execution"] for row in await self._fetch("select distinct execution from job_host_work_log")]
+
+    async def drop_logs(self, executions: Sequence[int]) -> None:
+        async with self._turn:
+            await self._reads.execute("delete from job_host_work_log where execution = any($1::bigint[])", list(executions))
+
     async def drop_old_keys(self, days: int) -> None:
         statement = "delete from job_host_request where kept_at < now() - make_interval(days => $1)"
         async with self._turn:

@@ -123,7 +123,14 @@ class SqliteStore:
         statement = "select work, execution, element, partition, log from work_log where execution = ? order by work"
         return [WorkLog(*row) for row in self._connection.execute(statement, (execution,))]
 
+    def logged_executions(self) -> list[int]:
+        return [row[0] for row in self._connection.execute("select distinct execution from work_log")]
+
+    def drop_logs(self, executions: Sequence[int]) -> None:
+        with self._connection:
+            self._connection.execute("begin")
+            self._connection.executemany("delete from work_log where execution = ?", [(one,) for one in executions])
+
     def drop_old_keys(self, days: int) -> None:
         with self._connection:
-            statement = "delete from request where kept_at < ? and reply is not null"
-            self._connection.execute(statement, (time.time() - days * 86_400,))
+            self._connection.execute("delete from request where kept_at < ?", (time.time() - days * 86_400,))

@@ -12,7 +12,7 @@ from typing import Any
 import asyncpg
 import pytest
 from conftest import NIGHTLY, SHORT
-from instances import Caller, Process, running
+from instances import Caller, Process, running, until
 
 from job_host.keeper import Fatal
 from job_host.settings import Bounds, ServeSettings
@@ -59,6 +59,26 @@ async def test_no_reply_leaves_before_its_commit(settings: Make) -> None:
         started, read, refused = await asyncio.gather(*tasks)
         await table.close()
     assert (started.status, read.told["batchStatus"], refused.name) == (201, "STARTING", "NoSuchJobExecutionException")
+
+
+async def test_a_refused_read_waits_for_what_it_saw(settings: Make) -> None:
+    """Reads that saw an operation which isn't kept yet are answered after it is, refused ones too."""
+    made = settings()
+    async with running(made) as instance:
+        caller, table = Caller(instance.url), await connect(made)
+        lock = table.transaction()
+        await lock.start()
+        await table.fetch(LEADER_ROW)
+        tasks = [asyncio.create_task(caller.start())]
+        await asyncio.sleep(0.2)
+        tasks.append(asyncio.create_task(caller.ask("GET", "/batch/jobinstances?jobName=short")))
+        tasks.append(asyncio.create_task(caller.ask("GET", "/batch/work")))
+        done, _ = await asyncio.wait(tasks, timeout=0.5)
+        assert not done
+        await lock.rollback()
+        started, refused, held = await asyncio.gather(*tasks)
+        await table.close()
+    assert (started.status, refused.name, held.told, held.operations) == (201, "NoSuchJobException", [], 1)
 
 
 async def test_a_commit_that_fails_while_a_read_waits(settings: Make) -> None:
@@ -295,3 +315,23 @@ async def test_a_leader_that_is_killed_is_replaced(settings: Make, tmp_path: Pat
     finally:
         one.kill()
         two.kill()
+
+
+async def test_logs_of_a_purged_job_instance_are_dropped(settings: Make) -> None:
+    made = settings()
+    async with running(made) as instance:
+        caller = Caller(instance.url)
+        for work in (1, 2):
+            await caller.start("short")
+            await caller.claim()
+            await caller.finish(work, log=f"log {work}")
+        await caller.ask("DELETE", "/batch/jobinstances/1")
+    async with running(made) as instance:
+        table = await connect(made)
+
+        async def is_dropped() -> bool:
+            return [row["work"] for row in await table.fetch("select work from job_host_work_log")] == [2]
+
+        await until(is_dropped)
+        await table.close()
+        assert (await Caller(instance.url).ask("GET", "/batch/jobexecutions/2/joblogs")).told[0]["log"] == "log 2"
