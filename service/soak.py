@@ -257,6 +257,7 @@ class Killer:
         await asyncio.to_thread(standby.promote)
         await asyncio.to_thread(primary.remove)
         fresh = await asyncio.to_thread(standby.make_standby, primary.port)
+        await asyncio.to_thread(standby.replicate_by_one)
         self._parts.servers = [standby, fresh]
 
 

@@ -97,16 +97,20 @@ class Chunk:
         await asyncio.gather(*(part.close() for part in self.parts.values()))
 
     async def _open(self) -> None:
-        """Finds all three, starts them, and opens the reader at its checkpoint; then the others."""
+        """Starts all three, and opens the reader at its checkpoint; then the others."""
+        await self._start()
+        for use, part in self.parts.items():
+            checkpoint = self._work["checkpoint"] if use == "reader" else None
+            await part.ask("open", checkpoint=checkpoint, partition=self._work.get("partition"))
+
+    async def _start(self) -> None:
+        """Looks up all names before the first process is started."""
         names = {use: self._work[use] for use in ("reader", "processor", "writer") if self._work[use] is not None}
         paths = {use: artifacts.find(self._folder, name) for use, name in names.items()}
         variables = artifacts.environment(self._claimed)
         for use, path in paths.items():
             process = await artifacts.spawn(path, self._folder, variables, has_input=True)
             self.parts[use] = Part(names[use], process, self._tail)
-        for use, part in self.parts.items():
-            checkpoint = self._work["checkpoint"] if use == "reader" else None
-            await part.ask("open", checkpoint=checkpoint, partition=self._work.get("partition"))
 
     async def _groups(self) -> Ended:
         """Group by group, until the reader ends or a stop is asked for."""

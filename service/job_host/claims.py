@@ -56,8 +56,11 @@ class ClaimDesk:
         while True:
             await self._wake.wait()
             self._wake.clear()
-            while self._waiting and await self._serve_first():
-                pass
+            await self._serve_all()
+
+    async def _serve_all(self) -> None:
+        while self._waiting and await self._serve_first():
+            pass
 
     async def _serve_first(self) -> bool:
         """Claims for the first who waits. Returns whether there may be more work."""

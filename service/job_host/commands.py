@@ -150,24 +150,29 @@ async def failed(client: Client, given: argparse.Namespace) -> int:
     console = Console(highlight=False)
     told = [one for one in await instances(client, given.job, given.count) if one["batchStatus"] == "FAILED"]
     for one in told:
-        execution = await execution_of(client, one["executionId"])
-        console.print(plain(f"{one['jobName']}: job execution {one['executionId']} is FAILED, exit status {one['exitStatus']}"))
-        for step in execution["stepExecutions"]:
-            if step["batchStatus"] == "FAILED":
-                console.print(plain(f"  step {step['stepName']}: exit status {step['exitStatus']}"))
-                await show_last_lines(client, console, one["executionId"], step["stepName"])
-        console.print(plain(f"  jobhost restart {one['executionId']}"))
+        await show_failed(client, console, one)
     if not told:
         console.print("no job instance is FAILED")
     return 0
 
 
-async def show_last_lines(client: Client, console: Console, execution: int, step: str) -> None:
-    logs = await client.read(f"/batch/jobexecutions/{execution}/joblogs")
-    for one in logs:
-        if one["stepName"] == step:
-            for line in one["log"].splitlines()[-LOG_LINES:]:
-                console.print(plain(f"    {line}"))
+async def show_failed(client: Client, console: Console, one: dict[str, Any]) -> None:
+    number = one["executionId"]
+    execution = await execution_of(client, number)
+    logs = await client.read(f"/batch/jobexecutions/{number}/joblogs")
+    console.print(plain(f"{one['jobName']}: job execution {number} is FAILED, exit status {one['exitStatus']}"))
+    steps = {step["stepName"]: step["exitStatus"] for step in execution["stepExecutions"] if step["batchStatus"] == "FAILED"}
+    if not steps and logs:  # a decision has no step execution
+        steps = {logs[-1]["stepName"]: "FAILED"}
+    for name, exit_status in steps.items():
+        console.print(plain(f"  step {name}: exit status {exit_status}"))
+        console.print(plain("".join(f"    {line}\n" for line in last_lines(logs, name))), end="")
+    console.print(plain(f"  jobhost restart {number}"))
+
+
+def last_lines(logs: list[dict[str, Any]], step: str) -> list[str]:
+    """The last lines of the logs of a step's work items."""
+    return [line for log in logs if log["stepName"] == step for line in log["log"].splitlines()[-LOG_LINES:]]
 
 
 async def show_log(client: Client, given: argparse.Namespace) -> int:
@@ -178,16 +183,20 @@ async def show_log(client: Client, given: argparse.Namespace) -> int:
 async def watch(client: Client, given: argparse.Namespace) -> int:
     """Shows a job execution until its end; without one, the newest job instances, until it is interrupted."""
     if given.execution is None:
-        with Live(console=Console(), refresh_per_second=4) as live:
-            while True:
-                live.update(instance_table(await instances(client, None, 20)))
-                await asyncio.sleep(POLL)
+        return await watch_all(client)
     with Live(console=Console(), refresh_per_second=4) as live:
         while True:
             told = await execution_of(client, given.execution)
             live.update(execution_table(told))
             if told["batchStatus"] not in UNFINISHED:
                 return STATUS[told["batchStatus"]]
+            await asyncio.sleep(POLL)
+
+
+async def watch_all(client: Client) -> int:
+    with Live(console=Console(), refresh_per_second=4) as live:
+        while True:
+            live.update(instance_table(await instances(client, None, 20)))
             await asyncio.sleep(POLL)
 
 

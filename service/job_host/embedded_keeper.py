@@ -83,15 +83,17 @@ class EmbeddedTerm(Term):
             await self._intent_made.wait()
             self._intent_made.clear()
             taken, self._intents = self._intents, []
-            clients = self.sessions.take_fresh()
-            items = [item for item, _ in taken]
-            try:
-                await self._beside.do(lambda store: store.intend(items, clients))
-                self._kept_sessions.update(item.session for item in items)
-            except Problem as problem:
-                self.fail(problem)
+            await self._keep_intents([item for item, _ in taken])
             for _, intended in taken:
                 intended.set_result(None)
+
+    async def _keep_intents(self, items: list[Item]) -> None:
+        clients = self.sessions.take_fresh()
+        try:
+            await self._beside.do(lambda store: store.intend(items, clients))
+            self._kept_sessions.update(item.session for item in items)
+        except Problem as problem:
+            self.fail(problem)
 
     async def keep(self, items: Sequence[Item]) -> None:
         if any(item.is_keyed or item.log is not None for item in items):

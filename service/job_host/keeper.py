@@ -180,8 +180,7 @@ async def first_of(waits: Sequence[Awaitable[Any]]) -> None:
     tasks = [asyncio.ensure_future(_ended(wait)) for wait in waits]
     try:
         done, _ = await asyncio.wait(tasks, return_when=asyncio.FIRST_COMPLETED)
-        for task in done:
-            task.result()
+        await asyncio.gather(*done)
     finally:
         for task in tasks:
             task.cancel()

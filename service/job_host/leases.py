@@ -42,5 +42,8 @@ class Leases:
         self._last_look = time.monotonic()
         while True:
             await asyncio.sleep(TICK)
-            for work in self.over(list(term.engine.held), time.monotonic()):
-                await term.lose(work)
+            await self._lose_over(term)
+
+    async def _lose_over(self, term: Term) -> None:
+        for work in self.over(list(term.engine.held), time.monotonic()):
+            await term.lose(work)

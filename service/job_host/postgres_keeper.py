@@ -29,6 +29,8 @@ log = logging.getLogger(__name__)
 POLL = 0.1
 CHUNK = 2_000
 RETRY = 0.25
+# So many beats a leader has before another instance takes it for gone.
+BEATS = 5
 PRUNE_SECONDS = 3_600.0
 
 
@@ -174,7 +176,7 @@ class PostgresKeeper(Keeper):
         await self._catch_up(store, engine)
         self._sessions = Sessions(await store.clients(), self._settings.bounds.clients)
         keys = {hash(slot) for slot in await store.request_keys()}
-        settings = TermSettings(self._settings.refuse_from)
+        settings = TermSettings(self._settings.refuse_from, min(1.0, self._settings.takeover_after / BEATS))
         term = PostgresTerm(store, epoch, keys, engine, self._sessions, settings, self._observers)
         self.term, self.role, self.epoch, self._bring = term, "leader", epoch, None
         self.leader_url = self._settings.advertise

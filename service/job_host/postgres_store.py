@@ -5,7 +5,7 @@ from __future__ import annotations
 import asyncio
 import json
 import logging
-from collections.abc import Sequence
+from collections.abc import Coroutine, Sequence
 from dataclasses import dataclass
 from typing import Any
 
@@ -43,7 +43,7 @@ class Leader:
     url: str
 
 
-async def connect_primary(dsns: Sequence[str], timeout: float) -> asyncpg.Connection:
+async def connect_primary(dsns: Sequence[str], timeout: float | None) -> asyncpg.Connection:
     """A connection to the first server that takes writes."""
     told = []
     for place, dsn in enumerate(dsns):
@@ -62,25 +62,32 @@ async def connect_primary(dsns: Sequence[str], timeout: float) -> asyncpg.Connec
 class PostgresStore:
     """Two connections to the primary: one commits rounds, the other reads. A store that failed is closed for good."""
 
-    def __init__(self, commits: asyncpg.Connection, reads: asyncpg.Connection) -> None:
+    def __init__(self, commits: asyncpg.Connection, reads: asyncpg.Connection, timeout: float) -> None:
         self._commits = commits
         self._reads = reads
+        self._timeout = timeout
         self._turn = asyncio.Lock()
 
     @classmethod
     async def open(cls, dsns: Sequence[str], timeout: float) -> PostgresStore:
         """Connects, and makes the tables if they aren't there. Raises NoPrimary, NotDurable or what LOST has."""
-        commits = await connect_primary(dsns, timeout)
+        commits = await connect_primary(dsns, None)
         try:
             await cls._check_durable(commits)
-            async with commits.transaction():
-                await commits.execute("select pg_advisory_xact_lock($1)", SCHEMA_LOCK)
-                await commits.execute(SCHEMA)
+            await cls._make_tables(commits)
             reads = await connect_primary(dsns, timeout)
         except BaseException:
             commits.terminate()
             raise
-        return cls(commits, reads)
+        return cls(commits, reads, timeout)
+
+    @staticmethod
+    async def _make_tables(connection: asyncpg.Connection) -> None:
+        """Makes the tables in one transaction. If they are there, no commit under way is waited for."""
+        if await connection.fetchval("select to_regclass('job_host_leader')") is None:
+            async with connection.transaction():
+                await connection.execute("select pg_advisory_xact_lock($1)", SCHEMA_LOCK)
+                await connection.execute(SCHEMA)
 
     @staticmethod
     async def _check_durable(connection: asyncpg.Connection) -> None:
@@ -139,22 +146,43 @@ class PostgresStore:
 
     async def take_over(self, seen: Leader, holder: str, url: str, catalogue: bytes | None) -> int | None:
         """The next epoch, if the leader's row is still as it was seen. The catalogue is kept with it."""
+        epoch = await self._or_drop(self._take_over(seen, holder, url, catalogue))
+        return int(epoch) if epoch is not None else None
+
+    async def _take_over(self, seen: Leader, holder: str, url: str, catalogue: bytes | None) -> Any:
         async with self._commits.transaction():
             epoch = await self._commits.fetchval(TAKE_OVER, holder, url, seen.epoch, seen.beats)
             if epoch is not None and catalogue is not None:
                 statement = "insert into job_host_catalogue (epoch, line) values ($1, $2)"
                 await self._commits.execute(statement, epoch, catalogue.decode())
-        return int(epoch) if epoch is not None else None
+        return epoch
+
+    async def _or_drop(self, commit: Coroutine[Any, Any, Any]) -> Any:
+        """Awaits a commit. If it takes too long, or isn't waited for any more, the connection is dropped.
+
+        It isn't cancelled: a server that waits for its standby would show what the standby hasn't.
+        """
+        task = asyncio.ensure_future(commit)
+        try:
+            done, _ = await asyncio.wait([task], timeout=self._timeout)
+            if not done:
+                raise asyncio.TimeoutError(f"no commit in {self._timeout:g} seconds")
+            return task.result()
+        finally:
+            if not task.done():
+                task.add_done_callback(lambda ended: ended.cancelled() or ended.exception())
+                self._commits.terminate()
 
     async def resign(self, epoch: int) -> None:
         """Lets another instance take over at once."""
-        await self._commits.execute(RESIGN, epoch)
+        async with self._turn:
+            await self._reads.execute(RESIGN, epoch)
 
     async def commit(self, epoch: int, items: Sequence[Item], clients: dict[str, int]) -> bool:
         """Keeps a round. Returns whether the epoch stands: if it doesn't, nothing was kept."""
         if not clients and all(item.number is None and not item.is_keyed and item.log is None for item in items):
-            return await self._commits.fetchval(BEAT, epoch) is not None
-        return await self._commits.fetchval(ROUND, epoch, *_columns(items, clients)) is not None
+            return await self._or_drop(self._commits.fetchval(BEAT, epoch)) is not None
+        return await self._or_drop(self._commits.fetchval(ROUND, epoch, *_columns(items, clients))) is not None
 
     async def logged_executions(self) -> list[int]:
         return [row["execution"] for row in await self._fetch("select distinct execution from job_host_work_log")]

@@ -187,9 +187,7 @@ class Term(ABC):
         begun = time.monotonic()
         await self.keep(items)
         self.observers.commit(time.monotonic() - begun, len(items))
-        for item in items:
-            if item.number is not None:
-                self.committed = item.number
+        self.committed = max([self.committed, *(item.number for item in items if item.number is not None)])
         for item in items:
             item.end()
         self._tell_readers()

@@ -58,10 +58,10 @@ def catalogue(tmp_path: Path) -> Path:
 
 @pytest.fixture
 def settings(dsn: str, catalogue: Path) -> Callable[..., ServeSettings]:
-    """Settings of a service over PostgreSQL that is ready to take over after half a second."""
+    """Settings of a service over PostgreSQL that takes over after a second and a half."""
 
     def make(**more: Any) -> ServeSettings:
-        given: dict[str, Any] = {"port": 0, "takeover_after": 0.5, "lease": 10.0, "postgres": (dsn,), **more}
+        given: dict[str, Any] = {"port": 0, "takeover_after": 1.5, "lease": 10.0, "postgres": (dsn,), **more}
         return ServeSettings(catalogue=given.pop("catalogue", catalogue), batchctl=find_batchctl(None), **given)
 
     return make

@@ -106,10 +106,15 @@ class PostgresServer:
         return standby
 
     def replicate_by_one(self) -> None:
-        """Each commit waits from now on until one standby has applied it."""
+        """Returns after each commit waits until one standby has applied it. The standby runs already."""
         self.sql("alter system set synchronous_standby_names = 'ANY 1 (*)'")
         self.sql("alter system set synchronous_commit = 'remote_apply'")
         self.sql("select pg_reload_conf()")
+        deadline = time.monotonic() + START_SECONDS
+        while self.sql("select count(*) from pg_stat_replication where sync_state in ('sync', 'quorum')") != "1":
+            if time.monotonic() > deadline:
+                raise TimeoutError("no standby has caught up")
+            time.sleep(0.05)
 
     def promote(self) -> None:
         self.sql("select pg_promote(true, 30)")

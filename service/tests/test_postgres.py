@@ -266,7 +266,7 @@ async def test_a_key_is_answered_alike_by_the_next_leader(settings: Make) -> Non
 
 
 def words(settings: ServeSettings) -> list[str]:
-    given = ["--catalogue", str(settings.catalogue), "--batchctl", settings.batchctl[0], "--takeover-after", "0.5"]
+    given = ["--catalogue", str(settings.catalogue), "--batchctl", settings.batchctl[0], "--takeover-after", "1.5"]
     return [*given, *(word for dsn in settings.postgres for word in ("--postgres", dsn))]
 
 

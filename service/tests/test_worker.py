@@ -180,7 +180,7 @@ async def test_a_stop_reaches_a_batchlet_that_allows_it(settings: Make, night: P
 
 
 def words_of(made: ServeSettings) -> list[str]:
-    given = ["--catalogue", str(made.catalogue), "--batchctl", made.batchctl[0], "--takeover-after", "0.5", "--lease", "10"]
+    given = ["--catalogue", str(made.catalogue), "--batchctl", made.batchctl[0], "--takeover-after", "1.5", "--lease", "10"]
     return [*given, "--postgres", made.postgres[0]]
 
 
