@@ -16,6 +16,9 @@ from job_host.settings import DEFAULT_PORT, ServeSettings, find_batchctl
 # A package beside this one's modules brings `jobhost catalogue ..`: its `command_line` has `main(words)`.
 CATALOGUE_TOOLS = "job_host.catalogue.command_line"
 
+# A slot that claims has a request in hand, and the service allows 64 of one client: the others are for heartbeats and reports.
+MOST_SLOTS = 32
+
 Commands = argparse._SubParsersAction  # argparse has no public name for it
 
 
@@ -68,7 +71,7 @@ def add_worker(subcommands: Commands[argparse.ArgumentParser]) -> None:
     parser = subcommands.add_parser("worker", help="runs work items by the executables of a folder")
     commands.add_address(parser)
     parser.add_argument("--artifacts", type=Path, required=True, metavar="DIR", help="the folder of executables")
-    parser.add_argument("--slots", type=int, default=1, help="how many work items run at a time")
+    parser.add_argument("--slots", type=int, default=1, help=f"how many work items run at a time, up to {MOST_SLOTS}")
     parser.set_defaults(run=run_worker)
 
 
@@ -76,8 +79,8 @@ def run_worker(given: argparse.Namespace) -> int:
     from job_host.worker import work, worker_address
 
     logging.basicConfig(level=logging.WARNING, format="%(asctime)s jobhost worker: %(message)s")
-    if not given.artifacts.is_dir() or given.slots < 1:
-        print("jobhost worker: --artifacts is a folder, and --slots at least 1", file=sys.stderr)
+    if not given.artifacts.is_dir() or not 1 <= given.slots <= MOST_SLOTS:
+        print(f"jobhost worker: --artifacts is a folder, and --slots 1 to {MOST_SLOTS}", file=sys.stderr)
         return 2
     asyncio.run(work(worker_address(commands.address_of(given), given.client), given.artifacts.resolve(), given.slots))
     return 0

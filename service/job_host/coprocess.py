@@ -4,8 +4,11 @@ from __future__ import annotations
 
 import asyncio
 import logging
+import os
+import signal
 from collections import deque
 from collections.abc import Callable, Sequence
+from contextlib import suppress
 from typing import cast
 
 log = logging.getLogger(__name__)
@@ -14,7 +17,11 @@ Hearer = Callable[[bytes | None], None]
 
 
 class CoProcessEnded(Exception):
-    """The co-process has ended, so that a line has no reply."""
+    """The co-process has ended, so that a line has no reply. `status` is its exit status, if that is known."""
+
+    def __init__(self, told: str, status: int | None = None) -> None:
+        super().__init__(told)
+        self.status = status
 
 
 class CatalogueRefused(Exception):
@@ -37,7 +44,6 @@ class CoProcess(asyncio.SubprocessProtocol):
         self._transport: asyncio.SubprocessTransport | None = None
         self._stdin: asyncio.WriteTransport | None = None
         self._errors = b""
-        self._has_told_all = False
         self.has_ended = False
         self.ended: asyncio.Future[int | None] = asyncio.get_running_loop().create_future()
 
@@ -77,26 +83,13 @@ class CoProcess(asyncio.SubprocessProtocol):
             else:
                 log.error("batchctl wrote a line that nobody waits for: %r", line[:200])
 
-    def pipe_connection_lost(self, fd: int, exc: Exception | None) -> None:
-        if fd == 1:
-            self._has_told_all = True
-            self._end()
-
-    def process_exited(self) -> None:
-        self._end()
-
-    def _end(self) -> None:
-        """Tells every hearer that no reply comes. What the program wrote before its end was heard already."""
-        if not self._has_told_all or self.status is None or self.has_ended:
-            return
+    def connection_lost(self, exc: Exception | None) -> None:
+        """It has ended, and all that it wrote was heard. No reply comes any more."""
         self.has_ended = True
         if not self.ended.done():
             self.ended.set_result(self.status)
         while self._hearers:
             self._hearers.popleft()(None)
-
-    def connection_lost(self, exc: Exception | None) -> None:
-        self._end()
 
     @property
     def status(self) -> int | None:
@@ -142,7 +135,7 @@ class CoProcess(asyncio.SubprocessProtocol):
             if future.done():
                 return
             if reply is None:
-                future.set_exception(CoProcessEnded(f"batchctl ended with status {self.status}: {self.errors}"))
+                future.set_exception(CoProcessEnded(f"batchctl ended with status {self.status}: {self.errors}", self.status))
                 return
             replies.append(reply)
             if len(replies) == len(lines):
@@ -159,8 +152,10 @@ class CoProcess(asyncio.SubprocessProtocol):
 
     def kill(self) -> None:
         """Ends it at once. What it knows is lost."""
-        if self._transport is not None and self._transport.get_returncode() is None:
-            self._transport.kill()
+        if self._transport is not None and self.status is None:
+            # Not by the transport: it would look for the status itself, and take it from who waits for it.
+            with suppress(ProcessLookupError):
+                os.kill(self._transport.get_pid(), signal.SIGKILL)
 
     async def finish(self) -> int | None:
         """Closes its input, and waits for its end."""

@@ -30,6 +30,8 @@ T = TypeVar("T")
 
 CHUNK = 5_000
 RETRY = 0.25
+# batchctl's exit status if it doesn't know its words.
+REFUSED_WORDS = 2
 PRUNE_SECONDS = 3_600.0
 IN_USE_SECONDS = 10.0
 LOG_NAME = "history.log"
@@ -168,6 +170,10 @@ class EmbeddedKeeper(Keeper):
             except CatalogueRefused as refused:
                 if b"LogInUse" not in refused.fault:
                     raise Fatal(f"{self._log}: {refused}") from refused
+            except CoProcessEnded as ended:
+                if ended.status == REFUSED_WORDS:
+                    raise Fatal(f"{words[0]} has no `script --log`: {ended}") from ended
+                raise
             await asyncio.sleep(RETRY)
         raise Fatal(f"{self._log} is in use by another program")
 
