@@ -1,0 +1,114 @@
+"""What a client asks for, and what became of it."""
+
+from __future__ import annotations
+
+import asyncio
+from collections.abc import Awaitable, Callable
+from dataclasses import dataclass, field
+from typing import Any
+
+from job_host.lines import Members, read
+
+SERVICE = ""
+SERVICE_SESSION = 1
+
+
+def nobody_left() -> bool:
+    return False
+
+
+@dataclass(frozen=True)
+class Call:
+    """A command of a client.
+
+    `resolve` gives members that a query tells. With `wait`, a claim that is answered Nothing is made again until so many
+    seconds are over, or until the client is gone.
+    """
+
+    client: str
+    do: str
+    members: Members
+    key: str | None = None
+    fingerprint: bytes = b""
+    resolve: Callable[[], Awaitable[Members]] | None = None
+    log: str | None = None
+    wait: float = 0.0
+    is_gone: Callable[[], bool] = nobody_left
+    keeps_nothing: bool = True
+
+
+@dataclass(frozen=True)
+class WorkLog:
+    """The last of what a worker handed in as the log of a work item."""
+
+    work: int
+    execution: int
+    element: str
+    partition: int | None
+    text: str
+
+
+@dataclass(frozen=True)
+class Kept:
+    """The first reply to a call, the answers that belong to it, and how many operations it saw."""
+
+    reply: bytes
+    answers: tuple[bytes, ...]
+    seen: int
+
+    def told(self) -> dict[str, Any]:
+        return read(self.reply)
+
+
+@dataclass(frozen=True)
+class KeptRequest:
+    """What is kept of a request key: the request's fingerprint, and its first reply."""
+
+    fingerprint: bytes
+    kept: Kept
+
+
+def _fail(future: asyncio.Future[Any], problem: Exception) -> None:
+    """Ends a future, which nobody need await."""
+    if not future.done():
+        future.set_exception(problem)
+        future.exception()
+
+
+@dataclass
+class Item:
+    """A call on its way: handed to the co-process, answered, then kept.
+
+    It has no call if it only asks whether the leader leads.
+    """
+
+    call: Call | None
+    session: int
+    line: bytes = b""
+    moment: int = 0
+    reply: bytes = b""
+    number: int | None = None
+    seen: int = 0
+    answers: tuple[bytes, ...] = ()
+    is_ready: bool = False
+    log: WorkLog | None = None
+    heard: asyncio.Future[bytes] = field(default_factory=lambda: asyncio.get_running_loop().create_future())
+    done: asyncio.Future[Kept] = field(default_factory=lambda: asyncio.get_running_loop().create_future())
+
+    @property
+    def is_keyed(self) -> bool:
+        """Whether the reply is kept beside a request key."""
+        if self.call is None or self.call.key is None:
+            return False
+        return self.call.keeps_nothing or not self.reply.startswith(b'{"nothing":')
+
+    def kept(self) -> Kept:
+        return Kept(self.reply, self.answers, self.seen)
+
+    def end(self) -> None:
+        if not self.done.done():
+            self.done.set_result(self.kept())
+
+    def fail(self, problem: Exception) -> None:
+        _fail(self.heard, problem)
+        _fail(self.done, problem)

@@ -1,0 +1,156 @@
+"""A chunk by executables: reader, processor and writer answer one line of JSON to each line of JSON.
+
+The groups, the metrics and what a fault comes to are those of `run_item` (docs/WORKERS.md, "What is done with a work item").
+"""
+
+from __future__ import annotations
+
+import asyncio
+import json
+from collections.abc import Awaitable, Callable, Mapping
+from contextlib import suppress
+from pathlib import Path
+from typing import Any
+
+from job_host import artifacts
+from job_host.artifacts import Ended, NoArtifact, Tail
+
+CHECKPOINT_BYTES = 65_536
+CLOSE_SECONDS = 10.0
+
+# Reports a group. Returns whether a stop was asked for.
+Report = Callable[[str, dict[str, int]], Awaitable[bool]]
+
+
+class Fault(Exception):
+    """An artifact said `fault`, ended, or answered what isn't its turn."""
+
+
+class Part:
+    """A reader, a processor or a writer: one process."""
+
+    def __init__(self, name: str, process: asyncio.subprocess.Process, tail: Tail) -> None:
+        self._name = name
+        self.process = process
+        self._errors = asyncio.get_running_loop().create_task(artifacts.drain(process.stderr, tail))
+
+    async def ask(self, do: str, **members: Any) -> dict[str, Any]:
+        """Sends one line, and returns the answer."""
+        assert self.process.stdin is not None and self.process.stdout is not None
+        try:
+            self.process.stdin.write(json.dumps({"do": do, **members}, separators=(",", ":")).encode() + b"\n")
+            await self.process.stdin.drain()
+            line = await self.process.stdout.readline()
+        except (OSError, ValueError) as fault:
+            raise Fault(f"{self._name}: {do}: {fault}") from fault
+        if not line:
+            raise Fault(f"{self._name}: it ended before it answered {do}")
+        return self._read(do, line)
+
+    def _read(self, do: str, line: bytes) -> dict[str, Any]:
+        try:
+            told = json.loads(line)
+        except (ValueError, RecursionError) as fault:
+            raise Fault(f"{self._name}: the answer to {do} is no JSON") from fault
+        if not isinstance(told, dict):
+            raise Fault(f"{self._name}: the answer to {do} is no object")
+        if "fault" in told:
+            raise Fault(f"{self._name}: {do}: {told['fault']}")
+        return told
+
+    async def close(self) -> None:
+        """Ends its input. A part that doesn't end by itself is killed."""
+        if self.process.stdin is not None:
+            self.process.stdin.close()
+        with suppress(asyncio.TimeoutError):
+            await asyncio.wait_for(self.process.wait(), CLOSE_SECONDS)
+        await artifacts.kill(self.process)
+        await self._errors
+
+
+class Chunk:
+    """One work item of a chunk."""
+
+    def __init__(self, folder: Path, claimed: Mapping[str, Any], tail: Tail, report: Report) -> None:
+        self._folder = folder
+        self._claimed = claimed
+        self._work = claimed["work"]
+        self._tail = tail
+        self._report = report
+        self.parts: dict[str, Part] = {}
+        self.stop_asked = False
+        self._is_at_end = False
+
+    async def run(self) -> Ended:
+        try:
+            await self._open()
+        except (Fault, NoArtifact, OSError) as fault:
+            self._tail.say(str(fault))
+            return Ended("FAILED")
+        try:
+            return await self._groups()
+        except Fault as fault:
+            self._tail.say(str(fault))
+            return Ended("FAILED", None, {"ROLLBACK_COUNT": 1})
+
+    async def close(self) -> None:
+        await asyncio.gather(*(part.close() for part in self.parts.values()))
+
+    async def _open(self) -> None:
+        """Starts all three, and opens the reader at its checkpoint; then the others."""
+        await self._start()
+        for use, part in self.parts.items():
+            checkpoint = self._work["checkpoint"] if use == "reader" else None
+            await part.ask("open", checkpoint=checkpoint, partition=self._work.get("partition"))
+
+    async def _start(self) -> None:
+        """Looks up all names before the first process is started."""
+        names = {use: self._work[use] for use in ("reader", "processor", "writer") if self._work[use] is not None}
+        paths = {use: artifacts.find(self._folder, name) for use, name in names.items()}
+        variables = artifacts.environment(self._claimed)
+        for use, path in paths.items():
+            process = await artifacts.spawn(path, self._folder, variables, has_input=True)
+            self.parts[use] = Part(names[use], process, self._tail)
+
+    async def _groups(self) -> Ended:
+        """Group by group, until the reader ends or a stop is asked for."""
+        while not self.stop_asked:
+            group = await self._read_group()
+            if not group:
+                return Ended("COMPLETED")
+            kept = await self._process(group)
+            if kept:
+                await self.parts["writer"].ask("write", items=kept)
+            metrics = {"READ_COUNT": len(group), "FILTER_COUNT": len(group) - len(kept), "WRITE_COUNT": len(kept)}
+            if await self._report(await self._checkpoint(), {**metrics, "COMMIT_COUNT": 1}):
+                return Ended("STOPPED")
+            if self._is_at_end:
+                return Ended("COMPLETED")
+        return Ended("STOPPED")
+
+    async def _read_group(self) -> list[Any]:
+        group: list[Any] = []
+        while len(group) < self._work["item-count"]:
+            told = await self.parts["reader"].ask("read")
+            if "item" not in told:
+                if told.get("end") is not True:
+                    raise Fault(f"{self._work['reader']}: read is answered an item, or that it is the end")
+                self._is_at_end = True
+                break
+            group.append(told["item"])
+        return group
+
+    async def _process(self, group: list[Any]) -> list[Any]:
+        """The items that are written. A processor that answers no item filters it out."""
+        if "processor" not in self.parts:
+            return group
+        told = [await self.parts["processor"].ask("process", item=item) for item in group]
+        return [one["item"] for one in told if one.get("item") is not None]
+
+    async def _checkpoint(self) -> str:
+        told = (await self.parts["reader"].ask("checkpoint")).get("checkpoint")
+        if not isinstance(told, str):
+            raise Fault(f"{self._work['reader']}: checkpoint is answered a text")
+        if len(told.encode("utf-8", "surrogatepass")) > CHECKPOINT_BYTES:
+            raise Fault(f"{self._work['reader']}: the checkpoint has more than {CHECKPOINT_BYTES} bytes")
+        return told

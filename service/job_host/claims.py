@@ -1,0 +1,90 @@
+"""Claims that wait for work: one claim at a time is made for those who wait, in their order."""
+
+from __future__ import annotations
+
+import asyncio
+from collections import deque
+from collections.abc import Awaitable, Callable
+from dataclasses import dataclass, field, replace
+
+from job_host.calls import Call, Item, Kept
+from job_host.problems import Problem
+
+Begin = Callable[[Call], Awaitable[Item]]
+
+
+@dataclass(eq=False)
+class Waiter:
+    call: Call
+    is_late: bool = False
+    served: asyncio.Future[Item | None] = field(default_factory=lambda: asyncio.get_running_loop().create_future())
+
+
+class ClaimDesk:
+    """Serves waiting claims after each operation that may have made work, until a claim is answered Nothing."""
+
+    def __init__(self, begin: Begin) -> None:
+        self._begin = begin
+        self._waiting: deque[Waiter] = deque()
+        self._wake = asyncio.Event()
+
+    def wake(self) -> None:
+        self._wake.set()
+
+    @property
+    def waiting(self) -> int:
+        return len(self._waiting)
+
+    async def claim(self, call: Call) -> Kept:
+        """Waits for work. After `call.wait` seconds a last claim is made, and its reply counts."""
+        waiter = Waiter(replace(call, keeps_nothing=False))
+        self._waiting.append(waiter)
+        self.wake()
+        await asyncio.wait([waiter.served], timeout=call.wait)
+        waiter.is_late = True
+        item = None
+        if waiter in self._waiting:
+            self._waiting.remove(waiter)
+        else:
+            item = await waiter.served
+        if item is None and call.is_gone():
+            raise Problem("ClientGone", 408, "the client that waited is gone")
+        return await (item or await self._begin(call)).done
+
+    async def serve(self) -> None:
+        """Serves for ever. It ends with the exception by which a claim failed."""
+        while True:
+            await self._wake.wait()
+            self._wake.clear()
+            await self._serve_all()
+
+    async def _serve_all(self) -> None:
+        while self._waiting and await self._serve_first():
+            pass
+
+    async def _serve_first(self) -> bool:
+        """Claims for the first who waits. Returns whether there may be more work."""
+        waiter = self._waiting.popleft()
+        if waiter.call.is_gone():
+            waiter.served.set_result(None)
+            return True
+        try:
+            item = await self._begin(waiter.call)
+            reply = await item.heard
+        except Exception as problem:
+            waiter.served.set_exception(problem)
+            return True
+        if reply.startswith(b'{"nothing":'):
+            if waiter.is_late:
+                waiter.served.set_result(None)
+            else:
+                self._waiting.appendleft(waiter)
+            return False
+        waiter.served.set_result(item)
+        return True
+
+    def fail(self, problem: Exception) -> None:
+        while self._waiting:
+            waiter = self._waiting.popleft()
+            if not waiter.served.done():
+                waiter.served.set_exception(problem)

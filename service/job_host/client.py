@@ -1,0 +1,136 @@
+"""A client of the service: it tries instances in turn, asks again by request key, and never reads less than it has seen."""
+
+from __future__ import annotations
+
+import asyncio
+import json
+import ssl
+import time
+import uuid
+from collections.abc import Sequence
+from dataclasses import dataclass, field
+from pathlib import Path
+from types import TracebackType
+from typing import Any
+
+import aiohttp
+
+from job_host.problems import OPERATIONS
+from job_host.requests import AT_LEAST, CLIENT, REQUEST_KEY
+
+PAUSE = 0.2
+LONGEST_PAUSE = 2.0
+ASK_SECONDS = 30.0
+# Statuses of an instance that can't answer now, though another one may, or it itself later.
+PASSING = (408, 425, 429, 502, 503, 504)
+# Problems of status 503 that don't pass.
+LASTING = ("HistoryAlmostFull", "RepositoryFull")
+
+
+class Refused(Exception):
+    """A problem document, by its name."""
+
+    def __init__(self, status: int, document: dict[str, Any]) -> None:
+        self.status = status
+        self.name = str(document.get("title", status))
+        self.detail = str(document.get("detail", ""))
+        super().__init__(f"{self.name}: {self.detail}" if self.detail else self.name)
+
+
+class Unreachable(Exception):
+    """No instance answered in time. The text says what the last one did."""
+
+
+@dataclass(frozen=True)
+class Address:
+    """Where a service is, and as whom it is called. `patience` is for how many seconds it is tried."""
+
+    urls: tuple[str, ...]
+    client: str
+    token: str | None = None
+    authority: Path | None = None
+    patience: float = 30.0
+    headers: dict[str, str] = field(default_factory=dict)
+
+
+class Client:
+    """An asynchronous client. One object is one client, whose reads don't go back."""
+
+    def __init__(self, address: Address) -> None:
+        self._address = address
+        self._seen = 0
+        self._place = 0
+        self._session: aiohttp.ClientSession | None = None
+
+    async def __aenter__(self) -> Client:
+        headers = {CLIENT: self._address.client, **self._address.headers}
+        if self._address.token is not None:
+            headers["Authorization"] = f"Bearer {self._address.token}"
+        tls = ssl.create_default_context(cafile=self._address.authority) if self._address.authority else None
+        connector = aiohttp.TCPConnector(ssl=tls, limit=0) if tls else aiohttp.TCPConnector(limit=0)
+        self._session = aiohttp.ClientSession(headers=headers, connector=connector)
+        return self
+
+    async def __aexit__(
+        self, kind: type[BaseException] | None, fault: BaseException | None, trace: TracebackType | None
+    ) -> None:
+        if self._session is not None:
+            await self._session.close()
+
+    async def read(self, path: str) -> Any:
+        return await self._until_answered("GET", path, None, None, 0.0, self._address.patience)
+
+    async def operate(self, method: str, path: str, body: Any = None, wait: float = 0.0, patience: float | None = None) -> Any:
+        """Makes one operation, by one request key for all attempts, so that it is made once. `wait` is how long it may poll."""
+        longest = self._address.patience if patience is None else patience
+        return await self._until_answered(method, path, body, uuid.uuid4().hex, wait, longest)
+
+    async def _until_answered(self, method: str, path: str, body: Any, key: str | None, wait: float, patience: float) -> Any:
+        deadline, pause, fault = time.monotonic() + patience + wait, PAUSE, "nothing was tried"
+        while True:
+            try:
+                return await self._once(method, path, body, key, wait)
+            except Refused as refused:
+                if refused.status not in PASSING or refused.name in LASTING:
+                    raise
+                fault = str(refused)
+            except (aiohttp.ClientError, asyncio.TimeoutError, OSError) as failed:
+                fault = f"{type(failed).__name__} {failed}"
+            if time.monotonic() + pause > deadline:
+                raise Unreachable(f"{method} {path}: {fault}")
+            self._place += 1
+            await asyncio.sleep(pause)
+            pause = min(pause * 1.5, LONGEST_PAUSE)
+
+    async def _once(self, method: str, path: str, body: Any, key: str | None, wait: float) -> Any:
+        assert self._session is not None
+        headers = {AT_LEAST: str(self._seen)} if key is None else {REQUEST_KEY: key}
+        url = self._address.urls[self._place % len(self._address.urls)].rstrip("/") + path
+        limit = aiohttp.ClientTimeout(total=ASK_SECONDS + wait, sock_connect=5.0)
+        async with self._session.request(method, url, json=body, headers=headers, timeout=limit) as response:
+            text = await response.text()
+            if response.status >= 400:
+                raise Refused(response.status, document_of(text))
+            self._seen = max(self._seen, int(response.headers.get(OPERATIONS, "0")))
+            return json.loads(text) if response.content_type == "application/json" else text
+
+
+def document_of(text: str) -> dict[str, Any]:
+    try:
+        value = json.loads(text)
+    except ValueError:
+        return {}
+    return value if isinstance(value, dict) else {}
+
+
+def read_token(path: Path | None) -> str | None:
+    """A token from a file, so that it stands in no list of processes."""
+    return path.read_text().strip() if path is not None else None
+
+
+def urls_of(text: str) -> tuple[str, ...]:
+    """URLs of the instances of one service, with commas between them."""
+    return tuple(url.strip() for url in text.split(",") if url.strip())
+
+
+__all__: Sequence[str] = ["Address", "Client", "Refused", "Unreachable", "read_token", "urls_of"]

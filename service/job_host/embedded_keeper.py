@@ -1,0 +1,261 @@
+"""Keeping on one machine: operations in the log of batchctl, everything else in an SQLite file beside it."""
+
+from __future__ import annotations
+
+import asyncio
+import logging
+import sqlite3
+from collections.abc import Callable, Sequence
+from concurrent.futures import ThreadPoolExecutor
+from contextlib import suppress
+from typing import Any, TypeVar
+
+from job_host import job_catalogue, log_file
+from job_host.calls import Call, Item, Kept, KeptRequest, WorkLog
+from job_host.coprocess import CatalogueRefused, CoProcess, CoProcessEnded
+from job_host.engine import Engine
+from job_host.follow_ups import follow_ups
+from job_host.keeper import Fatal, Keeper, check_catalogue, first_of
+from job_host.leases import Leases
+from job_host.lines import query, read
+from job_host.problems import Problem, unavailable
+from job_host.sessions import Sessions
+from job_host.settings import ServeSettings
+from job_host.sqlite_store import OpenRequest, SqliteStore
+from job_host.term import Observers, Term, TermSettings, not_yet
+
+log = logging.getLogger(__name__)
+
+T = TypeVar("T")
+
+CHUNK = 5_000
+RETRY = 0.25
+# batchctl's exit status if it doesn't know its words.
+REFUSED_WORDS = 2
+PRUNE_SECONDS = 3_600.0
+IN_USE_SECONDS = 10.0
+LOG_NAME = "history.log"
+STORE_NAME = "beside.sqlite"
+
+
+class Beside:
+    """The SQLite file, by a thread of its own."""
+
+    def __init__(self, store: SqliteStore, thread: ThreadPoolExecutor) -> None:
+        self._store = store
+        self._thread = thread
+
+    async def do(self, call: Callable[[SqliteStore], T]) -> T:
+        """Calls it in its thread. Raises a problem if the disk fails."""
+        try:
+            return await asyncio.get_running_loop().run_in_executor(self._thread, lambda: call(self._store))
+        except sqlite3.Error as fault:
+            raise unavailable("StoreLost", f"{type(fault).__name__}: {fault}") from fault
+
+
+class EmbeddedTerm(Term):
+    """Keys, lines and moments are on the disk before lines are handed over; many in one commit while the last is under way."""
+
+    def __init__(self, beside: Beside, *others: Any) -> None:
+        super().__init__(*others)
+        self._beside = beside
+        self._intents: list[tuple[Item, asyncio.Future[None]]] = []
+        self._intent_made = asyncio.Event()
+        self._kept_sessions = set(self.sessions.numbers())
+
+    async def find(self, session: int, key: str) -> KeptRequest | None:
+        return await self._beside.do(lambda store: store.request(session, key))
+
+    async def begin(self, call: Call) -> Item:
+        self.check(call)
+        item = self.item_of(call)
+        if call.key is not None or item.session not in self._kept_sessions:
+            intended: asyncio.Future[None] = asyncio.get_running_loop().create_future()
+            self._intents.append((item, intended))
+            self._intent_made.set()
+            await intended
+        async with self.engine.turn:
+            self.check(call)
+            self.hand(item)
+        return item
+
+    async def keep_intents(self) -> None:
+        """Keeps what is about to be handed over, for ever."""
+        while True:
+            await self._intent_made.wait()
+            self._intent_made.clear()
+            taken, self._intents = self._intents, []
+            await self._keep_intents([item for item, _ in taken])
+            for _, intended in taken:
+                intended.set_result(None)
+
+    async def _keep_intents(self, items: list[Item]) -> None:
+        clients = self.sessions.take_fresh()
+        try:
+            await self._beside.do(lambda store: store.intend(items, clients))
+            self._kept_sessions.update(item.session for item in items)
+        except Problem as problem:
+            self.fail(problem)
+
+    async def keep(self, items: Sequence[Item]) -> None:
+        if any(item.is_keyed or item.log is not None for item in items):
+            await self._beside.do(lambda store: store.answer(items))
+
+
+class EmbeddedKeeper(Keeper):
+    """One instance, which always leads."""
+
+    def __init__(self, settings: ServeSettings, leases: Leases, observers: Observers) -> None:
+        super().__init__(leases)
+        self._settings = settings
+        self._observers = observers
+        self._file = job_catalogue.read_file(settings.catalogue)
+        self._log = settings.data / LOG_NAME
+        self._sessions = Sessions({}, settings.bounds.clients)
+        self._beside: Beside | None = None
+        self._closing = asyncio.Event()
+
+    async def run(self) -> None:
+        self._settings.data.mkdir(parents=True, exist_ok=True)
+        while not self._closing.is_set():
+            try:
+                await self._serve_once()
+            except (CoProcessEnded, Problem) as fault:
+                log.warning("begins again: %s", fault)
+            except job_catalogue.CatalogueChanged as fault:
+                raise Fatal(f"CatalogueChanged: {fault}") from fault
+            except Fatal:
+                raise
+            except Exception:
+                log.exception("begins again")
+            with suppress(asyncio.TimeoutError):
+                await asyncio.wait_for(self._closing.wait(), RETRY)
+
+    async def _serve_once(self) -> None:
+        """Serves until something fails. What fails throws the co-process away, and its log is replayed."""
+        self.role = "starting"
+        process = await self._start()
+        thread = ThreadPoolExecutor(1, "beside")
+        store: SqliteStore | None = None
+        try:
+            store = SqliteStore(self._settings.data / STORE_NAME)
+            self._beside = Beside(store, thread)
+            engine = Engine(process)
+            self.engine = engine
+            await self._lead(engine, self._beside, await self._replay(engine, store))
+        except sqlite3.Error as fault:
+            raise unavailable("StoreLost", f"{type(fault).__name__}: {fault}") from fault
+        finally:
+            self.role, self.term, self.engine, self._beside = "starting", None, None, None
+            await self._end(process)
+            thread.shutdown(wait=True)
+            if store is not None:
+                store.close()
+
+    async def _end(self, process: CoProcess) -> None:
+        """Lets the co-process end by itself, so that its log has a clean end; else it is killed."""
+        with suppress(asyncio.TimeoutError):
+            await asyncio.wait_for(process.finish(), 5.0)
+        await process.close()
+
+    async def _start(self) -> CoProcess:
+        """The co-process over its log. One that is still in use by a program that ends is waited for."""
+        kept = log_file.catalogue_of(self._log)
+        await check_catalogue(self._settings.batchctl, self._file)
+        catalogue = self._file if kept is None else job_catalogue.merged(kept, self._file)
+        words = [*self._settings.batchctl, "script", "--log", str(self._log)]
+        for _ in range(int(IN_USE_SECONDS / RETRY)):
+            try:
+                return await CoProcess.start(words, catalogue)
+            except CatalogueRefused as refused:
+                if b"LogInUse" not in refused.fault:
+                    raise Fatal(f"{self._log}: {refused}") from refused
+            except CoProcessEnded as ended:
+                if ended.status == REFUSED_WORDS:
+                    raise Fatal(f"{words[0]} has no `script --log`: {ended}") from ended
+                raise
+            await asyncio.sleep(RETRY)
+        raise Fatal(f"{self._log} is in use by another program")
+
+    async def _replay(self, engine: Engine, store: SqliteStore) -> list[tuple[OpenRequest, Kept | None]]:
+        """Replays the log in a program of its own. It tells which work items are busy, and the replies of open request keys."""
+        catalogue = log_file.catalogue_of(self._log) or self._file
+        requests = {request.moment: request for request in store.open_requests()}
+        settled: dict[int, Kept] = {}
+        replayer = await CoProcess.start([*self._settings.batchctl, "script"], catalogue)
+        lines: list[bytes] = []
+        try:
+            for record in log_file.records(self._log):
+                if not record.is_catalogue:
+                    lines.append(record.line)
+                if len(lines) == CHUNK:
+                    await self._replay_chunk(replayer, engine, lines, requests, settled)
+                    lines = []
+            await self._replay_chunk(replayer, engine, lines, requests, settled)
+            await self._compare(replayer, engine)
+        finally:
+            await replayer.close()
+        return [(request, settled.get(moment)) for moment, request in requests.items()]
+
+    async def _replay_chunk(
+        self,
+        replayer: CoProcess,
+        engine: Engine,
+        lines: list[bytes],
+        requests: dict[int, OpenRequest],
+        settled: dict[int, Kept],
+    ) -> None:
+        replies = await replayer.ask_all(lines)
+        for line, reply in zip(lines, replies, strict=True):
+            moment = engine.enter(line, reply)
+            request = requests.get(moment)
+            if request is not None and request.line == line:
+                queries = follow_ups(read(line)["do"], read(reply))
+                settled[moment] = Kept(reply, tuple(await engine.process.ask_all(queries)), engine.entered)
+
+    @staticmethod
+    async def _compare(replayer: CoProcess, engine: Engine) -> None:
+        """Both programs have to tell the same of the history: else the file wasn't read as batchctl reads it."""
+        queries = [query("status_counts"), query("job_names")]
+        theirs, ours = await engine.process.ask_all(queries), await replayer.ask_all(queries)
+        if theirs != ours:
+            raise Fatal(f"a replay of the log comes to {ours!r}, and batchctl to {theirs!r}")
+
+    async def _lead(self, engine: Engine, beside: Beside, settled: list[tuple[OpenRequest, Kept | None]]) -> None:
+        for request, kept in settled:
+            await beside.do(lambda store, one=request, what=kept: store.settle(one, what))  # type: ignore[misc]
+        self._sessions = Sessions(await beside.do(lambda store: store.clients()), self._settings.bounds.clients)
+        settings = TermSettings(self._settings.refuse_from)
+        term = EmbeddedTerm(beside, engine, self._sessions, settings, self._observers)
+        self.term, self.role, self.epoch = term, "leader", self.epoch + 1
+        log.warning("serves after %d operations", engine.entered)
+        tasks = [term.keep_intents(), term.commit_rounds(), term.desk.serve(), self.leases.watch(term), self._prune(beside)]
+        try:
+            await first_of([*tasks, engine.process.wait(), self._closing.wait()])
+        finally:
+            self.role, self.term, self.engine = "starting", None, None
+            term.fail(unavailable("Starting", "this instance ends, or begins again"))
+
+    async def _prune(self, beside: Beside) -> None:
+        days = self._settings.bounds.days_of_keys
+        while True:
+            await beside.do(lambda store: store.drop_old_keys(days))
+            gone = await self.purged(await beside.do(lambda store: store.logged_executions()))
+            await beside.do(lambda store, gone=gone: store.drop_logs(gone))  # type: ignore[misc]
+            await asyncio.sleep(PRUNE_SECONDS)
+
+    async def reach(self, at_least: int) -> None:
+        if at_least > self.reading().entered:
+            raise not_yet(at_least, self.operations)
+
+    async def logs(self, execution: int) -> list[WorkLog]:
+        if self._beside is None:
+            raise unavailable("Starting", "the history isn't here yet")
+        return await self._beside.do(lambda store: store.logs(execution))
+
+    async def client_names(self, sessions: Sequence[int]) -> dict[int, str]:
+        names = {one: self._sessions.name(one) for one in sessions}
+        return {one: name for one, name in names.items() if name is not None}
+
+    async def close(self) -> None:
+        self._closing.set()

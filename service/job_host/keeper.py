@@ -1,0 +1,191 @@
+"""A keeper has the history: over PostgreSQL, or over a log of its own. Routes speak to this class alone."""
+
+from __future__ import annotations
+
+import asyncio
+from abc import ABC, abstractmethod
+from collections.abc import AsyncIterator, Awaitable, Sequence
+from contextlib import asynccontextmanager
+from dataclasses import dataclass
+from typing import Any
+
+from job_host.calls import Call, Kept, WorkLog
+from job_host.coprocess import CatalogueRefused, CoProcess
+from job_host.engine import Answers, Engine, Held
+from job_host.leases import Leases
+from job_host.lines import query, read
+from job_host.problems import Problem, of_refusal, unavailable
+from job_host.term import Term
+
+QUERIES_AT_ONCE = 1_000
+
+
+@dataclass(frozen=True)
+class HeldBy:
+    """A busy work item and its client."""
+
+    held: Held
+    client: str | None
+    remaining: float | None
+
+
+class Fatal(Exception):
+    """The service can't go on: a person has to look. The text says why."""
+
+
+class Keeper(ABC):
+    """`role` is starting, follower or leader. Calls are for the leader, reads for both."""
+
+    def __init__(self, leases: Leases) -> None:
+        self.role = "starting"
+        self.leases = leases
+        self.engine: Engine | None = None
+        self.term: Term | None = None
+        self.epoch = 0
+        self.leader_url = ""
+        self.last_takeover = 0.0
+
+    @abstractmethod
+    async def run(self) -> None:
+        """Keeps the history until `close`. Raises Fatal if it can't."""
+
+    @abstractmethod
+    async def close(self) -> None:
+        """Lets what is under way end, and stops."""
+
+    @abstractmethod
+    async def logs(self, execution: int) -> list[WorkLog]:
+        """What workers handed in as logs of a job execution's work items, by rising number."""
+
+    @abstractmethod
+    async def reach(self, at_least: int) -> None:
+        """Returns after so many operations are here. Raises a problem if they don't come."""
+
+    @abstractmethod
+    async def client_names(self, sessions: Sequence[int]) -> dict[int, str]:
+        """The names of these sessions, as far as they are known here."""
+
+    @property
+    def operations(self) -> int:
+        return self.engine.entered if self.engine is not None else 0
+
+    def leading(self) -> Term:
+        if self.term is None:
+            if self.role == "follower":
+                raise unavailable("NotLeader", "another instance leads", leader=self.leader_url)
+            raise unavailable("Starting", "the history isn't here yet")
+        return self.term
+
+    async def submit(self, call: Call) -> Kept:
+        return await self.leading().submit(call)
+
+    def reading(self) -> Engine:
+        if self.engine is None or self.role == "starting":
+            raise unavailable("Starting", "the history isn't here yet")
+        return self.engine
+
+    async def ask(self, queries: Sequence[bytes], at_least: int = 0) -> Answers:
+        """Asks queries of one state, in which at least so many operations are."""
+        await self.reach(at_least)
+        if self.term is not None:
+            return await self.term.ask(queries, at_least)
+        return await self.reading().ask(queries)
+
+    @asynccontextmanager
+    async def steps(self, at_least: int) -> AsyncIterator[Steps]:
+        """Reads in several steps, all of one state. At the end of the block, refused or not, all that they saw is kept."""
+        await self.reach(at_least)
+        engine, term = self.reading(), self.term
+        refusal: Problem | None = None
+        async with engine.turn:
+            steps = Steps(engine)
+            try:
+                yield steps
+            except Problem as problem:
+                refusal = problem
+        if term is not None:
+            await term.until_committed(steps.seen)
+        if refusal is not None:
+            raise refusal
+
+    async def purged(self, executions: Sequence[int]) -> list[int]:
+        """Those of these job executions that a purge has removed."""
+        gone = []
+        for place in range(0, len(executions), QUERIES_AT_ONCE):
+            some = executions[place : place + QUERIES_AT_ONCE]
+            answers = await self.ask([query("job_instance", execution=one) for one in some])
+            gone += [one for one, reply in zip(some, answers.replies) if of_refusal(read(reply)) is not None]
+        return gone
+
+    async def held_work(self, at_least: int) -> tuple[list[HeldBy], int]:
+        """Who holds which work item since when, and how many operations that saw."""
+        await self.reach(at_least)
+        engine, term = self.reading(), self.term
+        seen, held = engine.entered, list(engine.held.values())
+        if term is not None:
+            await term.until_committed(seen)
+        names = await self.client_names([one.session for one in held])
+        return [HeldBy(one, names.get(one.session), self._remaining(one.work)) for one in held], seen
+
+    def _remaining(self, work: int) -> float | None:
+        """The seconds of a lease that are left. Only the leader knows."""
+        return self.leases.remaining(work) if self.term is not None else None
+
+    async def heartbeat(self, client: str, work: int, log: str | None) -> tuple[bool, int]:
+        """Renews a lease. Returns whether the work item's job execution is asked to stop, and how many operations that saw."""
+        term = self.leading()
+        held = term.engine.held.get(work)
+        is_holder = held is not None and held.session == term.sessions.number(client)
+        if held is None or not is_holder:
+            await term.confirm()
+            raise Problem("NoLease", 409, "no lease of this client on this work item: it is over, or another client's")
+        self.leases.renew(work)
+        await term.confirm(term.log_of(work, log))
+        answers = await term.ask([query("job_execution", execution=held.execution)])
+        told = read(answers.replies[0])
+        problem = of_refusal(told)
+        if problem is not None:
+            raise problem
+        return told["job_execution"]["status"] == "STOPPING", answers.seen
+
+
+class Steps:
+    """Reads of one state, one after the other."""
+
+    def __init__(self, engine: Engine) -> None:
+        self._engine = engine
+        self.seen = engine.entered
+
+    async def ask(self, queries: Sequence[bytes]) -> list[bytes]:
+        if not queries:
+            return []
+        answers = await self._engine.ask(queries)
+        self.seen = answers.seen
+        return answers.replies
+
+
+async def check_catalogue(batchctl: Sequence[str], catalogue: bytes) -> None:
+    """Lets batchctl read a catalogue, before its jobs are compared with those that were kept."""
+    try:
+        process = await CoProcess.start([*batchctl, "script"], catalogue)
+    except CatalogueRefused as fault:
+        raise Fatal(f"the catalogue was refused: {fault}") from fault
+    except (FileNotFoundError, PermissionError) as fault:
+        raise Fatal(f"there is no program {batchctl[0]}: {fault}") from fault
+    await process.close()
+
+
+async def first_of(waits: Sequence[Awaitable[Any]]) -> None:
+    """Returns, or raises, after the first of these has ended. The others are cancelled."""
+    tasks = [asyncio.ensure_future(_ended(wait)) for wait in waits]
+    try:
+        done, _ = await asyncio.wait(tasks, return_when=asyncio.FIRST_COMPLETED)
+        await asyncio.gather(*done)
+    finally:
+        for task in tasks:
+            task.cancel()
+        await asyncio.gather(*tasks, return_exceptions=True)
+
+
+async def _ended(wait: Awaitable[Any]) -> None:
+    await wait

@@ -1,0 +1,62 @@
+"""The lines of `batchctl script`: how commands and queries are written, and what a reply says of itself."""
+
+from __future__ import annotations
+
+import hashlib
+import json
+import time
+from collections.abc import Mapping
+from typing import Any
+
+Members = Mapping[str, Any]
+
+MOST_NUMBER = 2**64 - 1
+
+
+def compact(members: Members) -> bytes:
+    """One object as one line of ASCII, without its line feed. Raises ValueError if it holds NaN or an infinity."""
+    return json.dumps(members, ensure_ascii=True, allow_nan=False, separators=(",", ":")).encode("ascii")
+
+
+def command(do: str, session: int, moment: int, members: Members) -> bytes:
+    """A command of a session at a moment. Its own members can't replace those three."""
+    head = {"do": do, "by": session, "at": moment}
+    return compact({**head, **members, **head})
+
+
+def query(ask: str, **members: Any) -> bytes:
+    return compact({"ask": ask, **members})
+
+
+def fingerprint(*parts: Any) -> bytes:
+    """A digest of a request, by which a request key that is used for another request is noticed."""
+    return hashlib.sha256(json.dumps(parts, sort_keys=True).encode("ascii")).digest()
+
+
+def read(line: bytes | str) -> dict[str, Any]:
+    """A reply, or a line that the service wrote."""
+    value = json.loads(line)
+    if not isinstance(value, dict):
+        raise ValueError("no object")
+    return value
+
+
+def is_accepted(reply: bytes) -> bool:
+    """Whether a command with this reply was entered in the history."""
+    return not reply.startswith((b'{"refused":', b'{"nothing":', b'{"fault":'))
+
+
+def refusal_of(reply: Mapping[str, Any]) -> str | None:
+    name = reply.get("refused")
+    return name if isinstance(name, str) else None
+
+
+class Moments:
+    """Moments from the clock in milliseconds. Each is greater than the one before it, so no two operations have one."""
+
+    def __init__(self, last: int = 0) -> None:
+        self.last = last
+
+    def next(self) -> int:
+        self.last = max(self.last + 1, time.time_ns() // 1_000_000)
+        return self.last

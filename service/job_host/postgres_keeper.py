@@ -1,0 +1,233 @@
+"""Keeping in PostgreSQL: one instance leads, the others follow the table, answer reads, and take over."""
+
+from __future__ import annotations
+
+import asyncio
+import logging
+import os
+import socket
+import time
+import uuid
+from collections.abc import Sequence
+from contextlib import suppress
+from typing import Any
+
+from job_host import job_catalogue
+from job_host.calls import Item, KeptRequest, WorkLog
+from job_host.coprocess import CoProcess, CoProcessEnded
+from job_host.engine import Engine, ReplayDiffers
+from job_host.keeper import Fatal, Keeper, check_catalogue, first_of
+from job_host.leases import Leases
+from job_host.postgres_store import LOST, Leader, NoPrimary, NotDurable, PostgresStore
+from job_host.problems import Problem, unavailable
+from job_host.sessions import Sessions
+from job_host.settings import ServeSettings
+from job_host.term import Observers, Term, TermSettings, not_yet
+
+log = logging.getLogger(__name__)
+
+POLL = 0.1
+CHUNK = 2_000
+RETRY = 0.25
+# So many beats a leader has before another instance takes it for gone.
+BEATS = 5
+PRUNE_SECONDS = 3_600.0
+
+
+class PostgresTerm(Term):
+    """The rounds of one epoch."""
+
+    def __init__(self, store: PostgresStore, epoch: int, keys: set[int], *others: Any) -> None:
+        super().__init__(*others)
+        self._store = store
+        self._keys = keys
+        self.epoch = epoch
+
+    async def find(self, session: int, key: str) -> KeptRequest | None:
+        """Asks the table only if the key may be there: of a new key nothing is asked."""
+        if hash((session, key)) not in self._keys:
+            return None
+        try:
+            return await self._store.request(session, key)
+        except LOST as fault:
+            raise unavailable("StoreLost", f"{type(fault).__name__}: {fault}") from fault
+
+    async def keep(self, items: Sequence[Item]) -> None:
+        clients = self.sessions.take_fresh()
+        try:
+            stands = await self._store.commit(self.epoch, items, clients)
+        except LOST as fault:
+            log.warning("a commit failed: %s %s", type(fault).__name__, fault)
+            raise unavailable("CommitFailed", "the operation may have been kept: ask again by its key") from fault
+        if not stands:
+            raise unavailable("NotLeader", "another instance has taken over")
+        self._keys.update(hash((item.session, item.call.key)) for item in items if item.is_keyed and item.call)
+
+
+class CatalogueGrew(Exception):
+    """The leader brought a catalogue that this instance hasn't."""
+
+
+class PostgresKeeper(Keeper):
+    def __init__(self, settings: ServeSettings, leases: Leases, observers: Observers) -> None:
+        super().__init__(leases)
+        self._settings = settings
+        self._observers = observers
+        self._holder = f"{socket.gethostname()}:{os.getpid()}:{uuid.uuid4().hex[:8]}"
+        self._file = job_catalogue.read_file(settings.catalogue)
+        self._catalogue = b""
+        self._bring: bytes | None = None
+        self._has_begun = False
+        self._store: PostgresStore | None = None
+        self._sessions = Sessions({}, settings.bounds.clients)
+        self._poke = asyncio.Event()
+        self._followed = asyncio.Condition()
+        self._closing = asyncio.Event()
+
+    async def run(self) -> None:
+        await check_catalogue(self._settings.batchctl, self._file)
+        while not self._closing.is_set():
+            try:
+                await self._serve_once()
+            except (NoPrimary, CoProcessEnded, CatalogueGrew, Problem, *LOST) as fault:
+                log.warning("begins again: %s %s", type(fault).__name__, fault)
+            except (ReplayDiffers, NotDurable, job_catalogue.CatalogueChanged) as fault:
+                raise Fatal(f"{type(fault).__name__}: {fault}") from fault
+            except Exception:
+                log.exception("begins again")
+            with suppress(asyncio.TimeoutError):
+                await asyncio.wait_for(self._closing.wait(), RETRY)
+
+    async def _serve_once(self) -> None:
+        """Follows, then leads, until something fails. What fails throws the co-process and the connections away."""
+        self.role = "starting"
+        store = await PostgresStore.open(self._settings.postgres, self._settings.commit_timeout)
+        self._store = store
+        engine: Engine | None = None
+        try:
+            engine = await self._start_engine(store)
+            self.engine = engine
+            epoch = await self._follow(store, engine)
+            if epoch is not None:
+                await self._lead(store, engine, epoch)
+        finally:
+            self.role, self.term, self.engine, self._store = "starting", None, None, None
+            if engine is not None:
+                await engine.process.close()
+            store.close()
+
+    async def _start_engine(self, store: PostgresStore) -> Engine:
+        self._catalogue, self._bring = self._choose(await store.catalogue())
+        self._has_begun = True
+        return Engine(await CoProcess.start([*self._settings.batchctl, "script"], self._catalogue))
+
+    def _choose(self, kept: bytes | None) -> tuple[bytes, bytes | None]:
+        """The catalogue to go by; and again, if it is to be kept.
+
+        At its start an instance has a file with each kept job. Later another instance may bring more jobs, which it takes over.
+        """
+        if kept is None:
+            return self._file, self._file
+        if self._has_begun and not job_catalogue.difference(self._file, kept):
+            return kept, None
+        merged = job_catalogue.merged(kept, self._file)
+        return (kept, None) if job_catalogue.jobs_of(merged) == job_catalogue.jobs_of(kept) else (merged, merged)
+
+    async def _follow(self, store: PostgresStore, engine: Engine) -> int | None:
+        """Follows the table until it may lead. Returns the epoch, or none if the service is to end."""
+        last: Leader | None = None
+        since = time.monotonic()
+        while not self._closing.is_set():
+            leader = await store.leader()
+            await self._catch_up(store, engine)
+            if last is None or leader.epoch != last.epoch:
+                await self._look_at_epoch(store, leader)
+            if leader != last:
+                last, since = leader, time.monotonic()
+            self.leader_url, self.epoch = leader.url, leader.epoch
+            self.role = "follower"
+            is_free = leader.holder in ("", self._holder)
+            if is_free or time.monotonic() - since >= self._settings.takeover_after:
+                epoch = await store.take_over(leader, self._holder, self._settings.advertise, self._bring)
+                if epoch is not None:
+                    return epoch
+            self._poke.clear()
+            with suppress(asyncio.TimeoutError):
+                await asyncio.wait_for(self._poke.wait(), POLL)
+        return None
+
+    async def _look_at_epoch(self, store: PostgresStore, leader: Leader) -> None:
+        """A new leader may have brought a catalogue with more jobs."""
+        chosen, _ = self._choose(await store.catalogue())
+        if chosen != self._catalogue:
+            raise CatalogueGrew(f"by epoch {leader.epoch}")
+
+    async def _catch_up(self, store: PostgresStore, engine: Engine) -> None:
+        """Replays what the table has more than the co-process."""
+        while records := await store.operations_after(engine.entered, CHUNK):
+            async with engine.turn:
+                await engine.replay(records)
+            async with self._followed:
+                self._followed.notify_all()
+
+    async def _lead(self, store: PostgresStore, engine: Engine, epoch: int) -> None:
+        """Leads until the epoch is another's, a part fails, or the service is to end."""
+        begun = time.monotonic()
+        await self._catch_up(store, engine)
+        self._sessions = Sessions(await store.clients(), self._settings.bounds.clients)
+        keys = {hash(slot) for slot in await store.request_keys()}
+        settings = TermSettings(self._settings.refuse_from, min(1.0, self._settings.takeover_after / BEATS))
+        term = PostgresTerm(store, epoch, keys, engine, self._sessions, settings, self._observers)
+        self.term, self.role, self.epoch, self._bring = term, "leader", epoch, None
+        self.leader_url = self._settings.advertise
+        self.last_takeover = time.monotonic() - begun
+        log.warning("leads by epoch %d, after %d operations", epoch, engine.entered)
+        async with self._followed:
+            self._followed.notify_all()
+        rounds = [term.commit_rounds(), term.desk.serve(), self.leases.watch(term), self._prune(store)]
+        try:
+            await first_of([*rounds, engine.process.wait(), self._closing.wait()])
+        finally:
+            # Its co-process may know more than the table: nobody reads it any more.
+            self.role, self.term, self.engine = "starting", None, None
+            if self._closing.is_set() and term.failure is None:
+                with suppress(*LOST):
+                    await store.resign(epoch)
+            term.fail(unavailable("NotLeader", "this instance leads no more"))
+
+    async def _prune(self, store: PostgresStore) -> None:
+        while True:
+            await store.drop_old_keys(self._settings.bounds.days_of_keys)
+            await store.drop_logs(await self.purged(await store.logged_executions()))
+            await asyncio.sleep(PRUNE_SECONDS)
+
+    async def reach(self, at_least: int) -> None:
+        """A follower looks at the table at once, and waits for what is missing."""
+        deadline = time.monotonic() + self._settings.bounds.at_least_seconds
+        while self.operations < at_least or self.role == "starting":
+            self._poke.set()
+            remaining = deadline - time.monotonic()
+            if remaining <= 0 or (self.term is not None and self.term.failure is not None):
+                self.reading()
+                raise not_yet(at_least, self.operations)
+            async with self._followed:
+                with suppress(asyncio.TimeoutError):
+                    await asyncio.wait_for(self._followed.wait(), min(remaining, 0.05))
+
+    async def logs(self, execution: int) -> list[WorkLog]:
+        if self._store is None:
+            raise unavailable("Starting", "the history isn't here yet")
+        try:
+            return await self._store.logs(execution)
+        except LOST as fault:
+            raise unavailable("StoreLost", f"{type(fault).__name__}: {fault}") from fault
+
+    async def client_names(self, sessions: Sequence[int]) -> dict[int, str]:
+        if self.term is None and self._store is not None and any(self._sessions.name(one) is None for one in sessions):
+            with suppress(*LOST):
+                self._sessions.learn(await self._store.clients())
+        names = {one: self._sessions.name(one) for one in sessions}
+        return {one: name for one, name in names.items() if name is not None}
+
+    async def close(self) -> None:
+        self._closing.set()

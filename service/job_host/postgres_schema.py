@@ -1,0 +1,90 @@
+"""The tables in PostgreSQL, and the statement of a round."""
+
+from __future__ import annotations
+
+SCHEMA = """
+create table if not exists job_host_leader (
+    one boolean primary key default true check (one),
+    epoch bigint not null,
+    beats bigint not null,
+    holder text not null,
+    url text not null
+);
+create table if not exists job_host_catalogue (
+    epoch bigint primary key,
+    line text not null
+);
+create table if not exists job_host_operation (
+    number bigint primary key,
+    epoch bigint not null,
+    line text not null,
+    reply text not null,
+    request_key text
+);
+create table if not exists job_host_client (
+    name text primary key,
+    session bigint not null unique
+);
+create table if not exists job_host_request (
+    session bigint not null,
+    key text not null,
+    fingerprint bytea not null,
+    reply text not null,
+    answers text not null,
+    seen bigint not null,
+    kept_at timestamptz not null default now(),
+    primary key (session, key)
+);
+create index if not exists job_host_request_kept_at on job_host_request (kept_at);
+create table if not exists job_host_work_log (
+    work bigint primary key,
+    execution bigint not null,
+    element text not null,
+    partition integer,
+    log text not null
+);
+create index if not exists job_host_work_log_execution on job_host_work_log (execution);
+insert into job_host_leader values (true, 0, 0, '', '') on conflict do nothing;
+"""
+
+# A number that only this package locks, so that two instances don't make the tables at once.
+SCHEMA_LOCK = 7_402_118_431
+
+# The update finds no row if another epoch stands, and waits for a takeover that is under way. It is a write, so a primary that
+# has lost its standby can't answer it. Everything else is written only if it found the row.
+ROUND = """
+with fence as (
+    update job_host_leader set beats = beats + 1 where epoch = $1 returning epoch
+), operation as (
+    insert into job_host_operation (number, epoch, line, reply, request_key)
+    select o.number, $1, o.line, o.reply, o.request_key
+    from unnest($2::bigint[], $3::text[], $4::text[], $5::text[]) as o(number, line, reply, request_key)
+    where exists (select from fence)
+), client as (
+    insert into job_host_client (name, session)
+    select c.name, c.session from unnest($6::text[], $7::bigint[]) as c(name, session) where exists (select from fence)
+), request as (
+    insert into job_host_request (session, key, fingerprint, reply, answers, seen)
+    select r.session, r.key, r.fingerprint, r.reply, r.answers, r.seen
+    from unnest($8::bigint[], $9::text[], $10::bytea[], $11::text[], $12::text[], $13::bigint[])
+        as r(session, key, fingerprint, reply, answers, seen)
+    where exists (select from fence)
+), work_log as (
+    insert into job_host_work_log (work, execution, element, partition, log)
+    select w.work, w.execution, w.element, w.partition, w.log
+    from unnest($14::bigint[], $15::bigint[], $16::text[], $17::integer[], $18::text[])
+        as w(work, execution, element, partition, log)
+    where exists (select from fence)
+    on conflict (work) do update set log = excluded.log
+)
+select epoch from fence
+"""
+
+# A round that keeps nothing: it only asks whether the epoch stands.
+BEAT = "update job_host_leader set beats = beats + 1 where epoch = $1 returning epoch"
+
+TAKE_OVER = """
+update job_host_leader set epoch = epoch + 1, beats = 0, holder = $1, url = $2 where epoch = $3 and beats = $4 returning epoch
+"""
+
+RESIGN = "update job_host_leader set beats = beats + 1, holder = '' where epoch = $1"

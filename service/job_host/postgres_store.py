@@ -1,0 +1,223 @@
+"""What the service keeps in PostgreSQL: operations, the leader's epoch, client names, request keys and workers' logs."""
+
+from __future__ import annotations
+
+import asyncio
+import json
+import logging
+from collections.abc import Coroutine, Sequence
+from dataclasses import dataclass
+from typing import Any
+
+import asyncpg
+
+from job_host.calls import Item, Kept, KeptRequest, WorkLog
+from job_host.engine import Record
+from job_host.postgres_schema import BEAT, RESIGN, ROUND, SCHEMA, SCHEMA_LOCK, TAKE_OVER
+
+log = logging.getLogger(__name__)
+
+# What a lost or refused connection raises.
+LOST = (OSError, asyncio.TimeoutError, asyncpg.PostgresError, asyncpg.InterfaceError, asyncpg.InternalClientError)
+
+CONNECT_SECONDS = 3.0
+# Without a just-in-time compiler: it takes seconds for statements that take milliseconds.
+SESSION = {"application_name": "jobhost", "jit": "off"}
+
+
+class NoPrimary(Exception):
+    """None of the servers takes writes. The text says what each answered."""
+
+
+class NotDurable(Exception):
+    """The server acknowledges a commit before it is on its disk."""
+
+
+@dataclass(frozen=True)
+class Leader:
+    """The leader's row. An epoch is one term of one instance; beats rise as long as it lives."""
+
+    epoch: int
+    beats: int
+    holder: str
+    url: str
+
+
+async def connect_primary(dsns: Sequence[str], timeout: float | None) -> asyncpg.Connection:
+    """A connection to the first server that takes writes."""
+    told = []
+    for place, dsn in enumerate(dsns):
+        try:
+            connection = await asyncpg.connect(dsn, timeout=CONNECT_SECONDS, command_timeout=timeout, server_settings=SESSION)
+        except LOST as fault:
+            told.append(f"server {place}: {type(fault).__name__} {fault}")
+            continue
+        if not await connection.fetchval("select pg_is_in_recovery()"):
+            return connection
+        told.append(f"server {place} is a standby")
+        await connection.close(timeout=CONNECT_SECONDS)
+    raise NoPrimary("; ".join(told))
+
+
+class PostgresStore:
+    """Two connections to the primary: one commits rounds, the other reads. A store that failed is closed for good."""
+
+    def __init__(self, commits: asyncpg.Connection, reads: asyncpg.Connection, timeout: float) -> None:
+        self._commits = commits
+        self._reads = reads
+        self._timeout = timeout
+        self._turn = asyncio.Lock()
+
+    @classmethod
+    async def open(cls, dsns: Sequence[str], timeout: float) -> PostgresStore:
+        """Connects, and makes the tables if they aren't there. Raises NoPrimary, NotDurable or what LOST has."""
+        commits = await connect_primary(dsns, None)
+        try:
+            await cls._check_durable(commits)
+            await cls._make_tables(commits)
+            reads = await connect_primary(dsns, timeout)
+        except BaseException:
+            commits.terminate()
+            raise
+        return cls(commits, reads, timeout)
+
+    @staticmethod
+    async def _make_tables(connection: asyncpg.Connection) -> None:
+        """Makes the tables in one transaction. If they are there, no commit under way is waited for."""
+        if await connection.fetchval("select to_regclass('job_host_leader')") is None:
+            async with connection.transaction():
+                await connection.execute("select pg_advisory_xact_lock($1)", SCHEMA_LOCK)
+                await connection.execute(SCHEMA)
+
+    @staticmethod
+    async def _check_durable(connection: asyncpg.Connection) -> None:
+        if await connection.fetchval("select current_setting('synchronous_commit')") == "off":
+            raise NotDurable("synchronous_commit is off: a commit could be lost after it was acknowledged")
+        if await connection.fetchval("select current_setting('server_encoding')") != "UTF8":
+            raise NotDurable("the database's encoding isn't UTF8")
+
+    def close(self) -> None:
+        """Drops the connections without a word to the server, which may not answer."""
+        self._commits.terminate()
+        self._reads.terminate()
+
+    @property
+    def is_closed(self) -> bool:
+        return bool(self._commits.is_closed() or self._reads.is_closed())
+
+    async def _fetch(self, statement: str, *arguments: Any) -> list[Any]:
+        async with self._turn:
+            return list(await self._reads.fetch(statement, *arguments))
+
+    async def leader(self) -> Leader:
+        row = (await self._fetch("select epoch, beats, holder, url from job_host_leader"))[0]
+        return Leader(row["epoch"], row["beats"], row["holder"], row["url"])
+
+    async def catalogue(self) -> bytes | None:
+        """The catalogue of the last leader that brought one."""
+        rows = await self._fetch("select line from job_host_catalogue order by epoch desc limit 1")
+        return rows[0]["line"].encode() if rows else None
+
+    async def operations_after(self, number: int, most: int) -> list[Record]:
+        statement = "select number, line, reply from job_host_operation where number > $1 order by number limit $2"
+        rows = await self._fetch(statement, number, most)
+        return [Record(row["number"], row["line"].encode(), row["reply"].encode()) for row in rows]
+
+    async def clients(self) -> dict[str, int]:
+        rows = await self._fetch("select name, session from job_host_client")
+        return {row["name"]: row["session"] for row in rows}
+
+    async def request_keys(self) -> list[tuple[int, str]]:
+        rows = await self._fetch("select session, key from job_host_request")
+        return [(row["session"], row["key"]) for row in rows]
+
+    async def request(self, session: int, key: str) -> KeptRequest | None:
+        statement = "select fingerprint, reply, answers, seen from job_host_request where session = $1 and key = $2"
+        rows = await self._fetch(statement, session, key)
+        if not rows:
+            return None
+        answers = tuple(text.encode() for text in json.loads(rows[0]["answers"]))
+        kept = Kept(rows[0]["reply"].encode(), answers, rows[0]["seen"])
+        return KeptRequest(bytes(rows[0]["fingerprint"]), kept)
+
+    async def logs(self, execution: int) -> list[WorkLog]:
+        statement = "select work, execution, element, partition, log from job_host_work_log where execution = $1 order by work"
+        return [WorkLog(*row) for row in await self._fetch(statement, execution)]
+
+    async def take_over(self, seen: Leader, holder: str, url: str, catalogue: bytes | None) -> int | None:
+        """The next epoch, if the leader's row is still as it was seen. The catalogue is kept with it."""
+        epoch = await self._or_drop(self._take_over(seen, holder, url, catalogue))
+        return int(epoch) if epoch is not None else None
+
+    async def _take_over(self, seen: Leader, holder: str, url: str, catalogue: bytes | None) -> Any:
+        async with self._commits.transaction():
+            epoch = await self._commits.fetchval(TAKE_OVER, holder, url, seen.epoch, seen.beats)
+            if epoch is not None and catalogue is not None:
+                statement = "insert into job_host_catalogue (epoch, line) values ($1, $2)"
+                await self._commits.execute(statement, epoch, catalogue.decode())
+        return epoch
+
+    async def _or_drop(self, commit: Coroutine[Any, Any, Any]) -> Any:
+        """Awaits a commit. If it takes too long, or isn't waited for any more, the connection is dropped.
+
+        It isn't cancelled: a server that waits for its standby would show what the standby hasn't.
+        """
+        task = asyncio.ensure_future(commit)
+        try:
+            done, _ = await asyncio.wait([task], timeout=self._timeout)
+            if not done:
+                raise asyncio.TimeoutError(f"no commit in {self._timeout:g} seconds")
+            return task.result()
+        finally:
+            if not task.done():
+                task.add_done_callback(lambda ended: ended.cancelled() or ended.exception())
+                self._commits.terminate()
+
+    async def resign(self, epoch: int) -> None:
+        """Lets another instance take over at once."""
+        async with self._turn:
+            await self._reads.execute(RESIGN, epoch)
+
+    async def commit(self, epoch: int, items: Sequence[Item], clients: dict[str, int]) -> bool:
+        """Keeps a round. Returns whether the epoch stands: if it doesn't, nothing was kept."""
+        if not clients and all(item.number is None and not item.is_keyed and item.log is None for item in items):
+            return await self._or_drop(self._commits.fetchval(BEAT, epoch)) is not None
+        return await self._or_drop(self._commits.fetchval(ROUND, epoch, *_columns(items, clients))) is not None
+
+    async def logged_executions(self) -> list[int]:
+        return [row["execution"] for row in await self._fetch("select distinct execution from job_host_work_log")]
+
+    async def drop_logs(self, executions: Sequence[int]) -> None:
+        async with self._turn:
+            await self._reads.execute("delete from job_host_work_log where execution = any($1::bigint[])", list(executions))
+
+    async def drop_old_keys(self, days: int) -> None:
+        statement = "delete from job_host_request where kept_at < now() - make_interval(days => $1)"
+        async with self._turn:
+            await self._reads.execute(statement, days)
+
+
+def _columns(items: Sequence[Item], clients: dict[str, int]) -> list[list[Any]]:
+    """The columns of a round's rows, in the order of its statement."""
+    entered = [item for item in items if item.number is not None]
+    keyed = [item for item in items if item.is_keyed]
+    logs = list({item.log.work: item.log for item in items if item.log is not None}.values())
+    return [
+        [item.number for item in entered],
+        [item.line.decode() for item in entered],
+        [item.reply.decode() for item in entered],
+        [item.call.key if item.call else None for item in entered],
+        list(clients.keys()),
+        list(clients.values()),
+        [item.session for item in keyed],
+        [item.call.key if item.call else None for item in keyed],
+        [item.call.fingerprint if item.call else b"" for item in keyed],
+        [item.reply.decode() for item in keyed],
+        [json.dumps([answer.decode() for answer in item.answers]) for item in keyed],
+        [item.seen for item in keyed],
+        [log.work for log in logs],
+        [log.execution for log in logs],
+        [log.element.replace("\0", "\ufffd") for log in logs],
+        [log.partition for log in logs],
+        [log.text.replace("\0", "\ufffd") for log in logs],
+    ]

@@ -1,0 +1,154 @@
+"""What every request has: its caller, its client's name, its key, its body, and how many operations it wants to see."""
+
+from __future__ import annotations
+
+import asyncio
+import json
+import re
+from collections import Counter
+from collections.abc import Awaitable, Callable
+from contextlib import contextmanager
+from collections.abc import Iterator
+from dataclasses import dataclass
+from typing import Any
+
+from aiohttp import web
+
+from job_host.access import NAME, Access, Caller
+from job_host.keeper import Keeper
+from job_host.lines import MOST_NUMBER
+from job_host.problems import OPERATIONS, Problem, bad_request
+from job_host.settings import Bounds, ServeSettings
+
+KEY = re.compile(r"[\x21-\x7e]+")
+NUMBER = re.compile(r"[0-9]{1,20}")
+ANYBODY = "anybody"
+
+# Names of headers.
+CLIENT = "Batch-Client"
+REQUEST_KEY = "Idempotency-Key"
+AT_LEAST = "Batch-At-Least"
+
+
+def number(text: str, what: str) -> int:
+    """A number as a client writes it, within the numbers of a line."""
+    if not NUMBER.fullmatch(text) or int(text) > MOST_NUMBER:
+        raise bad_request(f"{what} is a whole number from 0 to {MOST_NUMBER}")
+    return int(text)
+
+
+def refuse_constant(text: str) -> Any:
+    raise ValueError(f"{text} is no JSON")
+
+
+class Gate:
+    """How many requests of one client are in hand."""
+
+    def __init__(self, bounds: Bounds) -> None:
+        self._bounds = bounds
+        self._in_hand: Counter[str] = Counter()
+
+    @contextmanager
+    def enter(self, client: str) -> Iterator[None]:
+        if self._in_hand[client] >= self._bounds.requests_at_once:
+            raise Problem("TooManyRequests", 429, f"{self._bounds.requests_at_once} requests of this client are in hand")
+        self._in_hand[client] += 1
+        try:
+            yield
+        finally:
+            self._in_hand[client] -= 1
+            if not self._in_hand[client]:
+                del self._in_hand[client]
+
+
+@dataclass(frozen=True)
+class Host:
+    """The service, as routes see it."""
+
+    settings: ServeSettings
+    keeper: Keeper
+    access: Access
+    gate: Gate
+
+
+class Asked:
+    """One request."""
+
+    def __init__(self, request: web.Request, host: Host, caller: Caller) -> None:
+        self.request = request
+        self.host = host
+        self.keeper = host.keeper
+        self.caller = caller
+        self.client = caller.prefix + self._client_name()
+
+    def _client_name(self) -> str:
+        name = self.request.headers.get(CLIENT, ANYBODY)
+        if len(name) > self.host.settings.bounds.name_bytes or not NAME.fullmatch(name):
+            raise bad_request(
+                f"{CLIENT} has letters, digits and ._:@- and at most {self.host.settings.bounds.name_bytes} of them"
+            )
+        return name
+
+    def named_client(self) -> str:
+        """The client of a worker's request, which has to have a name of its own."""
+        if CLIENT not in self.request.headers:
+            raise bad_request(f"the header {CLIENT} is needed: it says whose the work item is")
+        return self.client
+
+    @property
+    def key(self) -> str | None:
+        key = self.request.headers.get(REQUEST_KEY)
+        if key is not None and (len(key) > self.host.settings.bounds.key_bytes or not KEY.fullmatch(key)):
+            most = self.host.settings.bounds.key_bytes
+            raise bad_request(f"{REQUEST_KEY} has 1 to {most} printable characters without spaces")
+        return key
+
+    @property
+    def at_least(self) -> int:
+        given = self.request.headers.get(AT_LEAST, self.request.query.get("atLeast", "0"))
+        return number(given, AT_LEAST)
+
+    def path_number(self) -> int:
+        return number(self.request.match_info["id"], "the number in the path")
+
+    def query_number(self, name: str, default: int) -> int:
+        return number(self.request.query.get(name, str(default)), name)
+
+    async def body(self) -> dict[str, Any]:
+        """The body, an object of JSON. Without a body it is the empty object."""
+        text = await self._bytes()
+        if not text:
+            return {}
+        if self.request.content_type != "application/json":
+            raise Problem("UnsupportedMediaType", 415, "the body is application/json")
+        try:
+            value = json.loads(text, parse_constant=refuse_constant)
+        except (ValueError, RecursionError) as fault:
+            raise bad_request("the body is no JSON") from fault
+        if not isinstance(value, dict):
+            raise bad_request("the body is no object")
+        return value
+
+    async def _bytes(self) -> bytes:
+        try:
+            return await asyncio.wait_for(self.request.read(), self.host.settings.bounds.slow_after)
+        except asyncio.TimeoutError as fault:
+            raise Problem("TooSlow", 408, "the body didn't come in time") from fault
+
+    def is_gone(self) -> bool:
+        """Whether nobody waits for the answer any more."""
+        return self.request.transport is None or self.request.transport.is_closing()
+
+    def answer(self, told: Any, seen: int, status: int = 200) -> web.Response:
+        """An answer that says how many operations it saw."""
+        return web.json_response(told, status=status, headers={OPERATIONS: str(seen)})
+
+
+Handler = Callable[[Asked], Awaitable[web.StreamResponse]]
+
+
+def expect_members(body: dict[str, Any], *names: str) -> None:
+    """Refuses a body with other members: a word that is misspelt would be left out otherwise."""
+    others = sorted(body.keys() - set(names))
+    if others:
+        raise bad_request(f"the body has members that aren't known here: {json.dumps(others)[:200]}")

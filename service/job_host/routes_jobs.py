@@ -1,0 +1,173 @@
+"""Routes for operators: job instances, job executions, step executions and their logs."""
+
+from __future__ import annotations
+
+from typing import Any
+
+from aiohttp import web
+
+from job_host import views
+from job_host.calls import Call, Kept
+from job_host.lines import Members, fingerprint, query, read
+from job_host.problems import OPERATIONS, bad_request, of_refusal
+from job_host.requests import Asked, Handler, expect_members
+
+
+def answer_of(reply: bytes, seen: int | None = None) -> dict[str, Any]:
+    """A reply that isn't refused. Raises the refusal's problem."""
+    told = read(reply)
+    problem = of_refusal(told, seen)
+    if problem is not None:
+        raise problem
+    return told
+
+
+async def list_instances(asked: Asked) -> web.StreamResponse:
+    """The newest job instances of one job, or of all, page by page."""
+    bounds = asked.host.settings.bounds
+    page, size = asked.query_number("page", 0), asked.query_number("pageSize", 50)
+    if size > bounds.page_size or (page + 1) * size > bounds.listed:
+        raise bad_request(f"a page has at most {bounds.page_size} job instances, and the first {bounds.listed} can be listed")
+    job = asked.request.query.get("jobName")
+    async with asked.keeper.steps(asked.at_least) as steps:
+        names = [job] if job is not None else read((await steps.ask([query("job_names")]))[0])["names"]
+        start, count = (page * size, size) if job is not None else (0, (page + 1) * size)
+        lists = await steps.ask([query("job_instances", job=name, start=start, count=count) for name in names])
+        numbers = [one["instance"] for told in lists for one in answer_of(told)["instances"]]
+        if job is None:
+            numbers = sorted(numbers, reverse=True)[page * size : count]
+        replies = await steps.ask([query("job_executions", instance=one) for one in numbers])
+    return asked.answer([views.job_instance(answer_of(reply)["job_executions"]) for reply in replies], steps.seen)
+
+
+async def start_instance(asked: Asked) -> web.StreamResponse:
+    body = await asked.body()
+    expect_members(body, "jobName", "jobXMLName", "jobParameters")
+    job = body.get("jobName", body.get("jobXMLName"))
+    if job is None:
+        raise bad_request("jobName or jobXMLName is missing")
+    members = {"job": job, "parameters": body.get("jobParameters", {})}
+    call = Call(asked.client, "start", members, asked.key, fingerprint("start", members))
+    return begun(asked, await asked.keeper.submit(call), 201)
+
+
+def begun(asked: Asked, kept: Kept, status: int) -> web.StreamResponse:
+    told = answer_of(kept.reply, kept.seen)
+    return asked.answer(views.begun(told["execution"], read(kept.answers[0])), kept.seen, status)
+
+
+async def show_instance(asked: Asked) -> web.StreamResponse:
+    answers = await asked.keeper.ask([query("job_executions", instance=asked.path_number())], asked.at_least)
+    return asked.answer(views.job_instance(answer_of(answers.replies[0], answers.seen)["job_executions"]), answers.seen)
+
+
+async def purge_instance(asked: Asked) -> web.StreamResponse:
+    members = {"instance": asked.path_number()}
+    kept = await asked.keeper.submit(Call(asked.client, "purge", members, asked.key, fingerprint("purge", members)))
+    answer_of(kept.reply, kept.seen)
+    return asked.answer({**members, "purged": True}, kept.seen)
+
+
+async def change_instance(asked: Asked) -> web.StreamResponse:
+    """Restarts the most recent job execution of a job instance."""
+    if asked.request.query.get("action") != "restart":
+        raise bad_request("action is restart")
+    instance, parameters = asked.path_number(), await parameters_of(asked)
+
+    async def resolve() -> Members:
+        answers = await asked.keeper.ask([query("job_executions", instance=instance)])
+        newest = answer_of(answers.replies[0], answers.seen)["job_executions"][0]["execution"]
+        return {"execution": newest, "parameters": parameters}
+
+    print_of = fingerprint("restart instance", instance, parameters)
+    call = Call(asked.client, "restart", {}, asked.key, print_of, resolve)
+    return begun(asked, await asked.keeper.submit(call), 200)
+
+
+async def parameters_of(asked: Asked) -> Any:
+    body = await asked.body()
+    expect_members(body, "jobParameters")
+    return body.get("jobParameters", {})
+
+
+async def list_executions(asked: Asked) -> web.StreamResponse:
+    async with asked.keeper.steps(asked.at_least) as steps:
+        told = await steps.ask([query("job_executions", instance=asked.path_number())])
+        executions = [one["execution"] for one in answer_of(told[0])["job_executions"]]
+        replies = await steps.ask([line for execution in executions for line in execution_queries(execution)])
+    shown = [show(replies[place : place + 3], steps.seen) for place in range(0, len(replies), 3)]
+    return asked.answer(shown, steps.seen)
+
+
+def execution_queries(execution: int) -> list[bytes]:
+    asks = ("job_execution", "parameters", "step_executions")
+    return [query(ask, execution=execution) for ask in asks]
+
+
+def show(replies: list[bytes], seen: int) -> dict[str, Any]:
+    execution, parameters, steps = [answer_of(reply, seen) for reply in replies]
+    return views.job_execution(execution["job_execution"], parameters["parameters"], steps["step_executions"])
+
+
+async def show_execution(asked: Asked) -> web.StreamResponse:
+    answers = await asked.keeper.ask(execution_queries(asked.path_number()), asked.at_least)
+    return asked.answer(show(answers.replies, answers.seen), answers.seen)
+
+
+async def change_execution(asked: Asked) -> web.StreamResponse:
+    action, execution = asked.request.query.get("action"), asked.path_number()
+    if action not in ("stop", "restart", "abandon"):
+        raise bad_request("action is stop, restart or abandon")
+    members: dict[str, Any] = {"execution": execution}
+    if action == "restart":
+        members["parameters"] = await parameters_of(asked)
+        call = Call(asked.client, action, members, asked.key, fingerprint(action, members))
+        return begun(asked, await asked.keeper.submit(call), 200)
+    expect_members(await asked.body())
+    kept = await asked.keeper.submit(Call(asked.client, action, members, asked.key, fingerprint(action, members)))
+    answer_of(kept.reply, kept.seen)
+    return asked.answer({"executionId": execution, "action": action}, kept.seen)
+
+
+async def list_steps(asked: Asked) -> web.StreamResponse:
+    execution = asked.path_number()
+    queries = [query("job_instance", execution=execution), query("step_executions", execution=execution)]
+    answers = await asked.keeper.ask(queries, asked.at_least)
+    instance, steps = [answer_of(reply) for reply in answers.replies]
+    told = [views.step_execution(step, instance["instance"]) for step in steps["step_executions"]]
+    return asked.answer(told, answers.seen)
+
+
+async def show_logs(asked: Asked) -> web.StreamResponse:
+    """What the workers of a job execution handed in as logs, by work item; with `type=text`, one behind the other."""
+    execution = asked.path_number()
+    answers = await asked.keeper.ask([query("job_instance", execution=execution)], asked.at_least)
+    answer_of(answers.replies[0], answers.seen)
+    logs = await asked.keeper.logs(execution)
+    if asked.request.query.get("type") == "text":
+        text = "".join(f"# work item {log.work}, {log.element}\n{log.text}\n" for log in logs)
+        return web.Response(text=text, headers={OPERATIONS: str(answers.seen)})
+    told = [{"work": log.work, "stepName": log.element, "partition": log.partition, "log": log.text} for log in logs]
+    return asked.answer(told, answers.seen)
+
+
+async def list_jobs(asked: Asked) -> web.StreamResponse:
+    """The jobs that have job instances, and how many job executions have each batch status."""
+    answers = await asked.keeper.ask([query("job_names"), query("status_counts")], asked.at_least)
+    names, counts = [answer_of(reply) for reply in answers.replies]
+    return asked.answer({"jobNames": names["names"], "statusCounts": counts["counts"]}, answers.seen)
+
+
+ROUTES: list[tuple[str, str, str, Handler]] = [
+    ("GET", "/batch/jobs", "read", list_jobs),
+    ("GET", "/batch/jobinstances", "read", list_instances),
+    ("POST", "/batch/jobinstances", "operate", start_instance),
+    ("GET", "/batch/jobinstances/{id}", "read", show_instance),
+    ("DELETE", "/batch/jobinstances/{id}", "operate", purge_instance),
+    ("PUT", "/batch/jobinstances/{id}", "operate", change_instance),
+    ("GET", "/batch/jobinstances/{id}/jobexecutions", "read", list_executions),
+    ("GET", "/batch/jobexecutions/{id}", "read", show_execution),
+    ("PUT", "/batch/jobexecutions/{id}", "operate", change_execution),
+    ("GET", "/batch/jobexecutions/{id}/stepexecutions", "read", list_steps),
+    ("GET", "/batch/jobexecutions/{id}/joblogs", "read", show_logs),
+]

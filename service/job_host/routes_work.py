@@ -1,0 +1,106 @@
+"""Routes for workers: claim, checkpoint, finish, heartbeat, lose; and who holds what."""
+
+from __future__ import annotations
+
+from typing import Any
+
+from aiohttp import web
+
+from job_host import views
+from job_host.calls import Call
+from job_host.lines import Members, fingerprint, read
+from job_host.problems import Problem, bad_request
+from job_host.requests import Asked, Handler, expect_members
+from job_host.routes_jobs import answer_of
+
+ACTIONS = {
+    "checkpoint": ("data", "metrics"),
+    "finish": ("outcome", "exit", "metrics"),
+    "lose": (),
+}
+
+
+async def claim(asked: Asked) -> web.StreamResponse:
+    """Claims a work item. With `wait` it takes up to so many seconds until there is one."""
+    body = await asked.body()
+    expect_members(body, "wait")
+    wait = body.get("wait", 0)
+    longest = asked.host.settings.bounds.longest_poll
+    if isinstance(wait, bool) or not isinstance(wait, (int, float)) or not 0 <= wait <= longest:
+        raise bad_request(f"wait is a number of seconds from 0 to {longest:g}")
+    client = asked.named_client()
+    call = Call(client, "claim", {}, asked.key, fingerprint("claim"), wait=float(wait), is_gone=asked.is_gone)
+    kept = await asked.keeper.submit(call)
+    told = answer_of(kept.reply, kept.seen)
+    if "work" in told:
+        told = views.work_item(told["work"], read(kept.answers[0]), read(kept.answers[1]))
+        told["lease"] = asked.host.settings.lease
+    return asked.answer(told, kept.seen)
+
+
+async def list_held(asked: Asked) -> web.StreamResponse:
+    """Which client holds which work item since when."""
+    held, seen = await asked.keeper.held_work(asked.at_least)
+    told = [
+        {
+            "work": one.held.work,
+            "executionId": one.held.execution,
+            "stepName": one.held.element,
+            "partition": one.held.partition,
+            "client": one.client,
+            "since": views.moment(one.held.since),
+            "leaseRemaining": None if one.remaining is None else round(one.remaining, 1),
+        }
+        for one in held
+    ]
+    return asked.answer(told, seen)
+
+
+async def change_work(asked: Asked) -> web.StreamResponse:
+    action = asked.request.query.get("action", "")
+    if action == "heartbeat":
+        return await heartbeat(asked)
+    if action not in ACTIONS:
+        raise bad_request("action is checkpoint, finish, heartbeat or lose")
+    right = "operate" if action == "lose" else "work"
+    if right not in asked.caller.rights and not (action == "lose" and "work" in asked.caller.rights):
+        raise Problem("RoleLacksRight", 403, f"{action} isn't for this token's role")
+    body = await asked.body()
+    expect_members(body, "log", *ACTIONS[action])
+    log = log_of(asked, body)
+    members: Members = {"work": asked.path_number(), **{name: body[name] for name in ACTIONS[action] if name in body}}
+    client = asked.client if action == "lose" else asked.named_client()
+    call = Call(client, action, members, asked.key, fingerprint(action, members), log=log)
+    kept = await asked.keeper.submit(call)
+    told = answer_of(kept.reply, kept.seen)
+    if action == "checkpoint":
+        asked.keeper.leases.renew(asked.path_number())
+    return asked.answer(told, kept.seen)
+
+
+def log_of(asked: Asked, body: dict[str, Any]) -> str | None:
+    """The last 64 KiB of the log that a worker hands in."""
+    log = body.get("log")
+    if log is None:
+        return None
+    if not isinstance(log, str):
+        raise bad_request("log is a text")
+    most = asked.host.settings.bounds.log_bytes
+    return log.encode("utf-8", "replace")[-most:].decode("utf-8", "ignore")
+
+
+async def heartbeat(asked: Asked) -> web.StreamResponse:
+    """Renews the lease of a work item, and says whether its job execution is asked to stop."""
+    if "work" not in asked.caller.rights:
+        raise Problem("RoleLacksRight", 403, "heartbeat isn't for this token's role")
+    body = await asked.body()
+    expect_members(body, "log")
+    stop, seen = await asked.keeper.heartbeat(asked.named_client(), asked.path_number(), log_of(asked, body))
+    return asked.answer({"stop": stop, "lease": asked.host.settings.lease}, seen)
+
+
+ROUTES: list[tuple[str, str, str, Handler]] = [
+    ("GET", "/batch/work", "read", list_held),
+    ("POST", "/batch/work", "work", claim),
+    ("PUT", "/batch/work/{id}", "read", change_work),
+]

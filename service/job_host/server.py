@@ -1,0 +1,198 @@
+"""The service as one web application, and its life from start to end."""
+
+from __future__ import annotations
+
+import asyncio
+import logging
+import signal
+import time
+from collections.abc import Awaitable, Callable
+
+from aiohttp import web
+from prometheus_client import CONTENT_TYPE_LATEST
+
+from job_host import routes_jobs, routes_work
+from job_host.access import Access, tls_context
+from job_host.embedded_keeper import EmbeddedKeeper
+from job_host.coprocess import CoProcessEnded
+from job_host.connections import GuardedHandler, GuardedServer
+from job_host.keeper import Fatal, Keeper
+from job_host.leases import Leases
+from job_host.metrics import Metrics
+from job_host.postgres_keeper import PostgresKeeper
+from job_host.problems import Problem, unavailable
+from job_host.requests import Asked, Gate, Handler, Host
+from job_host.settings import MOST_OPERATIONS, ServeSettings
+
+log = logging.getLogger(__name__)
+
+WARN_SECONDS = 60.0
+SHUTDOWN_SECONDS = 10.0
+
+Serve = Callable[[web.Request], Awaitable[web.StreamResponse]]
+
+
+def make_keeper(settings: ServeSettings, metrics: Metrics) -> Keeper:
+    leases = Leases(settings.lease)
+    if settings.postgres:
+        return PostgresKeeper(settings, leases, metrics.observers())
+    return EmbeddedKeeper(settings, leases, metrics.observers())
+
+
+class Service:
+    """One instance. Paths other than `/batch`, `/metrics` and `/health` are free for a console's files."""
+
+    def __init__(self, settings: ServeSettings) -> None:
+        self.settings = settings
+        self.access = Access(settings)
+        self.metrics = Metrics()
+        self.keeper = make_keeper(settings, self.metrics)
+        self.host = Host(settings, self.keeper, self.access, Gate(settings.bounds))
+        self.port = settings.port
+        self._runner: web.ServerRunner | None = None
+
+    def application(self) -> web.Application:
+        application = web.Application(middlewares=[self._answer], client_max_size=self.settings.bounds.body_bytes)
+        for method, path, right, handler in [*routes_jobs.ROUTES, *routes_work.ROUTES, *self._routes()]:
+            application.router.add_route(method, path, self._route(right, handler))
+        return application
+
+    def _routes(self) -> list[tuple[str, str, str, Handler]]:
+        return [
+            ("GET", "/metrics", "read", self._show_metrics),
+            ("GET", "/health/live", "read", self._show_live),
+            ("GET", "/health/ready", "read", self._show_ready),
+            ("GET", "/health/leader", "read", self._show_leader),
+        ]
+
+    def _route(self, right: str, handler: Handler) -> Serve:
+        """A route for callers with a right."""
+
+        async def serve(request: web.Request) -> web.StreamResponse:
+            caller = self.access.caller(request)
+            if right not in caller.rights:
+                raise Problem("RoleLacksRight", 403, "this isn't for the token's role")
+            asked = Asked(request, self.host, caller)
+            with self.host.gate.enter(asked.client):
+                return await handler(asked)
+
+        return serve
+
+    @web.middleware
+    async def _answer(self, request: web.Request, handler: Serve) -> web.StreamResponse:
+        """Answers every failure by a problem document, and measures."""
+        begun = time.monotonic()
+        connection = request.protocol
+        if isinstance(connection, GuardedHandler):
+            connection.note_served(True)
+        response = await self._answered(request, handler)
+        if isinstance(connection, GuardedHandler):
+            connection.note_served(False)
+        resource = request.match_info.route.resource
+        route = resource.canonical if resource is not None else "none"
+        method = request.method if request.method in ("GET", "POST", "PUT", "DELETE", "HEAD") else "other"
+        self.metrics.requests.labels(method, route, response.status).inc()
+        self.metrics.seconds.labels(route).observe(time.monotonic() - begun)
+        return response
+
+    async def _answered(self, request: web.Request, handler: Serve) -> web.StreamResponse:
+        try:
+            return await handler(request)
+        except Problem as problem:
+            return problem.response()
+        except web.HTTPUnauthorized as refused:
+            return web.Response(status=401, headers={"WWW-Authenticate": refused.headers["WWW-Authenticate"]})
+        except web.HTTPException as refused:
+            self.access_or_nothing(request)
+            return Problem(type(refused).__name__.removeprefix("HTTP"), refused.status).response()
+        except CoProcessEnded:
+            return unavailable("CoProcessEnded", "batchctl has ended, and is begun again").response()
+        except ConnectionError:
+            return Problem("ClientGone", 408).response()
+        except Exception:
+            log.exception("a request failed: %s %s", request.method, request.path)
+            return Problem("InternalError", 500, "the service's log says more").response()
+
+    def access_or_nothing(self, request: web.Request) -> None:
+        """A path or method that isn't known is told of to those with a token alone."""
+        try:
+            self.access.caller(request)
+        except (Problem, web.HTTPException):
+            raise web.HTTPUnauthorized(text="") from None
+
+    async def _show_metrics(self, asked: Asked) -> web.StreamResponse:
+        text = await self.metrics.text(self.keeper)
+        return web.Response(body=text, headers={"Content-Type": CONTENT_TYPE_LATEST})
+
+    def _health(self) -> dict[str, object]:
+        keeper = self.keeper
+        told = {"role": keeper.role, "epoch": keeper.epoch, "operations": keeper.operations, "leader": keeper.leader_url}
+        warns = keeper.operations >= self.settings.warn_from
+        return {**told, "warning": "HistoryAlmostFull"} if warns else told
+
+    async def _show_live(self, asked: Asked) -> web.StreamResponse:
+        return web.json_response(self._health())
+
+    async def _show_ready(self, asked: Asked) -> web.StreamResponse:
+        return web.json_response(self._health(), status=200 if self.keeper.role != "starting" else 503)
+
+    async def _show_leader(self, asked: Asked) -> web.StreamResponse:
+        return web.json_response(self._health(), status=200 if self.keeper.role == "leader" else 503)
+
+    async def _warn(self) -> None:
+        """Says once a minute that the history fills."""
+        while True:
+            operations = self.keeper.operations
+            if operations >= self.settings.warn_from:
+                log.warning("the history has %d of %d operations: begin a new one soon", operations, MOST_OPERATIONS)
+            await asyncio.sleep(WARN_SECONDS)
+
+    async def listen(self) -> None:
+        application = self.application()
+        application.freeze()
+        self._runner = web.ServerRunner(GuardedServer(application, self.settings.bounds))
+        await self._runner.setup()
+        site = web.TCPSite(
+            self._runner, self.settings.host, self.settings.port, ssl_context=tls_context(self.settings), shutdown_timeout=1.0
+        )
+        await site.start()
+        if self.settings.port == 0:
+            self.port = self._runner.addresses[0][1]
+
+    async def run(self) -> None:
+        """Serves until SIGTERM or SIGINT. Raises Fatal if the keeper can't go on."""
+        ending = asyncio.Event()
+        loop = asyncio.get_running_loop()
+        loop.set_exception_handler(note_failure)
+        for number in (signal.SIGTERM, signal.SIGINT):
+            loop.add_signal_handler(number, ending.set)
+        await self.listen()
+        log.warning("listens on %s, port %d", self.settings.host, self.port)
+        keeping = loop.create_task(self.keeper.run())
+        warning = loop.create_task(self._warn())
+        until_told = loop.create_task(ending.wait())
+        await asyncio.wait([keeping, until_told], return_when=asyncio.FIRST_COMPLETED)
+        warning.cancel()
+        until_told.cancel()
+        if self._runner is not None:
+            await self._runner.cleanup()
+        await self.keeper.close()
+        await asyncio.wait([keeping], timeout=SHUTDOWN_SECONDS)
+        if keeping.done():
+            keeping.result()
+
+
+def note_failure(loop: asyncio.AbstractEventLoop, context: dict[str, object]) -> None:
+    """Says in one line what failed beside a request, as a path that aiohttp can't read."""
+    log.warning("%s: %r", context.get("message"), context.get("exception"))
+
+
+def serve(settings: ServeSettings) -> int:
+    """Serves, and returns an exit status: 0 after a signal, 1 if a person has to look."""
+    logging.basicConfig(level=logging.WARNING, format="%(asctime)s jobhost: %(message)s")
+    try:
+        asyncio.run(Service(settings).run())
+    except Fatal as fault:
+        log.error("stops: %s", fault)
+        return 1
+    return 0

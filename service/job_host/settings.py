@@ -1,0 +1,60 @@
+"""What a service is told at its start, and the bounds of everything that a client may send."""
+
+from __future__ import annotations
+
+import os
+import shutil
+from dataclasses import dataclass, field
+from pathlib import Path
+
+DEFAULT_PORT = 8570
+DEFAULT_URL = f"http://127.0.0.1:{DEFAULT_PORT}"
+MOST_OPERATIONS = 1_000_000
+
+
+@dataclass(frozen=True)
+class Bounds:
+    """The bounds of a client. Seconds, bytes and counts."""
+
+    body_bytes: int = 1_048_576
+    name_bytes: int = 128
+    key_bytes: int = 128
+    log_bytes: int = 65_536
+    requests_at_once: int = 64
+    connections: int = 1_024
+    clients: int = 100_000
+    page_size: int = 1_000
+    listed: int = 10_000
+    longest_poll: float = 60.0
+    slow_after: float = 10.0
+    at_least_seconds: float = 5.0
+    days_of_keys: int = 7
+
+
+@dataclass(frozen=True)
+class ServeSettings:
+    """A service. `postgres` holds the DSN of each server that may be the primary; if it is empty, the service is embedded."""
+
+    catalogue: Path
+    batchctl: tuple[str, ...]
+    data: Path = Path("jobhost-data")
+    postgres: tuple[str, ...] = ()
+    host: str = "127.0.0.1"
+    port: int = DEFAULT_PORT
+    advertise: str = ""
+    tokens: Path | None = None
+    certificate: Path | None = None
+    certificate_key: Path | None = None
+    lease: float = 30.0
+    takeover_after: float = 5.0
+    commit_timeout: float = 30.0
+    warn_from: int = 900_000
+    refuse_from: int = 990_000
+    bounds: Bounds = field(default_factory=Bounds)
+
+
+def find_batchctl(given: str | None) -> tuple[str, ...]:
+    """The program: the one that is named, else JOBHOST_BATCHCTL, else the path's, else the one that this clone has built."""
+    named = given or os.environ.get("JOBHOST_BATCHCTL") or shutil.which("batchctl")
+    built = Path(__file__).resolve().parents[2] / "crates" / "batchctl" / "out" / "batchctl"
+    return (named or str(built),)

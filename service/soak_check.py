@@ -1,0 +1,203 @@
+"""What is compared after a soak: each client's replies and reads, and the artifacts' runs, with a replay of the log."""
+
+from __future__ import annotations
+
+import json
+import subprocess
+import sys
+from collections import Counter, defaultdict
+from collections.abc import Iterator, Sequence
+from dataclasses import dataclass, field
+from pathlib import Path
+from typing import Any
+
+sys.path.insert(0, str(Path(__file__).resolve().parent))
+
+from job_host import views  # noqa: E402
+from job_host.lines import command, query  # noqa: E402
+
+
+class Wrong(Exception):
+    """What isn't as it has to be."""
+
+
+@dataclass(frozen=True)
+class Operation:
+    """A kept operation. `key` is its request key, if it had one."""
+
+    number: int
+    line: bytes
+    reply: bytes
+    key: str | None
+
+
+@dataclass(frozen=True)
+class Acknowledged:
+    """A call of a client that was answered, with what it was answered and how many operations that saw."""
+
+    client: str
+    key: str
+    do: str
+    members: dict[str, Any]
+    status: int
+    told: dict[str, Any]
+    operations: int
+
+
+@dataclass(frozen=True)
+class Read:
+    """A read of a job execution. `least` is how many operations its client had seen before."""
+
+    client: str
+    execution: int
+    status: int
+    told: dict[str, Any]
+    operations: int
+    least: int
+
+
+@dataclass
+class Seen:
+    """All that clients were answered, in the order in which each was."""
+
+    calls: list[Acknowledged] = field(default_factory=list)
+    reads: list[Read] = field(default_factory=list)
+
+
+def replay(
+    batchctl: Sequence[str], catalogue: bytes, operations: Sequence[Operation], asides: dict[int, list[bytes]]
+) -> list[Any]:
+    """The replies to the operations, with for each number the replies to the lines that stand behind it.
+
+    The lines beside the operations change nothing: they are queries, and calls that were refused.
+    """
+    lines = [catalogue, *asides.get(0, [])]
+    for operation in operations:
+        lines += [operation.line, *asides.get(operation.number, [])]
+    done = subprocess.run([*batchctl, "script"], input=b"\n".join(lines) + b"\n", capture_output=True, check=True)
+    return done.stdout.splitlines()
+
+
+class Replayed:
+    """A replay with every read and every refusal at its place."""
+
+    def __init__(self, batchctl: Sequence[str], catalogue: bytes, operations: Sequence[Operation], seen: Seen) -> None:
+        asides: dict[int, list[bytes]] = defaultdict(list)
+        self._places: list[tuple[int, Any]] = []
+        for item, at, lines in self._lines_of(seen):
+            self._places.append((at, (item, len(asides[at]), len(lines))))
+            asides[at] += lines
+        replies = iter(replay(batchctl, catalogue, operations, asides))
+        self._beside = {0: [next(replies) for _ in asides.get(0, [])]}
+        self.replies = []
+        for operation in operations:
+            self.replies.append(next(replies))
+            self._beside[operation.number] = [next(replies) for _ in asides.get(operation.number, [])]
+        if next(replies, None) is not None:
+            raise Wrong("the replay has more replies than lines")
+
+    @staticmethod
+    def _lines_of(seen: Seen) -> Iterator[tuple[Any, int, list[bytes]]]:
+        for read in seen.reads:
+            asks = ("job_execution", "parameters", "step_executions")
+            yield read, read.operations, [query(ask, execution=read.execution) for ask in asks]
+        for call in seen.calls:
+            if call.status >= 400:
+                yield call, call.operations, [command(call.do, 2, 0, call.members)]
+
+    def beside(self) -> Iterator[tuple[Any, list[Any]]]:
+        """Each read and each refused call with its replies."""
+        for at, (item, place, count) in self._places:
+            if at not in self._beside:
+                raise Wrong(f"{item} saw {at} operations, and the history has fewer")
+            yield item, [json.loads(reply) for reply in self._beside[at][place : place + count]]
+
+
+def check_replies(operations: Sequence[Operation], replayed: Replayed) -> None:
+    for operation, reply in zip(operations, replayed.replies, strict=True):
+        if reply != operation.reply:
+            raise Wrong(f"operation {operation.number} was answered {operation.reply!r}, and its replay {reply!r}")
+
+
+def check_calls(operations: Sequence[Operation], seen: Seen) -> None:
+    """Each acknowledged operation stands in the history once, with its reply; each client's in its order."""
+    by_key: dict[str, list[Operation]] = defaultdict(list)
+    for operation in operations:
+        if operation.key is not None:
+            by_key[operation.key].append(operation)
+    last: dict[str, int] = defaultdict(int)
+    for call in seen.calls:
+        found = by_key.get(call.key, [])
+        if call.status >= 400:
+            if found:
+                raise Wrong(f"{call} was refused, and is in the history")
+            continue
+        if len(found) != 1:
+            raise Wrong(f"{call} was acknowledged, and is in the history {len(found)} times")
+        check_call(call, found[0])
+        if found[0].number <= last[call.client]:
+            raise Wrong(f"{call} is before an earlier one of its client")
+        last[call.client] = found[0].number
+
+
+def check_call(call: Acknowledged, operation: Operation) -> None:
+    line, reply = json.loads(operation.line), json.loads(operation.reply)
+    if line["do"] != call.do or any(line[name] != value for name, value in call.members.items()):
+        raise Wrong(f"{call} is in the history as {line}")
+    if call.operations != operation.number or call.told.get("executionId") != reply.get(
+        "execution", call.told.get("executionId")
+    ):
+        raise Wrong(f"{call} is in the history as number {operation.number} with the reply {reply}")
+
+
+def check_beside(replayed: Replayed) -> None:
+    """Each read tells the state after what it saw, and each refusal was due there; no read goes back."""
+    for item, replies in replayed.beside():
+        if isinstance(item, Acknowledged):
+            if replies[0].get("refused") != item.told.get("title"):
+                raise Wrong(f"{item}: the replay answers {replies[0]}")
+            continue
+        if item.operations < item.least:
+            raise Wrong(f"{item} goes back")
+        if item.status == 200:
+            execution, parameters, steps = replies
+            told = views.job_execution(execution["job_execution"], parameters["parameters"], steps["step_executions"])
+            if told != item.told:
+                raise Wrong(f"{item}: the replay tells {told}")
+        elif replies[0].get("refused") != item.told.get("title"):
+            raise Wrong(f"{item}: the replay answers {replies[0]}")
+
+
+def check_artifacts(operations: Sequence[Operation], folder: Path) -> None:
+    """An artifact ran at most once for each work item, and to its end for each that its worker finished COMPLETED."""
+    begun, ended = [Counter((folder / name).read_text().split()) for name in ("begun", "ended")]
+    twice = [work for work, times in begun.items() if times > 1]
+    if twice:
+        raise Wrong(f"artifacts ran twice for the work items {twice}")
+    chunks = {json.loads(one.reply)["work"]["work"] for one in operations if b'"kind":"chunk"' in one.reply}
+    for operation in operations:
+        line = json.loads(operation.line)
+        if line["do"] == "finish" and line["outcome"] == "COMPLETED" and line["work"] not in chunks:
+            if ended[str(line["work"])] != 1:
+                raise Wrong(
+                    f"work item {line['work']} is COMPLETED, and its artifact ran to its end {ended[str(line['work'])]} times"
+                )
+
+
+def check(
+    batchctl: Sequence[str], catalogue: bytes, operations: Sequence[Operation], seen: Seen, artifacts: Path
+) -> dict[str, int]:
+    """Compares everything, and returns how much that was."""
+    replayed = Replayed(batchctl, catalogue, operations, seen)
+    check_replies(operations, replayed)
+    check_calls(operations, seen)
+    check_beside(replayed)
+    check_artifacts(operations, artifacts)
+    refused = sum(call.status >= 400 for call in seen.calls)
+    return {
+        "operations": len(operations),
+        "acknowledged": len(seen.calls) - refused,
+        "refused": refused,
+        "reads": len(seen.reads),
+        "artifact runs": len((artifacts / "begun").read_text().split()),
+    }

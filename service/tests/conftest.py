@@ -1,0 +1,77 @@
+"""Fixtures: a PostgreSQL server for the session, a database for each test, and a catalogue."""
+
+from __future__ import annotations
+
+import json
+import subprocess
+import sys
+from collections.abc import Callable, Iterator
+from pathlib import Path
+from typing import Any
+
+import pytest
+
+sys.path.insert(0, str(Path(__file__).resolve().parent))
+sys.path.insert(0, str(Path(__file__).resolve().parents[1]))
+
+from postgres_server import PostgresServer  # noqa: E402
+
+from job_host.settings import ServeSettings, find_batchctl  # noqa: E402
+
+
+def batchlet(name: str, ref: str, **more: Any) -> dict[str, Any]:
+    return {"kind": "step", "id": name, "batchlet": {"ref": ref}, **more}
+
+
+NIGHTLY = {"id": "nightly", "elements": [batchlet("load", "load", next="report"), batchlet("report", "report")]}
+SHORT = {"id": "short", "elements": [batchlet("only", "only")]}
+WIDE = {"id": "wide", "elements": [batchlet("print", "print", partitions=8)]}
+CHUNK = {"item-count": 2, "reader": {"ref": "rows"}, "processor": {"ref": "odd"}, "writer": {"ref": "table"}}
+CHUNKY = {"id": "chunky", "elements": [{"kind": "step", "id": "copy", "chunk": CHUNK}]}
+DECIDING = {"id": "deciding", "elements": [{"kind": "decision", "id": "day", "ref": "day"}]}
+JOBS = [NIGHTLY, SHORT, WIDE, CHUNKY, DECIDING]
+
+
+@pytest.fixture(scope="session")
+def postgres() -> Iterator[PostgresServer]:
+    server = PostgresServer.make()
+    server.start()
+    yield server
+    server.remove()
+
+
+@pytest.fixture
+def dsn(postgres: PostgresServer, request: pytest.FixtureRequest) -> Iterator[str]:
+    """A new database."""
+    name = f"test_{abs(hash(request.node.nodeid))}"
+    postgres.sql(f"create database {name}")
+    yield postgres.dsn.rsplit("/", 1)[0] + "/" + name
+    postgres.sql(f"drop database {name} with (force)")
+
+
+@pytest.fixture
+def catalogue(tmp_path: Path) -> Path:
+    path = tmp_path / "catalogue.json"
+    path.write_text(json.dumps({"jobs": JOBS}, indent=1))
+    return path
+
+
+@pytest.fixture
+def settings(dsn: str, catalogue: Path) -> Callable[..., ServeSettings]:
+    """Settings of a service over PostgreSQL that takes over after a second and a half."""
+
+    def make(**more: Any) -> ServeSettings:
+        given: dict[str, Any] = {"port": 0, "takeover_after": 1.5, "lease": 10.0, "postgres": (dsn,), **more}
+        return ServeSettings(catalogue=given.pop("catalogue", catalogue), batchctl=find_batchctl(None), **given)
+
+    return make
+
+
+@pytest.fixture(scope="session")
+def has_log(tmp_path_factory: pytest.TempPathFactory) -> None:
+    """Skips if the program that is tested has no `script --log`."""
+    log = tmp_path_factory.mktemp("log") / "history.log"
+    words = [*find_batchctl(None), "script", "--log", str(log)]
+    done = subprocess.run(words, input=b'{"jobs":[]}\n', capture_output=True, check=False)
+    if done.returncode == 2:
+        pytest.skip("this batchctl has no `script --log`")

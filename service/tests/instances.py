@@ -1,0 +1,174 @@
+"""Services under test: one in this process, whose parts can be reached, or one in a process of its own, which can be killed."""
+
+from __future__ import annotations
+
+import asyncio
+import json
+import os
+import signal
+import subprocess
+import sys
+import time
+import uuid
+from collections.abc import AsyncIterator
+from contextlib import asynccontextmanager
+from dataclasses import dataclass
+from pathlib import Path
+from typing import Any
+
+import aiohttp
+from postgres_server import free_port
+
+from job_host.server import Service
+from job_host.settings import ServeSettings
+
+READY_SECONDS = 30.0
+COMMAND = Path(__file__).resolve().parents[1] / "jobhost"
+
+
+@dataclass(frozen=True)
+class Answer:
+    status: int
+    told: Any
+    operations: int | None
+
+    @property
+    def name(self) -> str:
+        """The name of a problem."""
+        return str(self.told["title"])
+
+
+class Caller:
+    """Calls a service as one client, and keeps no connection between its calls."""
+
+    def __init__(self, url: str, client: str = "tester", token: str | None = None) -> None:
+        self.url = url
+        self.headers = {"Batch-Client": client}
+        if token is not None:
+            self.headers["Authorization"] = f"Bearer {token}"
+
+    async def ask(self, method: str, path: str, body: Any = None, key: str | None = None, **headers: str) -> Answer:
+        given = {**self.headers, **({"Idempotency-Key": key} if key else {}), **headers}
+        timeout = aiohttp.ClientTimeout(total=60)
+        async with aiohttp.ClientSession(timeout=timeout) as session:
+            async with session.request(method, self.url + path, json=body, headers=given) as response:
+                text = await response.text()
+                operations = response.headers.get("Batch-Operations")
+                told = json.loads(text) if "json" in response.content_type else text
+                return Answer(response.status, told, int(operations) if operations else None)
+
+    async def start(self, job: str = "nightly", key: str | None = None, **parameters: str) -> Answer:
+        body = {"jobName": job, "jobParameters": parameters}
+        return await self.ask("POST", "/batch/jobinstances", body, key or uuid.uuid4().hex)
+
+    async def claim(self, wait: float = 0, key: str | None = None) -> Answer:
+        return await self.ask("POST", "/batch/work", {"wait": wait}, key)
+
+    async def finish(self, work: int, outcome: str = "COMPLETED", **more: Any) -> Answer:
+        return await self.ask("PUT", f"/batch/work/{work}?action=finish", {"outcome": outcome, **more})
+
+    async def change(self, execution: int, action: str, key: str | None = None) -> Answer:
+        return await self.ask("PUT", f"/batch/jobexecutions/{execution}?action={action}", key=key)
+
+    async def status(self, execution: int) -> str:
+        return str((await self.ask("GET", f"/batch/jobexecutions/{execution}")).told["batchStatus"])
+
+
+async def until(condition: Any, seconds: float = READY_SECONDS) -> None:
+    """Returns after the condition holds."""
+    deadline = time.monotonic() + seconds
+    while not await condition():
+        if time.monotonic() > deadline:
+            raise TimeoutError
+        await asyncio.sleep(0.02)
+
+
+class Instance:
+    """A service in this process."""
+
+    def __init__(self, settings: ServeSettings) -> None:
+        self.service = Service(settings)
+        self.url = ""
+        self._keeping: asyncio.Task[None] | None = None
+
+    async def start(self) -> None:
+        await self.service.listen()
+        self.url = f"http://127.0.0.1:{self.service.port}"
+        self._keeping = asyncio.get_running_loop().create_task(self.service.keeper.run())
+
+    async def until_role(self, *roles: str) -> None:
+        async def has_role() -> bool:
+            if self._keeping is not None and self._keeping.done():
+                self._keeping.result()
+            return self.service.keeper.role in roles
+
+        await until(has_role)
+
+    async def ended(self) -> None:
+        """Returns, or raises, after the keeper has ended."""
+        assert self._keeping is not None
+        await asyncio.wait_for(asyncio.shield(self._keeping), READY_SECONDS)
+
+    async def stop(self) -> None:
+        assert self.service._runner is not None and self._keeping is not None
+        await self.service._runner.cleanup()
+        await self.service.keeper.close()
+        await asyncio.wait([self._keeping], timeout=READY_SECONDS)
+        if self._keeping.done() and not self._keeping.cancelled():
+            self._keeping.exception()
+
+
+@asynccontextmanager
+async def running(settings: ServeSettings, role: str = "leader") -> AsyncIterator[Instance]:
+    instance = Instance(settings)
+    await instance.start()
+    try:
+        await instance.until_role(role)
+        yield instance
+    finally:
+        await instance.stop()
+
+
+class Process:
+    """`jobhost serve` in a process of its own. It keeps its port over restarts."""
+
+    def __init__(self, log: Path, *words: str, port: int | None = None) -> None:
+        self.port = port or free_port()
+        self.url = f"http://127.0.0.1:{self.port}"
+        self.words = [sys.executable, str(COMMAND), "serve", "--port", str(self.port), *words]
+        self._log = log
+        self._process: subprocess.Popen[bytes] | None = None
+
+    def start(self) -> None:
+        with open(self._log, "ab") as log:
+            self._process = subprocess.Popen(self.words, stdout=log, stderr=log, env=os.environ)
+
+    @property
+    def number(self) -> int:
+        assert self._process is not None
+        return self._process.pid
+
+    async def until_role(self, *roles: str) -> None:
+        async def has_role() -> bool:
+            try:
+                return (await Caller(self.url).ask("GET", "/health/live")).told["role"] in roles
+            except (aiohttp.ClientError, asyncio.TimeoutError, OSError):
+                return False
+
+        await until(has_role)
+
+    def signal(self, number: int) -> None:
+        os.kill(self.number, number)
+
+    def kill(self) -> None:
+        if self._process is not None and self._process.poll() is None:
+            self.signal(signal.SIGKILL)
+            self._process.wait()
+
+    def wait(self, seconds: float = READY_SECONDS) -> int:
+        assert self._process is not None
+        return self._process.wait(seconds)
+
+    @property
+    def log(self) -> str:
+        return self._log.read_text()

@@ -1,0 +1,140 @@
+"""Keeping on one machine: operations in the log of batchctl, request keys in an SQLite file beside it."""
+
+from __future__ import annotations
+
+import asyncio
+import json
+import sqlite3
+from collections.abc import Callable
+from pathlib import Path
+from typing import Any, cast
+
+import pytest
+from conftest import NIGHTLY, SHORT
+from instances import Caller, Process, running
+
+from job_host import log_file
+from job_host.embedded_keeper import LOG_NAME, EmbeddedTerm
+from job_host.keeper import Fatal
+from job_host.settings import ServeSettings, find_batchctl
+
+Make = Callable[..., ServeSettings]
+
+
+@pytest.fixture
+def embedded(tmp_path: Path, catalogue: Path, has_log: None) -> Make:
+    def make(**more: Any) -> ServeSettings:
+        given: dict[str, Any] = {"port": 0, "lease": 10.0, "data": tmp_path / "data", **more}
+        return ServeSettings(catalogue=given.pop("catalogue", catalogue), batchctl=find_batchctl(None), **given)
+
+    return make
+
+
+async def test_an_operation_is_in_the_log_when_it_is_answered(embedded: Make) -> None:
+    made = embedded()
+    async with running(made) as instance:
+        assert (await Caller(instance.url).start(key="a", date="today")).told["executionId"] == 1
+        assert (await Caller(instance.url).change(9, "stop")).name == "NoSuchJobExecutionException"
+        lines = [record.line for record in log_file.records(made.data / LOG_NAME)]
+    assert [json.loads(line).get("do") for line in lines] == [None, "start"]
+
+
+async def test_the_history_goes_on_after_a_kill(embedded: Make, tmp_path: Path) -> None:
+    made = embedded()
+    words = ["--catalogue", str(made.catalogue), "--batchctl", made.batchctl[0], "--data", str(made.data)]
+    process = Process(tmp_path / "service", *words)
+    caller = Caller(process.url)
+    try:
+        process.start()
+        await process.until_role("leader")
+        first = [await caller.start(key="a"), await caller.claim(key="b"), await caller.change(7, "stop", key="c")]
+        await caller.finish(1, "FAILED", log="no space")
+        process.kill()
+        process.start()
+        await process.until_role("leader")
+        again = [await caller.start(key="a"), await caller.claim(key="b"), await caller.change(7, "stop", key="c")]
+        assert [answer.told for answer in again] == [answer.told for answer in first]
+        assert [answer.operations for answer in again] == [answer.operations for answer in first]
+        assert (await caller.change(1, "restart")).told["executionId"] == 2
+        assert (await caller.ask("GET", "/batch/jobexecutions/1/joblogs")).told[0]["log"] == "no space"
+    finally:
+        process.kill()
+
+
+async def test_a_crash_between_log_and_key(embedded: Make) -> None:
+    """The operation is found in the log by its moment, and its reply by a replay."""
+    async with running(embedded()) as instance:
+        caller, term = Caller(instance.url), instance.service.keeper.term
+        assert isinstance(term, EmbeddedTerm)
+        store: Any = term._beside._store
+        await caller.start(key="first")
+
+        def fail(*given: Any) -> None:
+            raise sqlite3.OperationalError("the disk is full")
+
+        store.answer = fail
+        answers = await asyncio.gather(caller.start(key="second"), caller.change(9, "stop", key="refused"))
+        assert {answer.status for answer in answers} == {503}
+        await instance.until_role("starting")
+        await instance.until_role("leader")
+        again = await caller.start(key="second")
+        assert (again.status, again.told["executionId"], again.told["instanceId"], again.operations) == (201, 2, 2, 2)
+        assert instance.service.keeper.operations == 2
+        assert (await caller.change(9, "stop", key="refused")).name == "NoSuchJobExecutionException"
+
+
+async def test_a_crash_between_key_and_log(embedded: Make) -> None:
+    """The key is kept, and its line was never entered: asked again, the operation is made."""
+    async with running(embedded()) as instance:
+        caller, term = Caller(instance.url), instance.service.keeper.term
+        assert isinstance(term, EmbeddedTerm)
+        process, hand, open_term = term.engine.process, term.hand, cast(Any, term)
+
+        def kill_and_hand(item: Any) -> None:
+            process.kill()
+            hand(item)
+
+        open_term.hand = kill_and_hand
+        assert (await caller.start(key="a")).status == 503
+        await instance.until_role("starting")
+        await instance.until_role("leader")
+        again = await caller.start(key="a")
+        assert (again.status, again.told["executionId"], instance.service.keeper.operations) == (201, 1, 1)
+
+
+async def test_busy_work_items_are_read_out_of_the_log(embedded: Make) -> None:
+    made = embedded()
+    async with running(made) as instance:
+        await Caller(instance.url).start("wide")
+        for name in ("one", "two", "two"):
+            await Caller(instance.url, name).claim()
+        await Caller(instance.url, "one").finish(1)
+    async with running(made) as instance:
+        held = (await Caller(instance.url).ask("GET", "/batch/work")).told
+        assert [(one["work"], one["client"], one["partition"]) for one in held] == [(2, "two", 1), (3, "two", 2)]
+        assert (await Caller(instance.url, "one").finish(2)).name == "NotClaimer"
+        assert (await Caller(instance.url, "two").finish(2)).status == 200
+
+
+async def test_a_catalogue_may_add_jobs_and_change_none(embedded: Make, tmp_path: Path) -> None:
+    def write(*jobs: Any) -> Path:
+        path = tmp_path / "next.json"
+        path.write_text(json.dumps({"jobs": jobs}))
+        return path
+
+    async with running(embedded(catalogue=write(NIGHTLY))) as instance:
+        assert (await Caller(instance.url).start()).status == 201
+    async with running(embedded(catalogue=write(SHORT, NIGHTLY))) as instance:
+        assert (await Caller(instance.url).start("short")).status == 201
+    with pytest.raises(Fatal, match="'nightly' is dropped"):
+        async with running(embedded(catalogue=write(SHORT))):
+            pass
+
+
+async def test_two_services_never_have_one_log(embedded: Make, monkeypatch: pytest.MonkeyPatch) -> None:
+    monkeypatch.setattr("job_host.embedded_keeper.IN_USE_SECONDS", 0.5)
+    made = embedded()
+    async with running(made):
+        with pytest.raises(Fatal, match="in use"):
+            async with running(made):
+                pass

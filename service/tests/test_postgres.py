@@ -1,0 +1,337 @@
+"""Keeping in PostgreSQL: what is acknowledged is kept, one instance leads, and a replay is compared."""
+
+from __future__ import annotations
+
+import asyncio
+import json
+import signal
+from collections.abc import Callable
+from pathlib import Path
+from typing import Any
+
+import asyncpg
+import pytest
+from conftest import NIGHTLY, SHORT
+from instances import Caller, Process, running, until
+
+from job_host.keeper import Fatal
+from job_host.settings import Bounds, ServeSettings
+
+Make = Callable[..., ServeSettings]
+LEADER_ROW = "select epoch from job_host_leader for update"
+BLOCKED = "select pid from pg_stat_activity where wait_event_type = 'Lock' and datname = current_database()"
+
+
+async def connect(settings: ServeSettings) -> asyncpg.Connection:
+    return await asyncpg.connect(settings.postgres[0])
+
+
+async def test_an_operation_is_in_the_table_when_it_is_answered(settings: Make) -> None:
+    made = settings()
+    async with running(made) as instance:
+        told = await Caller(instance.url).start(key="first", date="2026-11-27")
+        table = await connect(made)
+        rows = await table.fetch("select number, epoch, line, reply, request_key from job_host_operation")
+        await table.close()
+    assert (told.status, told.operations, told.told["executionId"]) == (201, 1, 1)
+    assert [(row["number"], row["epoch"], row["reply"], row["request_key"]) for row in rows] == [
+        (1, 1, '{"execution":1}', "first")
+    ]
+    line = json.loads(rows[0]["line"])
+    assert (line["do"], line["job"], line["parameters"]) == ("start", "nightly", {"date": "2026-11-27"})
+
+
+async def test_no_reply_leaves_before_its_commit(settings: Make) -> None:
+    """The leader's row is locked from outside, so that the commit waits: then start, read and refusal wait, too."""
+    made = settings()
+    async with running(made) as instance:
+        caller, table = Caller(instance.url), await connect(made)
+        lock = table.transaction()
+        await lock.start()
+        await table.fetch(LEADER_ROW)
+        calls = [caller.start(), caller.ask("GET", "/batch/jobexecutions/1"), caller.change(9, "stop")]
+        tasks = [asyncio.create_task(calls[0])]
+        await asyncio.sleep(0.2)
+        tasks += [asyncio.create_task(call) for call in calls[1:]]
+        done, _ = await asyncio.wait(tasks, timeout=0.7)
+        assert not done
+        await lock.rollback()
+        started, read, refused = await asyncio.gather(*tasks)
+        await table.close()
+    assert (started.status, read.told["batchStatus"], refused.name) == (201, "STARTING", "NoSuchJobExecutionException")
+
+
+async def test_a_refused_read_waits_for_what_it_saw(settings: Make) -> None:
+    """Reads that saw an operation which isn't kept yet are answered after it is, refused ones too."""
+    made = settings()
+    async with running(made) as instance:
+        caller, table = Caller(instance.url), await connect(made)
+        lock = table.transaction()
+        await lock.start()
+        await table.fetch(LEADER_ROW)
+        tasks = [asyncio.create_task(caller.start())]
+        await asyncio.sleep(0.2)
+        tasks.append(asyncio.create_task(caller.ask("GET", "/batch/jobinstances?jobName=short")))
+        tasks.append(asyncio.create_task(caller.ask("GET", "/batch/work")))
+        done, _ = await asyncio.wait(tasks, timeout=0.5)
+        assert not done
+        await lock.rollback()
+        started, refused, held = await asyncio.gather(*tasks)
+        await table.close()
+    assert (started.status, refused.name, held.told, held.operations) == (201, "NoSuchJobException", [], 1)
+
+
+async def test_a_commit_that_fails_while_a_read_waits(settings: Make) -> None:
+    """Neither the call nor the read that saw it is answered, and the history goes on without it."""
+    made = settings()
+    async with running(made) as instance:
+        caller, table = Caller(instance.url), await connect(made)
+        assert (await caller.start("short")).told["executionId"] == 1
+        lock = table.transaction()
+        await lock.start()
+        await table.fetch(LEADER_ROW)
+        start = asyncio.create_task(caller.start("nightly", key="lost"))
+        await asyncio.sleep(0.2)
+        read = asyncio.create_task(caller.ask("GET", "/batch/jobexecutions/2"))
+        done, _ = await asyncio.wait([start, read], timeout=0.5)
+        assert not done
+        for row in await table.fetch(BLOCKED):
+            await table.fetch("select pg_terminate_backend($1)", row["pid"])
+        answers = await asyncio.gather(start, read)
+        assert [(answer.status, answer.name) for answer in answers] == [(503, "CommitFailed"), (503, "CommitFailed")]
+        await lock.rollback()
+        await instance.until_role("starting", "follower")
+        await instance.until_role("leader")
+        assert (await caller.ask("GET", "/batch/jobexecutions/2")).name == "NoSuchJobExecutionException"
+        again = await caller.start("nightly", key="lost")
+        assert (again.status, again.told["executionId"], again.operations) == (201, 2, 2)
+        await table.close()
+
+
+async def test_a_commit_whose_answer_is_lost_is_found_by_its_key(settings: Make) -> None:
+    made = settings()
+    async with running(made) as instance:
+        caller, keeper = Caller(instance.url), instance.service.keeper
+        assert keeper.term is not None
+        store: Any = keeper.term._store  # type: ignore[attr-defined]
+        commit = store.commit
+
+        async def commit_and_lose(*given: Any) -> bool:
+            await commit(*given)
+            raise OSError("the answer is lost")
+
+        store.commit = commit_and_lose
+        told = await caller.start(key="again")
+        assert (told.status, told.name) == (503, "CommitFailed")
+        await instance.until_role("starting", "follower")
+        await instance.until_role("leader")
+        again = await caller.start(key="again")
+        assert (again.status, again.told["executionId"], again.operations) == (201, 1, 1)
+        assert keeper.operations == 1
+
+
+async def test_many_calls_share_a_commit(settings: Make) -> None:
+    made = settings()
+    async with running(made) as instance:
+        callers = [Caller(instance.url, f"client-{number}") for number in range(40)]
+        answers = await asyncio.gather(*(caller.start() for caller in callers))
+        assert sorted(answer.told["executionId"] for answer in answers) == list(range(1, 41))
+        table = await connect(made)
+        beats = await table.fetchval("select beats from job_host_leader")
+        await table.close()
+    assert beats < 30
+
+
+async def test_the_history_goes_on_after_a_restart(settings: Make) -> None:
+    made = settings()
+    async with running(made) as instance:
+        caller = Caller(instance.url)
+        await caller.start()
+        claimed = await caller.claim()
+        await caller.finish(claimed.told["work"]["work"], "FAILED", exit="DISK FULL", log="no space")
+    async with running(made) as instance:
+        caller = Caller(instance.url)
+        assert await caller.status(1) == "FAILED"
+        again = await caller.change(1, "restart")
+        assert (again.told["executionId"], again.told["instanceId"]) == (2, 1)
+        logs = await caller.ask("GET", "/batch/jobexecutions/1/joblogs")
+        assert logs.told == [{"work": 1, "stepName": "load", "partition": None, "log": "no space"}]
+
+
+async def test_a_killed_co_process_is_replaced(settings: Make) -> None:
+    async with running(settings()) as instance:
+        caller, keeper = Caller(instance.url), instance.service.keeper
+        await caller.start()
+        assert keeper.engine is not None
+        keeper.engine.process.kill()
+        await instance.until_role("starting", "follower")
+        await instance.until_role("leader")
+        assert (await caller.start()).told["executionId"] == 2
+
+
+async def test_a_reply_that_differs_stops_the_instance(settings: Make) -> None:
+    made = settings()
+    async with running(made) as instance:
+        await Caller(instance.url).start()
+    table = await connect(made)
+    await table.execute("update job_host_operation set reply = '{\"execution\":7}'")
+    await table.close()
+    with pytest.raises(Fatal) as stopped:
+        async with running(made) as instance:
+            pass
+    assert '{"execution":7}' in str(stopped.value) and '{"execution":1}' in str(stopped.value)
+
+
+async def test_a_catalogue_may_add_jobs_and_change_none(settings: Make, tmp_path: Path) -> None:
+    def write(*jobs: Any) -> Path:
+        path = tmp_path / "next.json"
+        path.write_text(json.dumps({"jobs": jobs}))
+        return path
+
+    async with running(settings(catalogue=write(NIGHTLY))) as instance:
+        assert (await Caller(instance.url).start("short")).name == "JobStartException"
+    async with running(settings(catalogue=write(SHORT, NIGHTLY))) as instance:
+        assert (await Caller(instance.url).start("short")).status == 201
+    changed = {"id": "nightly", "restartable": False, "elements": NIGHTLY["elements"]}
+    with pytest.raises(Fatal, match="'nightly' is changed.*restartable"):
+        async with running(settings(catalogue=write(SHORT, changed))):
+            pass
+    with pytest.raises(Fatal, match="'short' is dropped"):
+        async with running(settings(catalogue=write(NIGHTLY))):
+            pass
+
+
+async def test_a_follower_takes_over_the_jobs_that_a_new_leader_brings(settings: Make, tmp_path: Path) -> None:
+    fewer, more = tmp_path / "fewer.json", tmp_path / "more.json"
+    fewer.write_text(json.dumps({"jobs": [NIGHTLY]}))
+    more.write_text(json.dumps({"jobs": [NIGHTLY, SHORT]}))
+    async with running(settings(catalogue=fewer)) as one, running(settings(catalogue=fewer), "follower") as two:
+        waiting: Any = two.service.keeper
+
+        async def wait(*given: Any) -> None:
+            return None
+
+        waiting._store.take_over = wait
+        async with running(settings(catalogue=more), "follower") as three:
+            await one.stop()
+            await three.until_role("leader")
+            assert (await Caller(three.url).start("short", key="a")).status == 201
+            read = await Caller(two.url).ask("GET", "/batch/jobexecutions/1?atLeast=1")
+            assert (read.status, read.told["jobName"]) == (200, "short")
+        await two.until_role("leader")
+        assert (await Caller(two.url).start("short")).told["executionId"] == 2
+
+
+async def test_a_catalogue_that_is_none_is_refused(settings: Make, tmp_path: Path) -> None:
+    path = tmp_path / "empty.json"
+    path.write_text('{"jobs":[{"id":"a","elements":[]}]}')
+    with pytest.raises(Fatal, match='"fault":"Empty"'):
+        async with running(settings(catalogue=path)):
+            pass
+
+
+async def test_a_follower_reads_and_takes_over(settings: Make) -> None:
+    async with running(settings(advertise="http://one")) as one:
+        first = Caller(one.url)
+        async with running(settings(), "follower") as two:
+            second = Caller(two.url)
+            told = await first.start()
+            read = await second.ask("GET", "/batch/jobexecutions/1", **{"Batch-At-Least": str(told.operations)})
+            assert (read.status, read.told["batchStatus"], read.operations) == (200, "STARTING", 1)
+            refused = await second.start()
+            assert (refused.status, refused.name, refused.told["leader"]) == (503, "NotLeader", "http://one")
+            await one.service.keeper.close()
+            await two.until_role("leader")
+            assert (await second.start()).told["executionId"] == 2
+
+
+async def test_a_read_of_operations_that_nobody_made_is_refused(settings: Make) -> None:
+    made = settings(bounds=Bounds(at_least_seconds=0.3))
+    async with running(made) as one, running(made, "follower") as two:
+        for url in (one.url, two.url):
+            answer = await Caller(url).ask("GET", "/batch/jobs?atLeast=5")
+            assert (answer.status, answer.name) == (503, "NotYetSeen")
+
+
+async def test_a_key_is_answered_alike_by_the_next_leader(settings: Make) -> None:
+    async with running(settings()) as one:
+        first = [await Caller(one.url).start(key="a"), await Caller(one.url).change(7, "stop", key="b")]
+        async with running(settings(), "follower") as two:
+            await one.stop()
+            await two.until_role("leader")
+            again = [await Caller(two.url).start(key="a"), await Caller(two.url).change(7, "stop", key="b")]
+            await Caller(two.url).start()
+    assert [answer.told for answer in again] == [answer.told for answer in first]
+    assert first[1].name == "NoSuchJobExecutionException"
+
+
+def words(settings: ServeSettings) -> list[str]:
+    given = ["--catalogue", str(settings.catalogue), "--batchctl", settings.batchctl[0], "--takeover-after", "1.5"]
+    return [*given, *(word for dsn in settings.postgres for word in ("--postgres", dsn))]
+
+
+async def test_an_old_leader_that_is_continued_and_would_refuse_a_call(settings: Make, tmp_path: Path) -> None:
+    """In its history the job execution is unfinished, so that a restart of it would be refused. It is no leader any more."""
+    made = settings()
+    old, new = Process(tmp_path / "old", *words(made)), Process(tmp_path / "new", *words(made))
+    try:
+        old.start()
+        await old.until_role("leader")
+        assert (await Caller(old.url).start()).told["executionId"] == 1
+        new.start()
+        await new.until_role("follower")
+        old.signal(signal.SIGSTOP)
+        restart = asyncio.create_task(Caller(old.url).change(1, "restart"))
+        start = asyncio.create_task(Caller(old.url).start())
+        await new.until_role("leader")
+        assert (await Caller(new.url).change(1, "stop")).status == 200
+        assert await Caller(new.url).status(1) == "STOPPED"
+        assert not restart.done() and not start.done()
+        old.signal(signal.SIGCONT)
+        assert [((await task).status, (await task).name) for task in (restart, start)] == [(503, "NotLeader")] * 2
+        await old.until_role("follower")
+        assert (await Caller(new.url).change(1, "restart")).told["executionId"] == 2
+        assert await Caller(new.url).status(2) == "STARTING"
+    finally:
+        old.kill()
+        new.kill()
+
+
+async def test_a_leader_that_is_killed_is_replaced(settings: Make, tmp_path: Path) -> None:
+    made = settings()
+    one, two = Process(tmp_path / "one", *words(made)), Process(tmp_path / "two", *words(made))
+    try:
+        one.start()
+        await one.until_role("leader")
+        two.start()
+        await two.until_role("follower")
+        await Caller(one.url).start()
+        one.kill()
+        await two.until_role("leader")
+        assert (await Caller(two.url).start()).told["executionId"] == 2
+        one.start()
+        await one.until_role("follower")
+        assert await Caller(one.url).status(2) == "STARTING"
+    finally:
+        one.kill()
+        two.kill()
+
+
+async def test_logs_of_a_purged_job_instance_are_dropped(settings: Make) -> None:
+    made = settings()
+    async with running(made) as instance:
+        caller = Caller(instance.url)
+        for work in (1, 2):
+            await caller.start("short")
+            await caller.claim()
+            await caller.finish(work, log=f"log {work}")
+        await caller.ask("DELETE", "/batch/jobinstances/1")
+    async with running(made) as instance:
+        table = await connect(made)
+
+        async def is_dropped() -> bool:
+            return [row["work"] for row in await table.fetch("select work from job_host_work_log")] == [2]
+
+        await until(is_dropped)
+        await table.close()
+        assert (await Caller(instance.url).ask("GET", "/batch/jobexecutions/2/joblogs")).told[0]["log"] == "log 2"
