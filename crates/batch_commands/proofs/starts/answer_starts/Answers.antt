@@ -25,7 +25,7 @@ pub loop-line-preserved-then-branch : goal.loop-line-preserved-then-branch
 loop-line-preserved-then-branch g c =
     let line = c.in_ok-line.ensures in
     let read = subst (λ (o : Option Line). LineRead (g.S.Source.tape c.loop-line.source) (g.S.Source.tape c.line_alone.new.source) c.loop-line.input c.line_alone.new.self (Ok o)) c.in-Some.is line.line in
-    turn_counted _ _ _ _ _ _ _ _ _ _ _ _ _ _ _ _ _ _ _ _ c.loop-line.invariant read c.if-branch.true c.saturating_add.ensures (c.in_ok-answered.ensures read.outcome.0 read.outcome.1)
+    turn_counted _ _ _ _ _ _ _ _ _ _ _ _ _ _ _ _ _ _ _ _ c.loop-line.invariant read c.if-branch.true c.saturating_add-started.ensures (c.in_ok-answered.ensures read.outcome.0 read.outcome.1)
 
 pub loop-line-preserved : goal.loop-line-preserved
 loop-line-preserved g c =
