@@ -19,7 +19,7 @@ from job_host import routes_jobs, routes_work
 from job_host.settings import Bounds, ServeSettings
 
 REQUESTS = int(os.environ.get("JOBHOST_RANDOM_REQUESTS", "5000"))
-SEED = int(os.environ.get("JOBHOST_SEED", "47"))
+SEED = int(os.environ.get("JOBHOST_SEED", "11"))
 TOKENS = {"reader": "r" * 20, "operator": "o" * 20, "worker": "w" * 20}
 METHODS = ["GET", "POST", "PUT", "DELETE", "PATCH", "OPTIONS", "HEAD", "TRACE", "CONNECT", "get", "A" * 300, "PO ST", "\x00"]
 PATHS = [
