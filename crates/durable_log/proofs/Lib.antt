@@ -1,0 +1,11 @@
+pub mod Numbers
+pub mod Places
+pub mod Blocks
+pub mod Fronts
+pub mod Crash
+pub mod Moments
+pub mod Batches
+pub mod Waiting
+pub mod Found
+pub mod One
+pub mod Damages

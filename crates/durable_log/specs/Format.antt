@@ -1,0 +1,180 @@
+-- What stands behind the header of a file: records, each on a line of its own behind a gate.
+use Rattle.std.specs.Prelude.{ℕ, zero, suc, ◌+◌, ◌*◌, ◌/◌, ◌%◌, ◌==◌, ◌&&◌, ◌||◌, nat_lt, List, [], ◌∷◌, ◌++◌, length, get_or, take, drop, Bool, true, false, if◌then◌else◌}
+
+-- A RECORD: its mark, which is one byte, its line, and the check of the reply to that line
+pub record LogRecord : Type 0 where
+  pub mark : ℕ
+  pub line : List ℕ
+  pub reply_check : ℕ
+
+-- Numbers
+
+-- a hexadecimal digit as it is written, in lower case
+abbrev pub digit : ℕ → ℕ
+digit d = if nat_lt d 10 then 48 + d else 87 + d
+
+-- a number of 16 bits as four digits, the highest first
+abbrev pub half_digits : ℕ → List ℕ
+half_digits n = digit (n / 4096 % 16) ∷ digit (n / 256 % 16) ∷ digit (n / 16 % 16) ∷ digit (n % 16) ∷ []
+
+-- a number of 32 bits as eight digits
+abbrev pub digits : ℕ → List ℕ
+digits n = half_digits (n / 65536) ++ half_digits (n % 65536)
+
+-- a column: a number, a space, and what stands behind them
+abbrev pub column : ℕ → List ℕ → List ℕ
+column n rest = digits n ++ 32 ∷ rest
+
+-- Checks
+
+-- THE CHECK OF BYTES: Adler-32 (RFC 1950), by the two sums so far
+abbrev pub check_from : ℕ → ℕ → List ℕ → ℕ
+check_from low high [] = high * 65536 + low
+check_from low high (b ∷ bytes) = check_from ((low + b) % 65521) ((high + (low + b) % 65521) % 65521) bytes
+
+unfoldable pub check_of : List ℕ → ℕ
+check_of bytes = check_from 1 0 bytes
+
+-- what the check of a record covers: its mark, the check of its reply as it is written, and its line
+abbrev pub covered : LogRecord → List ℕ
+covered r = r.mark ∷ (digits r.reply_check ++ r.line)
+
+-- Writing
+
+-- the columns of a record: its mark, the length of its line twice, its check, the check of its reply
+abbrev pub columns : ℕ → ℕ → ℕ → ℕ → List ℕ → List ℕ
+columns mark n check reply_check rest = 32 ∷ mark ∷ 32 ∷ column n (column n (column check (column reply_check rest)))
+
+-- a record as it stands behind its gate: its columns, its line and a line feed
+abbrev pub frame : LogRecord → List ℕ
+frame r = columns r.mark (length r.line) (check_of (covered r)) r.reply_check (r.line ++ 10 ∷ [])
+
+-- a gate is open if two of its bytes are 1's, so that one changed byte shuts none
+abbrev pub is_open : ℕ → ℕ → ℕ → Bool
+is_open a b c = if a == 49 then b == 49 || c == 49 else b == 49 && c == 49
+
+-- records behind open gates
+abbrev pub blocks : List LogRecord → List ℕ
+blocks [] = []
+blocks (r ∷ records) = 49 ∷ 49 ∷ 49 ∷ (frame r ++ blocks records)
+
+-- a gate that is shut
+abbrev pub shut : List ℕ
+shut = 48 ∷ 48 ∷ 48 ∷ []
+
+-- Reading
+
+-- what a byte counts as a digit; a byte that is no digit counts as something, too
+abbrev pub value : ℕ → ℕ
+value b = if nat_lt b 97 then b % 16 else (b + 9) % 16
+
+-- what four bytes count as
+abbrev pub half : ℕ → ℕ → ℕ → ℕ → ℕ
+half a b c d = ((value a * 16 + value b) * 16 + value c) * 16 + value d
+
+-- whether these are the digits of the number
+abbrev pub is_half : ℕ → ℕ → ℕ → ℕ → ℕ → Bool
+is_half n a b c d = a == digit (n / 4096 % 16) && (b == digit (n / 256 % 16) && (c == digit (n / 16 % 16) && d == digit (n % 16)))
+
+-- whether these are eight digits, which count as these numbers, and a space
+abbrev pub is_column : ℕ → ℕ → ℕ → ℕ → ℕ → ℕ → ℕ → ℕ → ℕ → ℕ → ℕ → Bool
+is_column high low a b c d e f g h space = is_half high a b c d && (is_half low e f g h && space == 32)
+
+-- a column, if one stands there
+pub data Column : Type 0 where
+  Absent : Column
+  Number : ℕ → List ℕ → Column
+
+abbrev pub column_by : ℕ → ℕ → ℕ → ℕ → ℕ → ℕ → ℕ → ℕ → ℕ → ℕ → ℕ → List ℕ → Column
+column_by high low a b c d e f g h space rest = if is_column high low a b c d e f g h space then Number (high * 65536 + low) rest else Absent
+
+abbrev pub column_of : List ℕ → Column
+column_of (a ∷ b ∷ c ∷ d ∷ e ∷ f ∷ g ∷ h ∷ space ∷ rest) = column_by (half a b c d) (half e f g h) a b c d e f g h space rest
+column_of short = Absent
+
+-- what stands at a place: the end, what is no record though its gate is open, or a record and what stands behind it
+pub data Next : Type 0 where
+  End : Next
+  Damaged : Next
+  Found : LogRecord → List ℕ → Next
+
+abbrev pub record_by : ℕ → List ℕ → ℕ → LogRecord
+record_by mark line reply_check = record { mark = mark; line = line; reply_check = reply_check }
+
+-- whether the line is there with its line feed, its length twice and its check
+abbrev pub fits : ℕ → ℕ → ℕ → ℕ → ℕ → List ℕ → Bool
+fits mark n again check reply_check body =
+    n == again && (nat_lt n (length body) && (get_or body n 0 == 10 && check_of (covered (record_by mark (take n body) reply_check)) == check))
+
+abbrev pub record_in : ℕ → ℕ → ℕ → ℕ → ℕ → List ℕ → Next
+record_in mark n again check reply_check body =
+    if fits mark n again check reply_check body then Found (record_by mark (take n body) reply_check) (drop (n + 1) body) else Damaged
+
+-- the columns one by one
+abbrev pub with_reply_check : ℕ → ℕ → ℕ → ℕ → Column → Next
+with_reply_check mark n again check Absent = Damaged
+with_reply_check mark n again check (Number reply_check body) = record_in mark n again check reply_check body
+
+abbrev pub with_check : ℕ → ℕ → ℕ → Column → Next
+with_check mark n again Absent = Damaged
+with_check mark n again (Number check rest) = with_reply_check mark n again check (column_of rest)
+
+abbrev pub with_again : ℕ → ℕ → Column → Next
+with_again mark n Absent = Damaged
+with_again mark n (Number again rest) = with_check mark n again (column_of rest)
+
+abbrev pub with_length : ℕ → Column → Next
+with_length mark Absent = Damaged
+with_length mark (Number n rest) = with_again mark n (column_of rest)
+
+-- an open gate with nothing behind it is none: so a crash may leave it
+abbrev pub after_front : List ℕ → Next
+after_front [] = End
+after_front (space ∷ mark ∷ also ∷ rest) = if space == 32 && also == 32 then with_length mark (column_of rest) else Damaged
+after_front short = Damaged
+
+-- a gate, if three bytes are there
+pub data Gate : Type 0 where
+  NoGate : Gate
+  Behind : Bool → List ℕ → Gate
+
+abbrev pub gate_of : List ℕ → Gate
+gate_of (a ∷ b ∷ c ∷ rest) = Behind (is_open a b c) rest
+gate_of short = NoGate
+
+abbrev pub after_gate : Gate → Next
+after_gate NoGate = End
+after_gate (Behind false rest) = End
+after_gate (Behind true rest) = after_front rest
+
+unfoldable pub next : List ℕ → Next
+next bytes = after_gate (gate_of bytes)
+
+-- the records up to the first gate that is not open, and whether all behind open gates are whole
+pub record Reading : Type 0 where
+  pub records : List LogRecord
+  pub sound : Bool
+
+abbrev pub whole : List LogRecord → Reading
+whole records = record { records = records; sound = true }
+
+abbrev pub with_record : LogRecord → Reading → Reading
+with_record r reading = record { records = r ∷ reading.records; sound = reading.sound }
+
+abbrev pub then_read : (List ℕ → Reading) → Next → Reading
+then_read more End = whole []
+then_read more Damaged = record { records = []; sound = false }
+then_read more (Found r rest) = with_record r (more rest)
+
+-- by so many records at most
+abbrev pub read_within : ℕ → List ℕ → Reading
+read_within zero bytes = whole []
+read_within (suc n) bytes = then_read (read_within n) (next bytes)
+
+-- WHAT BYTES BEHIND THE HEADER STAND FOR
+unfoldable pub read : List ℕ → Reading
+read bytes = read_within (length bytes) bytes
+
+-- records read before others
+abbrev pub prepended : List LogRecord → Reading → Reading
+prepended records reading = record { records = records ++ reading.records; sound = reading.sound }

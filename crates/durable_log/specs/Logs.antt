@@ -1,0 +1,87 @@
+-- The state of an open log.
+use Rattle.std.specs.Prelude.{ℕ, ◌<◌, ◌^◌, ◌≡◌, ◌⊎◌, ◌↔◌, Bool, IsTrue, List, [], ◌∷◌, ◌++◌, length, take}
+use Rattle.log_host.specs.Host.{Outcomes, Only}
+use Rattle.durable_log.specs.Format.{LogRecord, frame, read, shut, blocks, next, End, Damaged}
+use Rattle.durable_log.specs.Files.{Opening, Ours, Later, Foreign, opening, Holding, StandsFor}
+use Rattle.durable_log.specs.declared.log.Log.{Log}
+
+-- the records that a beginning stands for
+abbrev pub records_by : Opening → List LogRecord
+records_by (Ours rest) = (read rest).records
+records_by Later = []
+records_by Foreign = []
+
+-- the records of a file
+abbrev pub records_of : List ℕ → List LogRecord
+records_of file = records_by (opening file)
+
+-- the length of each line and the check of each reply have eight digits
+abbrev pub AreSmall : List LogRecord → Type 0
+AreSmall [] = Unit {0}
+AreSmall (r ∷ records) = (length r.line < 2 ^ 32) × (r.reply_check < 2 ^ 32) × AreSmall records
+
+-- the file ends with a gate that is shut, at this place, and all before it are its records
+pub record IsAtRest (file : List ℕ) (end : ℕ) : Type 0 where
+  pub base : List ℕ
+  pub split : file ≡ base ++ shut
+  pub place : end ≡ length base
+  pub holds : Holding (records_of file) base
+
+-- what is written of records behind the gate of the first: the others behind open gates, and a gate that is shut
+abbrev pub behind_gate : List LogRecord → List ℕ
+behind_gate [] = []
+behind_gate (r ∷ records) = (frame r ++ blocks records) ++ shut
+
+-- the records of what is written behind a gate, once that is open
+abbrev pub batch_records : List ℕ → List LogRecord
+batch_records batch = (read (49 ∷ 49 ∷ 49 ∷ batch)).records
+
+-- what stands behind the gate of one record or more
+pub record IsBatch (batch : List ℕ) : Type 0 where
+  pub first : LogRecord
+  pub others : List LogRecord
+  pub records : batch_records batch ≡ first ∷ others
+  pub bytes : batch ≡ (frame first ++ blocks others) ++ shut
+  pub small : AreSmall (first ∷ others)
+
+-- up to this place the file has all its records, and what stands there is the end
+pub record EndsAt (file : List ℕ) (end : ℕ) : Type 0 where
+  pub base : List ℕ
+  pub tail : List ℕ
+  pub split : file ≡ base ++ tail
+  pub place : end ≡ length base
+  pub holds : Holding (records_of file) base
+  pub ends : next tail ≡ End
+
+-- the record with this number, counted from 0, begins at this byte, and is damaged; all before it are whole
+pub record IsDamagedAt (file : List ℕ) (number byte : ℕ) : Type 0 where
+  pub base : List ℕ
+  pub tail : List ℕ
+  pub split : file ≡ base ++ tail
+  pub place : byte ≡ length base
+  pub holds : Holding (records_of file) base
+  pub damaged : next tail ≡ Damaged
+  pub number_is : number ≡ length (records_of file)
+
+-- the records that wait to be on the disk
+abbrev pub waiting_in : {D : Type 0} → Log D → List LogRecord
+waiting_in log = batch_records log.waiting.items
+
+-- the file is at rest, all of it is on the disk, and what waits are records
+pub record IsSettled {D : Type 0} (seen heard : D → List ℕ) (may_leave : D → Outcomes) (log : Log D) : Type 0 where
+  pub rest : IsAtRest (seen log.host) log.end
+  pub waits : log.waiting.items ≡ behind_gate (waiting_in log)
+  pub small : AreSmall (waiting_in log)
+  pub durable : Only (seen log.host) (heard log.host) (may_leave log.host)
+
+-- a crash leaves these records, or those with the others behind them; and this was heard
+abbrev pub BeforeOrAfter : List LogRecord → List LogRecord → List ℕ → Outcomes
+BeforeOrAfter records others heard file o = (StandsFor records file ⊎ StandsFor (records ++ others) file) × (o ≡ heard)
+
+-- a crash leaves these records; and this was heard
+abbrev pub Same : List LogRecord → List ℕ → Outcomes
+Same records heard file o = StandsFor records file × (o ≡ heard)
+
+-- a crash leaves these records; and this was heard, and a front of the piece
+abbrev pub Told : List LogRecord → List ℕ → List ℕ → Outcomes
+Told records heard piece file o = StandsFor records file × ((n : ℕ) × (o ≡ heard ++ take n piece))

@@ -1,0 +1,54 @@
+// How records are written.
+ghost use Rattle.std.specs.Prelude.{◌≡◌, ◌⊎◌, ◌<◌, ◌≤◌, ◌+◌, ◌^◌, ◌∷◌, ◌++◌, List, ℕ, [], length, take, drop, IfOk, OnOk, OnErr};
+ghost use Rattle.durable_log.specs.Format.{frame, shut};
+ghost use Rattle.durable_log.specs.Shown.{record_shown};
+
+use crate::adler::check_of_record;
+use crate::columns::push_column;
+use crate::record::Record;
+use std::alloc::{AllocError, Global};
+
+const OPEN: [u8; 3] = *b"111";
+
+// A record, and a shut gate behind it.
+fn frame(alloc: Global, added: Record<'_>) -> Result<Vec<u8>, AllocError>
+    requires { length added.line.now < 2 ^ 32 }
+    ensures { IfOk result (λ bytes. bytes.items ≡ frame (record_shown added.entry) ++ shut) }
+{
+    let size = added.line.len() as u32;
+    let mut bytes = [b' ', added.mark, b' '].to_vec(alloc)?;
+    push_column(&mut bytes, size)?;
+    push_column(&mut bytes, size)?;
+    push_column(&mut bytes, check_of_record(added))?;
+    push_column(&mut bytes, added.reply_check)?;
+    bytes.extend_from_slice(added.line)?;
+    bytes.extend_from_slice(b"\n000")?;
+    Ok(bytes)
+}
+
+// Opens the gate at a place.
+fn open_gate(bytes: &mut Vec<u8>, at: usize)
+    requires { at + 3 ≤ length bytes.old.items }
+    ensures { bytes.new.items ≡ take at bytes.old.items ++ (49 ∷ 49 ∷ 49 ∷ drop (at + 3) bytes.old.items) }
+{
+    bytes[at..at + 3].copy_from_slice(&OPEN);
+}
+
+// Adds a record to what stands behind a gate: nothing, or records that end with a shut gate. That gate is opened.
+pub(crate) fn push_record(alloc: Global, bytes: &mut Vec<u8>, added: Record<'_>) -> Result<(), AllocError>
+    requires small { length added.line.now < 2 ^ 32 }
+    requires ends { (bytes.old.items ≡ []) ⊎ ((front : List ℕ) × (bytes.old.items ≡ front ++ shut)) }
+    ensures first { OnOk result (bytes.old.items ≡ [] → bytes.new.items ≡ frame (record_shown added.entry) ++ shut) }
+    ensures later { OnOk result ((front : List ℕ) → bytes.old.items ≡ front ++ shut
+        → bytes.new.items ≡ front ++ (49 ∷ 49 ∷ 49 ∷ (frame (record_shown added.entry) ++ shut))) }
+    ensures err { OnErr result (bytes.new.items ≡ bytes.old.items) }
+{
+    let end = bytes.len();
+    let more = frame(alloc, added)?;
+    bytes.extend_from_slice(&more)?;
+    if end < 3 {
+        return Ok(());
+    }
+    open_gate(bytes, end - 3);
+    Ok(())
+}

@@ -1,0 +1,18 @@
+//! A log of records in a file of text, each on the disk before the reply to it is told.
+#![tactic(auto)]
+
+mod adler;
+mod columns;
+mod frame;
+mod law;
+mod log;
+mod place;
+mod reading;
+mod record;
+
+pub use adler::check_of;
+pub use law::one_changed_byte_is_found;
+pub use log::{CommitFault, Log, open};
+pub use log_host::{Host, HostFault};
+pub use reading::{Contents, End, ReadFault, read_log};
+pub use record::Record;

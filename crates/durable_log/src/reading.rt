@@ -1,0 +1,158 @@
+// How the bytes of a file are read.
+ghost use Rattle.std.specs.Prelude.{◌≡◌, ◌↔◌, ◌∷◌, List, length, map, drop, IsTrue, IfOk, IfErr};
+ghost use Rattle.durable_log.specs.Format.{shut};
+ghost use Rattle.durable_log.specs.Files.{opening, Ours, is_known, StandsFor};
+ghost use Rattle.durable_log.specs.Parts.{IsPart};
+ghost use Rattle.durable_log.specs.declared.reading.ReadFault.TheVariants.{OutOfMemory};
+ghost use Rattle.durable_log.specs.Shown.{record_shown, IsEnd, HasFault, HasPartFault};
+
+use crate::place::{Place, next};
+use crate::record::Record;
+use std::alloc::{AllocError, AllocFailed, Global};
+
+/// What is wrong with a file.
+#[derive(Clone, Copy, Debug, PartialEq, Eq)]
+pub enum ReadFault {
+    /// It is no log: another file, or an empty one.
+    Foreign,
+    /// It is a log of another version.
+    Later,
+    /// A record is damaged.
+    Damaged {
+        /// Its number. Records count from 0.
+        number: usize,
+        /// The byte at which its gate stands. Bytes count from 0.
+        byte: usize,
+    },
+    /// Memory was refused.
+    OutOfMemory,
+}
+
+impl From<AllocError> for ReadFault {
+    ghost from_gives = { λ _ e. e ≡ OutOfMemory };
+
+    fn from(_: AllocError) -> Self {
+        ReadFault::OutOfMemory
+    }
+}
+
+impl<T: Drop> From<AllocFailed<T>> for ReadFault {
+    ghost from_gives = { λ _ e. e ≡ OutOfMemory };
+
+    fn from(_: AllocFailed<T>) -> Self {
+        ReadFault::OutOfMemory
+    }
+}
+
+/// Where the records of a file end.
+#[derive(Clone, Copy, Debug, PartialEq, Eq)]
+pub struct End {
+    /// The byte at which the gate behind the last record stands, or would stand.
+    pub byte: usize,
+    /// Whether the file ends right after that gate, and the gate is shut.
+    pub is_clean: bool,
+}
+
+/// The records of a file, and where they end.
+#[derive(Drop)]
+pub struct Contents<'a> {
+    /// The records, in their order.
+    pub records: Vec<Record<'a>>,
+    /// Where they end.
+    pub end: End,
+}
+
+// The records of a part of a file, and what stands behind them.
+#[derive(Drop)]
+pub struct Part<'a> {
+    records: Vec<Record<'a>>,
+    rest: &'a [u8],
+}
+
+// Reads records up to the end.
+fn read_records(alloc: Global, bytes: &[u8]) -> Result<Part<'_>, ReadFault>
+    ensures records { IfOk result (λ found. IsPart bytes.now (map record_shown found.records.items) found.rest.now) }
+    ensures fault { IfErr result (HasPartFault bytes.now) }
+{
+    let mut records = Vec::new(alloc);
+    let mut rest = bytes;
+    'records: loop {
+        match next(rest) {
+            Place::Found(entry, after) => {
+                records.push(entry)?;
+                rest = after;
+            }
+            Place::End => return Ok(Part { records, rest }),
+            Place::Damaged => {
+                let number = records.len();
+                let byte = bytes.len() - rest.len() + 8;
+                return Err(ReadFault::Damaged { number, byte });
+            }
+        }
+    }
+}
+
+fn is_header(a: u8, b: u8, c: u8, d: u8, e: u8, f: u8, h: u8) -> bool
+    ensures { result ≡ is_known a b c d e f h }
+{
+    a == b'b'
+        && (b == b'c' && (c == b't' && (d == b'l' && (e == b'o' && (f == b'g' && h == b'\n')))))
+}
+
+// What stands behind the header.
+fn behind_header(file: &[u8]) -> Result<&[u8], ReadFault>
+    ensures ours { IfOk result (λ rest. (opening file.now ≡ Ours rest.now) × (rest.now ≡ drop 8 file.now)) }
+    ensures fault { IfErr result (HasFault file.now) }
+{
+    match file {
+        [a, b, c, d, e, f, g, h, rest @ ..] => {
+            if !is_header(*a, *b, *c, *d, *e, *f, *h) {
+                return Err(ReadFault::Foreign);
+            }
+            if *g == b'1' {
+                Ok(rest)
+            } else {
+                Err(ReadFault::Later)
+            }
+        }
+        _ => Err(ReadFault::Foreign),
+    }
+}
+
+fn is_shut(bytes: &[u8]) -> bool
+    ensures { IsTrue result ↔ (bytes.now ≡ shut) }
+{
+    match bytes {
+        [a, b, c] => *a == b'0' && *b == b'0' && *c == b'0',
+        _ => false,
+    }
+}
+
+/// Reads a file that a crash may have left. It asks nothing of a host, so a file that is refused stays as it was.
+/// The records lend their lines from `file`.
+///
+/// # Errors
+///
+/// - `Foreign` if the file is no log: its first 8 bytes are no header, or it is shorter.
+/// - `Later` if its header has another version digit.
+/// - `Damaged` if what stands behind an open gate is no record. All records before it are whole.
+/// - `OutOfMemory` if memory is refused, in place of any answer.
+pub fn read_log(alloc: Global, file: &[u8]) -> Result<Contents<'_>, ReadFault>
+    ensures records { IfOk result (λ found. StandsFor (map record_shown found.records.items) file.now) }
+    ensures end { IfOk result (λ found. IsEnd file.now found.end) }
+    ensures fault { IfErr result (HasFault file.now) }
+{
+    let rest = behind_header(file)?;
+    let found = match read_records(alloc, rest) {
+        Ok(found) => found,
+        Err(fault) => return Err(fault),
+    };
+    let end = End {
+        byte: file.len() - found.rest.len(),
+        is_clean: is_shut(found.rest),
+    };
+    Ok(Contents {
+        records: found.records,
+        end,
+    })
+}

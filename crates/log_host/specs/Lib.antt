@@ -1,0 +1,4 @@
+pub mod Host
+pub mod Past
+pub mod Noted
+pub mod Laws

@@ -1,0 +1,81 @@
+-- What was asked of a file and a listener, and what that makes of them.
+use Rattle.std.specs.Prelude.{ℕ, zero, suc, ◌≡◌, ◌⊎◌, ◌+◌, ◌≤◌, List, [], ◌∷◌, ◌++◌, length, take, drop, refl}
+use Rattle.std.specs.Coded.{Coded, code_by, coded×, coded_ℕ, coded_list}
+use Rattle.log_host.specs.Host.{Outcomes, Torn, Cut, Hearing}
+
+-- a call: 0 a write, 1 a cut, 2 a sync, 3 to tell; a place, a length or how many bytes were told; the bytes; 1 where it succeeded
+abbrev pub Call : Type 0
+Call = ℕ × (ℕ × (List ℕ × ℕ))
+
+-- the bytes that the file had, and the calls, the newest first
+pub record Past : Type 0 where
+  pub start : List ℕ
+  pub calls : List Call
+
+abbrev pub past_code : Coded Past
+past_code = code_by (List ℕ × List Call) (coded× (coded_list coded_ℕ) (coded_list (coded× coded_ℕ (coded× coded_ℕ (coded× (coded_list coded_ℕ) coded_ℕ))))) (λ t. (t.start, t.calls)) (λ p. record { start = p.0; calls = p.1 }) (λ _. refl)
+
+-- What the file has
+
+-- kind, number, whether it succeeded, bytes, the file before
+abbrev pub seen_by : ℕ → ℕ → ℕ → List ℕ → List ℕ → List ℕ
+seen_by kind n zero bytes file = file
+seen_by zero n (suc ok) bytes file = take n file ++ bytes ++ drop (n + length bytes) file
+seen_by (suc zero) n (suc ok) bytes file = take n file
+seen_by (suc (suc kind)) n (suc ok) bytes file = file
+
+abbrev pub seen_after : List ℕ → List Call → List ℕ
+seen_after start [] = start
+seen_after start (call ∷ calls) = seen_by call.0 call.1.0 call.1.1.1 call.1.1.0 (seen_after start calls)
+
+-- What was heard
+
+abbrev pub heard_by : ℕ → ℕ → ℕ → List ℕ → List ℕ → List ℕ
+heard_by kind n zero bytes heard = heard
+heard_by zero n (suc ok) bytes heard = heard
+heard_by (suc zero) n (suc ok) bytes heard = heard
+heard_by (suc (suc zero)) n (suc ok) bytes heard = heard
+heard_by (suc (suc (suc kind))) n (suc ok) bytes heard = heard ++ take n bytes
+
+abbrev pub heard_after : List Call → List ℕ
+heard_after [] = []
+heard_after (call ∷ calls) = heard_by call.0 call.1.0 call.1.1.1 call.1.1.0 (heard_after calls)
+
+-- What a crash may leave
+
+-- kind, number, whether it succeeded, bytes; the file and what was heard before; what a crash might have left before
+abbrev pub leaves_by : ℕ → ℕ → ℕ → List ℕ → List ℕ → List ℕ → Outcomes → Outcomes
+leaves_by zero n ok bytes seen heard old c o = (d : List ℕ) × old d o × Torn n (length bytes) d c
+leaves_by (suc zero) n ok bytes seen heard old c o = (d : List ℕ) × old d o × Cut n d c
+leaves_by (suc (suc zero)) n zero bytes seen heard old c o = old c o
+leaves_by (suc (suc zero)) n (suc ok) bytes seen heard old c o = old c o × (c ≡ seen)
+leaves_by (suc (suc (suc kind))) n zero bytes seen heard old c o = Hearing bytes old c o
+leaves_by (suc (suc (suc kind))) n (suc ok) bytes seen heard old c o = Hearing bytes old c o × (o ≡ heard ++ take n bytes) × ((p : List ℕ) × old c p)
+
+-- or what a read returns now
+abbrev pub leaves_after : List ℕ → List Call → Outcomes
+leaves_after start [] c o = (c ≡ start) × (o ≡ [])
+leaves_after start (call ∷ calls) c o =
+    leaves_by call.0 call.1.0 call.1.1.1 call.1.1.0 (seen_after start calls) (heard_after calls) (leaves_after start calls) c o
+    ⊎ ((c ≡ seen_after start (call ∷ calls)) × (o ≡ heard_after (call ∷ calls)))
+
+-- what a crash may leave only in the call
+abbrev pub in_call : ℕ → List ℕ → Outcomes → Outcomes
+in_call zero bytes old c o = ⊥
+in_call (suc zero) bytes old c o = ⊥
+in_call (suc (suc zero)) bytes old c o = ⊥
+in_call (suc (suc (suc kind))) bytes old c o = Hearing bytes old c o
+
+-- what a crash since so many calls might have left
+abbrev pub left_after : List ℕ → List Call → ℕ → Outcomes
+left_after start [] t c o = leaves_after start [] c o
+left_after start (call ∷ calls) t c o = leaves_after start (call ∷ calls) c o
+    ⊎ ((t ≤ length calls) × (in_call call.0 call.1.1.0 (leaves_after start calls) c o ⊎ left_after start calls t c o))
+
+abbrev pub faults_by : ℕ → ℕ → ℕ
+faults_by zero faults = faults + 1
+faults_by (suc ok) faults = faults
+
+abbrev pub faults_after : List Call → ℕ
+faults_after [] = 0
+faults_after (call ∷ calls) = faults_by call.1.1.1 (faults_after calls)
