@@ -9,3 +9,4 @@ pub mod Waiting
 pub mod Found
 pub mod One
 pub mod Damages
+pub mod NewLogs

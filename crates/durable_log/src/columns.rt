@@ -16,11 +16,7 @@ fn digit(d: u32) -> u8
     requires { d < 16 }
     ensures { result ≡ digit d }
 {
-    if d < 10 {
-        48 + d as u8
-    } else {
-        87 + d as u8
-    }
+    if d < 10 { 48 + d as u8 } else { 87 + d as u8 }
 }
 
 // A number as eight digits, the highest first.
@@ -84,9 +80,7 @@ pub(crate) fn column(bytes: &[u8]) -> ColumnRead<'_>
         [a, b, c, d, e, f, g, h, space, rest @ ..] => {
             let high = half(*a, *b, *c, *d);
             let low = half(*e, *f, *g, *h);
-            if is_half(high, *a, *b, *c, *d)
-                && (is_half(low, *e, *f, *g, *h) && *space == b' ')
-            {
+            if is_half(high, *a, *b, *c, *d) && (is_half(low, *e, *f, *g, *h) && *space == b' ') {
                 ColumnRead::Number(high * 65536 + low, rest)
             } else {
                 ColumnRead::Absent

@@ -11,7 +11,7 @@ use std::alloc::{AllocError, Global};
 const OPEN: [u8; 3] = *b"111";
 
 // A record, and a shut gate behind it.
-fn frame(alloc: Global, added: Record<'_>) -> Result<Vec<u8>, AllocError>
+pub(crate) fn frame(alloc: Global, added: Record<'_>) -> Result<Vec<u8>, AllocError>
     requires { length added.line.now < 2 ^ 32 }
     ensures { IfOk result (λ bytes. bytes.items ≡ frame (record_shown added.entry) ++ shut) }
 {
@@ -35,7 +35,11 @@ fn open_gate(bytes: &mut Vec<u8>, at: usize)
 }
 
 // Adds a record to what stands behind a gate: nothing, or records that end with a shut gate. That gate is opened.
-pub(crate) fn push_record(alloc: Global, bytes: &mut Vec<u8>, added: Record<'_>) -> Result<(), AllocError>
+pub(crate) fn push_record(
+    alloc: Global,
+    bytes: &mut Vec<u8>,
+    added: Record<'_>,
+) -> Result<(), AllocError>
     requires small { length added.line.now < 2 ^ 32 }
     requires ends { (bytes.old.items ≡ []) ⊎ ((front : List ℕ) × (bytes.old.items ≡ front ++ shut)) }
     ensures first { OnOk result (bytes.old.items ≡ [] → bytes.new.items ≡ frame (record_shown added.entry) ++ shut) }

@@ -4,6 +4,7 @@
 mod adler;
 mod columns;
 mod frame;
+mod fresh;
 mod law;
 mod log;
 mod place;
@@ -11,6 +12,7 @@ mod reading;
 mod record;
 
 pub use adler::check_of;
+pub use fresh::new_log;
 pub use law::one_changed_byte_is_found;
 pub use log::{CommitFault, Log, open};
 pub use log_host::{Host, HostFault};

@@ -10,6 +10,8 @@ use crate::reading::End;
 use crate::record::Record;
 use log_host::{Host, HostFault, cut_and_sync, write_and_sync};
 use std::alloc::{AllocError, Global};
+use std::error::Error;
+use std::fmt;
 
 // A gate that is open.
 const OPEN: [u8; 3] = *b"111";
@@ -28,6 +30,17 @@ pub enum CommitFault {
     /// The file would be larger than 2^62 bytes.
     Full,
 }
+
+impl fmt::Display for CommitFault {
+    fn fmt<W: fmt::Write>(&self, f: &mut fmt::Formatter<W>) -> fmt::Result {
+        f.write_str(match self {
+            CommitFault::Failed => "the file of the log failed",
+            CommitFault::Full => "the log is full",
+        })
+    }
+}
+
+impl Error for CommitFault {}
 
 impl From<HostFault> for CommitFault {
     ghost from_gives = { λ _ e. e ≡ Failed };

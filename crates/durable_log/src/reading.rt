@@ -9,6 +9,8 @@ ghost use Rattle.durable_log.specs.Shown.{record_shown, IsEnd, HasFault, HasPart
 use crate::place::{Place, next};
 use crate::record::Record;
 use std::alloc::{AllocError, AllocFailed, Global};
+use std::error::Error;
+use std::fmt;
 
 /// What is wrong with a file.
 #[derive(Clone, Copy, Debug, PartialEq, Eq)]
@@ -27,6 +29,21 @@ pub enum ReadFault {
     /// Memory was refused.
     OutOfMemory,
 }
+
+impl fmt::Display for ReadFault {
+    fn fmt<W: fmt::Write>(&self, f: &mut fmt::Formatter<W>) -> fmt::Result {
+        match self {
+            ReadFault::Foreign => f.write_str("the file is no log"),
+            ReadFault::Later => f.write_str("the log is of another version"),
+            ReadFault::Damaged { number, byte } => {
+                write!(f, "record {number} is damaged, at byte {byte}")
+            }
+            ReadFault::OutOfMemory => f.write_str("out of memory"),
+        }
+    }
+}
+
+impl Error for ReadFault {}
 
 impl From<AllocError> for ReadFault {
     ghost from_gives = { λ _ e. e ≡ OutOfMemory };

@@ -5,10 +5,11 @@ use Rattle.std.proofs.lemmas.Slice.{drop-append-drop}
 use Rattle.log_host.specs.Host.{Outcomes, Holds, Torn, Cut, Follows, Hearing, Elapses}
 use Rattle.log_host.specs.Past.{Past, Call, seen_after, heard_after, leaves_after, left_after}
 use Rattle.log_host.specs.Laws.{now_left}
+use Rattle.log_host.specs.Tears.{MayTear}
 
 -- one way to tear a write: to write a front of it, or as many other bytes
-pub torn-by : (old bytes new : List ℕ) (at n : ℕ) → at ≤ length old → length bytes ≤ n → Holds old at bytes new → Torn at n old new
-torn-by old bytes new at n le few holds =
+pub torn_by : (old bytes new : List ℕ) (at n : ℕ) → at ≤ length old → length bytes ≤ n → Holds old at bytes new → Torn at n old new
+torn_by old bytes new at n le few holds =
     let here = take at old in
     let front : length here ≡ at = length-take-le at old le in
     let rest = drop (at + length bytes) old in
@@ -57,7 +58,7 @@ module _ (was : Past) where
   write-follows : (k at : ℕ) (bytes : List ℕ) → at ≤ length seen → Follows (Torn at (length bytes)) (leaves was) (leaves (longer was (0, (at, (bytes, k)))))
   write-follows k at bytes le c o (inl torn) = torn
   write-follows zero at bytes le c o (inr now) = (seen, there o now.1, subst (Torn at (length bytes) seen) (sym now.0) (torn-same seen at (length bytes)))
-  write-follows (suc k) at bytes le c o (inr now) = (seen, there o now.1, torn-by seen bytes c at (length bytes) le (omega arith) now.0)
+  write-follows (suc k) at bytes le c o (inr now) = (seen, there o now.1, torn_by seen bytes c at (length bytes) le (omega arith) now.0)
 
   cut-follows : (k n : ℕ) → n ≤ length seen → Follows (Cut n) (leaves was) (leaves (longer was (1, (n, ([], k)))))
   cut-follows k n le c o (inl cut) = cut
@@ -108,3 +109,30 @@ pub tell-time : (was now : Past) (k n : ℕ) (piece : List ℕ) → now ≡ long
     → Elapses (length was.calls) (length now.calls) (left_after was.start was.calls) (left_after now.start now.calls) (Hearing piece (leaves was))
 tell-time was now k n piece is =
     subst (λ (p : Past). Elapses (length was.calls) (length p.calls) (left_after was.start was.calls) (left_after p.start p.calls) (Hearing piece (leaves was))) (sym is) (tell-elapses was k n piece)
+
+-- a write that was just made may be torn
+pub write-tears : (was now : Past) (at : ℕ) (bytes piece before : List ℕ) → now ≡ longer was (0, (at, (bytes, 1))) → before ≡ seen_after was.start was.calls → piece ≡ bytes
+    → MayTear now at piece before
+write-tears was now at bytes piece before is before_is piece_is =
+    subst (λ (p : Past). MayTear p at piece before) (sym is)
+    (subst (λ (l : List ℕ). MayTear (longer was (0, (at, (bytes, 1)))) at l before) (sym piece_is)
+    (subst (λ (l : List ℕ). MayTear (longer was (0, (at, (bytes, 1)))) at bytes l) (sym before_is)
+    (λ c torn. inl (seen_after was.start was.calls, now_left was.start was.calls, torn))))
+
+-- and still may after something was told
+pub tell-tears : (was now : Past) (k n at : ℕ) (told piece before : List ℕ) → now ≡ longer was (3, (n, (told, k))) → MayTear was at piece before → MayTear now at piece before
+tell-tears was now k n at told piece before is may = subst (λ (p : Past). MayTear p at piece before) (sym is) (by_flag k)
+  where
+    by_flag : (k : ℕ) → MayTear (longer was (3, (n, (told, k)))) at piece before
+    by_flag zero = λ c torn. inl (heard_after was.calls, may c torn, (0, sym (append-nil (heard_after was.calls))))
+    by_flag (suc k) = λ c torn. inl ((heard_after was.calls, may c torn, (n, refl)), refl, (heard_after was.calls, may c torn))
+
+-- a copy of what is there may be left
+pub copy-left : (past : Past) (file bytes : List ℕ) → file ≡ bytes → bytes ≡ seen_after past.start past.calls → leaves past file (heard_after past.calls)
+copy-left past file bytes is seen_is = subst (λ (l : List ℕ). leaves past l (heard_after past.calls)) (sym (is ∙ seen_is)) (now_left past.start past.calls)
+
+-- a piece that was told whole was heard
+pub tell-heard : (was now : Past) (piece new heard : List ℕ) → now ≡ longer was (3, (length piece, (piece, 1))) → new ≡ heard ++ piece → heard ≡ heard_after was.calls → new ≡ heard_after now.calls
+tell-heard was now piece new heard is grown heard_is =
+    let all : piece ≡ take (length piece) piece = sym (take_all (length piece) piece (omega arith)) in
+    grown ∙ (λ i. heard_is i ++ all i) ∙ ap (λ (p : Past). heard_after p.calls) (sym is)

@@ -2,3 +2,4 @@ pub mod Host
 pub mod Past
 pub mod Noted
 pub mod Laws
+pub mod Tears

@@ -7,6 +7,6 @@ mod synced;
 mod tape;
 
 pub use host::{Host, HostFault};
-pub use memory::Memory;
+pub use memory::{Memory, Tear};
 pub use synced::{cut_and_sync, write_and_sync};
 pub use tape::{Asked, Tape};

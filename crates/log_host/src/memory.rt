@@ -1,12 +1,27 @@
 // A file and a listener in memory.
-ghost use Rattle.std.specs.Prelude.{◌≡◌, ◌≤◌, ◌++◌, [], length, take, IfOk};
-ghost use Rattle.log_host.specs.Host.{Holds};
+ghost use Rattle.std.specs.Prelude.{◌≡◌, ◌≤◌, ◌++◌, [], length, take, IfOk, IsTrue};
+ghost use Rattle.log_host.specs.Host.{Holds, Torn};
+ghost use Rattle.log_host.specs.Tears.{MayTear};
 ghost use Rattle.log_host.specs.Past.{seen_after, heard_after, leaves_after, left_after, faults_after};
 ghost use Rattle.log_host.specs.Laws.{now_left, counts, only};
 
 use crate::tape::{Asked, Tape};
 use crate::{Host, HostFault};
 use std::alloc::{AllocError, Global};
+use std::mem;
+
+/// How much of a write that was not synced a crash leaves.
+#[derive(Clone, Copy, Debug, PartialEq, Eq)]
+pub enum Tear {
+    /// Nothing.
+    Nothing,
+    /// So many bytes from its beginning.
+    Beginning(usize),
+    /// This byte in place of each of its bytes.
+    Garbage(u8),
+    /// All of it.
+    All,
+}
 
 /// A file and a listener in memory, for tests. A call fails if it lacks memory, and leaves the bytes as they were.
 #[derive(Drop)]
@@ -14,13 +29,20 @@ pub struct Memory {
     alloc: Global,
     bytes: Vec<u8>,
     heard: Vec<u8>,
+    // Whether the last write was not synced since; what was there before it, where it wrote, and what.
+    tears: bool,
+    before: Vec<u8>,
+    at: usize,
+    piece: Vec<u8>,
     tape: Tape,
     ghost is_file: { bytes.items ≡ seen_after tape.past.start tape.past.calls },
     ghost is_heard: { heard.items ≡ heard_after tape.past.calls },
+    ghost is_within: { IsTrue tears → at ≤ length before.items },
+    ghost is_torn: { IsTrue tears → ∥ MayTear tape.past at piece.items before.items ∥₁ },
 }
 
 impl Memory {
-    ghost use Rattle.log_host.specs.Past.{seen_after, heard_after};
+    ghost use Rattle.log_host.specs.Past.{seen_after, heard_after, leaves_after};
 
     /// A file with these bytes, all of them on the disk, and a listener who heard nothing.
     pub fn new(alloc: Global, bytes: Vec<u8>) -> Self
@@ -32,6 +54,10 @@ impl Memory {
             tape: Tape::begin(&bytes),
             bytes,
             heard: Vec::new(alloc),
+            tears: false,
+            before: Vec::new(alloc),
+            at: 0,
+            piece: Vec::new(alloc),
         }
     }
 
@@ -48,6 +74,38 @@ impl Memory {
     {
         &self.heard
     }
+
+    /// What a crash at this moment may leave of the file. Only the last write is torn, and only until a sync or a cut.
+    ///
+    /// # Errors
+    ///
+    /// `AllocError` if memory for the bytes is refused.
+    pub fn left(&self, tear: Tear) -> Result<Vec<u8>, AllocError>
+        ensures { IfOk result (λ file. ∥ leaves_after self.now.tape.past.start self.now.tape.past.calls file.items (heard_after self.now.tape.past.calls) ∥₁) }
+    {
+        if self.tears {
+            self.torn_left(tear)
+        } else {
+            self.whole_left()
+        }
+    }
+
+    // What a crash leaves of the last write.
+    fn torn_left(&self, tear: Tear) -> Result<Vec<u8>, AllocError>
+        requires { IsTrue self.now.tears }
+        ensures { IfOk result (λ file. ∥ leaves_after self.now.tape.past.start self.now.tape.past.calls file.items (heard_after self.now.tape.past.calls) ∥₁) }
+    {
+        let file = torn(self.alloc, &self.before, self.at, &self.piece, tear)?;
+        Ok(file)
+    }
+
+    // What a read returns.
+    fn whole_left(&self) -> Result<Vec<u8>, AllocError>
+        ensures { IfOk result (λ file. ∥ leaves_after self.now.tape.past.start self.now.tape.past.calls file.items (heard_after self.now.tape.past.calls) ∥₁) }
+    {
+        let file = copy(self.alloc, &self.bytes)?;
+        Ok(file)
+    }
 }
 
 // The bytes, with others written over them at a place.
@@ -61,6 +119,59 @@ fn written(alloc: Global, old: &[u8], at: usize, bytes: &[u8]) -> Result<Vec<u8>
         new.extend_from_slice(&old[at + bytes.len()..])?;
     }
     Ok(new)
+}
+
+// The same, and a copy of what was written.
+fn written_with(
+    alloc: Global,
+    old: &[u8],
+    at: usize,
+    bytes: &[u8],
+) -> Result<(Vec<u8>, Vec<u8>), AllocError>
+    requires { at ≤ length old.now }
+    ensures new { IfOk result (λ both. Holds old.now at bytes.now both.0.items) }
+    ensures piece { IfOk result (λ both. both.1.items ≡ bytes.now) }
+{
+    let new = written(alloc, old, at, bytes)?;
+    let piece = bytes.to_vec(alloc)?;
+    Ok((new, piece))
+}
+
+// At most so many bytes from the beginning.
+fn beginning(bytes: &[u8], n: usize) -> &[u8]
+    ensures { length result.now ≤ length bytes.now }
+{
+    if n < bytes.len() { &bytes[..n] } else { bytes }
+}
+
+// A write that a crash cut short.
+#[tactic(auto, using(crate::proofs::Replays::torn_by))]
+fn torn(
+    alloc: Global,
+    old: &Vec<u8>,
+    at: usize,
+    bytes: &Vec<u8>,
+    tear: Tear,
+) -> Result<Vec<u8>, AllocError>
+    requires { at ≤ length old.now.items }
+    ensures { IfOk result (λ new. Torn at (length bytes.now.items) old.now.items new.items) }
+{
+    match tear {
+        Tear::Nothing => written(alloc, old, at, &[]),
+        Tear::Beginning(n) => written(alloc, old, at, beginning(bytes, n)),
+        Tear::Garbage(byte) => {
+            let other = vec![in alloc; byte; bytes.len()]?;
+            written(alloc, old, at, &other)
+        }
+        Tear::All => written(alloc, old, at, bytes),
+    }
+}
+
+// A copy of the bytes.
+fn copy(alloc: Global, old: &Vec<u8>) -> Result<Vec<u8>, AllocError>
+    ensures { IfOk result (λ new. new.items ≡ old.now.items) }
+{
+    old.to_vec(alloc)
 }
 
 // A front of the bytes.
@@ -100,13 +211,17 @@ impl Host for Memory {
     ghost only_now = { λ m c o left. only m.tape.past.start m.tape.past.calls c o left };
 
     fn write_at(&mut self, at: usize, bytes: &[u8]) -> Result<(), HostFault> {
-        match written(self.alloc, &self.bytes, at, bytes) {
-            Ok(new) => {
+        match written_with(self.alloc, &self.bytes, at, bytes) {
+            Ok((new, piece)) => {
                 self.tape = self.tape.then(Asked::Write(at, bytes, true));
-                self.bytes = new;
+                self.before = mem::replace(&mut self.bytes, new);
+                self.at = at;
+                self.piece = piece;
+                self.tears = true;
                 Ok(())
             }
             Err(_) => {
+                self.tears = false;
                 self.tape = self.tape.then(Asked::Write(at, bytes, false));
                 Err(HostFault)
             }
@@ -116,11 +231,13 @@ impl Host for Memory {
     fn cut(&mut self, len: usize) -> Result<(), HostFault> {
         match front(self.alloc, &self.bytes, len) {
             Ok(new) => {
+                self.tears = false;
                 self.tape = self.tape.then(Asked::Cut(len, true));
                 self.bytes = new;
                 Ok(())
             }
             Err(_) => {
+                self.tears = false;
                 self.tape = self.tape.then(Asked::Cut(len, false));
                 Err(HostFault)
             }
@@ -128,6 +245,7 @@ impl Host for Memory {
     }
 
     fn sync(&mut self) -> Result<(), HostFault> {
+        self.tears = false;
         self.tape = self.tape.then(Asked::Sync(true));
         Ok(())
     }

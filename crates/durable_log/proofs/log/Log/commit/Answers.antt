@@ -44,7 +44,7 @@ returns-clause-acknowledged g c =
     let cleared : c.clear.new.self.items ≡ [] = search rules in
     let k = kept-nothing c.clear.new.self.items cleared in
     let put = c.in_ok-put_batch.ensures in
-    let long : length c.deref.result.now ≡ c.len-2.result = ? in (
+    let long : length c.deref.result.now ≡ c.len-2.result = c.deref.ensures.len ∙ sym c.len-2.ensures in (
       record {
         rest = subst (λ (n : ℕ). IsAtRest (g.H.Host.seen c.put_batch.new.host) (log.end + n)) long put.rest;
         waits = k.waits;
