@@ -139,7 +139,7 @@ impl<H: Host> Log<H> {
 
         ensures later { H.faults self.old.host ≤ H.faults self.new.host }
         ensures failed { IsErrOf result CommitFault.Failed → H.faults self.old.host < H.faults self.new.host }
-        ensures full { IsErrOf result CommitFault.Full → 2 ^ 62 ≤ self.old.end + length self.old.waiting.items }
+        ensures full { IsErrOf result CommitFault.Full → (self.new ≡ self.old) × (2 ^ 62 ≤ self.old.end + length self.old.waiting.items) }
     {
         if self.waiting.is_empty() {
             return Ok(());

@@ -1,0 +1,11 @@
+pub mod Lines
+pub mod Passed
+pub mod Steps
+pub mod Telling
+pub mod Replaying
+pub mod Going
+pub mod Catalogued
+pub mod Ending
+pub mod Turning
+pub mod Whole
+pub mod Splitting

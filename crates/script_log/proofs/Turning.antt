@@ -1,0 +1,197 @@
+-- A line that grows while what waits is passed on.
+use Rattle.std.proofs.Common.{◌≡◌, inl, inr, ℕ, ◌≤◌, List, [], ◌++◌, true, false, Option, Some, None, Ok, Err, refl, sym, ◌∙◌, ap, subst, arith}
+use Rattle.std.proofs.lemmas.Bool.{false≢true}
+use Rattle.std.proofs.lemmas.List.{append-nil}
+use Rattle.log_host.specs.Host.{Outcomes, LeavesOnly}
+use Rattle.durable_log.specs.Logs.{records_of, waiting_in, IsSettled}
+use Rattle.durable_log.specs.declared.log.Log.{Log}
+use Rattle.durable_log.proofs.Moments.{begun, weaker, then_leaves}
+use Rattle.script_lines.specs.declared.line.Line.{Line}
+use Rattle.script_lines.specs.declared.line_fault.LineFault.{LineFault}
+use Rattle.script_lines.specs.declared.line_fault.LineFault.TheVariants as line_faults
+use Rattle.script_lines.specs.declared.at_hand.AtHand.TheVariants as given
+use Rattle.script_lines.specs.Device.{Told}
+use Rattle.script_lines.specs.Unread.{Unread, emptied}
+use Rattle.script_lines.specs.AtHand.{IsLast, IsAtHand, Filled}
+use Rattle.script_lines.specs.Lines.{LineRead}
+use Rattle.script_lines.proofs.Growing.{Growing, grew, found, failed}
+use Rattle.script_log.specs.Passing.{standing, Passing, IsPassedOn}
+use Rattle.script_log.specs.Faults.{line_result, is_broken, HasBroken}
+use Rattle.script_log.specs.InTurn.{LineInTurn}
+use Rattle.script_log.specs.declared.fault.RunFault.{RunFault}
+use Rattle.script_log.specs.declared.fault.RunFault.TheVariants as faults
+use Rattle.script_log.proofs.Passed.{passed-two, passing-two, settled-passing}
+use Rattle.script_log.proofs.Going.{line-broken, broken-unless, broken-later}
+
+-- the reader told its end, and nothing is left
+line-ended : (old now : Told) (before mid : Unread) (grown : Line) (last : Option Line) → Growing old now before mid grown
+    → mid.ended ≡ true → mid.bytes ≡ [] → IsLast grown last → LineRead old now before mid (Ok last)
+line-ended old now before mid grown None G end none last = record {
+  more = G.more;
+  told = G.told;
+  turn = G.turn;
+  outcome = (G.bytes ∙ ap (λ l. l ++ mid.bytes) (last G.line G.shows) ∙ none, none, end);
+  cause = G.failures;
+  calls = G.calls;
+  quiet = G.quiet;
+  later = G.later;
+  ended = G.ended;
+  going = G.going;
+  drained = λ _. none;
+}
+line-ended old now before mid grown (Some line) G end none last =
+    let left = last G.line G.shows in
+    record {
+      more = G.more;
+      told = G.told;
+      turn = G.turn;
+      outcome = (G.line, left.0, G.no_feed, inr (G.bytes ∙ ap (λ l. G.line ++ l) none ∙ append-nil G.line, left.1, none, end));
+      cause = G.failures;
+      calls = G.calls;
+      quiet = G.quiet;
+      later = G.later;
+      ended = G.ended;
+      going = G.going;
+      drained = λ _. none;
+    }
+
+-- memory was refused for the line
+line-refused : (old now : Told) (before mid : Unread) (grown : Line) → Growing old now before mid grown → mid.ended ≡ false → LineRead old now before mid (Err line_faults.OutOfMemory)
+line-refused old now before mid grown G running = record {
+  more = G.more;
+  told = G.told;
+  turn = G.turn;
+  outcome = tt;
+  cause = G.failures;
+  calls = G.calls;
+  quiet = G.quiet;
+  later = G.later;
+  ended = λ e. absurd (false≢true (sym running ∙ e));
+  going = G.going;
+  drained = λ e. absurd (false≢true (sym running ∙ e));
+}
+
+-- what waits could not be passed on
+line-stopped : (old now : Told) (before mid : Unread) (grown : Line) → Growing old now before mid grown → mid.ended ≡ false → LineRead old now before (emptied mid) (Err line_faults.Write)
+line-stopped old now before mid grown G running = record {
+  more = G.more;
+  told = G.told;
+  turn = G.turn;
+  outcome = tt;
+  cause = G.failures;
+  calls = G.calls;
+  quiet = G.quiet;
+  later = G.later;
+  ended = λ e. absurd (false≢true (sym running ∙ e));
+  going = G.going;
+  drained = λ _. refl;
+}
+
+module _ {D : Type 0} (seen heard : D → List ℕ) (may_leave : D → Outcomes) (moment : D → ℕ) (left_since : D → ℕ → Outcomes) (counts : D → ℕ) where
+  -- all that waits was passed on
+  pub all-passed : (log log1 : Log D) (out out1 : List ℕ) → records_of (seen log1.host) ≡ records_of (seen log.host) ++ waiting_in log → waiting_in log1 ≡ [] → heard log1.host ≡ heard log.host ++ out → out1 ≡ []
+      → IsPassedOn (standing seen heard log out) (standing seen heard log1 out1)
+  all-passed log log1 out out1 records none told empty = inr (record {
+    records = records;
+    waits = none;
+    front = out;
+    text = ap (λ (x : List ℕ). out ++ x) empty ∙ append-nil out;
+    heard = told;
+  })
+
+  -- the line so far, and what was passed on meanwhile
+  pub record Turning (start now : Told) (p q : Unread) (part : Line) (log0 log : Log D) (out0 out : List ℕ) : Type 0 where
+    pub growing : Growing start now p q part
+    pub settled : IsSettled seen heard may_leave log
+    pub passed_on : IsPassedOn (standing seen heard log0 out0) (standing seen heard log out)
+    pub any_moment : LeavesOnly moment left_since log0.host log.host (Passing (standing seen heard log0 out0))
+    pub later : counts log0.host ≤ counts log.host
+
+  pub turning-begun : (start : Told) (p : Unread) (part : Line) (log0 : Log D) (out0 : List ℕ) → Growing start start p p part → IsSettled seen heard may_leave log0
+      → ((f o : List ℕ) → left_since log0.host (moment log0.host) f o → may_leave log0.host f o) → Turning start start p p part log0 log0 out0 out0
+  turning-begun start p part log0 out0 growing settled only = record {
+    growing = growing;
+    settled = settled;
+    passed_on = inl refl;
+    any_moment = begun moment left_since log0.host (Passing (standing seen heard log0 out0)) (λ f o left. settled-passing seen heard may_leave log0 out0 f o settled (only f o left));
+    later = omega arith;
+  }
+
+  pub turn-line : (start now : Told) (p q q' : Unread) (part line : Line) (log0 log : Log D) (out0 out : List ℕ) → Turning start now p q part log0 log out0 out → IsAtHand part q q' (given.Line line)
+      → LineInTurn seen heard may_leave moment left_since counts start now p q' log0 log out0 out (Ok (Some line))
+  turn-line start now p q q' part line log0 log out0 out T t = record {
+    line = found start now p q q' part line t.1.0 T.growing t.1.2 t.1.3 t.0 t.1.5 t.1.4;
+    settled = T.settled;
+    passed_on = T.passed_on;
+    any_moment = T.any_moment;
+    later = T.later;
+    cause = tt;
+  }
+
+  pub turn-end : (start now : Told) (p q q' : Unread) (part : Line) (last : Option Line) (log0 log : Log D) (out0 out : List ℕ) → Turning start now p q part log0 log out0 out → IsAtHand part q q' (given.End last)
+      → LineInTurn seen heard may_leave moment left_since counts start now p q' log0 log out0 out (Ok last)
+  turn-end start now p q q' part last log0 log out0 out T t = record {
+    line = subst (λ (u : Unread). LineRead start now p u (Ok last)) (sym t.1) (line-ended start now p q part last T.growing t.0 t.2 t.3);
+    settled = T.settled;
+    passed_on = T.passed_on;
+    any_moment = T.any_moment;
+    later = T.later;
+    cause = tt;
+  }
+
+  pub turn-refused : (start now : Told) (p q q' : Unread) (part : Line) (log0 log : Log D) (out0 out : List ℕ) → Turning start now p q part log0 log out0 out → q' ≡ q → q.ended ≡ false
+      → LineInTurn seen heard may_leave moment left_since counts start now p q' log0 log out0 out (Err faults.OutOfMemory)
+  turn-refused start now p q q' part log0 log out0 out T same running = record {
+    line = subst (λ (u : Unread). LineRead start now p u (Err line_faults.OutOfMemory)) (sym same) (line-refused start now p q part T.growing running);
+    settled = λ _. T.settled;
+    passed_on = λ _. T.passed_on;
+    any_moment = T.any_moment;
+    later = T.later;
+    cause = tt;
+  }
+
+  leaves-two : (log0 log log1 : Log D) (out0 out : List ℕ) → IsPassedOn (standing seen heard log0 out0) (standing seen heard log out) → LeavesOnly moment left_since log0.host log.host (Passing (standing seen heard log0 out0))
+      → LeavesOnly moment left_since log.host log1.host (Passing (standing seen heard log out)) → LeavesOnly moment left_since log0.host log1.host (Passing (standing seen heard log0 out0))
+  leaves-two log0 log log1 out0 out on before step =
+      let s0 = standing seen heard log0 out0 in
+      let s = standing seen heard log out in
+      then_leaves moment left_since log0.host log.host log1.host (Passing s0) before (weaker moment left_since log.host log1.host (Passing s) (Passing s0) step (λ f o at. passing-two s0 s f o on at))
+
+  pub turn-stopped : (start now : Told) (p q q' : Unread) (part longer : Line) (log0 log log1 : Log D) (out0 out out1 : List ℕ) (f : RunFault) → Turning start now p q part log0 log out0 out → IsAtHand part q q' (given.Part longer)
+      → LeavesOnly moment left_since log.host log1.host (Passing (standing seen heard log out)) → counts log.host ≤ counts log1.host → is_broken f ≡ true → HasBroken counts log log1 f
+      → LineInTurn seen heard may_leave moment left_since counts start now p q' log0 log1 out0 out1 (Err f)
+  turn-stopped start now p q q' part longer log0 log log1 out0 out out1 f T t leaves later broken cause = record {
+    line = subst (λ (u : Unread). LineRead start now p u (line_result (Err f))) (sym t.1) (line-broken start now p (emptied q) f broken (line-stopped start now p q part T.growing t.0));
+    settled = broken-unless _ f broken;
+    passed_on = broken-unless _ f broken;
+    any_moment = leaves-two log0 log log1 out0 out T.passed_on T.any_moment leaves;
+    later = omega (arith, T.later, later);
+    cause = broken-later counts log0 log log1 f T.later cause;
+  }
+
+  pub turn-failed : (start now next : Told) (p q q1 q' : Unread) (part longer : Line) (log0 log log1 : Log D) (out0 out out1 : List ℕ) (e : LineFault) → Turning start now p q part log0 log out0 out → IsAtHand part q q1 (given.Part longer)
+      → LeavesOnly moment left_since log.host log1.host (Passing (standing seen heard log out)) → counts log.host ≤ counts log1.host → IsPassedOn (standing seen heard log out) (standing seen heard log1 out1) → IsSettled seen heard may_leave log1
+      → Filled now next q1 q' (Err e) → LineInTurn seen heard may_leave moment left_since counts start next p q' log0 log1 out0 out1 (Err faults.Read)
+  turn-failed start now next p q q1 q' part longer log0 log log1 out0 out out1 e T t leaves later on settled filled =
+      let F = subst (λ (u : Unread). Filled now next u q' (Err e)) t.1 filled in
+      record {
+        line = failed start now next p q q' part T.growing t.2 t.0 F.err F.err_ended F.going F.later F.calls F.cause.1;
+        settled = λ _. settled;
+        passed_on = λ _. passed-two (standing seen heard log0 out0) (standing seen heard log out) (standing seen heard log1 out1) T.passed_on on;
+        any_moment = leaves-two log0 log log1 out0 out T.passed_on T.any_moment leaves;
+        later = omega (arith, T.later, later);
+        cause = tt;
+      }
+
+  pub turn-on : (start now next : Told) (p q q1 q' : Unread) (part longer : Line) (log0 log log1 : Log D) (out0 out out1 : List ℕ) → Turning start now p q part log0 log out0 out → IsAtHand part q q1 (given.Part longer)
+      → LeavesOnly moment left_since log.host log1.host (Passing (standing seen heard log out)) → counts log.host ≤ counts log1.host → IsPassedOn (standing seen heard log out) (standing seen heard log1 out1) → IsSettled seen heard may_leave log1
+      → Filled now next q1 q' (Ok tt) → Turning start next p q' longer log0 log1 out0 out1
+  turn-on start now next p q q1 q' part longer log0 log log1 out0 out out1 T t leaves later on settled filled =
+      let F = subst (λ (u : Unread). Filled now next u q' (Ok tt)) t.1 filled in
+      record {
+        growing = grew start now next p q q' part longer T.growing t.2 t.0 t.3 F.ok F.ended F.going F.later F.calls F.quiet F.fewer F.small;
+        settled = settled;
+        passed_on = passed-two (standing seen heard log0 out0) (standing seen heard log out) (standing seen heard log1 out1) T.passed_on on;
+        any_moment = leaves-two log0 log log1 out0 out T.passed_on T.any_moment leaves;
+        later = omega (arith, T.later, later);
+      }

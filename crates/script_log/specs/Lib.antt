@@ -1,0 +1,11 @@
+pub mod Runs
+pub mod Covered
+pub mod Passing
+pub mod Faults
+pub mod Outcomes
+pub mod Openings
+pub mod Catalogues
+pub mod Counts
+pub mod SoFar
+pub mod InTurn
+pub mod Ran

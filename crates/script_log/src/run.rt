@@ -1,0 +1,93 @@
+// The run of lines over a log.
+ghost use Rattle.std.specs.Prelude.{◌≡◌, []};
+ghost use Rattle.log_host.specs.Host.{LeavesOnly};
+ghost use Rattle.durable_log.specs.Logs.{records_of, IsSettled, waiting_in};
+ghost use Rattle.script_lines.specs.Lines.{lines_since};
+ghost use Rattle.script_log.specs.Runs.{history_of};
+ghost use Rattle.script_log.specs.Covered.{Covered};
+ghost use Rattle.script_log.specs.Faults.{has_broken};
+ghost use Rattle.script_log.specs.SoFar.{RanSoFar};
+ghost use Rattle.script_log.specs.Ran.{Ran};
+
+use crate::answer::answer_line;
+use crate::engine::Engine;
+use crate::fault::RunFault;
+use crate::passing::{commit_and_tell, put_reply};
+use crate::turn::next_line;
+use durable_log::{Host, Log};
+use script_lines::{InputBuffer, OutputBuffer, Source};
+use std::alloc::Global;
+
+// Answers all lines, and leaves the last records and replies waiting.
+fn answer_all<S: Source, H: Host, E: Engine>(
+    alloc: Global,
+    input: &mut InputBuffer,
+    source: &mut S,
+    log: &mut Log<H>,
+    engine: &mut E,
+    output: &mut OutputBuffer,
+) -> Result<(), RunFault>
+    requires settled { IsSettled H.seen H.heard H.may_leave log.old }
+    requires nothing_waits { waiting_in log.old ≡ [] }
+    requires empty { output.old ≡ [] }
+    requires stands { E.stands engine.old (history_of (records_of (H.seen log.old.host))) }
+    ensures { RanSoFar H.seen H.heard H.may_leave H.moment H.left_since H.faults E.stands E.keeps E.reply
+        (S.tape source.old) (S.tape source.new) input.old input.new log.old log.new output.new engine.new result }
+{
+    if input.has_ended() {
+        return Ok(());
+    }
+    while let Some(line) = next_line(alloc, input, source, log, output)? {
+        let text = answer_line(alloc, log, engine, &line)?;
+        put_reply(log, output, &text)?;
+    }
+    Ok(())
+}
+
+fn has_broken(outcome: &Result<(), RunFault>) -> bool
+    ensures { result ≡ has_broken outcome.now }
+{
+    match outcome {
+        Ok(()) => false,
+        Err(fault) => fault.is_broken(),
+    }
+}
+
+/// Answers the lines at hand in `input`, then those that `source` tells, to its end. A line that is kept is a record of the
+/// log, with the check of its reply. Replies are collected, 65,536 bytes at most. Before the reader is asked for more, and at
+/// the end, the records that wait are committed, all at once, and then the replies are told. Nothing is committed if no line
+/// was kept.
+///
+/// # Errors
+///
+/// - `Read` if the reader failed, or may not be called again: all complete lines were answered and their replies told.
+/// - `Write` if the listener failed. It heard a beginning of the replies to what is on the disk.
+/// - `Log` if the file failed or is full. No reply to what was not committed was told. Open the file again.
+/// - `OutOfMemory` if memory was refused: the lines before were answered and their replies told.
+pub fn answer_lines<S: Source, H: Host, E: Engine>(
+    alloc: Global,
+    input: &mut InputBuffer,
+    source: &mut S,
+    log: &mut Log<H>,
+    engine: &mut E,
+) -> Result<(), RunFault>
+    requires settled { IsSettled H.seen H.heard H.may_leave log.old }
+    requires nothing_waits { waiting_in log.old ≡ [] }
+    requires stands { E.stands engine.old (history_of (records_of (H.seen log.old.host))) }
+
+    // A crash at any moment leaves the records as they were and those of some of the lines told, each with the check of its
+    // reply. What was heard is a beginning of the replies to those lines.
+    ensures any_moment { LeavesOnly H.moment H.left_since log.old.host log.new.host
+        (Covered E.keeps E.reply (records_of (H.seen log.old.host)) (lines_since (S.tape source.old) (S.tape source.new) input.old) (H.heard log.old.host)) }
+
+    ensures ran { Ran H.seen H.heard H.may_leave H.faults E.stands E.keeps E.reply
+        (S.tape source.old) (S.tape source.new) input.old input.new log.old log.new engine.new result }
+{
+    let mut output = OutputBuffer::new(alloc)?;
+    let outcome = answer_all(alloc, input, source, log, engine, &mut output);
+    if has_broken(&outcome) {
+        return outcome;
+    }
+    commit_and_tell(log, &mut output)?;
+    outcome
+}
