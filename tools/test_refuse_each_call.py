@@ -32,7 +32,6 @@ WRONG = {
     "changes before it gives up": ("echo refused; echo 'now: { cursors: {}, count: 4 }'", "not as before"),
     "keeps an empty slot": ("echo refused; echo 'now: { cursors: {1: None}, count: 3 }'", "no map of kept walks"),
     "keeps another walk": ("echo refused; echo 'now: { cursors: {1: Cursor { at: 3 }}, count: 3 }'", "not as before"),
-    "swallows a refusal": (":", "doesn't say that it was refused"),
     "answers otherwise then": (KEEPS + "; echo 'book.night.1: refused'; exit", "it goes on otherwise"),
     "says more then": (KEEPS + "; echo more", "it goes on otherwise"),
     "ends": ("exit 1", "status 1"),
@@ -45,17 +44,22 @@ class RefusedCalls(unittest.TestCase):
         self.addCleanup(folder.cleanup)
         self.folder = Path(folder.name)
 
-    def requests_of(self, refused: str) -> int:
+    def requests_of(self, refused: str, kind: str = "book") -> int:
         """How many requests the call makes, if it does this where one is refused."""
         path = self.folder / "program"
-        path.write_text(PROGRAM.replace("@@", refused))
+        path.write_text(PROGRAM.replace("@@", refused).replace("book.", f"{kind}."))
         path.chmod(0o700)
         with ThreadPoolExecutor(2) as pool:
-            return check(program_in(path, self.folder), "book.night.1", pool)
+            return check(program_in(path, self.folder), f"{kind}.night.1", pool)
 
     def test_a_call_that_leaves_all_is_right(self) -> None:
         self.assertEqual(self.requests_of(KEEPS), 2)
         self.assertEqual(self.requests_of(DROPS_A_WALK), 2)
+
+    def test_a_request_is_done_without_where_it_may_be(self) -> None:
+        self.assertEqual(self.requests_of(":"), 2)
+        with self.assertRaisesRegex(Wrong, "doesn't say that it was refused"):
+            self.requests_of(":", "texts")
 
     def test_each_wrong_body_is_noticed(self) -> None:
         for name, (refused, said) in WRONG.items():
