@@ -15,18 +15,18 @@ from pathlib import Path
 ROOT = Path(__file__).resolve().parent.parent
 sys.path.insert(0, str(ROOT / "tools"))
 
-from repository import copy_of  # noqa: E402
+from repository import copy_of, uses_by_crate  # noqa: E402
 
 # What the programs use of the repository, and of the kit.
 USES = {"batch_operator", "sessions", "seat_rules", "jsl_json", "op_log", "jsl_model", "batch_ids"}
 LIBRARIES = USES | {"sqlite_items", "anyhow", "atomic_table"}
 
 
-def copy_to(name: str, folder: Path) -> Path:
+def copy_to(name: str, folder: Path, libraries: set[str] = LIBRARIES) -> Path:
     """A repository of the program and of what it stands on."""
-    crates = copy_of(USES, folder)
+    crates = copy_of(libraries & set(uses_by_crate()), folder)
     with (folder / "crates.txt").open("a") as table:
-        table.write(f"{name}: {' '.join(sorted(LIBRARIES))}\n")
+        table.write(f"{name}: {' '.join(sorted(libraries))}\n")
     for source in (ROOT / "benches" / name).rglob("*.txt"):
         copied = crates / source.relative_to(ROOT / "benches").with_suffix("")
         copied.parent.mkdir(parents=True, exist_ok=True)

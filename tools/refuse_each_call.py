@@ -2,11 +2,11 @@
 
     python3 tools/refuse_each_call.py [--program PATH] [--by-case] [WORD..]
 
-The proved program `refused_calls`, which `rt ci` or `rt run` has built, has cases: one call each, in a state made for it.
-WORD.. runs those cases alone whose names begin so. A small library, refuse_a_request.c, is loaded ahead of the program,
-which marks where its call begins and ends. Each case runs twice with no refusal, and must write the same and make as many
-requests both times. Then each request of the call is refused, one in each run. The call must answer that it was refused
-memory, and then:
+The program `refused_calls` has cases: one call each, in a state made for it. Its sources stand in `benches/refused_calls`,
+outside the gate; `benches/refused_calls.py` proves and builds it, and runs this tool on it. WORD.. runs those cases alone
+whose names begin so. A small library, refuse_a_request.c, is loaded ahead of the program, which marks where its call begins
+and ends. Each case runs twice with no refusal, and must write the same and make as many requests both times. Then each
+request of the call is refused, one in each run. The call must answer that it was refused memory, and then:
 
 - What can be read of its object is as it was before the call, but that a walk which was kept may be dropped.
 - The call is made again, with memory. Its answer, what can be read then, and all later answers are those of the whole run.
@@ -32,12 +32,10 @@ from pathlib import Path
 from threading import get_ident
 
 ROOT = Path(__file__).resolve().parent.parent
-CRATE = ROOT / "crates" / "refused_calls"
-PROGRAM = CRATE / "out" / "refused_calls"
-DATA = CRATE / "data"
+PROGRAM = ROOT / "crates" / "refused_calls" / "out" / "refused_calls"
 LIBRARY = ROOT / "tools" / "refuse_a_request.c"
 
-# The script of `batchctl`, of which `DATA` has a copy.
+# The script of `batchctl`, of which the data of the program have a copy.
 SCRIPT = ROOT / "crates" / "batchctl" / "stdin"
 
 # A request of so many bytes is a mark.
@@ -75,6 +73,10 @@ class Program:
     library: Path
     folder: Path
 
+    def data(self) -> Path:
+        """The folder of the program's data, beside the one that it was built in."""
+        return self.path.parent.parent / "data"
+
     def run(self, case: str | None = None, number: int = 0) -> Run:
         """A run of a case in which the request of this number is refused (none, if it is 0)."""
         counted = self.folder / f"requests-{get_ident()}"
@@ -85,7 +87,9 @@ class Program:
             "REFUSE_MARK": str(MARK),
         }
         words = [str(self.path)] if case is None else [str(self.path), case]
-        ended = subprocess.run(words, cwd=DATA, capture_output=True, env=settings, timeout=MOST_SECONDS)
+        ended = subprocess.run(
+            words, cwd=self.data() if self.data().is_dir() else None, capture_output=True, env=settings, timeout=MOST_SECONDS
+        )
         requests = int.from_bytes(counted.read_bytes(), sys.byteorder)
         return Run(ended.returncode, tuple(ended.stdout.decode().splitlines()), ended.stderr.decode(), requests)
 
@@ -414,8 +418,9 @@ def check(program: Program, case: str, pool: ThreadPoolExecutor) -> int:
 
 
 def check_all(program: Program, words: list[str], by_case: bool, pool: ThreadPoolExecutor) -> None:
-    if (DATA / "batchctl").read_bytes() != SCRIPT.read_bytes():
-        raise Wrong(f"{DATA / 'batchctl'} is not {SCRIPT}")
+    copied = program.data() / "batchctl"
+    if copied.read_bytes() != SCRIPT.read_bytes():
+        raise Wrong(f"{copied} is not {SCRIPT}")
     sums: dict[str, Sums] = {}
     for case in program.cases():
         if words and not case.startswith(tuple(words)):
