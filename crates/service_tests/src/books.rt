@@ -41,9 +41,12 @@ fn reply_to_all<const LIMIT: u64>(
     Ok(())
 }
 
-// The replies of a log with room for so many operations, and how many it then has.
-fn replies_of<const LIMIT: u64>(alloc: Global, lines: &[&str]) -> Result<(Vec<u8>, usize), Fail> {
-    let mut book = Book::<LIMIT>::new(alloc, catalogue(alloc)?)?;
+// The replies of this log, and how many operations it then has.
+fn replies_of<const LIMIT: u64>(
+    alloc: Global,
+    mut book: Book<LIMIT>,
+    lines: &[&str],
+) -> Result<(Vec<u8>, usize), Fail> {
     let mut replies = Vec::new(alloc);
     let replied = reply_to_all(alloc, &mut book, lines, &mut replies);
     let len = book.len();
@@ -63,7 +66,8 @@ const OF_ONE: &str = r#"{"nothing":true}
 #[test]
 fn a_full_log_refuses_what_would_be_entered(rt: HostRuntime) -> Result<(), Fail> {
     let lines = [CALLS[1], CALLS[0], CALLS[1], CALLS[2], CALLS[3]];
-    let (replies, len) = replies_of::<1>(rt.alloc(), &lines)?;
+    let book = Book::<1>::new(rt.alloc(), catalogue(rt.alloc())?)?;
+    let (replies, len) = replies_of(rt.alloc(), book, &lines)?;
     assert!(rt; replies.as_slice() == OF_ONE.as_bytes());
     assert_eq!(rt; len, 1);
     Ok(())
@@ -87,7 +91,8 @@ fn a_log_of_two_operations_refuses_a_third(rt: HostRuntime) -> Result<(), Fail> 
     let lines = [
         CALLS[0], CALLS[0], CALLS[0], CALLS[1], STOP_OF_9, CALLS[3], COUNT,
     ];
-    let (replies, len) = replies_of::<2>(rt.alloc(), &lines)?;
+    let book = Book::<2>::new(rt.alloc(), catalogue(rt.alloc())?)?;
+    let (replies, len) = replies_of(rt.alloc(), book, &lines)?;
     assert!(rt; replies.as_slice() == OF_TWO.as_bytes());
     assert_eq!(rt; len, 2);
     Ok(())
@@ -95,7 +100,8 @@ fn a_log_of_two_operations_refuses_a_third(rt: HostRuntime) -> Result<(), Fail> 
 
 #[test]
 fn a_log_without_room_answers_a_claim(rt: HostRuntime) -> Result<(), Fail> {
-    let (replies, len) = replies_of::<0>(rt.alloc(), &[CALLS[1], CALLS[0]])?;
+    let book = Book::<0>::new(rt.alloc(), catalogue(rt.alloc())?)?;
+    let (replies, len) = replies_of(rt.alloc(), book, &[CALLS[1], CALLS[0]])?;
     let wanted = "{\"nothing\":true}\n{\"refused\":\"RepositoryFull\"}\n";
     assert!(rt; replies.as_slice() == wanted.as_bytes());
     assert_eq!(rt; len, 0);
