@@ -371,6 +371,9 @@ def goes_on_without(refusal: Refusal) -> None:
     """The call does without a request: its answer and all later ones are as in the whole run."""
     if not any(re.fullmatch(pattern, refusal.case) for pattern in SWALLOWED):
         raise refusal.fail("the call doesn't say that it was refused memory")
+    # What a book, a repository or a world gave up can be read.
+    if re.match(r"(full_)?(book|repository)|world|records", refusal.case) and refusal.run.lines == refusal.whole.lines:
+        raise refusal.fail("the call doesn't say that it was refused memory, and gave up nothing")
     if not are_as_before(map(without_lists, refusal.run.lines), map(without_lists, refusal.whole.lines)):
         raise refusal.fail("the call goes on without a request, and otherwise")
 

@@ -57,7 +57,9 @@ class RefusedCalls(unittest.TestCase):
         self.assertEqual(self.requests_of(DROPS_A_WALK), 2)
 
     def test_a_request_is_done_without_where_it_may_be(self) -> None:
-        self.assertEqual(self.requests_of(":"), 2)
+        self.assertEqual(self.requests_of(":", "desk"), 2)
+        with self.assertRaisesRegex(Wrong, "gave up nothing"):
+            self.requests_of(":")
         with self.assertRaisesRegex(Wrong, "doesn't say that it was refused"):
             self.requests_of(":", "texts")
 
