@@ -139,9 +139,9 @@ class PostgresKeeper(Keeper):
         since = time.monotonic()
         while not self._closing.is_set():
             leader = await store.leader()
-            await self._catch_up(store, engine)
             if last is None or leader.epoch != last.epoch:
                 await self._look_at_epoch(store, leader)
+            await self._catch_up(store, engine, leader.epoch)
             if leader != last:
                 last, since = leader, time.monotonic()
             self.leader_url, self.epoch = leader.url, leader.epoch
@@ -162,9 +162,9 @@ class PostgresKeeper(Keeper):
         if chosen != self._catalogue:
             raise CatalogueGrew(f"by epoch {leader.epoch}")
 
-    async def _catch_up(self, store: PostgresStore, engine: Engine) -> None:
-        """Replays what the table has more than the co-process."""
-        while records := await store.operations_after(engine.entered, CHUNK):
+    async def _catch_up(self, store: PostgresStore, engine: Engine, epoch: int) -> None:
+        """Replays what the table has more than the co-process, up to this epoch, whose catalogue the co-process has."""
+        while records := await store.operations_after(engine.entered, epoch, CHUNK):
             async with engine.turn:
                 await engine.replay(records)
             async with self._followed:
@@ -173,7 +173,7 @@ class PostgresKeeper(Keeper):
     async def _lead(self, store: PostgresStore, engine: Engine, epoch: int) -> None:
         """Leads until the epoch is another's, a part fails, or the service is to end."""
         begun = time.monotonic()
-        await self._catch_up(store, engine)
+        await self._catch_up(store, engine, epoch)
         self._sessions = Sessions(await store.clients(), self._settings.bounds.clients)
         keys = {hash(slot) for slot in await store.request_keys()}
         settings = TermSettings(self._settings.refuse_from, min(1.0, self._settings.takeover_after / BEATS))

@@ -118,9 +118,14 @@ class PostgresStore:
         rows = await self._fetch("select line from job_host_catalogue order by epoch desc limit 1")
         return rows[0]["line"].encode() if rows else None
 
-    async def operations_after(self, number: int, most: int) -> list[Record]:
-        statement = "select number, line, reply from job_host_operation where number > $1 order by number limit $2"
-        rows = await self._fetch(statement, number, most)
+    async def operations_after(self, number: int, epoch: int, most: int) -> list[Record]:
+        """The next operations, no more than so many, of this epoch and those before: a later one may know more jobs."""
+        rows = await self._fetch(
+            "select number, line, reply from job_host_operation where number > $1 and epoch <= $2 order by number limit $3",
+            number,
+            epoch,
+            most,
+        )
         return [Record(row["number"], row["line"].encode(), row["reply"].encode()) for row in rows]
 
     async def clients(self) -> dict[str, int]:

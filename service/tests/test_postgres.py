@@ -222,6 +222,36 @@ async def test_a_follower_takes_over_the_jobs_that_a_new_leader_brings(settings:
         assert (await Caller(two.url).start("short")).told["executionId"] == 2
 
 
+@pytest.mark.parametrize("is_stale", [False, True])
+async def test_a_follower_that_sleeps_while_a_new_leader_brings_jobs_follows_it(
+    settings: Make, tmp_path: Path, is_stale: bool
+) -> None:
+    fewer, more = tmp_path / "fewer.json", tmp_path / "more.json"
+    fewer.write_text(json.dumps({"jobs": [NIGHTLY]}))
+    more.write_text(json.dumps({"jobs": [NIGHTLY, SHORT]}))
+    async with running(settings(catalogue=fewer)) as one, running(settings(catalogue=fewer), "follower") as two:
+        keeper: Any = two.service.keeper
+        store = keeper._store
+        ask = store.leader
+        is_asleep, wake = asyncio.Event(), asyncio.Event()
+
+        async def sleep_and_ask() -> Any:
+            leader = await ask()
+            is_asleep.set()
+            await wake.wait()
+            return leader if is_stale else await ask()
+
+        store.leader = sleep_and_ask
+        await is_asleep.wait()
+        async with running(settings(catalogue=more), "follower") as three:
+            await one.stop()
+            await three.until_role("leader")
+            assert (await Caller(three.url).start("short", key="a")).status == 201
+            wake.set()
+            read = await Caller(two.url).ask("GET", "/batch/jobexecutions/1?atLeast=1")
+            assert (read.status, read.told["jobName"]) == (200, "short")
+
+
 async def test_a_catalogue_that_is_none_is_refused(settings: Make, tmp_path: Path) -> None:
     path = tmp_path / "empty.json"
     path.write_text('{"jobs":[{"id":"a","elements":[]}]}')
