@@ -11,6 +11,7 @@ export JOBHOST_BATCHCTL
 python=/usr/bin/python3
 $python -m flake8 .
 $python -m black --check -q .
+MYPYPATH=tests:. $python -m mypy check_catalogues.py
 $python -m mypy
-MYPYPATH=tests:. $python -m mypy tests soak.py soak_check.py bench.py sql_repository.py
+MYPYPATH=tests:. $python -m mypy tests soak.py soak_check.py bench.py bench_console.py screenshots.py sql_repository.py
 $python -m pytest -q "$@"

@@ -6,7 +6,8 @@ set -eu
 here=$(cd "$(dirname "$0")" && pwd)
 folder=${1:-/usr/local/bin}
 packages="python3 python3-aiohttp python3-asyncpg python3-rich python3-prometheus-client python3-defusedxml
-python3-pytest python3-pytest-asyncio black flake8 mypy postgresql openssl"
+python3-pytest python3-pytest-asyncio black flake8 mypy postgresql openssl
+chromium chromium-driver python3-selenium graphviz"
 as_root=
 [ "$(id -u)" = 0 ] || as_root=sudo
 missing=

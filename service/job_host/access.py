@@ -81,6 +81,11 @@ class Access:
         if settings.certificate is None or settings.certificate_key is None:
             raise SettingsRefused(f"{settings.host} isn't loopback: --certificate and --certificate-key are needed")
 
+    def check_host(self, request: web.Request) -> None:
+        """Raises a problem if what needs no token is asked for by a name that isn't this machine's."""
+        if self._tokens is None:
+            self._local(request)
+
     def caller(self, request: web.Request) -> Caller:
         """The caller of a request. Raises a problem if its token isn't known."""
         if self._tokens is None:

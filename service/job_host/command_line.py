@@ -4,17 +4,13 @@ from __future__ import annotations
 
 import argparse
 import asyncio
-import importlib.util
 import logging
 import sys
 from collections.abc import Sequence
 from pathlib import Path
 
-from job_host import commands
+from job_host import catalogue_commands, commands
 from job_host.settings import DEFAULT_PORT, ServeSettings, find_batchctl
-
-# A package beside this one's modules brings `jobhost catalogue ..`: its `command_line` has `main(words)`.
-CATALOGUE_TOOLS = "job_host.catalogue.command_line"
 
 # A slot that claims has a request in hand, and the service allows 64 of one client: the others are for heartbeats and reports.
 MOST_SLOTS = 32
@@ -86,25 +82,12 @@ def run_worker(given: argparse.Namespace) -> int:
     return 0
 
 
-def run_catalogue(words: Sequence[str]) -> int | None:
-    """Runs the catalogue's tools, if they are there."""
-    try:
-        found = importlib.util.find_spec(CATALOGUE_TOOLS)
-    except ModuleNotFoundError:
-        return None
-    if found is None:
-        return None
-    return int(importlib.import_module(CATALOGUE_TOOLS).main(words))
-
-
 def main(arguments: Sequence[str] | None = None) -> int:
-    words = list(sys.argv[1:] if arguments is None else arguments)
-    if words[:1] == ["catalogue"] and (status := run_catalogue(words[1:])) is not None:
-        return status
     parser = argparse.ArgumentParser(prog="jobhost", description="Serves, runs and watches batch jobs over batchctl script.")
     subcommands = parser.add_subparsers(required=True, metavar="COMMAND")
     add_serve(subcommands)
     add_worker(subcommands)
     commands.add_commands(subcommands)
-    given = parser.parse_args(words)
+    catalogue_commands.add_catalogue(subcommands)
+    given = parser.parse_args(arguments)
     return int(given.run(given))

@@ -44,6 +44,7 @@ class CoProcess(asyncio.SubprocessProtocol):
         self._transport: asyncio.SubprocessTransport | None = None
         self._stdin: asyncio.WriteTransport | None = None
         self._errors = b""
+        self.catalogue = b""
         self.has_ended = False
         self.ended: asyncio.Future[int | None] = asyncio.get_running_loop().create_future()
 
@@ -56,6 +57,7 @@ class CoProcess(asyncio.SubprocessProtocol):
         loop = asyncio.get_running_loop()
         _, made = await loop.subprocess_exec(cls, *words, start_new_session=True)
         process = made
+        process.catalogue = catalogue
         process._write(catalogue + b"\n")
         try:
             first = await process.ask(b'{"ask":"status_counts"}')

@@ -6,21 +6,12 @@ import asyncio
 import json
 from collections.abc import Callable, Sequence
 from dataclasses import dataclass
+from typing import Any
 
 from job_host.coprocess import CoProcess, CoProcessEnded
+from job_host.execution_index import ExecutionIndex
 from job_host.lines import is_accepted
-
-
-@dataclass(frozen=True)
-class Held:
-    """A busy work item: the session that claimed it, and the moment of its claim."""
-
-    work: int
-    execution: int
-    element: str
-    partition: int | None
-    session: int
-    since: int
+from job_host.work_items import LOST, Ended, EndedWork, Held
 
 
 @dataclass(frozen=True)
@@ -60,6 +51,8 @@ class Engine:
         self.entered = 0
         self.last_moment = 0
         self.held: dict[int, Held] = {}
+        self.ended_work = EndedWork()
+        self.executions = ExecutionIndex(self)
         self.turn = asyncio.Lock()
         self.may_give_work: Callable[[], None] = lambda: None
 
@@ -78,21 +71,42 @@ class Engine:
         self.process.send(line, hear)
 
     def enter(self, line: bytes, reply: bytes) -> int:
-        """Notes what an operation says of work items: who claimed one, and which is over. Returns its moment."""
+        """Notes what an operation is on: work items, and a job execution. Returns its moment."""
         self.entered += 1
         told = json.loads(line)
-        do, moment = told["do"], told["at"]
+        do, moment = told["do"], int(told["at"])
         self.last_moment = max(self.last_moment, moment)
-        if do == "claim":
-            work = json.loads(reply).get("work")
-            if work is not None:
-                place = (work["work"], work["execution"], work["element"], work.get("partition"))
-                self.held[work["work"]] = Held(*place, told["by"], moment)
-        elif do in ("finish", "lose"):
-            self.held.pop(told["work"], None)
+        if do == "purge":
+            self.executions.note_purged(told["instance"], self.entered)
+        else:
+            self.executions.note_changed(self._execution_of(told, reply), self.entered)
         if do not in ("claim", "checkpoint"):
             self.may_give_work()
-        return int(moment)
+        return moment
+
+    def _execution_of(self, told: dict[str, Any], reply: bytes) -> int:
+        """The job execution that an operation is on. Notes who claimed a work item, and which is over."""
+        do = told["do"]
+        if do in ("stop", "abandon"):
+            return int(told["execution"])
+        if do in ("start", "restart"):
+            return int(json.loads(reply)["execution"])
+        if do == "claim":
+            return self._note_claim(told, json.loads(reply))
+        if do == "checkpoint":
+            return self.held[told["work"]].execution
+        held = self.held.pop(told["work"])
+        outcome = LOST if do == "lose" else told["outcome"]
+        self.ended_work.note(Ended(held, told["at"], outcome, told.get("exit")))
+        return held.execution
+
+    def _note_claim(self, told: dict[str, Any], reply: dict[str, Any]) -> int:
+        work = reply.get("work")
+        if work is None:
+            return int(reply["closed"])
+        place = (work["work"], work["execution"], work["element"], work.get("partition"))
+        self.held[work["work"]] = Held(*place, told["by"], told["at"])
+        return int(work["execution"])
 
     async def replay(self, records: Sequence[Record]) -> None:
         """Hands on kept operations, and compares the replies. Raises ReplayDiffers at the first that differs."""

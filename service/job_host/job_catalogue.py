@@ -6,6 +6,7 @@ import json
 from pathlib import Path
 from typing import Any
 
+from job_host.catalogue_text import NotJson, Reader, one_line, plain
 from job_host.lines import compact
 
 
@@ -14,13 +15,13 @@ class CatalogueChanged(Exception):
 
 
 def read_file(path: Path) -> bytes:
-    """The catalogue of a file as one line. A file that is no JSON object is handed on as it is: batchctl names its fault."""
-    text = path.read_bytes()
+    """The catalogue of a file as one line. What is no JSON object keeps its tokens: batchctl names its fault."""
+    data = path.read_bytes()
     try:
-        value = json.loads(text)
-    except (ValueError, RecursionError):
-        return text.replace(b"\n", b" ")
-    return compact(value) if isinstance(value, dict) else text.replace(b"\n", b" ")
+        value = plain(Reader(data.decode("utf-8")).read())
+    except (NotJson, UnicodeDecodeError):
+        return one_line(data)
+    return compact(value) if isinstance(value, dict) else one_line(data)
 
 
 def jobs_of(line: bytes | str) -> dict[str, Any]:

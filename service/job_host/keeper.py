@@ -11,11 +11,12 @@ from typing import Any
 
 from job_host.calls import Call, Kept, WorkLog
 from job_host.coprocess import CatalogueRefused, CoProcess
-from job_host.engine import Answers, Engine, Held
+from job_host.engine import Answers, Engine
 from job_host.leases import Leases
 from job_host.lines import query, read
 from job_host.problems import Problem, of_refusal, unavailable
 from job_host.term import Term
+from job_host.work_items import Ended, Held
 
 QUERIES_AT_ONCE = 1_000
 
@@ -126,6 +127,23 @@ class Keeper(ABC):
             await term.until_committed(seen)
         names = await self.client_names([one.session for one in held])
         return [HeldBy(one, names.get(one.session), self._remaining(one.work)) for one in held], seen
+
+    async def work_items(self, execution: int, at_least: int) -> tuple[list[tuple[Ended | None, HeldBy]], int]:
+        """The work items of a job execution, as far as they are known, and how many operations that saw."""
+        await self.reach(at_least)
+        engine, term = self.reading(), self.term
+        seen = engine.entered
+        noted = [(one, one.held) for one in engine.ended_work.of(execution)]
+        busy = [(None, one) for one in engine.held.values() if one.execution == execution]
+        if term is not None:
+            await term.until_committed(seen)
+        items = sorted([*noted, *busy], key=lambda item: item[1].work)
+        names = await self.client_names([held.session for _, held in items])
+        told = [
+            (ended, HeldBy(held, names.get(held.session), self._remaining(held.work) if ended is None else None))
+            for ended, held in items
+        ]
+        return told, seen
 
     def _remaining(self, work: int) -> float | None:
         """The seconds of a lease that are left. Only the leader knows."""

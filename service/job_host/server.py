@@ -11,8 +11,9 @@ from collections.abc import Awaitable, Callable
 from aiohttp import web
 from prometheus_client import CONTENT_TYPE_LATEST
 
-from job_host import routes_jobs, routes_work
+from job_host import routes_jobs, routes_lists, routes_work
 from job_host.access import Access, tls_context
+from job_host.browsers import CONSOLE, Browsers
 from job_host.embedded_keeper import EmbeddedKeeper
 from job_host.coprocess import CoProcessEnded
 from job_host.connections import GuardedHandler, GuardedServer
@@ -22,6 +23,7 @@ from job_host.metrics import Metrics
 from job_host.postgres_keeper import PostgresKeeper
 from job_host.problems import Problem, unavailable
 from job_host.requests import Asked, Gate, Handler, Host
+from job_host.routes_console import EVENTS_PATH, ConsoleFiles, Watchers, show_events
 from job_host.settings import MOST_OPERATIONS, ServeSettings
 
 log = logging.getLogger(__name__)
@@ -40,21 +42,27 @@ def make_keeper(settings: ServeSettings, metrics: Metrics) -> Keeper:
 
 
 class Service:
-    """One instance. Paths other than `/batch`, `/metrics` and `/health` are free for a console's files."""
+    """One instance. The console's files need no token; everything else does, where tokens are used."""
 
     def __init__(self, settings: ServeSettings) -> None:
         self.settings = settings
         self.access = Access(settings)
         self.metrics = Metrics()
         self.keeper = make_keeper(settings, self.metrics)
+        self.browsers = Browsers(settings.advertise)
+        self.watchers = Watchers(settings.bounds.watchers)
         self.host = Host(settings, self.keeper, self.access, Gate(settings.bounds))
         self.port = settings.port
         self._runner: web.ServerRunner | None = None
 
     def application(self) -> web.Application:
         application = web.Application(middlewares=[self._answer], client_max_size=self.settings.bounds.body_bytes)
-        for method, path, right, handler in [*routes_jobs.ROUTES, *routes_work.ROUTES, *self._routes()]:
+        for method, path, right, handler in [*routes_jobs.ROUTES, *routes_lists.ROUTES, *routes_work.ROUTES, *self._routes()]:
             application.router.add_route(method, path, self._route(right, handler))
+        files = ConsoleFiles(self.browsers)
+        application.router.add_get(CONSOLE, self._open(files.show_page))
+        application.router.add_get("/console/{name}", self._open(files.show_file))
+        application.router.add_get(EVENTS_PATH, self._follow, allow_head=False)
         return application
 
     def _routes(self) -> list[tuple[str, str, str, Handler]]:
@@ -69,14 +77,32 @@ class Service:
         """A route for callers with a right."""
 
         async def serve(request: web.Request) -> web.StreamResponse:
-            caller = self.access.caller(request)
-            if right not in caller.rights:
-                raise Problem("RoleLacksRight", 403, "this isn't for the token's role")
-            asked = Asked(request, self.host, caller)
+            asked = self._asked(request, right)
             with self.host.gate.enter(asked.client):
                 return await handler(asked)
 
         return serve
+
+    def _asked(self, request: web.Request, right: str) -> Asked:
+        caller = self.access.caller(request)
+        if right not in caller.rights:
+            raise Problem("RoleLacksRight", 403, "this isn't for the token's role")
+        return Asked(request, self.host, caller)
+
+    def _open(self, handler: Serve) -> Serve:
+        """A route for everybody who calls the service by its own name."""
+
+        async def serve(request: web.Request) -> web.StreamResponse:
+            self.access.check_host(request)
+            return await handler(request)
+
+        return serve
+
+    async def _follow(self, request: web.Request) -> web.StreamResponse:
+        """The events. They last, so they have a bound of their own."""
+        asked = self._asked(request, "read")
+        with self.watchers.enter():
+            return await show_events(asked)
 
     @web.middleware
     async def _answer(self, request: web.Request, handler: Serve) -> web.StreamResponse:
@@ -90,6 +116,7 @@ class Service:
             connection.note_served(False)
         resource = request.match_info.route.resource
         route = resource.canonical if resource is not None else "none"
+        response.headers.setdefault("X-Content-Type-Options", "nosniff")
         method = request.method if request.method in ("GET", "POST", "PUT", "DELETE", "HEAD") else "other"
         self.metrics.requests.labels(method, route, response.status).inc()
         self.metrics.seconds.labels(route).observe(time.monotonic() - begun)
@@ -97,6 +124,7 @@ class Service:
 
     async def _answered(self, request: web.Request, handler: Serve) -> web.StreamResponse:
         try:
+            self.browsers.check(request)
             return await handler(request)
         except Problem as problem:
             return problem.response()

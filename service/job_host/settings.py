@@ -22,6 +22,7 @@ class Bounds:
     log_bytes: int = 65_536
     requests_at_once: int = 64
     connections: int = 1_024
+    watchers: int = 64
     clients: int = 100_000
     page_size: int = 1_000
     listed: int = 10_000

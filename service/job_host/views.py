@@ -57,18 +57,25 @@ def job_instance(executions: Sequence[Told]) -> dict[str, Any]:
     }
 
 
-def job_execution(told: Told, parameters: Told, steps: Sequence[Told]) -> dict[str, Any]:
-    execution, instance = told["execution"], told["instance"]
+def job_execution_row(told: Told) -> dict[str, Any]:
+    """A job execution without its parameters and step executions."""
     return {
         "jobName": told["job"],
-        "executionId": execution,
-        "instanceId": instance,
+        "executionId": told["execution"],
+        "instanceId": told["instance"],
         "batchStatus": told["status"],
         "exitStatus": told["exit"],
         "createTime": moment(told["create"]),
         "startTime": moment(told["start"]),
         "endTime": moment(told["end"]),
         "lastUpdatedTime": moment(told["updated"]),
+    }
+
+
+def job_execution(told: Told, parameters: Told, steps: Sequence[Told]) -> dict[str, Any]:
+    execution, instance = told["execution"], told["instance"]
+    return {
+        **job_execution_row(told),
         "jobParameters": dict(parameters),
         "stepExecutions": [step_execution(step, instance) for step in steps],
         "_links": execution_links(execution, instance),

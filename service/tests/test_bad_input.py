@@ -15,7 +15,7 @@ from typing import Any
 import pytest
 from instances import Caller, Instance, running
 
-from job_host import routes_jobs, routes_work
+from job_host import routes_jobs, routes_lists, routes_work
 from job_host.settings import Bounds, ServeSettings
 
 REQUESTS = int(os.environ.get("JOBHOST_RANDOM_REQUESTS", "5000"))
@@ -34,6 +34,9 @@ PATHS = [
     "/batch/work/{id}",
     "/metrics",
     "/health/ready",
+    "/",
+    "/console/console.js",
+    "/console/{id}",
     "/{id}",
     "//{id}/..",
     "http://other.example/batch/jobs",
@@ -58,7 +61,17 @@ NUMBERS = [
 ]
 QUERIES = ["", "?action=stop", "?action=restart", "?action=abandon", "?action=finish", "?action=checkpoint", "?action=lose"]
 QUERIES += ["?action=heartbeat", "?action=%ff", "?page=-1", "?page=99999999999", "?pageSize=0", "?pageSize=x", "?jobName=%00"]
-QUERIES += ["?jobName=nightly", "?type=text", "?atLeast=7", "?atLeast=x", "?" + "a=1&" * 500]
+QUERIES += [
+    "?status=FAILED",
+    "?status=x",
+    "?search=%00",
+    "?search=" + "s" * 300,
+    "?jobName=nightly",
+    "?type=text",
+    "?atLeast=7",
+    "?atLeast=x",
+    "?" + "a=1&" * 500,
+]
 TEXTS = [
     "nightly",
     "short",
@@ -118,8 +131,14 @@ HEADERS = [
     "no colon here",
     "X: " + "y" * 9_000,
     "Upgrade: websocket",
+    "Origin: null",
+    "Origin: http://localhost",
+    "Origin: http://other.example",
+    "Sec-Fetch-Site: cross-site",
+    "Sec-Fetch-Site: same-origin",
+    "Batch-Forgery-Token: \xff",
 ]
-KNOWN = [(method, path) for method, path, _, _ in [*routes_jobs.ROUTES, *routes_work.ROUTES]]
+KNOWN = [(method, path) for method, path, _, _ in [*routes_jobs.ROUTES, *routes_lists.ROUTES, *routes_work.ROUTES]]
 
 
 @dataclass(frozen=True)

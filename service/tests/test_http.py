@@ -327,7 +327,7 @@ async def test_health_is_told(settings: Make) -> None:
 async def test_paths_that_are_not_known(settings: Make) -> None:
     async with running(settings()) as instance:
         caller: Any = Caller(instance.url)
-        answers = [await caller.ask(*words) for words in (("GET", "/"), ("PATCH", "/batch/jobs"), ("GET", "/batch/work/1"))]
+        answers = [await caller.ask(*words) for words in (("GET", "/x"), ("PATCH", "/batch/jobs"), ("GET", "/batch/work/1"))]
     assert [(answer.status, answer.name) for answer in answers] == [
         (404, "NotFound"),
         (405, "MethodNotAllowed"),

@@ -4,7 +4,8 @@ ghost use Rattle.log_host.specs.Host.{Only};
 ghost use Rattle.log_host.specs.Past.{seen_after, heard_after, leaves_after, left_after, faults_after};
 ghost use Rattle.log_host.specs.Laws.{now_left, counts, only};
 
-use crate::system::{CallFault, FileCalls};
+use crate::file_fault::FileFault;
+use crate::system::FileCalls;
 use log_host::{Asked, Host, HostFault, Tape};
 use std::alloc::Global;
 use std::io::Write;
@@ -29,17 +30,19 @@ impl<F: FileCalls + Drop, W: Write + Drop> FileHost<F, W> {
     ///
     /// # Errors
     ///
-    /// `CallFault` if the file cannot be synced or read, or memory for its bytes is refused.
+    /// `Unavailable` if the file cannot be synced or read, `OutOfMemory` if memory for its bytes is refused.
     pub fn open(
         alloc: Global,
         mut file: F,
         listener: W,
-    ) -> Result<(FileHost<F, W>, Vec<u8>), CallFault>
+    ) -> Result<(FileHost<F, W>, Vec<u8>), FileFault>
         ensures seen { IfOk result (λ r. seen_after r.0.tape.past.start r.0.tape.past.calls ≡ r.1.items) }
         ensures heard { IfOk result (λ r. heard_after r.0.tape.past.calls ≡ []) }
         ensures durable { IfOk result (λ r. Only r.1.items [] (leaves_after r.0.tape.past.start r.0.tape.past.calls)) }
     {
-        file.sync_all_data()?;
+        if file.sync_all_data().is_err() {
+            return Err(FileFault::Unavailable);
+        }
         let bytes = file.read_all(alloc)?;
         let host = FileHost {
             file,

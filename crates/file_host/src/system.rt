@@ -24,8 +24,8 @@ pub trait FileCalls {
     ///
     /// # Errors
     ///
-    /// `CallFault` if the file cannot be read, or memory for the bytes is refused.
-    fn read_all(&mut self, alloc: Global) -> Result<Vec<u8>, CallFault>;
+    /// `Unavailable` if the file cannot be read, `OutOfMemory` if memory for the bytes is refused.
+    fn read_all(&mut self, alloc: Global) -> Result<Vec<u8>, FileFault>;
 
     /// Writes all of the bytes at a place.
     ///
@@ -50,14 +50,15 @@ pub trait FileCalls {
 }
 
 impl FileCalls for File {
-    fn read_all(&mut self, alloc: Global) -> Result<Vec<u8>, CallFault> {
+    fn read_all(&mut self, alloc: Global) -> Result<Vec<u8>, FileFault> {
         let mut bytes = Vec::new(alloc);
         if self.seek(SeekFrom::Start(0)).is_err() {
-            return Err(CallFault);
+            return Err(FileFault::Unavailable);
         }
         match self.read_to_end(&mut bytes) {
             Ok(_) => Ok(bytes),
-            Err(_) => Err(CallFault),
+            Err(error) if error.kind() == ErrorKind::OutOfMemory => Err(FileFault::OutOfMemory),
+            Err(_) => Err(FileFault::Unavailable),
         }
     }
 

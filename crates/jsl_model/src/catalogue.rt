@@ -96,6 +96,13 @@ impl Catalogue {
         None
     }
 
+    /// Its jobs, in the order in which they were added.
+    pub fn jobs(&self) -> &[Job]
+        ensures { result.now ≡ self.now }
+    {
+        self.jobs.as_slice()
+    }
+
     /// How many jobs it holds, at most 256.
     pub fn len(&self) -> usize
         ensures number { result ≡ length self.now }

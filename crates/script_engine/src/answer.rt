@@ -1,7 +1,8 @@
-ghost use Rattle.std.specs.Prelude.{◌≡◌, List, ℕ, Result, Err, IfOk, OnOk};
+ghost use Rattle.std.specs.Prelude.{◌≡◌, ◌≤◌, List, ℕ, Result, Err, IfOk, OnOk, length};
 ghost use Rattle.batch_history.specs.Due.{IsDue};
 ghost use Rattle.batch_history.specs.Rows.{History};
 ghost use Rattle.script_lines.specs.Lines.{Shows};
+ghost use Rattle.script_lines.specs.declared.line.TheConstants.{MAX_LINE};
 ghost use Rattle.script_text.specs.declared.command.Command.TheVariants.{Act, Ask};
 ghost use Rattle.script_text.specs.Answers.{answer_text};
 ghost use Rattle.script_text.specs.Replies.{bad_line_text, reply_text};
@@ -17,16 +18,16 @@ use script_text::{Command, CommandReader, answer_text, bad_line_text, reply_text
 use seq_repository::{Answer, Call, Query, Reply, Repository};
 use std::alloc::{AllocError, Global};
 
-/// How many operations the log may have.
-pub(crate) const LIMIT: u64 = 1_000_000;
+/// How many operations the repository of a script accepts at most.
+pub const LIMIT: u64 = 1_000_000;
 
 /// The reply line to a line, and what became of it.
 #[derive(Drop)]
-pub(crate) struct Answered {
+pub struct Answered {
     /// The text, with its line feed; nothing for an empty line.
-    pub(crate) text: Vec<u8>,
+    pub text: Vec<u8>,
     /// What became of the line.
-    pub(crate) kind: Kind,
+    pub kind: Kind,
 }
 
 /// Answers a line after the operations before it. At an `Err` it is left open what the repository stands for.
@@ -45,18 +46,39 @@ pub(crate) fn answer(
         → OnOk result ((bytes : List ℕ) → Shows line.now bytes → Stands repository.new (line_after h bytes)) }
 {
     match line {
-        Line::Whole(bytes) => {
-            if bytes.is_empty() {
-                return Ok(Answered {
-                    text: Vec::new(alloc),
-                    kind: Kind::Empty,
-                });
-            }
-            let command = commands.read(bytes)?;
-            answer_command(alloc, repository, command)
-        }
+        Line::Whole(bytes) => answer_whole(alloc, commands, repository, bytes),
         Line::TooLong => reply_bad_line(alloc),
     }
+}
+
+/// Answers a whole line, its line feed left out, after the operations before it. The line has at most
+/// [`MAX_LINE`](crate::MAX_LINE) bytes. An empty line has an empty reply.
+///
+/// # Errors
+///
+/// `OutOfMemory` if memory is refused. What the repository stands for is open then.
+#[tactic(auto, unfolding(crate::specs::Script::line_text, crate::specs::Script::line_after, crate::specs::Summaries::line_kind))]
+pub fn answer_whole(
+    alloc: Global,
+    commands: &mut CommandReader,
+    repository: &mut Repository<LIMIT>,
+    bytes: &[u8],
+) -> Result<Answered, OutOfMemory>
+    ensures text { length bytes.now ≤ MAX_LINE → (h : History) → Stands repository.old h
+        → IfOk result (λ answered. answered.text.items ≡ line_text h bytes.now) }
+    ensures kind { length bytes.now ≤ MAX_LINE → (h : History) → Stands repository.old h
+        → IfOk result (λ answered. answered.kind ≡ line_kind h bytes.now) }
+    ensures after { length bytes.now ≤ MAX_LINE → (h : History) → Stands repository.old h
+        → OnOk result (Stands repository.new (line_after h bytes.now)) }
+{
+    if bytes.is_empty() {
+        return Ok(Answered {
+            text: Vec::new(alloc),
+            kind: Kind::Empty,
+        });
+    }
+    let command = commands.read(bytes)?;
+    answer_command(alloc, repository, command)
 }
 
 /// Answers a command.

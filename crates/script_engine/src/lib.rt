@@ -11,11 +11,12 @@ mod run;
 mod start;
 mod summary;
 
+pub use answer::{Answered, LIMIT, answer_whole};
 pub use catalogue::{catalogue_in, tell_fault};
 pub use fault::EngineFault;
 pub use jsl_json::ReadFault;
 pub use lines::Lines;
-pub use run::{answer_script, run_script};
+pub use run::{answer_script, boxed_repository, run_script};
 pub use script_lines::{
     Counted, DeviceFault, Line, MAX_LINE, MAX_READS, OutputBuffer, Sink, Source,
 };
@@ -23,4 +24,4 @@ pub use script_text::{
     StartFault, StartLine, bad_line_text, execution_text, fault_text, metrics_value, reply_text,
 };
 pub use start::read_start;
-pub use summary::Summary;
+pub use summary::{Kind, Summary};

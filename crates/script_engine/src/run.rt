@@ -15,7 +15,11 @@ use seq_repository::Repository;
 use std::alloc::{AllocError, Global};
 
 /// A repository without an operation over this catalogue, on the heap.
-fn boxed_repository(
+///
+/// # Errors
+///
+/// `OutOfMemory` if memory is refused. The catalogue is dropped.
+pub fn boxed_repository(
     alloc: Global,
     catalogue: Catalogue,
 ) -> Result<Box<Repository<LIMIT>>, OutOfMemory>

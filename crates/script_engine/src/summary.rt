@@ -17,7 +17,7 @@ pub struct Summary {
 
 /// What became of a line.
 #[derive(Clone, Copy, Debug, PartialEq, Eq)]
-pub(crate) enum Kind {
+pub enum Kind {
     /// It is empty, and has no reply.
     Empty,
     /// A call was accepted, or a query answered.

@@ -8,6 +8,8 @@ use Rattle.script_lines.specs.Unread.{Unread}
 use Rattle.script_lines.specs.declared.line.Line.{Line}
 use Rattle.script_lines.specs.declared.line_fault.LineFault.{LineFault}
 use Rattle.script_lines.specs.declared.line_fault.LineFault.TheVariants as lines
+use Rattle.script_log.specs.declared.fault.AppendFault.{AppendFault}
+use Rattle.script_log.specs.declared.fault.AppendFault.TheVariants as appends
 use Rattle.script_log.specs.declared.fault.RunFault.{RunFault}
 use Rattle.script_log.specs.declared.fault.RunFault.TheVariants as faults
 
@@ -64,3 +66,8 @@ HasCause counts old new r r' left faults.Read = (r'.failures ≡ r.failures + 1)
 HasCause counts old new r r' left faults.Write = HasBroken counts old new faults.Write
 HasCause counts old new r r' left (faults.Log fault) = HasBroken counts old new (faults.Log fault)
 HasCause counts old new r r' left faults.OutOfMemory = Unit {0}
+
+-- why a catalogue was not added to a log
+abbrev pub HasAppendFault : {D : Type 0} (faults : D → ℕ) → Log D → Log D → AppendFault → Type 0
+HasAppendFault counts old new (appends.Log fault) = HasFailed counts old new fault
+HasAppendFault counts old new appends.OutOfMemory = Unit {0}

@@ -5,9 +5,9 @@ ghost use Rattle.durable_log.specs.Logs.{records_of, IsSettled, waiting_in, Befo
 ghost use Rattle.durable_log.specs.Shown.{record_shown};
 ghost use Rattle.script_log.specs.Runs.{catalogue_record, kept_lines, history_of};
 ghost use Rattle.script_log.specs.Catalogues.{BeginsWithCatalogue, IsLastCatalogue, last_shown};
-ghost use Rattle.script_log.specs.Faults.{HasBroken};
+ghost use Rattle.script_log.specs.Faults.{HasAppendFault};
 
-use crate::fault::RunFault;
+use crate::fault::AppendFault;
 use crate::mark::CATALOGUE_MARK;
 use durable_log::{Host, Log, Record};
 use std::alloc::Global;
@@ -58,7 +58,7 @@ pub fn append_catalogue<H: Host>(
     alloc: Global,
     log: &mut Log<H>,
     text: &[u8],
-) -> Result<(), RunFault>
+) -> Result<(), AppendFault>
     requires settled { IsSettled H.seen H.heard H.may_leave log.old }
     requires nothing_waits { waiting_in log.old ≡ [] }
     requires small { length text.now < 2 ^ 32 }
@@ -69,7 +69,7 @@ pub fn append_catalogue<H: Host>(
     ensures heard { H.heard log.new.host ≡ H.heard log.old.host }
     ensures any_moment { LeavesOnly H.moment H.left_since log.old.host log.new.host
         (BeforeOrAfter (records_of (H.seen log.old.host)) (catalogue_record text.now ∷ []) (H.heard log.old.host)) }
-    ensures cause { IfErr result (HasBroken H.faults log.old log.new) }
+    ensures cause { IfErr result (HasAppendFault H.faults log.old log.new) }
 {
     let entry = Record {
         mark: CATALOGUE_MARK,
@@ -79,6 +79,6 @@ pub fn append_catalogue<H: Host>(
     log.append(alloc, entry)?;
     match log.commit() {
         Ok(()) => Ok(()),
-        Err(fault) => Err(RunFault::Log(fault)),
+        Err(fault) => Err(AppendFault::Log(fault)),
     }
 }

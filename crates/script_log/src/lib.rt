@@ -16,7 +16,7 @@ pub use catalogue::{LogCatalogues, append_catalogue, find_catalogues};
 pub use counter::Counter;
 pub use durable_log::{CommitFault, Contents, End, Host, HostFault, Log, Record, check_of};
 pub use engine::{Answered, Engine};
-pub use fault::RunFault;
+pub use fault::{AppendFault, RunFault};
 pub use mark::{CATALOGUE_MARK, OPERATION_MARK};
 pub use opening::{OpenFault, open};
 pub use run::answer_lines;

@@ -1,0 +1,18 @@
+-- When a catalogue is another one with more jobs behind it.
+use Rattle.std.specs.Prelude.{◌≡◌, ℕ, List, ◌∷◌, ◌++◌, length}
+use Rattle.jsl_model.specs.Jobs.{JobTree}
+
+-- a catalogue begins with the jobs of another one, each equal
+abbrev pub IsGrown : List JobTree → List JobTree → Type 0
+IsGrown kept given = (more : List JobTree) × (given ≡ kept ++ more)
+
+-- the job with this number, counted from 0, is the first of the kept jobs that the given catalogue does not have in its place
+pub record IsFirstOther (kept given : List JobTree) (number : ℕ) : Type 0 where
+  pub before : List JobTree
+  pub job : JobTree
+  pub others : List JobTree
+  pub rest : List JobTree
+  pub split : kept ≡ before ++ job ∷ others
+  pub place : number ≡ length before
+  pub begins : given ≡ before ++ rest
+  pub differs : (more : List JobTree) → rest ≡ job ∷ more → ⊥

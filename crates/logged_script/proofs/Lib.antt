@@ -1,0 +1,5 @@
+pub mod Floats
+pub mod Growing
+pub mod Keeping
+pub mod Opened
+pub mod Running

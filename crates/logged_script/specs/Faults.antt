@@ -1,0 +1,84 @@
+-- Why a log is not opened.
+use Rattle.std.specs.Prelude.{ℕ, ◌≡◌, ◌⊎◌, ◌<◌, ◌≤◌, ◌^◌, ◌+◌, List, [], ◌∷◌, ◌++◌, length, Bool, true, false, Ok, Err}
+use Rattle.jsl_model.specs.Jobs.{JobTree}
+use Rattle.jsl_json.specs.declared.fault.ReadFault.{ReadFault}
+use Rattle.catalogue_growth.specs.Growth.{IsGrown, IsFirstOther}
+use Rattle.log_host.specs.Host.{Outcomes, LeavesOnly}
+use Rattle.durable_log.specs.Format.{LogRecord}
+use Rattle.durable_log.specs.Files.{opening, Foreign as ForeignFile, Later as LaterFile}
+use Rattle.durable_log.specs.Logs.{records_of, BeforeOrAfter, IsDamagedAt}
+use Rattle.durable_log.specs.declared.log.Log.{Log}
+use Rattle.script_engine.specs.Script.{catalogue_at}
+use Rattle.script_log.specs.Runs.{catalogue_record, last_catalogue}
+use Rattle.script_log.specs.Catalogues.{BeginsWithCatalogue}
+use Rattle.script_log.specs.Openings.{IsOtherReply}
+use Rattle.logged_script.specs.Histories.{is_kept, reply_at}
+use Rattle.logged_script.specs.declared.fault.LogFault.{LogFault}
+use Rattle.logged_script.specs.declared.fault.LogFault.TheVariants.{InUse, Foreign, Later, Damaged, OtherCatalogue, OtherReply}
+use Rattle.logged_script.specs.declared.opening.OpeningFault.{OpeningFault}
+use Rattle.logged_script.specs.declared.opening.OpeningFault.TheVariants.{Refused, Failed, OutOfMemory}
+
+-- the records of a log that no script made: the first is no catalogue, or the last catalogue can't be read
+abbrev pub IsNoScriptLog : List LogRecord → Type 0
+IsNoScriptLog records = (BeginsWithCatalogue records → ⊥) ⊎ ((fault : ReadFault) × (catalogue_at (last_catalogue [] records) ≡ Err fault))
+
+-- why the last catalogue of a log was not read
+abbrev pub IsCatalogueFault : List LogRecord → OpeningFault → Type 0
+IsCatalogueFault records (Refused InUse) = ⊥
+IsCatalogueFault records (Refused Foreign) = IsNoScriptLog records
+IsCatalogueFault records (Refused Later) = ⊥
+IsCatalogueFault records (Refused (Damaged number byte)) = ⊥
+IsCatalogueFault records (Refused (OtherCatalogue job)) = ⊥
+IsCatalogueFault records (Refused (OtherReply number)) = ⊥
+IsCatalogueFault records Failed = ⊥
+IsCatalogueFault records OutOfMemory = Unit {0}
+
+-- the given catalogue has all jobs of the kept one, and more if it has grown
+abbrev pub HasGrown : List JobTree → List JobTree → Bool → Type 0
+HasGrown kept given true = IsGrown kept given
+HasGrown kept given false = given ≡ kept
+
+-- the job with this number is the first of the log's that the given catalogue does not have in its place
+abbrev pub IsOtherJob : List LogRecord → List JobTree → ℕ → Type 0
+IsOtherJob records given job = (kept : List JobTree) × (catalogue_at (last_catalogue [] records) ≡ Ok kept) × IsFirstOther kept given job
+
+-- why the catalogue of a log is not one from which the given catalogue has grown
+abbrev pub IsGrowthFault : List LogRecord → List JobTree → OpeningFault → Type 0
+IsGrowthFault records given (Refused InUse) = ⊥
+IsGrowthFault records given (Refused Foreign) = IsNoScriptLog records
+IsGrowthFault records given (Refused Later) = ⊥
+IsGrowthFault records given (Refused (Damaged number byte)) = ⊥
+IsGrowthFault records given (Refused (OtherCatalogue job)) = IsOtherJob records given job
+IsGrowthFault records given (Refused (OtherReply number)) = ⊥
+IsGrowthFault records given Failed = ⊥
+IsGrowthFault records given OutOfMemory = Unit {0}
+
+-- WHY A LOG IS REFUSED, by its file and the line of the given catalogue
+abbrev pub HasLogFault : List ℕ → List ℕ → LogFault → Type 0
+HasLogFault file line InUse = ⊥
+HasLogFault file line Foreign = (opening file ≡ ForeignFile) ⊎ IsNoScriptLog (records_of file)
+HasLogFault file line Later = opening file ≡ LaterFile
+HasLogFault file line (Damaged number byte) = IsDamagedAt file number byte
+HasLogFault file line (OtherCatalogue job) = (given : List JobTree) × (catalogue_at line ≡ Ok given) × IsOtherJob (records_of file) given job
+HasLogFault file line (OtherReply number) = IsOtherReply is_kept reply_at line (records_of file) number
+
+-- the host failed at some time since, or the file is full
+abbrev pub HasFailed : {D : Type 0} (moment counts : D → ℕ) → D → D → Type 0
+HasFailed {D} moment counts old new =
+    ((middle : D) × (moment old ≤ moment middle) × (counts middle < counts new))
+    ⊎ ((log : Log D) × (log.host ≡ new) × (2 ^ 62 ≤ log.end + length log.waiting.items))
+
+-- why a log was not opened: nothing was written; or a crash leaves its records, or those and the given catalogue
+abbrev pub IsOpeningFault : {D : Type 0} (moment : D → ℕ) (left_since : D → ℕ → Outcomes) (counts : D → ℕ) (file line heard : List ℕ) (old new : D) → OpeningFault → Type 0
+IsOpeningFault moment left_since counts file line heard old new (Refused fault) = HasLogFault file line fault × (new ≡ old)
+IsOpeningFault moment left_since counts file line heard old new Failed =
+    LeavesOnly moment left_since old new (BeforeOrAfter (records_of file) (catalogue_record line ∷ []) heard) × HasFailed moment counts old new
+IsOpeningFault moment left_since counts file line heard old new OutOfMemory =
+    (new ≡ old) ⊎ LeavesOnly moment left_since old new (BeforeOrAfter (records_of file) (catalogue_record line ∷ []) heard)
+
+-- why the given catalogue was not added: a crash leaves the records, or those and the given catalogue
+abbrev pub IsAddingFault : {D : Type 0} (moment : D → ℕ) (left_since : D → ℕ → Outcomes) (counts : D → ℕ) (records : List LogRecord) (line heard : List ℕ) (old new : D) → OpeningFault → Type 0
+IsAddingFault moment left_since counts records line heard old new (Refused fault) = ⊥
+IsAddingFault moment left_since counts records line heard old new Failed =
+    LeavesOnly moment left_since old new (BeforeOrAfter records (catalogue_record line ∷ []) heard) × HasFailed moment counts old new
+IsAddingFault moment left_since counts records line heard old new OutOfMemory = LeavesOnly moment left_since old new (BeforeOrAfter records (catalogue_record line ∷ []) heard)

@@ -1,0 +1,30 @@
+-- A log's history as one of the job repository.
+use Rattle.std.specs.Prelude.{ℕ, nat_lt, List, [], length, Bool, Result, Ok, Err, box_value}
+use Rattle.jsl_model.specs.Jobs.{JobTree}
+use Rattle.jsl_json.specs.declared.fault.ReadFault.{ReadFault}
+use Rattle.batch_history.specs.Rows.{History}
+use Rattle.script_engine.specs.Script.{begin, catalogue_at, history_past, line_after, line_text}
+use Rattle.script_engine.specs.Standing.{Stands}
+use Rattle.script_log.specs.Runs.{History as LogHistory}
+use Rattle.logged_script.specs.declared.engine.ScriptEngine.{ScriptEngine}
+
+-- the jobs of a catalogue that was read; where there is none, no job
+abbrev pub jobs_read : Result (List JobTree) ReadFault → List JobTree
+jobs_read (Ok catalogue) = catalogue
+jobs_read (Err fault) = []
+
+-- THE HISTORY THAT A LOG STANDS FOR: its catalogue, and the operations of its lines
+abbrev pub history_at : LogHistory → History
+history_at h = history_past (begin (jobs_read (catalogue_at h.catalogue))) h.lines
+
+-- whether a line is kept: whether the history has one operation more after it
+abbrev pub is_kept : LogHistory → List ℕ → Bool
+is_kept h line = nat_lt (length (history_at h).log) (length (line_after (history_at h) line).log)
+
+-- the reply to a line
+abbrev pub reply_at : LogHistory → List ℕ → List ℕ
+reply_at h line = line_text (history_at h) line
+
+-- the repository stands for the history
+abbrev pub Answers : ScriptEngine → LogHistory → Type 0
+Answers engine h = Stands (box_value engine.repository) (history_at h)

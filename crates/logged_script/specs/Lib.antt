@@ -1,0 +1,5 @@
+pub mod Texts
+pub mod Histories
+pub mod Faults
+pub mod Openings
+pub mod Logged

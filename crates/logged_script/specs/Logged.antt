@@ -1,0 +1,72 @@
+-- What a script over a log does.
+use Rattle.std.specs.Prelude.{ℕ, ◌≡◌, ◌⊎◌, ◌<◌, ◌≤◌, ◌+◌, List, [], ◌∷◌, ◌++◌, true, Result, Ok, Err}
+use Rattle.log_host.specs.Host.{Outcomes, LeavesOnly}
+use Rattle.durable_log.specs.Format.{LogRecord}
+use Rattle.durable_log.specs.Logs.{records_of}
+use Rattle.script_lines.specs.Device.{Told}
+use Rattle.script_lines.specs.Unread.{Unread}
+use Rattle.script_lines.specs.Lines.{HasEnded, lines_since}
+use Rattle.script_log.specs.Covered.{Covered}
+use Rattle.script_log.specs.Outcomes.{AreAnswered}
+use Rattle.script_log.specs.declared.fault.RunFault.{RunFault}
+use Rattle.script_log.specs.declared.fault.RunFault.TheVariants as runs
+use Rattle.logged_script.specs.Histories.{is_kept, reply_at}
+use Rattle.logged_script.specs.Faults.{IsOpeningFault, HasFailed}
+use Rattle.logged_script.specs.Openings.{IsBegun}
+use Rattle.logged_script.specs.declared.opening.OpeningFault.{OpeningFault}
+use Rattle.logged_script.specs.declared.opening.OpeningFault.TheVariants as openings
+use Rattle.logged_script.specs.declared.outcome.LoggedFault.{LoggedFault}
+use Rattle.logged_script.specs.declared.outcome.LoggedFault.TheVariants.{Refused, Read, Write, Log, OutOfMemory}
+
+-- why a script ended early, if its log was not opened
+abbrev pub fault_of_opening : OpeningFault → LoggedFault
+fault_of_opening (openings.Refused fault) = Refused fault
+fault_of_opening openings.Failed = Log
+fault_of_opening openings.OutOfMemory = OutOfMemory
+
+-- if its lines were not all answered
+abbrev pub fault_of_run : RunFault → LoggedFault
+fault_of_run runs.Read = Read
+fault_of_run runs.Write = Write
+fault_of_run (runs.Log fault) = Log
+fault_of_run runs.OutOfMemory = OutOfMemory
+
+abbrev pub outcome_of_run : Result Unit RunFault → Result Unit LoggedFault
+outcome_of_run (Ok done) = Ok done
+outcome_of_run (Err fault) = Err (fault_of_run fault)
+
+-- WHAT A CRASH LEAVES: the file as it was, and nothing was heard; or a file that stands for the records from before, the given
+-- catalogue if it has grown, and the first of the lines, and what was heard is a beginning of the replies to those lines
+abbrev pub Leaves : List ℕ → List ℕ → List (List ℕ) → List ℕ → Outcomes
+Leaves file line lines heard c o = ((c ≡ file) × (o ≡ heard))
+    ⊎ ((now : List LogRecord) × IsBegun (records_of file) line now × Covered is_kept reply_at now lines heard c o)
+
+-- the reader failed, or may not be called again
+abbrev pub HasReadFault : Told → Told → Unread → Type 0
+HasReadFault r r' p' = (r'.failures ≡ r.failures + 1) ⊎ ((r'.failures ≡ r.failures) × (p'.reads_left ≡ 0))
+
+-- the listener failed at some time since
+abbrev pub HasListenerFailed : {D : Type 0} (moment counts : D → ℕ) → D → D → Type 0
+HasListenerFailed {D} moment counts old new = (middle : D) × (moment old ≤ moment middle) × (counts middle < counts new)
+
+-- what was answered over these records, by how the run ended
+abbrev pub IsAnsweredOver : {D : Type 0} (seen heard : D → List ℕ) (moment counts : D → ℕ) (records : List LogRecord) (r r' : Told) (p p' : Unread) (old new : D) → Result Unit LoggedFault → Type 0
+-- all lines, and the reader told its end
+IsAnsweredOver seen heard moment counts records r r' p p' old new (Ok done) =
+    AreAnswered is_kept reply_at records (lines_since r r' p) (heard old) (records_of (seen new)) (heard new) × ((p.ended ≡ true) ⊎ HasEnded r r')
+IsAnsweredOver seen heard moment counts records r r' p p' old new (Err (Refused fault)) = ⊥
+-- all complete lines
+IsAnsweredOver seen heard moment counts records r r' p p' old new (Err Read) =
+    AreAnswered is_kept reply_at records (lines_since r r' p) (heard old) (records_of (seen new)) (heard new) × HasReadFault r r' p'
+IsAnsweredOver seen heard moment counts records r r' p p' old new (Err Write) = HasListenerFailed moment counts old new
+IsAnsweredOver seen heard moment counts records r r' p p' old new (Err Log) = HasFailed moment counts old new
+-- the first lines
+IsAnsweredOver seen heard moment counts records r r' p p' old new (Err OutOfMemory) =
+    (done : List (List ℕ)) × (others : List (List ℕ)) × (done ++ others ≡ lines_since r r' p) × AreAnswered is_kept reply_at records done (heard old) (records_of (seen new)) (heard new)
+
+-- HOW A SCRIPT OVER A LOG ENDS: the log was not opened, and nothing was read; or lines were answered over the records from before
+-- and the given catalogue, if it has grown
+abbrev pub IsLoggedOutcome : {D : Type 0} (seen heard : D → List ℕ) (moment : D → ℕ) (left_since : D → ℕ → Outcomes) (counts : D → ℕ) (file line : List ℕ) (r r' : Told) (p p' : Unread) (old new : D) → Result Unit LoggedFault → Type 0
+IsLoggedOutcome seen heard moment left_since counts file line r r' p p' old new result =
+    ((fault : OpeningFault) × (result ≡ Err (fault_of_opening fault)) × IsOpeningFault moment left_since counts file line (heard old) old new fault × (r' ≡ r) × (p' ≡ p))
+    ⊎ ((begun : List LogRecord) × IsBegun (records_of file) line begun × IsAnsweredOver seen heard moment counts begun r r' p p' old new result)

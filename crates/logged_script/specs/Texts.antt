@@ -1,0 +1,39 @@
+-- The lines of a log's faults.
+use Rattle.std.specs.Prelude.{ℕ, List, codes}
+use Rattle.serde_json.specs.Data.{Data, string, object, member, no_members}
+use Rattle.script_text.specs.Written.{one, count, line_of}
+use Rattle.logged_script.specs.declared.fault.LogFault.{LogFault}
+use Rattle.logged_script.specs.declared.fault.LogFault.TheVariants.{InUse, Foreign, Later, Damaged, OtherCatalogue, OtherReply}
+
+-- the name that a fault prints as
+abbrev pub log_fault_name : LogFault → List ℕ
+log_fault_name InUse = codes "LogInUse"
+log_fault_name Foreign = codes "LogForeign"
+log_fault_name Later = codes "LogLater"
+log_fault_name (Damaged number byte) = codes "LogDamaged"
+log_fault_name (OtherCatalogue job) = codes "LogOtherCatalogue"
+log_fault_name (OtherReply number) = codes "LogOtherReply"
+
+-- a fault by its name alone
+abbrev pub named : LogFault → Data
+named fault = one (codes "fault") (string (log_fault_name fault))
+
+-- a fault by its name, with the numbers of the record, of its byte and of the job
+abbrev pub log_fault_data : LogFault → Data
+log_fault_data InUse = named InUse
+log_fault_data Foreign = named Foreign
+log_fault_data Later = named Later
+log_fault_data (Damaged number byte) = object
+    (member (codes "byte") (count byte)
+    (member (codes "fault") (string (log_fault_name (Damaged number byte)))
+    (member (codes "record") (count number) no_members)))
+log_fault_data (OtherCatalogue job) = object
+    (member (codes "fault") (string (log_fault_name (OtherCatalogue job)))
+    (member (codes "job") (count job) no_members))
+log_fault_data (OtherReply number) = object
+    (member (codes "fault") (string (log_fault_name (OtherReply number)))
+    (member (codes "record") (count number) no_members))
+
+-- the line of a fault
+abbrev pub log_fault_text : LogFault → List ℕ
+log_fault_text fault = line_of (log_fault_data fault)

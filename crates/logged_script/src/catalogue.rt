@@ -1,0 +1,103 @@
+// The catalogue of a log, and the one that is given.
+ghost use Rattle.std.specs.Prelude.{◌≡◌, ◌∷◌, [], false, List, ℕ, map, Ok, Err, IfOk, IfErr, nat_lt, length};
+ghost use Rattle.jsl_model.specs.Jobs.{JobTree};
+ghost use Rattle.jsl_json.specs.Catalogues.{is_out_of_memory};
+ghost use Rattle.durable_log.specs.Files.{StandsFor};
+ghost use Rattle.durable_log.specs.Logs.{IsAtRest};
+ghost use Rattle.durable_log.specs.Shown.{record_shown};
+ghost use Rattle.script_engine.specs.Script.{catalogue_at};
+ghost use Rattle.script_log.specs.Runs.{catalogue_record, last_catalogue};
+ghost use Rattle.logged_script.specs.Openings.{fault_of_catalogue};
+ghost use Rattle.logged_script.specs.Faults.{IsCatalogueFault, IsGrowthFault, HasGrown};
+
+use crate::fault::LogFault;
+use crate::opening::OpeningFault;
+use catalogue_growth::first_other_job;
+use durable_log::{Record, new_log as log_of};
+use jsl_json::{ReadFault, read_catalogue};
+use jsl_model::Catalogue;
+use script_lines::MAX_LINE;
+use script_log::{CATALOGUE_MARK, find_catalogues};
+use std::alloc::{AllocError, Global};
+
+/// The catalogue that a line is, its line feed left out. A line above [`MAX_LINE`] bytes is none.
+///
+/// # Errors
+///
+/// The first fault of the catalogue; `OutOfMemory` if memory is refused, in place of any answer.
+pub fn catalogue_at(alloc: Global, line: &[u8]) -> Result<Catalogue, ReadFault>
+    ensures read { IfOk result (λ catalogue. catalogue_at line.now ≡ Ok catalogue) }
+    ensures fault { IfErr result (λ fault. is_out_of_memory fault ≡ false → catalogue_at line.now ≡ Err fault) }
+{
+    if line.len() > MAX_LINE {
+        return Err(ReadFault::NotACatalogue);
+    }
+    read_catalogue(alloc, line)
+}
+
+/// The bytes of a new log over the catalogue that a line is.
+///
+/// # Errors
+///
+/// `OutOfMemory` if memory is refused.
+#[tactic(auto, using(crate::proofs::Growing::catalogue_is_short))]
+pub fn new_log(alloc: Global, line: &[u8]) -> Result<Vec<u8>, AllocError>
+    requires { (catalogue : List JobTree) × (catalogue_at line.now ≡ Ok catalogue) }
+    ensures records { IfOk result (λ file. StandsFor (catalogue_record line.now ∷ []) file.items) }
+    ensures clean { IfOk result (λ file. (end : ℕ) × IsAtRest file.items end) }
+{
+    let first = Record {
+        mark: CATALOGUE_MARK,
+        line,
+        reply_check: 0,
+    };
+    log_of(alloc, first)
+}
+
+// Why the last catalogue of a log was not read.
+fn unreadable(fault: ReadFault) -> OpeningFault
+    ensures { result ≡ fault_of_catalogue fault }
+{
+    match fault {
+        ReadFault::OutOfMemory => OpeningFault::OutOfMemory,
+        _ => OpeningFault::Refused(LogFault::Foreign),
+    }
+}
+
+// The last catalogue of a log.
+fn last_catalogue(alloc: Global, records: &[Record<'_>]) -> Result<Catalogue, OpeningFault>
+    ensures read { IfOk result (λ kept. catalogue_at (last_catalogue [] (map record_shown records.now)) ≡ Ok kept) }
+    ensures fault { IfErr result (IsCatalogueFault (map record_shown records.now)) }
+{
+    let found = find_catalogues(records);
+    if !found.begins {
+        return Err(OpeningFault::Refused(LogFault::Foreign));
+    }
+    let Some((_, text)) = found.last else {
+        return Err(OpeningFault::Refused(LogFault::Foreign));
+    };
+    match catalogue_at(alloc, text) {
+        Ok(kept) => Ok(kept),
+        Err(fault) => Err(unreadable(fault)),
+    }
+}
+
+// Whether the given catalogue has more jobs than the log's, with all of which it begins.
+pub(crate) fn has_grown(
+    alloc: Global,
+    records: &[Record<'_>],
+    catalogue: &Catalogue,
+) -> Result<bool, OpeningFault>
+    ensures grown { IfOk result (λ grown. (kept : List JobTree) × (catalogue_at (last_catalogue [] (map record_shown records.now)) ≡ Ok kept)
+        × HasGrown kept catalogue.now grown) }
+    ensures fault { IfErr result (IsGrowthFault (map record_shown records.now) catalogue.now) }
+{
+    let kept = last_catalogue(alloc, records)?;
+    let other = first_other_job(&kept, catalogue);
+    let grown = kept.len() < catalogue.len();
+    drop(kept);
+    match other {
+        Some(job) => Err(OpeningFault::Refused(LogFault::OtherCatalogue { job })),
+        None => Ok(grown),
+    }
+}

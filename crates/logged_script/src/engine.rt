@@ -1,0 +1,66 @@
+// A job repository that answers the lines of a script.
+ghost use Rattle.std.specs.Prelude.{◌≡◌, [], List, ℕ, Ok, IfOk};
+ghost use Rattle.script_engine.specs.Script.{catalogue_at};
+ghost use Rattle.script_log.specs.Openings.{replayed};
+ghost use Rattle.logged_script.specs.Histories.{Answers, is_kept, reply_at};
+
+use batch_ids::OutOfMemory;
+use jsl_model::Catalogue;
+use script_engine::{LIMIT, answer_whole, bad_line_text, boxed_repository};
+use script_lines::MAX_LINE;
+use script_log::{Answered, Engine};
+use script_text::CommandReader;
+use seq_repository::Repository;
+use std::alloc::{AllocError, Global};
+
+/// A job repository that answers the lines of a script, one after another. It keeps a line if that is a call that
+/// is accepted with another reply than Nothing.
+#[derive(Drop)]
+pub struct ScriptEngine {
+    commands: CommandReader,
+    repository: Box<Repository<LIMIT>>,
+}
+
+impl ScriptEngine {
+    /// A repository over this catalogue, without an operation.
+    ///
+    /// # Errors
+    ///
+    /// `OutOfMemory` if memory is refused. The catalogue is dropped.
+    pub fn new(alloc: Global, catalogue: Catalogue) -> Result<ScriptEngine, OutOfMemory>
+        ensures { IfOk result (λ engine. (line : List ℕ) → catalogue_at line ≡ Ok catalogue → Answers engine (replayed line [])) }
+    {
+        let repository = boxed_repository(alloc, catalogue)?;
+        Ok(ScriptEngine {
+            commands: CommandReader::new(alloc),
+            repository,
+        })
+    }
+}
+
+impl Engine for ScriptEngine {
+    ghost stands = { Answers };
+
+    ghost keeps = { is_kept };
+
+    ghost reply = { reply_at };
+
+    fn answer(&mut self, alloc: Global, line: &[u8]) -> Result<Answered, AllocError> {
+        if line.len() > MAX_LINE {
+            let text = bad_line_text(alloc)?;
+            return Ok(Answered { text, kept: false });
+        }
+        let repository: &mut Repository<LIMIT> = &mut self.repository;
+        let before = repository.len();
+        let answered = answer_whole(alloc, &mut self.commands, repository, line)?;
+        let kept = before < repository.len();
+        Ok(Answered {
+            text: answered.text,
+            kept,
+        })
+    }
+
+    fn answer_too_long(&mut self, alloc: Global) -> Result<Vec<u8>, AllocError> {
+        bad_line_text(alloc)
+    }
+}

@@ -1,0 +1,58 @@
+// Why a log is refused.
+ghost use Rattle.std.specs.Prelude.{◌≡◌};
+ghost use Rattle.logged_script.specs.Texts.{log_fault_name};
+
+use std::error::Error;
+use std::fmt;
+
+/// Why a log is refused. Its file is as it was.
+#[derive(Clone, Copy, Debug, PartialEq, Eq)]
+pub enum LogFault {
+    /// Another program has it.
+    InUse,
+    /// It is no log of a script: another file, or an empty one.
+    Foreign,
+    /// It is a log of another version.
+    Later,
+    /// A record is damaged.
+    Damaged {
+        /// The number of the record. Records count from 0.
+        number: usize,
+        /// The byte at which its gate stands. Bytes count from 0.
+        byte: usize,
+    },
+    /// The given catalogue does not begin with all jobs of the log's catalogue.
+    OtherCatalogue {
+        /// The number of the first job that differs. Jobs count from 0.
+        job: usize,
+    },
+    /// The line of a record is not accepted any more, or its reply has another check than was kept.
+    OtherReply {
+        /// The number of the record. Records count from 0.
+        number: usize,
+    },
+}
+
+impl LogFault {
+    /// The name of the fault, as its line has it.
+    pub fn name(self) -> &'static str
+        ensures { result.now ≡ log_fault_name self }
+    {
+        match self {
+            LogFault::InUse => "LogInUse",
+            LogFault::Foreign => "LogForeign",
+            LogFault::Later => "LogLater",
+            LogFault::Damaged { .. } => "LogDamaged",
+            LogFault::OtherCatalogue { .. } => "LogOtherCatalogue",
+            LogFault::OtherReply { .. } => "LogOtherReply",
+        }
+    }
+}
+
+impl fmt::Display for LogFault {
+    fn fmt<W: fmt::Write>(&self, f: &mut fmt::Formatter<W>) -> fmt::Result {
+        f.write_str(self.name())
+    }
+}
+
+impl Error for LogFault {}

@@ -1,0 +1,90 @@
+// The run of a script over a log.
+ghost use Rattle.std.specs.Prelude.{◌≡◌, [], Ok};
+ghost use Rattle.log_host.specs.Host.{Only, LeavesOnly};
+ghost use Rattle.durable_log.specs.Logs.{records_of, IsSettled, waiting_in};
+ghost use Rattle.script_lines.specs.Lines.{lines_since};
+ghost use Rattle.script_engine.specs.Script.{catalogue_at};
+ghost use Rattle.script_log.specs.Runs.{history_of};
+ghost use Rattle.script_log.specs.Covered.{Covered};
+ghost use Rattle.script_log.specs.Ran.{Ran};
+ghost use Rattle.logged_script.specs.Histories.{Answers, is_kept, reply_at};
+ghost use Rattle.logged_script.specs.Logged.{IsAnsweredOver, IsLoggedOutcome, Leaves, outcome_of_run};
+
+use crate::opening::{OpenedLog, open_log};
+use crate::outcome::{LoggedFault, unanswered, unopened};
+use durable_log::Host;
+use jsl_model::Catalogue;
+use script_lines::{InputBuffer, Source};
+use script_log::{RunFault, answer_lines};
+use std::alloc::Global;
+
+fn outcome_of(ran: Result<(), RunFault>) -> Result<(), LoggedFault>
+    ensures { result ≡ outcome_of_run ran }
+{
+    match ran {
+        Ok(()) => Ok(()),
+        Err(fault) => Err(unanswered(fault)),
+    }
+}
+
+/// Answers the lines at hand in `input`, then those that `source` tells, over the log that a file is, and tells the replies to
+/// the host's listener. The line is that of the given catalogue. The file's bytes are dropped once the log is open.
+///
+/// Each accepted call is a record of the log. It is on the disk before its reply is told.
+///
+/// # Errors
+///
+/// - `Refused` if the log is refused ([`open_log`]): nothing was read, written or told.
+/// - `Read` if the reader failed, or may not be called again: all complete lines were answered and their replies told.
+/// - `Write` if the listener failed.
+/// - `Log` if the file failed or is full. No reply to what is not on the disk was told.
+/// - `OutOfMemory` if memory was refused: the lines before were answered and their replies told.
+pub fn answer_logged<S: Source, H: Host>(
+    alloc: Global,
+    input: &mut InputBuffer,
+    source: &mut S,
+    host: H,
+    file: Vec<u8>,
+    line: &[u8],
+    catalogue: Catalogue,
+) -> (Result<(), LoggedFault>, H)
+    requires seen { H.seen host ≡ file.items }
+    // After a restart, what is read is what is on the disk.
+    requires durable { Only (H.seen host) (H.heard host) (H.may_leave host) }
+    requires catalogue { catalogue_at line.now ≡ Ok catalogue }
+    ensures any_moment { LeavesOnly H.moment H.left_since host result.1
+        (Leaves file.items line.now (lines_since (S.tape source.old) (S.tape source.new) input.old) (H.heard host)) }
+    ensures outcome { IsLoggedOutcome H.seen H.heard H.moment H.left_since H.faults file.items line.now
+        (S.tape source.old) (S.tape source.new) input.old input.new host result.1 result.0 }
+{
+    let opened = open_log(alloc, host, &file, line, catalogue);
+    drop(file);
+    match opened {
+        Ok(opened) => answer_opened(alloc, input, source, opened),
+        Err((fault, host)) => (Err(unopened(fault)), host),
+    }
+}
+
+// Answers the lines over a log that was opened.
+fn answer_opened<S: Source, H: Host>(
+    alloc: Global,
+    input: &mut InputBuffer,
+    source: &mut S,
+    opened: OpenedLog<H>,
+) -> (Result<(), LoggedFault>, H)
+    requires settled { IsSettled H.seen H.heard H.may_leave opened.log }
+    requires nothing_waits { waiting_in opened.log ≡ [] }
+    requires stands { Answers opened.engine (history_of (records_of (H.seen opened.log.host))) }
+    ensures any_moment { LeavesOnly H.moment H.left_since opened.log.host result.1
+        (Covered is_kept reply_at (records_of (H.seen opened.log.host)) (lines_since (S.tape source.old) (S.tape source.new) input.old) (H.heard opened.log.host)) }
+    ensures outcome { IsAnsweredOver H.seen H.heard H.moment H.faults (records_of (H.seen opened.log.host))
+        (S.tape source.old) (S.tape source.new) input.old input.new opened.log.host result.1 result.0 }
+{
+    let OpenedLog {
+        mut log,
+        mut engine,
+    } = opened;
+    let ran = answer_lines(alloc, input, source, &mut log, &mut engine);
+    drop(engine);
+    (outcome_of(ran), log.into_host())
+}

@@ -1,0 +1,65 @@
+"""A fault or a note of a catalogue: where it stands, what was expected, and what stands there."""
+
+from __future__ import annotations
+
+from dataclasses import dataclass
+from typing import Any
+
+BAD_ELEMENT = "BadElement"
+NOT_JSON = "NotJson"
+NOT_A_CATALOGUE = "NotACatalogue"
+WARNING = "warning"
+
+
+@dataclass(frozen=True)
+class Owner:
+    """The job and the element that a fault is of, by their numbers and as they are told."""
+
+    job: int | None = None
+    element: int | None = None
+    told: str = ""
+
+
+NOBODY = Owner()
+
+
+@dataclass(frozen=True)
+class Fault:
+    """A fault by batchctl's name."""
+
+    name: str
+    at: int
+    owner: Owner
+    expected: str
+    found: str
+    likely: str = ""
+
+    @property
+    def answer(self) -> dict[str, Any]:
+        """The line with which batchctl refuses a catalogue that has this fault first."""
+        if self.name in (NOT_JSON, NOT_A_CATALOGUE):
+            return {"fault": self.name}
+        if self.name == BAD_ELEMENT:
+            return {"element": self.owner.element, "fault": self.name, "job": self.owner.job}
+        return {"fault": self.name, "job": self.owner.job}
+
+    def __str__(self) -> str:
+        owner = f" in {self.owner.told}" if self.owner.told else ""
+        told = f"{self.name}{owner}: expected {self.expected}, found {self.found}"
+        return f"{told}; did you mean `{self.likely}`?" if self.likely else told
+
+
+@dataclass(frozen=True)
+class Note:
+    """A warning, or what is told of a form of JSL. `word` says which."""
+
+    word: str
+    at: int
+    owner: Owner
+    told: str
+    likely: str = ""
+
+    def __str__(self) -> str:
+        owner = f" in {self.owner.told}" if self.owner.told else ""
+        told = f"{self.word}{owner}: {self.told}"
+        return f"{told}; did you mean `{self.likely}`?" if self.likely else told

@@ -1,0 +1,188 @@
+// The pages: each has what it reads, and what it shows of that.
+
+import {
+  badge, button, count, element, executionLink, facts, framed, heading, isNarrow, jobLink, link, room, section, span, STATUSES, table, told, UNFINISHED, when,
+} from "./dom.js";
+import { picture } from "./picture.js";
+import { read, shapeOf } from "./service.js";
+
+const PAGE_SIZE = 50;
+const NEWEST = 8;
+
+function fill(history) {
+  const share = (100 * history.operations) / history.mostOperations;
+  const percent = share > 0 && share < 0.01 ? "less than 0.01" : share.toFixed(2);
+  return `${history.operations.toLocaleString("en")} of ${history.mostOperations.toLocaleString("en")} operations (${percent} %)`;
+}
+
+// What is said on every page if the history is almost full.
+export function warningOf(history) {
+  if (history.operations < history.warnFrom) return "";
+  const stop = history.operations >= history.refuseFrom ? " Nothing can be started or restarted any more." : "";
+  return `The history is almost full: ${fill(history)}.${stop} Begin a new one soon.`;
+}
+
+function executionsTable(caption, rows, empty) {
+  const columns = [
+    { name: "Job execution", kind: "number" }, { name: "Job" }, { name: "Status" }, { name: "Exit status" }, { name: "Parameters", kind: "wide" },
+    { name: "Created" }, { name: "Ended" }, { name: "Took", kind: "number" },
+  ];
+  const exit = (row) => (row.exitStatus === row.batchStatus ? "" : told(row.exitStatus));
+  return table(caption, columns, rows.map((row) => ({
+    key: row.executionId,
+    cells: [
+      executionLink(row.executionId), jobLink(row.jobName), badge(row.batchStatus), exit(row), told(row.parameterText || ""),
+      when(row.createTime), when(row.endTime), row.startTime ? span(row.startTime, row.endTime) : "",
+    ],
+  })), empty);
+}
+
+function counts(statusCounts, query, current) {
+  const total = Object.values(statusCounts).reduce((sum, number) => sum + number, 0);
+  const tile = (status, number) => {
+    const parameters = new URLSearchParams({ ...query, ...(status ? { status } : {}) });
+    const isCurrent = status === current;
+    return element("li", {}, element("a",
+      { href: `#/executions?${parameters}`, class: `tile ${status ? `status-${status}` : ""}`, "aria-current": isCurrent ? "true" : null },
+      element("strong", {}, number.toLocaleString("en")), " ", status || "all"));
+  };
+  return element("ul", { class: "tiles", "aria-label": "Job executions by batch status" },
+    tile("", total), STATUSES.map((status) => tile(status, statusCounts[status] || 0)));
+}
+
+// Jobs: what may be started, how its last night ended, and how full the history is.
+export const jobs = {
+  page: "jobs",
+  async load() {
+    const [catalogue, all, failed, history] = await Promise.all([
+      read("/batch/catalogue"), read("/batch/jobs"), read("/batch/jobexecutions", { status: "FAILED", pageSize: NEWEST }), read("/batch/history"),
+    ]);
+    return { catalogue, statusCounts: all.statusCounts, failed, history };
+  },
+  title: () => "Jobs",
+  isLive: () => false,
+  draw({ catalogue, statusCounts, failed, history }, route, may) {
+    const columns = [
+      { name: "Job" }, { name: "Job instances", kind: "number" }, { name: "Last job execution", kind: "number" }, { name: "Status" }, { name: "Updated" },
+      ...(may("operate") ? [{ name: "Action", kind: "action" }] : []),
+    ];
+    const rows = catalogue.jobs.map((job) => ({
+      key: job.jobName,
+      cells: [
+        jobLink(job.jobName), job.instances.toLocaleString("en"), job.newest ? executionLink(job.newest.executionId) : "",
+        job.newest ? badge(job.newest.batchStatus) : "never started", job.newest ? when(job.newest.lastUpdatedTime) : "",
+        ...(may("operate") ? [button("start", "Start", { job: job.jobName }, "small")] : []),
+      ],
+    }));
+    return [
+      heading("Jobs"),
+      counts(statusCounts, {}, null),
+      section("Jobs of the catalogue", table("Jobs of the catalogue, each with its newest job instance", columns, rows, "The catalogue has no job.")),
+      section("Failed last", executionsTable("Job executions that are FAILED, the newest first", failed.jobExecutions, "No job execution is FAILED.")),
+      section("History", fullness(history)),
+    ];
+  },
+};
+
+function fullness(history) {
+  const { warnFrom, refuseFrom } = history;
+  return element("div", {},
+    element("meter", { min: 0, max: history.mostOperations, high: warnFrom, optimum: 0, value: history.operations, "aria-label": fill(history) }),
+    element("p", {}, `${fill(history)}. From ${warnFrom.toLocaleString("en")} on the service warns. From ${refuseFrom.toLocaleString("en")} on nothing is started or restarted.`),
+    facts([["This instance", history.role], ["Epoch", String(history.epoch)], ["Leader", history.role === "follower" ? told(history.leader) : ""]]));
+}
+
+// Executions: by batch status, the newest first, with search and pages.
+export const executions = {
+  page: "executions",
+  load({ query }) {
+    const given = { pageSize: PAGE_SIZE, page: query.get("page") || "0" };
+    for (const name of ["status", "search", "jobName"]) if (query.get(name)) given[name] = query.get(name);
+    return read("/batch/jobexecutions", given);
+  },
+  title: ({ query }) => `Job executions ${query.get("status") || ""}`.trim(),
+  isLive: (data) => data.jobExecutions.some((row) => UNFINISHED.includes(row.batchStatus)),
+  draw(data, { query }) {
+    const [status, search, jobName] = ["status", "search", "jobName"].map((name) => query.get(name) || "");
+    const kept = { ...(search ? { search } : {}), ...(jobName ? { jobName } : {}) };
+    const page = Number(query.get("page") || 0);
+    const caption = `Job executions${status ? ` that are ${status}` : ""}${search ? " that the search finds" : ""}, the newest first`;
+    return [
+      heading("Job executions"),
+      searchForm(status, search, jobName),
+      counts(data.statusCounts, kept, status),
+      element("section", { "aria-label": caption }, executionsTable(caption, data.jobExecutions, "No job execution is found.")),
+      pager(data, { ...kept, ...(status ? { status } : {}) }, page),
+    ];
+  },
+};
+
+function searchForm(status, search, jobName) {
+  return element("form", { class: "search", role: "search", "aria-label": "Job executions", "data-form": "search", "data-status": status, "data-job": jobName },
+    element("label", { for: "search" }, "Job, exit status, parameter or number"),
+    element("input", { id: "search", name: "search", type: "search", value: search, maxlength: "256", autocomplete: "off", dir: "auto" }),
+    element("button", { type: "submit" }, "Search"),
+    jobName ? element("span", {}, "of the job ", told(jobName), " ", link(`#/executions?${new URLSearchParams(status ? { status } : {})}`, "of all jobs")) : null);
+}
+
+function pager(data, kept, page) {
+  const to = (number, label) => link(`#/executions?${new URLSearchParams({ ...kept, page: number })}`, label);
+  const first = page * PAGE_SIZE + 1;
+  const last = first + data.jobExecutions.length - 1;
+  const of = data.total === null ? "" : ` of ${data.total.toLocaleString("en")}`;
+  return element("nav", { class: "pager", "aria-label": "Pages of the list" },
+    page > 0 ? to(page - 1, "Newer") : element("span", {}, "Newer"),
+    element("span", {}, data.jobExecutions.length ? `${first.toLocaleString("en")} to ${last.toLocaleString("en")}${of}` : ""),
+    data.more ? to(page + 1, "Older") : element("span", {}, "Older"));
+}
+
+// A job: its picture, and its newest job executions.
+export const job = {
+  page: "jobs",
+  async load({ name }) {
+    const [shape, list] = await Promise.all([
+      shapeOf(name), read("/batch/jobexecutions", { jobName: name, pageSize: NEWEST * 2 }),
+    ]);
+    return { shape, list };
+  },
+  title: ({ name }) => `Job ${name}`,
+  isLive: ({ list }) => list.jobExecutions.some((row) => UNFINISHED.includes(row.batchStatus)),
+  draw({ shape, list }, { name }, may) {
+    return [
+      heading("Job ", told(name)),
+      element("p", { class: "actions" }, may("operate") ? button("start", "Start", { job: name }, "main") : null),
+      section("Picture", framed(picture(shape, new Map(), isNarrow(), room()))),
+      section("Newest job executions", executionsTable("Job executions of this job, the newest first", list.jobExecutions, "It was never started."),
+        list.more ? element("p", {}, link(`#/executions?${new URLSearchParams({ jobName: name })}`, "All job executions of this job")) : null),
+    ];
+  },
+};
+
+// Work: who holds which work item since when.
+export const work = {
+  page: "work",
+  load: () => read("/batch/work"),
+  title: () => "Work",
+  isLive: (data) => data.length > 0,
+  draw(data, route, may) {
+    const mayLose = may("operate") || may("work");
+    const columns = [
+      { name: "Work item", kind: "number" }, { name: "Step" }, { name: "Partition", kind: "number" }, { name: "Job execution", kind: "number" },
+      { name: "Worker" }, { name: "Since" }, { name: "For", kind: "number" }, { name: "Lease left", kind: "number" },
+      ...(mayLose ? [{ name: "Action", kind: "action" }] : []),
+    ];
+    const rows = data.map((one) => ({
+      key: one.work,
+      cells: [
+        String(one.work), told(one.stepName), one.partition === null ? "" : String(one.partition), executionLink(one.executionId), told(one.client),
+        when(one.since), span(one.since, null), one.leaseRemaining === null ? "" : `${Math.round(one.leaseRemaining)} s`,
+        ...(mayLose ? [button("lose", "Lose", { work: one.work }, "small danger")] : []),
+      ],
+    }));
+    return [
+      heading("Work"),
+      element("p", {}, data.length ? `${count(data.length, "work item")} ${data.length === 1 ? "is" : "are"} held. A lease that runs out loses its work item.` : ""),
+      element("section", { "aria-label": "Work items" }, table("Which worker holds which work item", columns, rows, "No worker holds a work item.")),
+    ];
+  },
+};

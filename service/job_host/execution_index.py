@@ -1,0 +1,126 @@
+"""Job executions by batch status, job and search, the newest first.
+
+batchctl is asked for a job execution once, and again after an operation on it. What an operation is on stands in docs/LINES.md.
+"""
+
+from __future__ import annotations
+
+import asyncio
+from array import array
+from collections.abc import Sequence
+from dataclasses import dataclass
+from typing import TYPE_CHECKING, NamedTuple
+
+from job_host.lines import read
+
+if TYPE_CHECKING:
+    from job_host.engine import Engine
+
+BLOCK = 1_000
+PARAMETER_CHARACTERS = 1_000
+# Lines of thousands at once: written without an encoder each.
+ASK_EXECUTION = b'{"ask":"job_execution","execution":%d}'
+ASK_PARAMETERS = b'{"ask":"parameters","execution":%d}'
+
+
+class Row(NamedTuple):
+    """What is searched of a job execution, and how many operations it saw. A purged one has no status."""
+
+    seen: int
+    instance: int = 0
+    job: str = ""
+    status: str = ""
+    exit: str = ""
+
+
+@dataclass(frozen=True)
+class Wanted:
+    """A list's filter. Without statuses all of them are meant; `search` is in lower case."""
+
+    statuses: frozenset[str] = frozenset()
+    job: str | None = None
+    search: str = ""
+
+    @property
+    def is_by_status_alone(self) -> bool:
+        return self.job is None and not self.search
+
+    def takes(self, execution: int, row: Row, parameters: str) -> bool:
+        if not row.status or (self.statuses and row.status not in self.statuses):
+            return False
+        if self.job is not None and row.job != self.job:
+            return False
+        if not self.search or self.search in (str(execution), str(row.instance)):
+            return True
+        return any(self.search in text.lower() for text in (row.job, row.exit, parameters))
+
+
+def parameter_text(parameters: dict[str, str], most: int) -> str:
+    """Parameters as one text of at most so many characters."""
+    text = ", ".join(f"{name}={value}" for name, value in parameters.items())
+    return text if len(text) <= most else text[: most - 1] + "\u2026"
+
+
+def row_of(seen: int, reply: bytes) -> Row:
+    one = read(reply).get("job_execution")
+    return Row(seen) if one is None else Row(seen, one["instance"], one["job"], one["status"], one["exit"] or "")
+
+
+class ExecutionIndex:
+    """Rows of one history. It is told of each operation, and asks for what a list needs and isn't known."""
+
+    def __init__(self, engine: Engine) -> None:
+        self._engine = engine
+        self._rows: dict[int, Row] = {}
+        # As texts, of those that were searched. They never change.
+        self._parameters: dict[int, str] = {}
+        # The last operation on each job execution, by its number, and on each purged job instance.
+        self._changed = array("Q", [0])
+        self._purged: dict[int, int] = {}
+        self._turn = asyncio.Lock()
+
+    @property
+    def last(self) -> int:
+        """The greatest number of a job execution."""
+        return len(self._changed) - 1
+
+    def note_changed(self, execution: int, operation: int) -> None:
+        missing = execution + 1 - len(self._changed)
+        if missing > 0:
+            self._changed.extend([0] * missing)
+        self._changed[execution] = operation
+
+    def note_purged(self, instance: int, operation: int) -> None:
+        self._purged[instance] = operation
+
+    def _is_known(self, execution: int) -> bool:
+        row = self._rows.get(execution)
+        return row is not None and row.seen >= max(self._changed[execution], self._purged.get(row.instance, 0))
+
+    async def _know(self, block: Sequence[int], with_parameters: bool) -> None:
+        """Asks for those of a block that aren't known. An operation that comes meanwhile makes them unknown again."""
+        async with self._turn:
+            unknown = [one for one in block if not self._is_known(one)]
+            seen = self._engine.entered
+            told = await self._ask(ASK_EXECUTION, unknown)
+            self._rows.update((one, row_of(seen, reply)) for one, reply in zip(unknown, told))
+            if with_parameters:
+                missing = [one for one in block if one not in self._parameters]
+                texts = [read(reply).get("parameters", {}) for reply in await self._ask(ASK_PARAMETERS, missing)]
+                self._parameters.update((one, parameter_text(text, PARAMETER_CHARACTERS)) for one, text in zip(missing, texts))
+
+    async def _ask(self, line: bytes, executions: Sequence[int]) -> list[bytes]:
+        return (await self._engine.ask([line % one for one in executions])).replies if executions else []
+
+    async def find(self, wanted: Wanted, start: int, count: int, most: int | None) -> tuple[list[int], bool]:
+        """The numbers of a page, and whether there are more behind it. `most` is how many there are, if that is known."""
+        enough = start + count + 1 if most is None else min(start + count + 1, most)
+        found: list[int] = []
+        high = self.last
+        while high > 0 and len(found) < enough:
+            block = range(high, max(0, high - BLOCK), -1)
+            await self._know(block, bool(wanted.search))
+            found += [one for one in block if wanted.takes(one, self._rows[one], self._parameters.get(one, ""))]
+            high -= BLOCK
+            await asyncio.sleep(0)
+        return found[start : start + count], len(found) > start + count

@@ -1,0 +1,147 @@
+"""Reads for people: the catalogue, job executions by status with search, work items, and how full the history is."""
+
+from __future__ import annotations
+
+import json
+from functools import lru_cache
+from typing import Any
+
+from aiohttp import web
+
+from job_host import views
+from job_host.execution_index import Wanted, parameter_text
+from job_host.job_catalogue import jobs_of
+from job_host.keeper import HeldBy
+from job_host.lines import query, read
+from job_host.problems import Problem, bad_request
+from job_host.requests import Asked, Handler
+from job_host.routes_jobs import answer_of
+from job_host.settings import MOST_OPERATIONS
+from job_host.work_items import Ended
+
+STATUSES = ("STARTING", "STARTED", "STOPPING", "STOPPED", "FAILED", "COMPLETED", "ABANDONED")
+SEARCH_CHARACTERS = 256
+PARAMETER_CHARACTERS = 160
+
+
+# A catalogue may have 16 MiB: it is read once.
+catalogue_jobs = lru_cache(maxsize=2)(jobs_of)
+
+
+async def show_catalogue(asked: Asked) -> web.StreamResponse:
+    """The jobs that can be started, each with its newest job instance; or with `jobName` one job, as the catalogue has it."""
+    await asked.keeper.reach(asked.at_least)
+    jobs = catalogue_jobs(asked.keeper.reading().process.catalogue)
+    name = asked.request.query.get("jobName")
+    if name is not None:
+        if name not in jobs:
+            raise Problem("JobStartException", 404, "the catalogue has no such job")
+        return web.json_response(jobs[name])
+    async with asked.keeper.steps(asked.at_least) as steps:
+        counts = await steps.ask([query("job_instance_count", job=job) for job in jobs])
+        lists = await steps.ask([query("job_instances", job=job, start=0, count=1) for job in jobs])
+        newest = [one["instance"] for told in lists for one in read(told).get("instances", ())]
+        replies = await steps.ask([query("job_executions", instance=one) for one in newest])
+        instances = [views.job_instance(answer_of(reply)["job_executions"]) for reply in replies]
+    by_job = {one["jobName"]: one for one in instances}
+    told = [
+        {"jobName": job, "instances": read(count).get("count", 0), "newest": by_job.get(job)}
+        for job, count in zip(jobs, counts)
+    ]
+    return asked.answer({"jobs": told}, steps.seen)
+
+
+def wanted_of(asked: Asked) -> Wanted:
+    given = asked.request.query
+    statuses = frozenset(given.getall("status", []))
+    unknown = sorted(statuses - set(STATUSES))
+    if unknown:
+        raise bad_request(f"status is one of {', '.join(STATUSES)}, and not {json.dumps(unknown[0])[:100]}")
+    search = given.get("search", "").strip().lower()
+    if len(search) > SEARCH_CHARACTERS:
+        raise bad_request(f"search has at most {SEARCH_CHARACTERS} characters")
+    return Wanted(statuses, given.get("jobName"), search)
+
+
+async def list_all_executions(asked: Asked) -> web.StreamResponse:
+    """The newest job executions that a filter takes, page by page. One that changes meanwhile may be left out."""
+    wanted, size, page = wanted_of(asked), asked.query_number("pageSize", 50), asked.query_number("page", 0)
+    most = asked.host.settings.bounds.page_size
+    if not 0 < size <= most or page * size > MOST_OPERATIONS:
+        raise bad_request(f"a page has 1 to {most} job executions")
+    counted = await asked.keeper.ask([query("status_counts")], asked.at_least)
+    total = total_of(wanted, answer_of(counted.replies[0])["counts"])
+    numbers, more = await asked.keeper.reading().executions.find(wanted, page * size, size, total)
+    asks = ("job_execution", "parameters")
+    lines = [query("status_counts"), *(query(ask, execution=one) for one in numbers for ask in asks)]
+    answers = await asked.keeper.ask(lines, counted.seen)
+    counts, *replies = [read(reply) for reply in answers.replies]
+    pairs = zip(replies[::2], replies[1::2])
+    rows = [brief(told["job_execution"], parameters["parameters"]) for told, parameters in pairs if "job_execution" in told]
+    shown = [row for row in rows if not wanted.statuses or row["batchStatus"] in wanted.statuses]
+    told = {"jobExecutions": shown, "more": more, "statusCounts": counts["counts"], "total": total_of(wanted, counts["counts"])}
+    return asked.answer(told, answers.seen)
+
+
+def total_of(wanted: Wanted, counts: dict[str, int]) -> int | None:
+    """How many job executions there are, if the counts by batch status say so."""
+    if not wanted.is_by_status_alone:
+        return None
+    return sum(count for status, count in counts.items() if not wanted.statuses or status in wanted.statuses)
+
+
+def brief(told: dict[str, Any], parameters: dict[str, str]) -> dict[str, Any]:
+    return {**views.job_execution_row(told), "parameterText": parameter_text(parameters, PARAMETER_CHARACTERS)}
+
+
+async def list_work_items(asked: Asked) -> web.StreamResponse:
+    """The work items of a job execution: each partition, each decision, and who ran it."""
+    execution = asked.path_number()
+    answers = await asked.keeper.ask([query("job_instance", execution=execution)], asked.at_least)
+    answer_of(answers.replies[0], answers.seen)
+    items, seen = await asked.keeper.work_items(execution, answers.seen)
+    return asked.answer([work_item(ended, by) for ended, by in items], seen)
+
+
+def work_item(ended: Ended | None, by: HeldBy) -> dict[str, Any]:
+    return {
+        "work": by.held.work,
+        "stepName": by.held.element,
+        "partition": by.held.partition,
+        "client": by.client,
+        "since": views.moment(by.held.since),
+        "leaseRemaining": None if by.remaining is None else round(by.remaining, 1),
+        "until": None if ended is None else views.moment(ended.until),
+        "outcome": None if ended is None else ended.outcome,
+        "exitStatus": None if ended is None else ended.exit,
+    }
+
+
+async def show_history(asked: Asked) -> web.StreamResponse:
+    """How full the history is, and which instance this is."""
+    keeper, settings = asked.keeper, asked.host.settings
+    told = {
+        "operations": keeper.operations,
+        "mostOperations": MOST_OPERATIONS,
+        "warnFrom": settings.warn_from,
+        "refuseFrom": settings.refuse_from,
+        "role": keeper.role,
+        "epoch": keeper.epoch,
+        "leader": keeper.leader_url,
+    }
+    return web.json_response(told)
+
+
+async def show_caller(asked: Asked) -> web.StreamResponse:
+    """Whose token this is, and what it allows."""
+    told = {"name": asked.caller.prefix.rstrip("/"), "rights": sorted(asked.caller.rights)}
+    return web.json_response(told)
+
+
+ROUTES: list[tuple[str, str, str, Handler]] = [
+    ("GET", "/batch/catalogue", "read", show_catalogue),
+    ("GET", "/batch/jobexecutions", "read", list_all_executions),
+    ("GET", "/batch/jobexecutions/{id}/workitems", "read", list_work_items),
+    ("GET", "/batch/history", "read", show_history),
+    ("GET", "/batch/caller", "read", show_caller),
+]

@@ -1,0 +1,57 @@
+"""Work items that are busy, and those that ended last: no query of batchctl tells partitions and decisions."""
+
+from __future__ import annotations
+
+from collections import deque
+from dataclasses import dataclass
+
+MOST_ENDED = 100_000
+LOST = "LOST"
+
+
+@dataclass(frozen=True)
+class Held:
+    """A busy work item: the session that claimed it, and the moment of its claim."""
+
+    work: int
+    execution: int
+    element: str
+    partition: int | None
+    session: int
+    since: int
+
+
+@dataclass(frozen=True)
+class Ended:
+    """A work item that is over: when, and what was told of it. One that was lost has the outcome LOST."""
+
+    held: Held
+    until: int
+    outcome: str
+    exit: str | None
+
+
+class EndedWork:
+    """The last work items that are over, by job execution."""
+
+    def __init__(self, most: int = MOST_ENDED) -> None:
+        self._most = most
+        self._by_execution: dict[int, deque[Ended]] = {}
+        self._order: deque[int] = deque()
+
+    def note(self, ended: Ended) -> None:
+        execution = ended.held.execution
+        self._by_execution.setdefault(execution, deque()).append(ended)
+        self._order.append(execution)
+        if len(self._order) > self._most:
+            self._forget(self._order.popleft())
+
+    def _forget(self, execution: int) -> None:
+        """Forgets the first one of a job execution."""
+        ended = self._by_execution[execution]
+        ended.popleft()
+        if not ended:
+            del self._by_execution[execution]
+
+    def of(self, execution: int) -> list[Ended]:
+        return list(self._by_execution.get(execution, ()))

@@ -1,0 +1,38 @@
+"""docs/CATALOGUE.md: its commands print what it shows, and its tables have each member and each form."""
+
+from __future__ import annotations
+
+import importlib
+import re
+import sys
+from pathlib import Path
+
+import pytest
+from catalogue_samples import BATCHCTL, ROOT
+
+from job_host import jsl
+from job_host.catalogue_forms import FORMS
+
+sys.path.insert(0, str(ROOT / "tools"))
+check_pages = importlib.import_module("check_pages")
+
+PAGE = ROOT / "docs" / "CATALOGUE.md"
+
+
+def test_the_commands_print_what_the_page_shows(tmp_path: Path, monkeypatch: pytest.MonkeyPatch) -> None:
+    (tmp_path / "jobhost").symlink_to(ROOT / "service" / "jobhost")
+    monkeypatch.setenv("PATH", f"{tmp_path}:/usr/bin:/bin")
+    monkeypatch.setenv("JOBHOST_BATCHCTL", str(Path(BATCHCTL[0]).resolve()))
+    differences = list(check_pages.check_page(Path(BATCHCTL[0]).resolve(), str(PAGE), PAGE.read_text()))
+    assert "\n".join(map(str, differences)) == ""
+
+
+def test_the_page_runs_each_command() -> None:
+    commands = re.findall(r"^jobhost catalogue ([\w-]+)", PAGE.read_text(), re.M)
+    assert set(commands) == {"check", "line", "from-jsl", "diagram", "diff"}
+
+
+def test_the_tables_have_each_member_and_each_form() -> None:
+    text = PAGE.read_text()
+    members = {name for form in FORMS.values() for name in form}
+    assert {name for name in members | set(jsl.REFUSED) if f"`{name}`" not in text} == set()

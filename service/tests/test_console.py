@@ -1,0 +1,680 @@
+"""The console: what a person sees and does in a browser."""
+
+from __future__ import annotations
+
+import asyncio
+import json
+import re
+import time
+from collections.abc import Callable, Iterator
+from pathlib import Path
+from typing import Any
+
+import pytest
+from browser import Browser, browsing
+from instances import Answer, Caller, Instance, Process, running
+from selenium.webdriver.common.action_chains import ActionChains
+from selenium.webdriver.common.keys import Keys
+from test_worker import WorkerProcess
+
+from job_host.settings import ServeSettings
+
+Make = Callable[..., ServeSettings]
+READER, OPERATOR = "r" * 20, "o" * 20
+
+# Texts that are markup, that end attributes, and that turn the direction of what stands behind them.
+MARKS = "<script>window.bad=1</script><img src=x onerror=window.bad=1>\"'&amp;{}${1}\u202e\u200f\u2067abc"
+HARD_JOB = (MARKS + "j" * 256)[: 256 - (len(MARKS.encode()) - len(MARKS))]
+HARD_VALUE = (MARKS + "\r\nline\n" + "v" * 4096)[: 4096 - (len(MARKS.encode()) - len(MARKS))]
+HARD_LOG = MARKS + "\n" + "</pre></details></main>" * 170 + "\n\u202eend"
+
+LOAD = """#!/bin/sh
+[ -e mended ] || { echo 'no space left on the ledger' >&2; exit 3; }
+echo "LOADED FOR $BATCH_PARAMETER_date"
+"""
+ARTIFACTS = {
+    "extract": "#!/bin/sh\necho '120 ROWS'\n",
+    "load": LOAD,
+    "report": "#!/bin/sh\necho SENT\n",
+    "hard": "#!/bin/sh\ncat hard.log >&2\nexit 3\n",
+    "patient": "#!/bin/sh\nwhile [ ! -e go-on ]; do sleep 0.05; done\n",
+}
+
+
+def step(name: str, ref: str, **more: Any) -> dict[str, Any]:
+    return {"kind": "step", "id": name, "batchlet": {"ref": ref}, **more}
+
+
+def leads(number: int) -> dict[str, Any]:
+    """Each step leads to the next one, and to the last one if it says so."""
+    last = [{"kind": "next", "on": "LAST", "to": "s999"}] if number < 998 else []
+    return {"transitions": last, **({"next": f"s{number + 1}"} if number < 999 else {})}
+
+
+MONDAY = [{"kind": "next", "on": "MONDAY", "to": "both"}, {"kind": "end", "on": "HOLIDAY", "exit-status": "NO WORK"}]
+JOBS = [
+    {
+        "id": "nightly",
+        "elements": [step("extract", "extract", next="load"), step("load", "load", next="report"), step("report", "report")],
+    },
+    {"id": HARD_JOB, "elements": [step(MARKS, "hard")]},
+    {"id": "patient", "elements": [step("wait", "patient", partitions=2)]},
+    {
+        "id": "branching",
+        "elements": [
+            {"kind": "decision", "id": "day", "ref": "extract", "transitions": MONDAY},
+            {
+                "kind": "split",
+                "id": "both",
+                "next": "last",
+                "flows": [
+                    {"kind": "flow", "id": "left", "elements": [step("one", "extract", next="two"), step("two", "report")]},
+                    {"kind": "flow", "id": "right", "elements": [step("three", "report")]},
+                ],
+            },
+            step("last", "report"),
+        ],
+    },
+    {"id": "long", "elements": [step(f"s{number}", "report", **leads(number)) for number in range(1000)]},
+]
+
+
+@pytest.fixture(scope="module")
+def browser() -> Iterator[Browser]:
+    with browsing() as one:
+        yield one
+
+
+@pytest.fixture
+def artifacts(tmp_path: Path) -> Path:
+    folder = tmp_path / "artifacts"
+    folder.mkdir()
+    (folder / "hard.log").write_text(HARD_LOG)
+    for name, text in ARTIFACTS.items():
+        (folder / name).write_text(text)
+        (folder / name).chmod(0o755)
+    return folder
+
+
+@pytest.fixture
+def words(dsn: str, tmp_path: Path) -> list[str]:
+    """The words of a service over PostgreSQL, with the jobs of these tests."""
+    path = tmp_path / "jobs.json"
+    path.write_text(json.dumps({"jobs": JOBS}))
+    return ["--catalogue", str(path), "--postgres", dsn, "--takeover-after", "2"]
+
+
+@pytest.fixture
+def service(words: list[str], tmp_path: Path) -> Iterator[Process]:
+    process = Process(tmp_path / "serve.log", *words)
+    process.start()
+    try:
+        asyncio.run(process.until_role("leader"))
+        yield process
+    finally:
+        process.kill()
+
+
+@pytest.fixture
+def worker(service: Process, artifacts: Path) -> Iterator[WorkerProcess]:
+    process = WorkerProcess(service.url, artifacts, 2)
+    try:
+        yield process
+    finally:
+        process.stop()
+
+
+@pytest.fixture(autouse=True)
+def no_complaints(request: pytest.FixtureRequest) -> Iterator[None]:
+    """A browser that complained, of a script or of what the content policy refused, fails its test."""
+    yield
+    if "browser" in request.fixturenames:
+        complaints = request.getfixturevalue("browser").complaints()
+        assert not [one for one in complaints if "Failed to load resource" not in one and "ERR_" not in one], complaints
+
+
+def start(service: Process, job: str, **parameters: str) -> int:
+    return int(asyncio.run(Caller(service.url).start(job, **parameters)).told["executionId"])
+
+
+def ask(url: str, method: str, path: str, body: Any = None, token: str | None = None, **headers: str) -> Answer:
+    return asyncio.run(Caller(url, token=token).ask(method, path, body, None, **headers))
+
+
+def states(browser: Browser) -> dict[str, str]:
+    """What stands in the boxes of the picture."""
+    script = """return [...document.querySelectorAll('.picture [data-element]')].map(
+        g => [g.dataset.element, g.querySelector('.state').textContent])"""
+    return dict(browser.run(script))
+
+
+def colours(browser: Browser) -> dict[str, str]:
+    script = """return [...document.querySelectorAll('.picture [data-element]')].map(
+        g => [g.dataset.element, getComputedStyle(g.querySelector('rect')).fill])"""
+    return dict(browser.run(script))
+
+
+def type_parameter(browser: Browser, name: str, value: str) -> None:
+    browser.find("dialog .editor-row:last-child input").send_keys(name)
+    browser.find("dialog .editor-row:last-child textarea").send_keys(value)
+
+
+def test_a_night_is_started_fails_is_read_mended_restarted_and_completed_by_clicks(
+    browser: Browser, service: Process, worker: WorkerProcess, artifacts: Path
+) -> None:
+    browser.open(service.url)
+    browser.click("[data-action=start][data-job=nightly]")
+    browser.see("A new job instance of nightly is made", "dialog")
+    type_parameter(browser, "date", "2026-11-27")
+    browser.click("dialog [data-confirm=Start]")
+    browser.see("Job execution 1 of nightly")
+    browser.see("Why it failed")
+    browser.see("load is FAILED, exit status 3", ".reason")
+    browser.see("no space left on the ledger", ".reason pre")
+    assert states(browser) == {"extract": "\u2713 COMPLETED: 120 ROWS", "load": "\u2715 FAILED: 3", "report": "\u00b7 not run"}
+    assert len(set(colours(browser).values())) == 3
+    browser.click_text("Jobs", "header")
+    browser.see("FAILED", "section[data-key='Failed last']")
+    browser.click("section[data-key='Failed last'] tbody th a")
+    browser.see("Why it failed")
+    (artifacts / "mended").touch()
+    browser.click("[data-action=restart]")
+    browser.see("COMPLETED here: extract.", "dialog")
+    assert browser.find("dialog textarea").get_property("value") == "2026-11-27"
+    browser.click("dialog [data-confirm=Restart]")
+    browser.see("Job execution 2 of nightly \u2713 COMPLETED")
+    browser.until(lambda: "COMPLETED: LOADED" in states(browser)["load"])
+    assert states(browser)["extract"] == "\u2713 COMPLETED in 1"
+    others = browser.text("section[data-key='Earlier and later job executions']")
+    assert "2 (this one)" in others and "extract COMPLETED" in others
+    told = ask(service.url, "GET", "/batch/jobexecutions/2").told
+    assert (told["batchStatus"], told["jobParameters"]) == ("COMPLETED", {"date": "2026-11-27"})
+
+
+# Whether the page's own words behind a text of the service still run from left to right.
+LEFT_TO_RIGHT = """
+const left = (node, place) => {
+    const range = document.createRange();
+    range.setStart(node, place);
+    range.setEnd(node, place + 1);
+    return range.getBoundingClientRect().left;
+};
+const walker = document.createTreeWalker(document.querySelector(arguments[0]), NodeFilter.SHOW_TEXT);
+const own = [];
+while (walker.nextNode()) if (!walker.currentNode.parentNode.closest("bdi")) own.push(walker.currentNode);
+const words = own.pop();
+const first = words.data.search(/[A-Za-z]/);
+return words.data.length > first + 3 && left(words, first) < left(words, first + 3);
+"""
+
+
+def test_texts_are_shown_as_texts(browser: Browser, service: Process, worker: WorkerProcess) -> None:
+    assert (len(HARD_JOB.encode()), len(HARD_VALUE.encode())) == (256, 4096) and len(HARD_LOG.encode()) > 3900
+    start(service, HARD_JOB, **{MARKS: HARD_VALUE})
+    browser.open(service.url + "/#/execution/1")
+    browser.see("Why it failed")
+
+    def texts(selector: str) -> list[str]:
+        return list(browser.run("return [...document.querySelectorAll(arguments[0])].map(n => n.textContent)", selector))
+
+    assert texts("h1 bdi") == [HARD_JOB]
+    assert texts(".parameters dt") == [MARKS] and texts(".parameters dd") == [HARD_VALUE]
+    assert texts("details pre") == [HARD_LOG]
+    assert texts("section[data-key=Steps] tbody th bdi") == [MARKS]
+    assert texts(".picture [data-element] title")[0].split("\n")[0] == MARKS
+    assert all(browser.run(LEFT_TO_RIGHT, one) for one in (".reason p", "details summary", "h1"))
+    browser.click("h1 a")
+    browser.see("Newest job executions")
+    assert texts("h1 bdi") == [HARD_JOB] and "line" not in texts("tbody td bdi")
+    browser.click_text("Jobs", "header")
+    browser.until(lambda: HARD_JOB in texts("tbody th bdi"))
+    browser.click_text("Executions", "header")
+    browser.until(lambda: HARD_JOB in texts("tbody td bdi"))
+    assert browser.run("return [window.bad, document.querySelectorAll('main script, main img').length]") == [None, 0]
+
+
+def test_parameters_go_into_a_restart_as_they_are(browser: Browser, service: Process, worker: WorkerProcess) -> None:
+    start(service, HARD_JOB, **{MARKS: HARD_VALUE, "__proto__": "kept"})
+    browser.open(service.url + "/#/execution/1")
+    browser.click("[data-action=restart]")
+    browser.click_text("Add a parameter", "dialog")
+    type_parameter(browser, "more", "<b>")
+    browser.click("dialog [data-confirm=Restart]")
+    browser.see("Job execution 2 of")
+    told = ask(service.url, "GET", "/batch/jobexecutions/2").told["jobParameters"]
+    assert told == {MARKS: HARD_VALUE, "__proto__": "kept", "more": "<b>"}
+
+
+def test_stop_lose_abandon_and_purge_by_clicks(
+    browser: Browser, service: Process, worker: WorkerProcess, artifacts: Path
+) -> None:
+    start(service, "patient")
+    browser.open(service.url + "/#/work")
+    browser.see("2 work items are held")
+    browser.see("wait")
+    browser.click("tbody tr:nth-child(1) [data-action=lose]")
+    browser.see("If its worker still lives, what it reports of this work item is refused", "dialog")
+    browser.see("wait, partition 0, held by", "dialog")
+    browser.click("dialog [data-cancel]")
+    browser.click("tbody tr:nth-child(1) [data-action=lose]")
+    browser.click("dialog [data-confirm=Lose]")
+    browser.see("1 work item is held")
+    browser.click("tbody td a[href='#/execution/1']")
+    browser.see("LOST", "section[data-key='Work items']")
+    browser.see("2: 1 LOST, 1 STARTED", "section[data-key=Steps]")
+    browser.click("[data-action=stop]")
+    browser.see("Running now: wait, partition 1", "dialog")
+    browser.click("dialog [data-confirm=Stop]")
+    browser.see("Job execution 1 of patient \u25d0 STOPPING")
+    assert browser.all("[data-action=restart], [data-action=purge]") == []
+    (artifacts / "go-on").touch()
+    browser.see("Job execution 1 of patient \u2715 FAILED")
+    browser.click("[data-action=abandon]")
+    browser.see("It is FAILED now, and ABANDONED then.", "dialog")
+    browser.click("dialog [data-confirm=Abandon]")
+    browser.see("Job execution 1 of patient \u2298 ABANDONED")
+    browser.click("[data-action=purge]")
+    browser.see("Purge job instance 1 of patient?", "dialog")
+    browser.see("Its job execution 1, with all its steps, checkpoints and logs, is removed for good.", "dialog")
+    browser.click("dialog [data-confirm=Purge]")
+    browser.see("No job execution is found.")
+    assert ask(service.url, "GET", "/batch/jobexecutions/1").name == "NoSuchJobExecutionException"
+
+
+def test_a_refusal_is_told_in_the_question(browser: Browser, service: Process) -> None:
+    start(service, "nightly")
+    browser.open(service.url + "/#/execution/1")
+    browser.click("[data-action=stop]")
+    browser.see("Nothing of it runs now, so it is STOPPED at once.", "dialog")
+    ask(service.url, "PUT", "/batch/jobexecutions/1?action=stop")
+    browser.click("dialog [data-confirm=Stop]")
+    browser.see("JobExecutionNotRunningException. It has ended meanwhile", "dialog [role=alert]")
+    browser.run("location.hash = '#/work'")
+    browser.see("No worker holds a work item.")
+    assert not browser.run("return document.getElementById('question').open")
+
+
+def test_what_was_refused_is_corrected_and_made(browser: Browser, service: Process) -> None:
+    browser.open(service.url)
+    browser.click("[data-action=start][data-job=nightly]")
+    browser.find("dialog input").send_keys("date")
+    browser.run("document.querySelector('dialog textarea').value = 'x'.repeat(4097)")
+    browser.click("dialog [data-confirm=Start]")
+    browser.see("TextTooLong. A name has more than 256 bytes", "dialog [role=alert]")
+    browser.run("document.querySelector('dialog textarea').value = 'today'")
+    browser.click_text("Add a parameter", "dialog")
+    type_parameter(browser, "date", "twice")
+    browser.click("dialog [data-confirm=Start]")
+    browser.see("BadRequest: the name date comes twice", "dialog [role=alert]")
+    browser.click("dialog .editor-row:last-child button")
+    browser.click("dialog [data-confirm=Start]")
+    browser.see("Job execution 1 of nightly")
+    assert ask(service.url, "GET", "/batch/jobexecutions/1").told["jobParameters"] == {"date": "today"}
+
+
+def test_an_operation_is_made_once_whatever_happens_to_the_connection(browser: Browser, service: Process) -> None:
+    """The answer is lost on its way, twice: the console asks again by its key."""
+    browser.open(service.url)
+    browser.click("[data-action=start][data-job=nightly]")
+    browser.run(
+        """const real = window.fetch;
+        window.lost = [];
+        window.fetch = async (path, given) => {
+            const answer = await real(path, given);
+            if (given.method === "POST" && window.lost.length < 2) {
+                window.lost.push(answer.status);
+                throw new TypeError("lost");
+            }
+            return answer;
+        };"""
+    )
+    browser.click("dialog [data-confirm=Start]")
+    browser.see("Job execution 1 of nightly")
+    assert browser.run("return window.lost") == [201, 201]
+    assert ask(service.url, "GET", "/batch/jobs").told["statusCounts"] == {"STARTING": 1}
+
+
+def test_a_follower_shows_everything_and_names_the_leader(
+    browser: Browser, service: Process, words: list[str], tmp_path: Path
+) -> None:
+    follower = Process(tmp_path / "follower.log", *words)
+    follower.start()
+    try:
+        asyncio.run(follower.until_role("follower"))
+        start(service, "nightly")
+        browser.open(follower.url)
+        browser.see("follower", "#connection")
+        browser.see("1 STARTING", ".tiles")
+        browser.click("[data-action=start][data-job=nightly]")
+        browser.click("dialog [data-confirm=Start]")
+        browser.see(f"Another instance leads. Open its console: {service.url}", "dialog [role=alert]")
+    finally:
+        follower.kill()
+
+
+async def test_a_history_that_fills_is_told_on_every_page(browser: Browser, settings: Make) -> None:
+    def look(url: str) -> None:
+        browser.open(url + "/#/work")
+        browser.see("The history is almost full: 2 of 1,000,000 operations", "#warning")
+        browser.see("Nothing can be started or restarted any more.", "#warning")
+        browser.open(url + "/#/job/short")
+        browser.click("[data-action=start]")
+        browser.click("dialog [data-confirm=Start]")
+        browser.see("HistoryAlmostFull", "dialog [role=alert]")
+        browser.click("dialog [data-cancel]")
+        browser.click_text("Jobs", "header")
+        browser.see("2 of 1,000,000 operations (less than 0.01 %)", "section[data-key=History]")
+
+    async with running(settings(warn_from=1, refuse_from=2)) as instance:
+        caller = Caller(instance.url)
+        await caller.start("short")
+        await caller.start("short")
+        await asyncio.to_thread(look, instance.url)
+
+
+def test_lists_are_searched_narrowed_and_paged_by_clicks(browser: Browser, service: Process) -> None:
+    async def start_many() -> None:
+        caller = Caller(service.url)
+        await asyncio.gather(*(caller.start("nightly", night=f"n{number}") for number in range(60)))
+        await caller.change(7, "stop")
+
+    asyncio.run(start_many())
+    browser.open(service.url + "/#/executions")
+    browser.see("1 to 50 of 60")
+    assert len(browser.all("tbody tr")) == 50 and browser.find("tbody th a").text == "60"
+    browser.click_text("Older")
+    browser.see("51 to 60 of 60")
+    browser.click_text("Newer")
+    browser.see("1 to 50 of 60")
+    browser.click(".tile.status-STOPPED")
+    browser.until(lambda: [row.text for row in browser.all("tbody th a")] == ["7"])
+    browser.click(".tile:not([class*=status])")
+    browser.see("1 to 50 of 60")
+    browser.find("#search").send_keys("night=n1")
+    browser.click(".search button")
+    browser.until(lambda: len(browser.all("tbody tr")) == 11)
+    assert browser.run("return document.activeElement.closest('form.search') !== null")
+
+
+def test_it_follows_by_itself_over_a_new_start_of_the_service(browser: Browser, service: Process) -> None:
+    browser.open(service.url + "/#/executions")
+    browser.see("No job execution is found.")
+    start(service, "nightly")
+    browser.see("nightly", "tbody")
+    browser.see("live", "#connection")
+    service.kill()
+    browser.see("not connected", "#connection")
+    service.start()
+    browser.see("live", "#connection")
+    start(service, "patient")
+    browser.see("patient", "tbody")
+    browser.click("tbody tr:nth-child(1) th a")
+    browser.click("[data-action=stop]")
+    browser.click("dialog [data-confirm=Stop]")
+    browser.see("Job execution 2 of patient \u25a0 STOPPED")
+
+
+def open_tabs(browser: Browser, url: str, count: int) -> list[str]:
+    """Opens tabs one after the other, each beside those before, and returns their handles."""
+    handles = [browser.driver.current_window_handle]
+    for _ in range(count):
+        browser.driver.switch_to.new_window("tab")
+        handles.append(browser.driver.current_window_handle)
+        browser.open(url + "/#/executions")
+        browser.see("live", "#connection")
+        browser.see("No job execution is found.")
+    return handles
+
+
+def close_tabs(browser: Browser, handles: list[str]) -> None:
+    for handle in handles[1:]:
+        browser.driver.switch_to.window(handle)
+        browser.driver.close()
+    browser.driver.switch_to.window(handles[0])
+
+
+async def test_many_tabs_leave_one_another_connections(browser: Browser, settings: Make) -> None:
+    """A browser has six connections for all its tabs. A tab that is hidden follows nothing, and catches up after that."""
+
+    def look(url: str) -> None:
+        handles = open_tabs(browser, url, 8)
+        try:
+            asyncio.run(Caller(url).start("short"))
+            browser.see("1 to 1 of 1")
+            browser.driver.switch_to.window(handles[1])
+            browser.see("1 to 1 of 1")
+        finally:
+            close_tabs(browser, handles)
+
+    browser.open("about:blank")
+    async with running(settings()) as instance:
+        await asyncio.to_thread(look, instance.url)
+        await until_count(instance, 0)
+
+
+async def until_count(instance: Instance, count: int) -> None:
+    async with asyncio.timeout(20):
+        while instance.service.watchers.count != count:
+            await asyncio.sleep(0.05)
+
+
+def test_a_page_that_follows_keeps_what_a_person_does(browser: Browser, service: Process, worker: WorkerProcess) -> None:
+    """The focus, a closed log and a half-typed search stay while the page is drawn anew."""
+    start(service, HARD_JOB)
+    browser.open(service.url + "/#/execution/1")
+    browser.see("Why it failed")
+    browser.click("details summary")
+    browser.run("window.kept = [document.querySelector('details'), document.querySelector('h1 a')]; window.kept[1].focus()")
+    reads = "return performance.getEntriesByType('resource').filter(one => one.name.endsWith('/joblogs')).length"
+    before = browser.run(reads)
+    start(service, "nightly")
+    browser.until(lambda: browser.run(reads) > before)
+    time.sleep(0.5)
+    kept = "return [kept[0].isConnected, kept[0].open, document.activeElement === kept[1]]"
+    assert browser.run(kept) == [True, False, True]
+    browser.click_text("Executions", "header")
+    browser.find("#search").send_keys("half")
+    start(service, "patient")
+    browser.see("3 patient", "tbody")
+    assert browser.find("#search").get_property("value") == "half"
+    assert browser.run("return document.activeElement.id") == "search"
+
+
+def test_a_picture_has_each_element_and_where_it_leads(browser: Browser, service: Process) -> None:
+    browser.open(service.url + "/#/job/branching")
+    browser.see("Newest job executions")
+    words = browser.run("return document.querySelector('.picture svg').getAttribute('aria-label')")
+    assert words == "The job branching: day; one; two; three; last"
+    assert browser.run("return [...document.querySelectorAll('.picture .frame > .name')].map(n => n.lastChild.data)") == [
+        "split both",
+        "flow left",
+        "flow right",
+    ]
+    drawn = browser.text(".picture")
+    for word in ("MONDAY", "HOLIDAY", "end: NO WORK", "decision"):
+        assert word in drawn
+    boxes = browser.run(
+        """return [...document.querySelectorAll('.picture .box rect, .picture .ending rect')].map(
+        r => { const b = r.getBoundingClientRect(); return [b.left, b.top, b.right, b.bottom] })"""
+    )
+    apart = [(one, other) for place, one in enumerate(boxes) for other in boxes[:place]]
+    assert len(boxes) == 6
+    assert all(a[2] <= b[0] or b[2] <= a[0] or a[3] <= b[1] or b[3] <= a[1] for a, b in apart)
+    assert len(browser.all(".picture .edge")) == 4
+
+
+def test_the_largest_picture_is_drawn(browser: Browser, service: Process) -> None:
+    browser.open(service.url + "/#/job/long")
+    browser.until(lambda: len(browser.all(".picture .box")) == 1000)
+    lefts = browser.run("return [...document.querySelectorAll('.picture .box rect')].map(r => r.getBoundingClientRect().left)")
+    assert lefts == sorted(lefts) and len(set(lefts)) == 1000
+
+
+@pytest.fixture
+def guarded(words: list[str], tmp_path: Path) -> Iterator[Process]:
+    """A service with tokens."""
+    path = tmp_path / "tokens"
+    path.write_text(f"reader desk {READER}\noperator ops {OPERATOR}\n")
+    process = Process(tmp_path / "guarded.log", *words, "--tokens", str(path))
+    process.start()
+    try:
+
+        async def has_begun() -> None:
+            async with asyncio.timeout(30):
+                while not (tmp_path / "guarded.log").read_text().count("leads by epoch"):
+                    await asyncio.sleep(0.05)
+
+        asyncio.run(has_begun())
+        yield process
+    finally:
+        process.kill()
+
+
+def give_token(browser: Browser, token: str) -> None:
+    browser.find("#token").send_keys(token)
+    browser.click_text("Go on")
+
+
+def test_a_reader_sees_no_button_and_is_refused(browser: Browser, guarded: Process) -> None:
+    begun = ask(guarded.url, "POST", "/batch/jobinstances", {"jobName": "nightly"}, OPERATOR)
+    assert begun.status == 201
+    browser.open(guarded.url)
+    browser.see("This service is called with a token.")
+    give_token(browser, "x" * 20)
+    browser.see("The service doesn't know this token.")
+    give_token(browser, READER)
+    browser.see("desk, reader", ".caller")
+    for page in ("#/", "#/job/nightly", "#/execution/1", "#/work"):
+        browser.open(guarded.url + "/" + page)
+        browser.until(lambda: browser.all("main section"))
+        assert browser.all("main [data-action]") == []
+    stored = "return [sessionStorage.getItem('jobhost-token'), localStorage.length, document.cookie]"
+    assert browser.run(stored) == [READER, 0, ""]
+    script = """const done = arguments[arguments.length - 1];
+        fetch('/batch/jobexecutions/1?action=stop', {method: 'PUT', headers: {
+            'Authorization': 'Bearer ' + sessionStorage.getItem('jobhost-token'),
+            'Batch-Forgery-Token': document.querySelector('meta[name=forgery-token]').content}})
+        .then(async answer => done([answer.status, (await answer.json()).title]))"""
+    assert browser.driver.execute_async_script(script) == [403, "RoleLacksRight"]
+    browser.click("#forget")
+    browser.see("This service is called with a token.")
+    give_token(browser, OPERATOR)
+    browser.see("ops, operator", ".caller")
+    browser.click_text("Jobs", "header")
+    browser.click("[data-action=start][data-job=nightly]")
+    browser.click("dialog [data-confirm=Start]")
+    browser.see("Job execution 2 of nightly")
+
+
+def test_a_token_that_is_withdrawn_is_asked_for(browser: Browser, guarded: Process, tmp_path: Path) -> None:
+    browser.open(guarded.url)
+    give_token(browser, OPERATOR)
+    browser.see("live", "#connection")
+    guarded.kill()
+    (tmp_path / "tokens").write_text(f"reader desk {READER}\n")
+    guarded.start()
+    browser.see("The service doesn't know this token.")
+    give_token(browser, READER)
+    browser.see("desk, reader", ".caller")
+    browser.see("Jobs of the catalogue")
+
+
+PAGES = ["#/", "#/executions", "#/execution/1", "#/job/branching", "#/work"]
+NEEDS_NAME = {
+    "button",
+    "link",
+    "textbox",
+    "searchbox",
+    "table",
+    "meter",
+    "dialog",
+    "image",
+    "navigation",
+    "region",
+    "search",
+    "group",
+}
+
+
+def nameless(browser: Browser) -> list[str]:
+    """The roles of those parts of the page that a screen reader has no name for."""
+    nodes = browser.driver.execute_cdp_cmd("Accessibility.getFullAXTree", {})["nodes"]
+    shown = [node for node in nodes if not node["ignored"] and node["role"]["value"] in NEEDS_NAME]
+    assert shown
+    return [node["role"]["value"] for node in shown if not node.get("name", {}).get("value")]
+
+
+def test_a_screen_reader_has_names_landmarks_and_headings(browser: Browser, service: Process, worker: WorkerProcess) -> None:
+    start(service, "branching", date="2026-11-27")
+    start(service, "patient")
+    for page in PAGES:
+        browser.open(service.url + "/" + page)
+        browser.until(lambda: browser.all("main section"))
+        assert nameless(browser) == [], page
+        marks = [len(browser.all(name)) for name in ("header", "main", "header nav", "footer", "h1", "[role=status]")]
+        assert marks[:5] == [1] * 5 and marks[5] >= 2
+        levels = browser.run("return [...document.querySelectorAll('h1,h2,h3')].map(h => h.tagName)")
+        assert levels[0] == "H1" and "H3" not in levels
+        assert len(browser.all("header nav [aria-current=page]")) == 1
+    browser.open(service.url)
+    browser.click("[data-action=start][data-job=nightly]")
+    assert nameless(browser) == []
+    browser.click("dialog [data-cancel]")
+
+
+def press(browser: Browser, *keys: str) -> None:
+    for key in keys:
+        chains: Any = ActionChains
+        chains(browser.driver).send_keys(key).perform()
+
+
+def focused(browser: Browser) -> str:
+    return str(browser.run("const e = document.activeElement; return e.dataset.action || e.textContent || e.name"))
+
+
+def tab_to(browser: Browser, name: str) -> None:
+    for _ in range(60):
+        press(browser, Keys.TAB)
+        if focused(browser) == name:
+            return
+    raise AssertionError(f"no key leads to {name}")
+
+
+def test_by_keys_alone(browser: Browser, service: Process) -> None:
+    browser.open(service.url)
+    browser.see("nightly")
+    press(browser, Keys.TAB)
+    assert focused(browser) == "Skip to the content"
+    press(browser, Keys.ENTER)
+    assert browser.run("return document.activeElement.id") == "content"
+    tab_to(browser, "start")
+    press(browser, Keys.ENTER)
+    browser.see("Start nightly?", "dialog")
+    press(browser, Keys.ESCAPE)
+    browser.until(lambda: not browser.run("return document.getElementById('question').open"))
+    assert focused(browser) == "start"
+    press(browser, Keys.ENTER)
+    browser.see("Start nightly?", "dialog")
+    press(browser, "d", "a", "y", Keys.TAB, "7", Keys.TAB, Keys.TAB, Keys.TAB)
+    assert focused(browser) == "Cancel"
+    press(browser, Keys.TAB, Keys.ENTER)
+    browser.see("Job execution 1 of nightly")
+    browser.until(lambda: browser.run("return document.activeElement.tagName") == "H1")
+    assert ask(service.url, "GET", "/batch/jobexecutions/1").told["jobParameters"] == {"day": "7"}
+
+
+def test_on_a_phone_and_in_the_dark(browser: Browser, service: Process, worker: WorkerProcess) -> None:
+    start(service, HARD_JOB, **{MARKS: HARD_VALUE})
+    start(service, "branching")
+    try:
+        browser.size(360, 740)
+        browser.scheme("dark")
+        for page in ["#/execution/2", *PAGES]:
+            browser.open(service.url + "/" + page)
+            browser.until(lambda: browser.all("main section"))
+            assert browser.run("return document.documentElement.scrollWidth") <= 360, page
+        back = browser.run("return getComputedStyle(document.documentElement).backgroundColor")
+        assert all(int(part) < 40 for part in re.findall(r"\d+", back))
+    finally:
+        browser.size(1280, 900)
+        browser.scheme("light")
