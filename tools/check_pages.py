@@ -1,4 +1,4 @@
-"""Runs the examples of docs/TUTORIAL.md and docs/LINES.md, and compares what the program writes with the pages.
+"""Runs the examples of docs/TUTORIAL.md, docs/LINES.md and docs/DURABILITY.md, and compares what the program writes with them.
 
     python3 tools/check_pages.py [--program PATH]
 
@@ -35,7 +35,7 @@ from repository import ROOT
 
 PROGRAM = ROOT / "crates" / "batchctl" / "out" / "batchctl"
 LINES = ROOT / "docs" / "LINES.md"
-PAGES = [ROOT / "docs" / "TUTORIAL.md", LINES]
+PAGES = [ROOT / "docs" / "TUTORIAL.md", LINES, ROOT / "docs" / "DURABILITY.md"]
 # The sources of the words that docs/LINES.md must have, a pattern that finds these, and how the page spells each.
 WORDS = [
     ("script_text/src/calls.rt", r'^ +"(\w+)" => \w+_of\(value\)', '"do":"{}"'),

@@ -2,11 +2,9 @@
 
     python3 tools/replay_a_log.py [--program PATH]
 
-The worked example of docs/REPLAY.md, over a night of the program service_cases. It says nothing where all is well, and
-ends with status 1 where a reply differs from the night's:
+The worked example of docs/REPLAY.md, over a night of the program service_cases. It says nothing if all is well, and ends with
+status 1 if a reply differs from the night's:
 
-- `tee` keeps the lines in a file on their way to the program, which ends at half of the night. A new one replays the file
-  and goes on.
 - A host keeps each line before it hands it on. It is stopped at each line in turn, once with half of the line in its log and
   once with the whole of it, which nobody answered. It replays its log into a new program, and goes on with the night.
 - The log of the accepted lines alone comes to the same repository: each query of the night is answered alike behind it.
@@ -29,12 +27,6 @@ ROOT = Path(__file__).resolve().parent.parent
 PROGRAM = ROOT / "crates" / "batchctl" / "out" / "batchctl"
 NIGHT = ROOT / "crates" / "service_cases" / "data" / "restart_of_a_night.script"
 REPLIES = NIGHT.with_suffix(".replies")
-# Keeps lines on their way to the program; and goes on behind those that a log has, without the replies that were due to them.
-KEEP = 'tee -a "$1" | "$2" script'
-GO_ON = """
-due=$("$2" script < "$1" | wc -l)
-{ cat "$1"; tee -a "$1"; } | "$2" script | tail -n +$((due + 1))
-"""
 # A program that never answers is ended by the alarm.
 MOST_SECONDS = 120
 
@@ -118,19 +110,6 @@ def check_stops(program: Path, log: Path, lines: list[bytes], wanted: bytes) -> 
         want(f"stopped behind line {number}", run_night(program, log, lines, number + 1), wanted)
 
 
-def in_shell(text: str, log: Path, program: Path, given: bytes) -> bytes:
-    """What a command of a shell writes, in which `$1` is the log and `$2` the program."""
-    return subprocess.run(["sh", "-c", text, "sh", log, program], input=given, stdout=subprocess.PIPE, check=True).stdout
-
-
-def check_tee(program: Path, log: Path, lines: list[bytes], wanted: bytes) -> None:
-    half = len(lines) // 2
-    before = in_shell(KEEP, log, program, b"".join(lines[:half]))
-    want("the replay of what tee kept", replies_to(program, log.read_bytes()), before)
-    want("the night, stopped at its half", before + in_shell(GO_ON, log, program, b"".join(lines[half:])), wanted)
-    want("the replay of all that tee kept", replies_to(program, log.read_bytes()), wanted)
-
-
 def is_accepted(line: bytes, reply: bytes) -> bool:
     """Whether the line is a call that was entered in the history."""
     return "do" in json.loads(line) and not {"refused", "nothing"} & json.loads(reply).keys()
@@ -150,7 +129,6 @@ def check_accepted(program: Path, lines: list[bytes], wanted: bytes) -> None:
 
 def check(program: Path, log: Path) -> None:
     lines, wanted = NIGHT.read_bytes().splitlines(keepends=True), REPLIES.read_bytes()
-    check_tee(program, log, lines, wanted)
     check_stops(program, log, lines, wanted)
     check_accepted(program, lines, wanted)
 

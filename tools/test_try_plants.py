@@ -7,7 +7,7 @@ from __future__ import annotations
 
 import unittest
 
-from try_plants import Plant, still_said, verdict_kept
+from try_plants import Plant, still_said, verdict_kept, wanted_of
 
 SOURCE = """
 const FIRST: usize = 1;
@@ -81,6 +81,14 @@ class Verdicts(unittest.TestCase):
     def test_a_verdict_of_no_plant_is_dropped(self) -> None:
         kept = {"name": [self.plant.mark(), "refused", "code"], "gone": ["mark", "refused", "code"]}
         self.assertEqual(still_said(kept, [self.plant]), {"name": kept["name"]})
+
+    def test_plants_are_wanted_by_their_names_and_verdicts(self) -> None:
+        one, two, three = (Plant(name, "src/lib.rt", "1", "2") for name in ("one", "two", "three"))
+        said = {one: "refused", two: "old", three: "not tried"}
+        self.assertEqual(wanted_of(said, False, []), [one, two, three])
+        self.assertEqual(wanted_of(said, True, []), [two, three])
+        self.assertEqual(wanted_of(said, False, ["one", "three"]), [one, three])
+        self.assertEqual(wanted_of(said, True, ["one", "three"]), [three])
 
 
 if __name__ == "__main__":

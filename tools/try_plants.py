@@ -2,6 +2,7 @@
 
     python3 tools/try_plants.py CRATE..            tries all plants of these crates
     python3 tools/try_plants.py --new CRATE..      only those that have no verdict on the code as it stands
+    python3 tools/try_plants.py --only NAME CRATE  only the plant of this name; --only may be given again
     python3 tools/try_plants.py                    tries nothing
 
 A plant that is still proved is a gap in a contract, unless its `reason` says what else refuses it. Each function is
@@ -283,9 +284,14 @@ def keep(name: str, found: dict[str, str]) -> None:
     VERDICTS.write_text(json.dumps(new, indent=1, sort_keys=True) + "\n")
 
 
-def try_crate(name: str, only_new: bool) -> None:
-    said = verdicts_of(name, plants_of(name))
-    wanted = [plant for plant in said if not only_new or said[plant] in ("old", "not tried", "stale")]
+def wanted_of(said: dict[Plant, str], only_new: bool, names: list[str]) -> list[Plant]:
+    """The plants to try: those of these names, or of any if there are none; of these the ones without a verdict, if only they are."""
+    named = [plant for plant in said if not names or plant.name in names]
+    return [plant for plant in named if not only_new or said[plant] in ("old", "not tried", "stale")]
+
+
+def try_crate(name: str, only_new: bool, names: list[str]) -> None:
+    wanted = wanted_of(verdicts_of(name, plants_of(name)), only_new, names)
     with tempfile.TemporaryDirectory(prefix="plants-") as folder:
         found = try_plants(name, wanted, Path(folder)) if wanted else {}
     keep(name, found)
@@ -325,10 +331,11 @@ def print_table() -> list[str]:
 def main() -> int:
     parser = argparse.ArgumentParser(description=__doc__.splitlines()[0])
     parser.add_argument("--new", action="store_true", help="only plants without a verdict")
+    parser.add_argument("--only", action="append", default=[], metavar="NAME", help="only the plant of this name")
     parser.add_argument("crates", nargs="*")
     words = parser.parse_args()
     for name in words.crates:
-        try_crate(name, words.new)
+        try_crate(name, words.new, words.only)
     gaps = print_table()
     for gap in gaps:
         print(f"still proved: {gap}")

@@ -7,12 +7,12 @@ use Rattle.std.specs.Str.Parse.{AllDigits, IsNumeral, digits_value, without_lead
 use Rattle.clap.specs.Words.{Text, takes}
 use Rattle.clap.specs.ValueTests.{is_numeral, is_unsigned_in}
 use Rattle.clap.proofs.OnLiterals.{clap_on_literals}
-use Rattle.batch_commands.specs.Asked.{IsAsked, IsNumberText, AsksFor, HasOptions}
+use Rattle.batch_commands.specs.Asked.{IsAsked, IsLogName, IsNumberText, AsksFor, HasOptions, NamesLog}
 use Rattle.clap.specs.declared.error.kind.ErrorKind.{ErrorKind}
 use Rattle.clap.specs.declared.error.kind.ErrorKind.TheVariants.{DisplayHelp, DisplayVersion, OutOfMemory}
 use Rattle.batch_commands.specs.Commands.{batchctl_app}
 use Rattle.batch_commands.specs.declared.asked.Arguments.{Arguments}
-use Rattle.batch_commands.specs.declared.asked.Arguments.TheVariants.{Script, Run}
+use Rattle.batch_commands.specs.declared.asked.Arguments.TheVariants.{Script, LoggedScript, Run}
 
 -- ---- Numbers
 
@@ -170,9 +170,25 @@ takes_rest : (workers : ℕ) (rest options : List (List ℕ)) → 1 ≤ workers 
 takes_rest workers rest options some few (inl is) asks = ap (λ (ws : List (List ℕ)). takes batchctl_app (codes "run" ∷ ws)) is ∙ (takes_options workers options some few asks).0
 takes_rest workers rest options some few (inr is) asks = ap (λ (ws : List (List ℕ)). takes batchctl_app (codes "run" ∷ ws)) is ∙ (takes_options workers options some few asks).1
 
+takes_log_one : (first : ℕ) (rest : List ℕ) → takes batchctl_app (codes "script" ∷ (codes "--log=" ++ first ∷ rest) ∷ []) ≡ true
+unfolding clap_on_literals
+takes_log_one first rest = refl
+
+takes_log_two : (first : ℕ) (rest : List ℕ) → (first == 45) ≡ false → takes batchctl_app (codes "script" ∷ codes "--log" ∷ (first ∷ rest) ∷ []) ≡ true
+unfolding clap_on_literals
+takes_log_two first rest e = simp e
+
+-- a script with a log
+takes_log : (name : List ℕ) (options : List (List ℕ)) → IsLogName name → NamesLog name options → takes batchctl_app (codes "script" ∷ options) ≡ true
+takes_log name options (first, rest, is, e) (inl by) =
+    ap (λ (os : List (List ℕ)). takes batchctl_app (codes "script" ∷ os)) by ∙ ap (λ (n : List ℕ). takes batchctl_app (codes "script" ∷ (codes "--log=" ++ n) ∷ [])) is ∙ takes_log_one first rest
+takes_log name options (first, rest, is, e) (inr by) =
+    ap (λ (os : List (List ℕ)). takes batchctl_app (codes "script" ∷ os)) by ∙ ap (λ (n : List ℕ). takes batchctl_app (codes "script" ∷ codes "--log" ∷ n ∷ [])) is ∙ takes_log_two first rest e
+
 -- THE WORDS that ask for a script or a run are taken
 pub asked_taken : (arguments : Arguments) (words : List (List ℕ)) → IsAsked arguments words → takes batchctl_app words ≡ true
 asked_taken Script words is = ap (takes batchctl_app) is ∙ takes_script
+asked_taken (LoggedScript log) words (named, (rest, is, names)) = ap (takes batchctl_app) is ∙ takes_log log.now rest named names
 asked_taken (Run workers) words (some, few, (rest, options, is, has, asks)) = ap (takes batchctl_app) is ∙ takes_rest workers rest options some few has asks
 
 -- want of memory is no text that the words ask for

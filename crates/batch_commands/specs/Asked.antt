@@ -1,8 +1,8 @@
 -- What the words of the command line ask for.
-use Rattle.std.specs.Prelude.{◌≡◌, ◌⊎◌, ◌≤◌, ℕ, List, [], ◌∷◌, ◌++◌, codes}
+use Rattle.std.specs.Prelude.{◌≡◌, ◌⊎◌, ◌≤◌, ◌==◌, ℕ, false, List, [], ◌∷◌, ◌++◌, codes}
 use Rattle.std.specs.Str.Parse.{IsNumeral, digits_value, without_leading_plus}
 use Rattle.batch_commands.specs.declared.asked.Arguments.{Arguments}
-use Rattle.batch_commands.specs.declared.asked.Arguments.TheVariants.{Script, Run}
+use Rattle.batch_commands.specs.declared.asked.Arguments.TheVariants.{Script, LoggedScript, Run}
 
 -- the text of a number: its decimal digits, ahead of which a plus may stand
 abbrev pub IsNumberText : List ℕ → ℕ → Type 0
@@ -19,9 +19,18 @@ AsksFor workers (word ∷ text ∷ other ∷ others) = ⊥
 abbrev pub HasOptions : List (List ℕ) → List (List ℕ) → Type 0
 HasOptions options words = (words ≡ options) ⊎ (words ≡ options ++ codes "--" ∷ [])
 
--- a script is asked for by one word, a run by its first word, with 1 to 16 workers by its options
+-- the name of a log's file has a byte, and no hyphen ahead
+abbrev pub IsLogName : List ℕ → Type 0
+IsLogName name = (first : ℕ) × (rest : List ℕ) × (name ≡ first ∷ rest) × ((first == 45) ≡ false)
+
+-- options name a log: by `--log FILE` or `--log=FILE`
+abbrev pub NamesLog : List ℕ → List (List ℕ) → Type 0
+NamesLog name words = (words ≡ (codes "--log=" ++ name) ∷ []) ⊎ (words ≡ codes "--log" ∷ name ∷ [])
+
+-- a script is asked for by one word, or with a log,, a run by its first word, with 1 to 16 workers by its options
 abbrev pub IsAsked : Arguments → List (List ℕ) → Type 0
 IsAsked Script words = words ≡ codes "script" ∷ []
+IsAsked (LoggedScript log) words = IsLogName log.now × ((rest : List (List ℕ)) × (words ≡ codes "script" ∷ rest) × NamesLog log.now rest)
 IsAsked (Run workers) words = (1 ≤ workers) × (workers ≤ 16) × ((rest : List (List ℕ)) × (options : List (List ℕ)) × (words ≡ codes "run" ∷ rest) × HasOptions options rest × AsksFor workers options)
 
 -- the words ask for neither a script nor a run

@@ -6,4 +6,5 @@ pub mod Starts
 pub mod Listing
 pub mod Runs
 pub mod Turns
+pub mod Logging
 pub mod Statuses

@@ -1,13 +1,16 @@
 -- The exit statuses.
 use Rattle.std.specs.Prelude.{◌≡◌, ◌⊎◌, ℕ, List, Result, Ok, Err}
+use Rattle.std.specs.Borrow.{Bor}
 use Rattle.script_engine.specs.declared.fault.EngineFault.{EngineFault}
 use Rattle.script_engine.specs.declared.fault.EngineFault.TheVariants.{Catalogue, Read, Write, OutOfMemory}
 use Rattle.script_engine.specs.declared.summary.Summary.{Summary}
 use Rattle.script_engine.specs.Ran.{Ran}
 use Rattle.script_lines.specs.Device.{Told, Held}
 use Rattle.batch_commands.specs.Asked.{IsAsked, AskForNone}
+use Rattle.batch_commands.specs.Logging.{IsLogServed, over_log_exit}
 use Rattle.batch_commands.specs.Runs.{HasRun}
-use Rattle.batch_commands.specs.declared.asked.Arguments.TheVariants.{Script, Run}
+use Rattle.batch_commands.specs.declared.logged_fault.OverLogFault.{OverLogFault}
+use Rattle.batch_commands.specs.declared.asked.Arguments.TheVariants.{Script, LoggedScript, Run}
 
 -- 0 done, 3 the catalogue is refused, 4 a read or a write failed, 5 out of memory
 abbrev pub exit_status : {A : Type 0} → Result A EngineFault → ℕ
@@ -33,6 +36,10 @@ IsScript words r r' w w' status = (outcome : Result Summary EngineFault) × IsAs
 abbrev pub IsRun : List (List ℕ) → Told → Told → Held → Held → ℕ → Type 0
 IsRun words r r' w w' status = (workers : ℕ) × (outcome : Result Unit EngineFault) × IsAsked (Run workers) words × HasRun r r' w w' outcome × (status ≡ exit_status outcome)
 
+-- the words ask for a script over a log, which is answered
+abbrev pub IsLoggedScript : List (List ℕ) → Told → Told → Held → Held → ℕ → Type 0
+IsLoggedScript words r r' w w' status = (log : Bor (List ℕ)) × (outcome : Result Unit OverLogFault) × IsAsked (LoggedScript log) words × IsLogServed r r' w w' outcome × (status ≡ over_log_exit outcome)
+
 -- THE EXIT STATUS: it says what became of the words
 abbrev pub IsServed : List (List ℕ) → Told → Told → Held → Held → ℕ → Type 0
-IsServed words r r' w w' status = IsRefused r r' w w' status ⊎ IsText words r r' status ⊎ IsScript words r r' w w' status ⊎ IsRun words r r' w w' status
+IsServed words r r' w w' status = IsRefused r r' w w' status ⊎ IsText words r r' status ⊎ IsScript words r r' w w' status ⊎ IsLoggedScript words r r' w w' status ⊎ IsRun words r r' w w' status

@@ -1,10 +1,10 @@
 ghost use Rattle.std.specs.Prelude.{◌≡◌, ◌≤◌, ◌↔◌, ◌∷◌, ◌++◌, List, ℕ, [], false, IsTrue, IfOk, IfSome, IfErr, IsErrAnd, codes, map};
 ghost use Rattle.clap.specs.Words.{app_of, new_app, rule_of};
-ghost use Rattle.batch_commands.specs.Asked.{IsAsked, IsNumberText, AskForNone, AsksFor, HasOptions};
-ghost use Rattle.batch_commands.specs.Commands.{IsShown, bare_app, batchctl_app, run_app, script_app, scripts_app, workers_rule};
+ghost use Rattle.batch_commands.specs.Asked.{IsAsked, IsLogName, IsNumberText, AskForNone, AsksFor, HasOptions, NamesLog};
+ghost use Rattle.batch_commands.specs.Commands.{IsShown, bare_app, batchctl_app, log_rule, run_app, script_app, scripts_app, workers_rule};
 
 use crate::asked::Arguments;
-use crate::help::{ABOUT, RUN_ABOUT, RUN_HELP, SCRIPT_ABOUT, SCRIPT_HELP, WORKERS_HELP};
+use crate::help::{ABOUT, LOG_HELP, RUN_ABOUT, RUN_HELP, SCRIPT_ABOUT, SCRIPT_HELP, WORKERS_HELP};
 use clap::builder::ValueParser;
 use clap::error::ErrorKind;
 use clap::{Arg, ArgMatches, Command, Error};
@@ -25,12 +25,33 @@ fn is_script(words: &[&str]) -> bool
     }
 }
 
-/// The words behind the first, if that is `run`.
-fn behind_run<'a, 'b>(words: &'b [&'a str]) -> Option<&'b [&'a str]>
-    ensures { IfSome result (λ rest. map (λ word. word.now) words.now ≡ codes "run" ∷ map (λ word. word.now) rest.now) }
+/// The words behind the first, if that is this command.
+fn behind<'a, 'b>(words: &'b [&'a str], command: &str) -> Option<&'b [&'a str]>
+    ensures { IfSome result (λ rest. map (λ word. word.now) words.now ≡ command.now ∷ map (λ word. word.now) rest.now) }
 {
     match words {
-        [word, rest @ ..] if *word == "run" => Some(rest),
+        [word, rest @ ..] if *word == command => Some(rest),
+        _ => None,
+    }
+}
+
+/// A name of a log's file, if the text is one: it has a byte, and no hyphen ahead.
+fn log_named(name: &str) -> Option<&str>
+    ensures { IfSome result (λ log. (log.now ≡ name.now) × IsLogName name.now) }
+{
+    match name.as_bytes() {
+        [first, ..] if *first != b'-' => Some(name),
+        _ => None,
+    }
+}
+
+/// The log that the words behind `script` name: `--log FILE` or `--log=FILE`.
+fn log_of<'a>(words: &[&'a str]) -> Option<&'a str>
+    ensures { IfSome result (λ log. IsLogName log.now × NamesLog log.now (map (λ word. word.now) words.now)) }
+{
+    match words {
+        [word] => log_named(word.strip_prefix("--log=")?),
+        [option, name] if *option == "--log" => log_named(name),
         _ => None,
     }
 }
@@ -92,13 +113,17 @@ fn options_of<'a, 'b>(words: &'b [&'a str]) -> &'b [&'a str]
 }
 
 /// What words ask for that `clap` has accepted.
-fn asked(matches: &ArgMatches<'_>, words: &[&str]) -> Option<Arguments>
+fn asked<'a>(matches: &ArgMatches<'_>, words: &[&'a str]) -> Option<Arguments<'a>>
     ensures { IfSome result (λ arguments. IsAsked arguments (map (λ word. word.now) words.now)) }
 {
     if is_script(words) {
         return Some(Arguments::Script);
     }
-    let rest = behind_run(words)?;
+    if let Some(rest) = behind(words, "script") {
+        let log = log_of(rest)?;
+        return Some(Arguments::LoggedScript { log });
+    }
+    let rest = behind(words, "run")?;
     let workers = workers_of(matches)?;
     if asks_for(options_of(rest), workers) {
         Some(Arguments::Run { workers })
@@ -107,13 +132,26 @@ fn asked(matches: &ArgMatches<'_>, words: &[&str]) -> Option<Arguments>
     }
 }
 
+/// The argument `--log` of the command `script`.
+fn log_argument<'a>(alloc: Global) -> Arg<'a>
+    ensures rule { rule_of result ≡ log_rule }
+    ensures local { result.global ≡ false }
+{
+    Arg::new(alloc, "log")
+        .long("log")
+        .value_name("FILE")
+        .help(LOG_HELP)
+        .value_parser(ValueParser::string())
+}
+
 /// The command `script`.
-fn script_command<'a>(alloc: Global) -> Command<'a>
-    ensures { app_of result ≡ script_app }
+fn script_command<'a>(alloc: Global) -> Result<Command<'a>, AllocError>
+    ensures { IfOk result (λ command. app_of command ≡ script_app) }
 {
     Command::new(alloc, "script")
         .about(SCRIPT_ABOUT)
         .after_help(SCRIPT_HELP)
+        .arg(log_argument(alloc))
 }
 
 /// The argument `--workers` of the command `run`.
@@ -141,14 +179,15 @@ fn run_command<'a>(alloc: Global) -> Result<Command<'a>, AllocError>
 
 /// Reads the words that follow the program's name.
 ///
-/// They are accepted only where they are the one word `script`, or `run` with 1 to 16 workers: by
-/// `--workers N` or `--workers=N`, else 2.
+/// They are accepted only if they are the one word `script`; or `script` with a log by `--log FILE` or
+/// `--log=FILE`, whose name begins with no hyphen; or `run` with 1 to 16 workers: by `--workers N` or
+/// `--workers=N`, else 2.
 ///
 /// # Errors
 ///
 /// `clap`'s, where they are other words, also for a request for help or for the version; and where
 /// memory is refused. None of them asks for a text where the words ask for a script or a run.
-pub fn arguments<'a>(alloc: Global, words: &'a [&'a str]) -> Result<Arguments, Error>
+pub fn arguments<'a>(alloc: Global, words: &'a [&'a str]) -> Result<Arguments<'a>, Error>
     ensures only { IfOk result (λ arguments. IsAsked arguments (map (λ word. word.now) words.now)) }
     ensures shown { IfErr result (λ error. IsShown error → AskForNone (map (λ word. word.now) words.now)) }
 {
@@ -184,7 +223,14 @@ fn bare_command<'a>(alloc: Global) -> Result<Command<'a>, AllocError>
 fn command_of_scripts<'a>(alloc: Global) -> Result<Command<'a>, AllocError>
     ensures { IfOk result (λ command. app_of command ≡ scripts_app) }
 {
-    bare_command(alloc)?.subcommand(script_command(alloc))
+    let command = bare_command(alloc)?;
+    match script_command(alloc) {
+        Ok(script) => command.subcommand(script),
+        Err(error) => {
+            drop(command);
+            Err(error)
+        }
+    }
 }
 
 /// The command of the program.
@@ -202,7 +248,7 @@ fn batchctl_command<'a>(alloc: Global) -> Result<Command<'a>, AllocError>
 }
 
 /// What the words ask for by this command.
-fn read_words<'a>(command: &mut Command<'a>, words: &'a [&'a str]) -> Result<Arguments, Error>
+fn read_words<'a>(command: &mut Command<'a>, words: &'a [&'a str]) -> Result<Arguments<'a>, Error>
     requires { app_of command.old ≡ batchctl_app }
     ensures only { IfOk result (λ arguments. IsAsked arguments (map (λ word. word.now) words.now)) }
     ensures shown { IfErr result (λ error. IsShown error → AskForNone (map (λ word. word.now) words.now)) }
@@ -217,11 +263,11 @@ fn read_words<'a>(command: &mut Command<'a>, words: &'a [&'a str]) -> Result<Arg
 }
 
 /// Refuses words that ask for nothing, though the command accepts them.
-fn refuse_others(command: &mut Command<'_>) -> Result<Arguments, Error>
+fn refuse_others<'a>(command: &mut Command<'_>) -> Result<Arguments<'a>, Error>
     ensures { IsErrAnd result (λ error. IsShown error → ⊥) }
 {
     Err(command.error(
         ErrorKind::InvalidSubcommand,
-        "`script`, or `run` with 1 to 16 workers, is expected",
+        "`script`, if need be with a log, or `run` with 1 to 16 workers, is expected",
     )?)
 }

@@ -62,8 +62,16 @@ Example:
   {"ask":"job_execution","execution":1}
   END
 
+With `--log FILE` the history outlives the process: the line of each call that is accepted is on the
+disk, in FILE, before its reply is written. A later script over FILE goes on from there. Its first
+line is the same catalogue, or one with more jobs behind it. FILE is made if there is none.
+
 Exit status: 0 done, 2 the command line was refused, 3 the catalogue was refused (its fault is the
-one line of output), 4 a read or a write failed, 5 out of memory."#;
+one line of output), 4 a read or a write failed, 5 out of memory; with a log also 6 its file failed,
+7 the log was refused (its fault is the one line of output)."#;
+
+/// What `--log` is for.
+pub const LOG_HELP: &str = "Keeps what is accepted in this file, and goes on from what it has";
 
 /// What `run` is for.
 pub const RUN_ABOUT: &str =

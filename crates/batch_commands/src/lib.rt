@@ -5,13 +5,17 @@ mod asked;
 mod command_line;
 mod executions;
 mod help;
+mod logged;
+mod logged_fault;
 mod main_program;
 mod replies;
 mod run;
+mod sink_writer;
 mod starts;
 
 pub use asked::Arguments;
 pub use command_line::arguments;
 pub use main_program::{
-    DEVICE_FAILED, DONE, FAULTY_CATALOGUE, OUT_OF_MEMORY, REFUSED, program, refuse_words,
+    DEVICE_FAILED, DONE, FAULTY_CATALOGUE, LOG_FAILED, LOG_REFUSED, OUT_OF_MEMORY, REFUSED,
+    program, refuse_words,
 };

@@ -1,5 +1,6 @@
 ghost use Rattle.std.specs.Prelude.{◌≡◌, ◌≢◌, ◌≤◌, ◌⊎◌, map};
 ghost use Rattle.std.specs.IoError.{error_kind};
+ghost use Rattle.script_lines.specs.Tape.{nothing_past, told_by, held_by};
 ghost use Rattle.script_engine.specs.Ran.{Ran};
 ghost use Rattle.batch_commands.specs.Commands.{IsShown};
 ghost use Rattle.batch_commands.specs.Runs.{HasRun};
@@ -7,10 +8,13 @@ ghost use Rattle.batch_commands.specs.Statuses.{exit_status, IsServed};
 
 use crate::asked::Arguments;
 use crate::command_line::arguments;
+use crate::logged::serve_logged;
 use crate::run::run_jobs;
+use crate::sink_writer::SinkWriter;
 use clap::error::Error;
 use script_engine::{Counted, EngineFault, Sink, Source, run_script};
 use std::alloc::Global;
+use std::fs::{File, Files};
 use std::io;
 use std::io::{ErrorKind, Read, Write};
 use std::sync::Wait;
@@ -31,8 +35,14 @@ pub const DEVICE_FAILED: u8 = 4;
 /// The exit status where memory was refused.
 pub const OUT_OF_MEMORY: u8 = 5;
 
+/// The exit status if the file of a log failed.
+pub const LOG_FAILED: u8 = 6;
+
+/// The exit status if a log is refused.
+pub const LOG_REFUSED: u8 = 7;
+
 // What is told on standard error is told as far as it goes: the exit status says it again.
-fn tell<F: Write>(faults: &mut F, text: &str) {
+pub(crate) fn tell<F: Write>(faults: &mut F, text: &str) {
     let _ = writeln!(faults, "{text}");
 }
 
@@ -102,25 +112,6 @@ fn serve_script<S: Source, W: Sink, F: Write>(
     end(outcome, faults)
 }
 
-/// A writer of std that writes to a sink.
-#[derive(Drop)]
-struct SinkWriter<'s, W: Sink> {
-    sink: &'s mut W,
-}
-
-impl<W: Sink> Write for SinkWriter<'_, W> {
-    fn write(&mut self, piece: &[u8]) -> io::Result<usize> {
-        match self.sink.write(piece) {
-            Ok(count) => Ok(count),
-            Err(_) => Err(io::Error::from(ErrorKind::Other)),
-        }
-    }
-
-    fn flush(&mut self) -> io::Result<()> {
-        Ok(())
-    }
-}
-
 /// Tells the text that the words asked for, and gives the exit status.
 fn tell_text<W: Sink, F: Write>(error: &Error, sink: &mut W, faults: &mut F) -> u8
     ensures { (result ≡ DONE) ⊎ (result ≡ DEVICE_FAILED) }
@@ -149,7 +140,7 @@ fn tell_words<W: Sink, F: Write>(error: &Error, sink: &mut W, faults: &mut F) ->
 }
 
 /// Does what the words ask for, and gives the exit status.
-fn serve<R: Threads + Wait + AllocGlobal + Sync, S: Source, W: Sink, F: Write>(
+fn serve<R: Threads + Wait + AllocGlobal + Files<File = File> + Sync, S: Source, W: Sink, F: Write>(
     rt: &R,
     words: &[&str],
     source: &mut S,
@@ -160,6 +151,7 @@ fn serve<R: Threads + Wait + AllocGlobal + Sync, S: Source, W: Sink, F: Write>(
 {
     match arguments(rt.alloc(), words) {
         Ok(Arguments::Script) => serve_script(rt.alloc(), source, sink, faults),
+        Ok(Arguments::LoggedScript { log }) => serve_logged(rt, log, source, sink, faults),
         Ok(Arguments::Run { workers }) => serve_run(rt, workers, source, sink, faults),
         Err(error) => {
             let status = tell_words(&error, sink, faults);
@@ -171,16 +163,17 @@ fn serve<R: Threads + Wait + AllocGlobal + Sync, S: Source, W: Sink, F: Write>(
 
 /// Runs the program on the words that follow its name, and gives the exit status: 0 done (also a
 /// request for help, its text on `writer`), 2 the command line was refused, 3 the catalogue was
-/// refused (its fault line on `writer`), 4 a read or a write failed, 5 out of memory. What goes to
-/// standard error is told to `faults`.
-pub fn program<R: Threads + Wait + AllocGlobal + Sync, D: Read + Drop, W: Write + Drop, F: Write>(
-    rt: &R,
-    words: &[&str],
-    reader: D,
-    writer: W,
-    faults: &mut F,
-) -> u8
-    ensures { (r : _) × (r' : _) × (w : _) × (w' : _) × IsServed (map (λ word. word.now) words.now) r r' w w' result }
+/// refused (its fault line on `writer`), 4 a read or a write failed, 5 out of memory, 6 the file of a
+/// log failed, 7 a log was refused (its fault line on `writer`). What goes to standard error is told to
+/// `faults`.
+pub fn program<
+    R: Threads + Wait + AllocGlobal + Files<File = File> + Sync,
+    D: Read + Drop,
+    W: Write + Drop,
+    F: Write,
+>(rt: &R, words: &[&str], reader: D, writer: W, faults: &mut F) -> u8
+    ensures { (r' : _) × (w' : _) × IsServed (map (λ word. word.now) words.now)
+        (told_by nothing_past (D.remaining reader)) r' (held_by nothing_past (W.contents writer)) w' result }
 {
     let mut source = Counted::new(reader);
     let mut sink = Counted::new(writer);

@@ -2,6 +2,7 @@
 #![tactic(auto)]
 
 use batch_commands::{program, refuse_words};
+use std::fs::{File, Files};
 use std::io::{Input, Write};
 use std::process::ExitCode;
 use std::rt::Env;
@@ -18,17 +19,27 @@ fn words_of(rt: &(impl Env + AllocGlobal)) -> io::Result<Vec<String>> {
     Ok(words)
 }
 
+/// The root folder, if it can be opened: neither a read nor a write of it succeeds.
+fn open_root<R: Files<File = File>>(rt: &R) -> Option<File> {
+    File::open(rt, "/").ok()
+}
+
 /// Reads the words of the command line, and runs the program on them.
-fn run_words<R: Threads + Wait + AllocGlobal + Env + Input + Print + Sync, F: Write>(
-    rt: &R,
-    faults: &mut F,
-) -> io::Result<u8> {
+fn run_words<
+    R: Threads + Wait + AllocGlobal + Env + Files<File = File> + Input + Print + Sync,
+    F: Write,
+>(rt: &R, faults: &mut F) -> io::Result<u8> {
     let owned = words_of(rt)?;
     let mut words = Vec::new(rt.alloc());
     for word in &owned {
         words.push(word.as_str())?;
     }
-    Ok(program(rt, words.as_slice(), rt.reader(), io::writer(rt), faults))
+    // A file takes the place of a standard stream that is closed. A folder there fails as the closed stream does; a log
+    // there would be written over by replies.
+    let (input, output, others) = (open_root(rt), open_root(rt), open_root(rt));
+    let status = program(rt, words.as_slice(), rt.reader(), io::writer(rt), faults);
+    drop((input, output, others));
+    Ok(status)
 }
 
 fn main(rt: HostRuntime) -> ExitCode {

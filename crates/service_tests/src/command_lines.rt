@@ -1,6 +1,7 @@
 use crate::flaky::{FlakyReader, FlakyWriter};
 use batch_commands::{Arguments, arguments, program, refuse_words};
 use std::alloc::{AllocError, Global};
+use std::fs::{File, Files};
 use std::io::{Error, ErrorKind, Read};
 use std::sync::Wait;
 use std::test::Fail;
@@ -32,7 +33,7 @@ struct Written {
 }
 
 /// Runs the program on these bytes; its exit status.
-fn run<R: Threads + Wait + AllocGlobal + Sync>(
+fn run<R: Threads + Wait + AllocGlobal + Files<File = File> + Sync>(
     rt: &R,
     words: &[&str],
     input: &[u8],
@@ -42,7 +43,7 @@ fn run<R: Threads + Wait + AllocGlobal + Sync>(
 }
 
 /// Whether the program ends with this status, writes this, and tells nothing on standard error.
-fn writes<R: Threads + Wait + AllocGlobal + Sync>(
+fn writes<R: Threads + Wait + AllocGlobal + Files<File = File> + Sync>(
     rt: &R,
     words: &[&str],
     input: &[u8],
@@ -98,7 +99,7 @@ fn joined(alloc: Global, pieces: &[&str], count: usize) -> Result<String, AllocE
 }
 
 /// Whether the program ends by a fault of a device, tells it by this line, and has written this.
-fn tells<R: Threads + Wait + AllocGlobal + Sync, D: Read + Drop>(
+fn tells<R: Threads + Wait + AllocGlobal + Files<File = File> + Sync, D: Read + Drop>(
     rt: &R,
     word: &str,
     reader: D,
@@ -117,7 +118,7 @@ fn tells<R: Threads + Wait + AllocGlobal + Sync, D: Read + Drop>(
 }
 
 /// Whether the program tells a fault of the reader behind so many bytes, and has written this.
-fn tells_read_fault<R: Threads + Wait + AllocGlobal + Sync>(
+fn tells_read_fault<R: Threads + Wait + AllocGlobal + Files<File = File> + Sync>(
     rt: &R,
     word: &str,
     input: &[u8],
@@ -137,7 +138,7 @@ fn tells_read_fault<R: Threads + Wait + AllocGlobal + Sync>(
 
 /// Whether the program tells a fault of the writer behind so many calls, each of which takes at most so many bytes, and has
 /// written this.
-fn tells_write_fault<R: Threads + Wait + AllocGlobal + Sync>(
+fn tells_write_fault<R: Threads + Wait + AllocGlobal + Files<File = File> + Sync>(
     rt: &R,
     word: &str,
     input: &[u8],
@@ -158,7 +159,7 @@ fn tells_write_fault<R: Threads + Wait + AllocGlobal + Sync>(
 }
 
 /// Whether the program tells a fault of the reader at each call. The reply to the last line is written once it was told.
-fn tells_each_read_fault<R: Threads + Wait + AllocGlobal + Sync>(
+fn tells_each_read_fault<R: Threads + Wait + AllocGlobal + Files<File = File> + Sync>(
     rt: &R,
     word: &str,
     input: &[u8],
@@ -173,7 +174,7 @@ fn tells_each_read_fault<R: Threads + Wait + AllocGlobal + Sync>(
 }
 
 /// Whether the program tells a fault of the writer at each call, where each takes one byte.
-fn tells_each_write_fault<R: Threads + Wait + AllocGlobal + Sync>(
+fn tells_each_write_fault<R: Threads + Wait + AllocGlobal + Files<File = File> + Sync>(
     rt: &R,
     word: &str,
     input: &[u8],
@@ -189,7 +190,7 @@ fn tells_each_write_fault<R: Threads + Wait + AllocGlobal + Sync>(
 }
 
 /// The same, where each call takes a whole piece.
-fn tells_each_lost_piece<R: Threads + Wait + AllocGlobal + Sync>(
+fn tells_each_lost_piece<R: Threads + Wait + AllocGlobal + Files<File = File> + Sync>(
     rt: &R,
     word: &str,
     input: &[u8],
@@ -235,7 +236,7 @@ fn a_failed_device_is_told_where_help_was_asked_for(rt: HostRuntime) {
 }
 
 /// Whether the program writes some help, and tells nothing on standard error.
-fn helps<R: Threads + Wait + AllocGlobal + Sync>(rt: &R) -> bool {
+fn helps<R: Threads + Wait + AllocGlobal + Files<File = File> + Sync>(rt: &R) -> bool {
     let mut written = Written {
         out: Vec::new(rt.alloc()),
         faults: Vec::new(rt.alloc()),
@@ -253,8 +254,16 @@ fn help_goes_to_the_writer(rt: HostRuntime) {
 }
 
 /// Command lines, and what they ask for.
-const COMMAND_LINES: [(&[&str], Arguments); 8] = [
+const COMMAND_LINES: [(&[&str], Arguments<'static>); 10] = [
     (&["script"], Arguments::Script),
+    (
+        &["script", "--log", "night.log"],
+        Arguments::LoggedScript { log: "night.log" },
+    ),
+    (
+        &["script", "--log=a -b"],
+        Arguments::LoggedScript { log: "a -b" },
+    ),
     (&["run"], Arguments::Run { workers: 2 }),
     (&["run", "--"], Arguments::Run { workers: 2 }),
     (&["run", "--workers", "3"], Arguments::Run { workers: 3 }),
@@ -275,8 +284,19 @@ fn words_ask_for_a_script_or_a_run(rt: HostRuntime) {
 }
 
 /// Command lines that are refused.
-const MISTAKES: [&[&str]; 9] = [
+const MISTAKES: [&[&str]; 20] = [
     &[],
+    &["script", "night.log"],
+    &["script", "--log"],
+    &["script", "--log", ""],
+    &["script", "--log="],
+    &["script", "--log", "-x"],
+    &["script", "--log=-x"],
+    &["script", "--log", "-"],
+    &["script", "--log", "a", "--"],
+    &["script", "--log", "a", "--log", "b"],
+    &["run", "--log", "a"],
+    &["--log", "a", "script"],
     &["scrip"],
     &["Script"],
     &["script", "script"],
@@ -295,7 +315,10 @@ fn mistakes_go_to_standard_error(rt: HostRuntime) {
 }
 
 /// Whether the program refuses a command line: it writes nothing, and tells why on standard error.
-fn refuses<R: Threads + Wait + AllocGlobal + Sync>(rt: &R, words: &[&str]) -> bool {
+fn refuses<R: Threads + Wait + AllocGlobal + Files<File = File> + Sync>(
+    rt: &R,
+    words: &[&str],
+) -> bool {
     let mut written = Written {
         out: Vec::new(rt.alloc()),
         faults: Vec::new(rt.alloc()),

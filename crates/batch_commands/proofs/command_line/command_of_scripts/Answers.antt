@@ -4,7 +4,7 @@ use Rattle.clap.specs.Words.{App, with_subcommand}
 use Rattle.batch_commands.proofs.Building.{no_globals}
 use Rattle.batch_commands.proofs.command_line.command_of_scripts.Goals as goal
 
-pub returns : goal.returns
-returns c =
-    let script = c.script_command.ensures in
-    IfOk-weaker c.subcommand.result _ _ (λ command adds. adds.shape (no_globals _ (ap (λ (a : App). a.top.is_plain) script)) ∙ ap₂ with_subcommand c.in_ok-bare_command.ensures (ap (λ (a : App). a.top) script)) c.subcommand.ensures
+pub returns-in-Ok : goal.returns-in-Ok
+returns-in-Ok c =
+    let script = c.in-Ok.ensures in
+    IfOk-weaker c.subcommand.result _ _ (λ command adds. adds.shape (no_globals _ (ap (λ (a : App). a.top.is_plain) script)) ∙ ap₂ with_subcommand c.in_ok-command.ensures (ap (λ (a : App). a.top) script)) c.subcommand.ensures

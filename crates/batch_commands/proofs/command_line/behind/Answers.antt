@@ -2,7 +2,7 @@ use Rattle.std.proofs.Common.{◌≡◌, ◌∙◌, ◌-◌, ◌∷◌, [], IsTr
 use Rattle.std.proofs.Math.Seq.{take-length}
 use Rattle.std.specs.Str.{bytes_eq}
 use Rattle.std.proofs.lemmas.Slice.Eq.{bytes_eq-Decides}
-use Rattle.batch_commands.proofs.command_line.behind_run.Goals as goal
+use Rattle.batch_commands.proofs.command_line.behind.Goals as goal
 
 -- all words but the first
 behind_first : (w : Bor (List ℕ)) (others : List (Bor (List ℕ))) → take (length (w ∷ others) - 1) (drop 1 (w ∷ others)) ≡ others
@@ -20,4 +20,4 @@ first_word (w ∷ others) d text b some e t =
     ∙ ap (λ rest. text ∷ map (λ (w : Bor (List ℕ)). w.now) rest) (sym (behind_first w others))
 
 pub returns-in-len1-up : goal.returns-in-len1-up
-returns-in-len1-up c = first_word c.args.words.now _ (codes "run") c.eq.result c.in-len1-up.len_at_least c.eq.ensures c.if-eq.true
+returns-in-len1-up c = first_word c.args.words.now _ c.args.command.now c.eq.result c.in-len1-up.len_at_least c.eq.ensures c.if-eq.true

@@ -1,0 +1,90 @@
+// Why a script over a log was not answered to its end.
+ghost use Rattle.std.specs.Prelude.{◌≡◌};
+ghost use Rattle.batch_commands.specs.declared.logged_fault.OverLogFault.TheVariants.{OutOfMemory};
+ghost use Rattle.batch_commands.specs.Logging.{over_log_status, fault_of_engine, fault_of_logged};
+
+use crate::main_program::{
+    DEVICE_FAILED, FAULTY_CATALOGUE, LOG_FAILED, LOG_REFUSED, OUT_OF_MEMORY, tell,
+};
+use logged_script::LoggedFault;
+use script_engine::EngineFault;
+use std::alloc::AllocError;
+use std::io::Write;
+
+/// Why a script over a log was not answered to its end.
+#[derive(Clone, Copy, Debug, PartialEq, Eq)]
+pub(crate) enum OverLogFault {
+    /// The first line is no catalogue. Its fault's line was told.
+    Catalogue,
+    /// The log is refused. Its fault's line was told.
+    Refused,
+    /// The reader failed.
+    Read,
+    /// The writer failed.
+    Write,
+    /// The file of the log failed, or cannot be opened or made.
+    Log,
+    /// Memory was refused.
+    OutOfMemory,
+}
+
+impl From<AllocError> for OverLogFault {
+    ghost from_gives = { λ _ fault. fault ≡ OutOfMemory };
+
+    fn from(_error: AllocError) -> OverLogFault {
+        OverLogFault::OutOfMemory
+    }
+}
+
+impl OverLogFault {
+    /// The fault of what is read or told without a log.
+    pub(crate) fn of_engine(fault: EngineFault) -> OverLogFault
+        ensures { result ≡ fault_of_engine fault }
+    {
+        match fault {
+            EngineFault::Catalogue(_) => OverLogFault::Catalogue,
+            EngineFault::Read => OverLogFault::Read,
+            EngineFault::Write => OverLogFault::Write,
+            EngineFault::OutOfMemory => OverLogFault::OutOfMemory,
+        }
+    }
+
+    /// The fault of a run over a log.
+    pub(crate) fn of_logged(fault: LoggedFault) -> OverLogFault
+        ensures { result ≡ fault_of_logged fault }
+    {
+        match fault {
+            LoggedFault::Refused(_) => OverLogFault::Refused,
+            LoggedFault::Read => OverLogFault::Read,
+            LoggedFault::Write => OverLogFault::Write,
+            LoggedFault::Log => OverLogFault::Log,
+            LoggedFault::OutOfMemory => OverLogFault::OutOfMemory,
+        }
+    }
+
+    /// Tells the fault on standard error, unless a line of output says it, and gives the exit status.
+    pub(crate) fn end<F: Write>(self, faults: &mut F) -> u8
+        ensures { result ≡ over_log_status self }
+    {
+        match self {
+            OverLogFault::Catalogue => FAULTY_CATALOGUE,
+            OverLogFault::Refused => LOG_REFUSED,
+            OverLogFault::Read => {
+                tell(faults, "batchctl: read fault");
+                DEVICE_FAILED
+            }
+            OverLogFault::Write => {
+                tell(faults, "batchctl: write fault");
+                DEVICE_FAILED
+            }
+            OverLogFault::Log => {
+                tell(faults, "batchctl: log fault");
+                LOG_FAILED
+            }
+            OverLogFault::OutOfMemory => {
+                tell(faults, "batchctl: out of memory");
+                OUT_OF_MEMORY
+            }
+        }
+    }
+}

@@ -1,0 +1,199 @@
+"""The file of a log: who has it, how it is made, and what it is called."""
+
+from __future__ import annotations
+
+import fcntl
+import os
+from collections.abc import Iterator
+from contextlib import contextmanager
+from pathlib import Path
+
+from log_trial.faults import CLAIM, CLAIMED, FIRST, FOREIGN, GIVEN, GOOD, NOT_JSON, START, STARTED, STARTING
+from log_trial.log_file import log_of
+from log_trial.program import DONE, FAILED, LOG_REFUSED, REFUSED_WORDS, Ended, Program, want, want_log
+from log_trial.samples import catalogue_of, path_of
+
+IN_USE = Ended(LOG_REFUSED, b'{"fault":"LogInUse"}\n')
+SCRIPT = GIVEN + b"\n" + START + b"\n"
+MADE = log_of([FIRST, STARTING])
+
+
+def check_in_use(program: Program, log: Path) -> None:
+    """A log that another program has is refused, whatever stands in it; a log that is let go is not."""
+    holder = program.start(log)
+    assert holder.stdin and holder.stdout
+    with holder:
+        holder.stdin.write(GIVEN + b"\n" + START + b"\n")
+        holder.stdin.flush()
+        want("the first of two programs", holder.stdout.readline(), STARTED)
+        file = log_of([FIRST, STARTING])
+        want("the second of two programs", program.over(log, GIVEN + b"\n" + CLAIM + b"\n"), IN_USE)
+        want("the second, by another catalogue", program.over(log, catalogue_of() + b"\n"), IN_USE)
+        want("the second, with no catalogue", program.over(log, b"\n"), NOT_JSON)
+        want_log("two programs", log, file)
+        holder.stdin.write(CLAIM + b"\n")
+        holder.stdin.close()
+        want("the first, after the second", (holder.stdout.read(), holder.wait()), (CLAIMED, DONE))
+    want("a log that was let go", program.over(log, GIVEN + b"\n"), Ended(DONE))
+    want_log("two programs", log, GOOD)
+
+
+def check_locked(program: Program, log: Path) -> None:
+    """A file that is no log is in use first, and foreign then."""
+    log.write_bytes(b"")
+    with log.open("rb+") as file:
+        fcntl.flock(file, fcntl.LOCK_EX)
+        want("an empty file that is in use", program.over(log, GIVEN + b"\n"), IN_USE)
+        want_log("an empty file that is in use", log, b"")
+    want("an empty file that was let go", program.over(log, GIVEN + b"\n"), Ended(LOG_REFUSED, FOREIGN))
+
+
+def check_rivals(program: Program, log: Path) -> None:
+    """Of four programs that make one log at once, one has it until it ends. An empty draft of another one may stay."""
+    rivals = [program.start(log) for _ in range(4)]
+    replies = list[bytes]()
+    for rival in rivals:
+        assert rival.stdin
+        rival.stdin.write(GIVEN + b"\n" + START + b"\n")
+        rival.stdin.flush()
+    for rival in rivals:
+        assert rival.stdout
+        replies.append(rival.stdout.readline())
+    statuses = [rival.communicate() and rival.returncode for rival in rivals]
+    want("four programs", sorted(replies), sorted([STARTED, *[IN_USE.output] * 3]))
+    want("four programs: statuses", sorted(statuses), sorted([DONE, *[LOG_REFUSED] * 3]))
+    want("four programs: the log", log.read_bytes(), MADE)
+
+
+def check_draft(program: Program, log: Path) -> None:
+    """A draft that a crash left is replaced; one that another program writes is left to it."""
+    draft = log.with_name("log.new")
+    draft.write_bytes(GOOD * 2)
+    with draft.open("rb+") as file:
+        fcntl.flock(file, fcntl.LOCK_EX)
+        want("a draft that is in use", program.over(log, GIVEN + b"\n"), IN_USE)
+        want("a draft that is in use: it", (draft.read_bytes(), log.exists()), (GOOD * 2, False))
+    want("a draft that was left", program.over(log, GIVEN + b"\n"), Ended(DONE))
+    want_log("a draft that was left", log, log_of([FIRST]))
+    draft.write_bytes(b"old")
+    want("a draft beside a log", program.over(log, GIVEN + b"\n" + START + b"\n"), Ended(DONE, STARTED))
+    want("a draft beside a log: it", draft.read_bytes(), b"old")
+
+
+def check_links(program: Program, log: Path) -> None:
+    """A link is followed, and stays one. If it leads nowhere, no file is made."""
+    place = path_of(log.parent / "place")
+    log.symlink_to(place)
+    place.write_bytes(log_of([FIRST]))
+    want("a link", program.over(log, GIVEN + b"\n" + START + b"\n"), Ended(DONE, STARTED))
+    want_log("a link", place, log_of([FIRST, STARTING]))
+    want("a link: it", os.readlink(log), str(place))
+    want("a link: its folder", sorted(path.name for path in log.parent.iterdir()), ["log", "place"])
+    place.unlink()
+    want("a link that leads nowhere", program.over(log, SCRIPT), IN_USE)
+    want("a link that leads nowhere: its folder", list(place.parent.iterdir()), [])
+
+
+def check_names(program: Program, folder: Path) -> None:
+    """Words of the command line that name a log."""
+    for number, (words, name) in enumerate(
+        [
+            (["--log", "log"], "log"),
+            (["--log=a=b"], "a=b"),
+            (["--log", "./-log"], "-log"),
+            (["--log=two words"], "two words"),
+            (["--log", "log.new"], "log.new"),
+            (["--log=\u043b\u043e\u0433"], "\u043b\u043e\u0433"),
+        ]
+    ):
+        log = path_of(folder / str(number), name)
+        want(f"script {words}", program.run(["script", *words], SCRIPT, log.parent), Ended(DONE, STARTED))
+        want_log(f"script {words}", log, MADE)
+
+
+def check_refused_words(program: Program, folder: Path) -> None:
+    """Words of the command line that name no log. Nothing is made, and no line is answered."""
+    place = path_of(folder).parent
+    words: list[list[str | bytes]] = [
+        ["script", "--log"],
+        ["script", "--log="],
+        ["script", "--log", ""],
+        ["script", "--log", "-log"],
+        ["script", "--log=-log"],
+        ["script", "--log", "-"],
+        ["script", "--log", "--log"],
+        ["script", "--log", "a", "b"],
+        ["script", "--log", "a", "--"],
+        ["script", "--log", "a", "--log", "b"],
+        ["script", "log"],
+        ["--log", "log", "script"],
+        ["run", "--log", "log"],
+        ["script", b"--log=\xff"],
+    ]
+    for these in words:
+        ended = program.run(these, SCRIPT, place)
+        want(f"{these}", (ended.status, ended.output, bool(ended.faults)), (REFUSED_WORDS, b"", True))
+        want(f"{these}: files", list(place.iterdir()), [])
+
+
+def unavailable(folder: Path) -> Iterator[tuple[str, Path]]:
+    """Names of files that cannot be opened or made."""
+    log = path_of(folder)
+    log.write_bytes(b"a file")
+    (folder / "taken.new").mkdir()
+    os.mkfifo(folder / "pipe")
+    yield "a folder", folder
+    yield "a file in no folder", folder / "none" / "log"
+    yield "a file in a file", log / "log"
+    yield "a name that is too long", folder / ("x" * 300)
+    yield "a name that is too long for its draft", folder / ("x" * 253)
+    yield "a file whose draft is a folder", folder / "taken"
+    yield "a pipe", folder / "pipe"
+
+
+def check_unavailable(program: Program, folder: Path) -> None:
+    """A file that cannot be opened or made. A fault of the catalogue comes first."""
+    for name, log in unavailable(folder):
+        before = sorted(folder.iterdir())
+        want(name, program.over(log, SCRIPT), FAILED)
+        want(f"{name}, with no catalogue", program.over(log, b"\n" + SCRIPT), NOT_JSON)
+        want(f"{name}: files", sorted(folder.iterdir()), before)
+
+
+@contextmanager
+def permission(path: Path, mode: int) -> Iterator[None]:
+    """A file or a folder with other permissions for a time."""
+    before = path.stat().st_mode
+    path.chmod(mode)
+    try:
+        yield
+    finally:
+        path.chmod(before)
+
+
+def check_permissions(program: Program, folder: Path) -> None:
+    """A file that may not be read or written, and a folder in which none may be made. Root may do all of it."""
+    if os.geteuid() == 0:
+        return
+    log = path_of(folder)
+    log.write_bytes(GOOD)
+    for mode in (0o000, 0o200, 0o400):
+        with permission(log, mode):
+            want(f"a log of mode {mode:o}", program.over(log, SCRIPT), FAILED)
+        want_log(f"a log of mode {mode:o}", log, GOOD)
+    with permission(folder, 0o500):
+        want("a folder that is closed", program.over(folder / "other", SCRIPT), FAILED)
+    want_log("a folder that is closed", log, GOOD)
+
+
+def check_files(program: Program, folder: Path) -> None:
+    """All of this page."""
+    check_in_use(program, path_of(folder / "in-use"))
+    check_locked(program, path_of(folder / "locked"))
+    check_rivals(program, path_of(folder / "rivals"))
+    check_draft(program, path_of(folder / "draft"))
+    check_links(program, path_of(folder / "link"))
+    check_names(program, folder / "names")
+    check_refused_words(program, folder / "words")
+    check_unavailable(program, folder / "unavailable")
+    check_permissions(program, folder / "permissions")

@@ -1,0 +1,84 @@
+"""Tests of the reader of logs by which tools/try_a_log.py tries the program. The gate runs them ahead of all proofs.
+
+    python3 tools/test_log_file.py
+"""
+
+from __future__ import annotations
+
+import unittest
+
+from check_pages import blocks_in
+from log_trial.log_file import Record, Refused, log_of, opened, read
+from repository import ROOT
+
+PAGE = ROOT / "docs" / "DURABILITY.md"
+
+
+def example() -> bytes:
+    """The log that the page shows."""
+    (lines,) = [block.lines for block in blocks_in(PAGE.name, PAGE.read_text()) if block.lines[0] == "bctlog1"]
+    return "\n".join(lines).encode()
+
+
+def outcome(file: bytes) -> list[Record] | str:
+    """The records of a file, or the name of its fault."""
+    try:
+        return read(file).records
+    except Refused as refused:
+        return refused.line.decode().split('"fault":"')[1].split('"')[0]
+
+
+class ReadTheExample(unittest.TestCase):
+    """The log of docs/DURABILITY.md."""
+
+    def test_its_records_make_its_bytes(self) -> None:
+        contents = read(example())
+        self.assertEqual([record.mark for record in contents.records], [b"c", b"o", b"o", b"c", b"o"])
+        self.assertEqual(log_of(contents.records), example())
+        self.assertEqual(contents.after, example())
+
+    def test_one_flipped_bit_loses_nothing(self) -> None:
+        records = read(example()).records
+        for bit in range(8 * len(example())):
+            changed = bytearray(example())
+            changed[bit // 8] ^= 1 << bit % 8
+            self.assertIn(outcome(bytes(changed)), [records, "LogForeign", "LogLater", "LogDamaged"], bit)
+
+    def test_a_cut_leaves_a_beginning(self) -> None:
+        records = read(example()).records
+        beginnings = [records[:count] for count in range(len(records) + 1)]
+        for cut in range(len(example())):
+            self.assertIn(outcome(example()[:cut]), [*beginnings, "LogForeign", "LogDamaged"], cut)
+
+    def test_two_digits_of_a_gate_end_the_log(self) -> None:
+        self.assertEqual(outcome(example().replace(b"111 o", b"100 o", 1)), read(example()).records[:1])
+        self.assertEqual(outcome(example().replace(b"111 o", b"101 o", 1)), read(example()).records)
+
+
+class OpenWithACatalogue(unittest.TestCase):
+    """A log of the catalogue with one job, and what comes of it."""
+
+    ONE, TWO = b'{"jobs":[{"id":"a"}]}', b'{"jobs":[{"id":"a"},{"id":"b"}]}'
+    LOG = log_of([Record(b"c", ONE)])
+
+    def test_the_same_is_taken(self) -> None:
+        self.assertEqual(opened(self.LOG, b' {"jobs": [{"id": "a"}]}'), self.LOG)
+
+    def test_more_jobs_are_added(self) -> None:
+        self.assertEqual(opened(self.LOG, self.TWO), log_of([Record(b"c", self.ONE), Record(b"c", self.TWO)]))
+
+    def test_others_are_refused(self) -> None:
+        for given, line in [
+            (b'{"jobs":[]}', b'{"fault":"LogOtherCatalogue","job":0}\n'),
+            (b'{"jobs":[{"id":"b"},{"id":"a"}]}', b'{"fault":"LogOtherCatalogue","job":0}\n'),
+        ]:
+            with self.assertRaises(Refused) as refused:
+                opened(self.LOG, given)
+            self.assertEqual(refused.exception.line, line)
+
+    def test_the_end_is_repaired(self) -> None:
+        self.assertEqual(opened(self.LOG[:-3] + b"010 111", self.ONE), self.LOG)
+
+
+if __name__ == "__main__":
+    unittest.main()
