@@ -42,7 +42,11 @@ from job_host.settings import find_batchctl  # noqa: E402
 
 CLIENTS, WORKERS, SLOTS = 8, 4, 2
 TAKEOVER, LEASE = 1.0, 3.0
+# So many of its job executions a client leaves unfinished: else they would only grow in number, and few could be restarted.
+MOST_OPEN = 8
+# So long nothing may end before job executions count as hanging.
 QUIET_SECONDS = 120.0
+UNFINISHED = {"STARTING", "STARTED", "STOPPING"}
 COUNTED = """#!/bin/sh
 echo "$BATCH_WORK" >> begun
 sleep "0.$((BATCH_WORK % 4))"
@@ -132,6 +136,7 @@ class SoakClient:
         self._ending = ending
         self._least = 0
         self._known: list[int] = []
+        self._open: list[int] = []
         self._calls: list[tuple[str, str, Any, str, Answer]] = []
 
     async def run(self) -> None:
@@ -144,21 +149,37 @@ class SoakClient:
         return self._chance.choices(acts, [4, 4, 2, 1, 1])[0]
 
     async def _start(self) -> None:
+        if not await self._has_room():
+            return
         job = self._chance.choice(["one", "three", "wide"])
         body = {"jobName": job, "jobParameters": {"night": str(self._chance.randrange(9))}}
         answer = await self._call(
             "start", "POST", "/batch/jobinstances", body, {"job": job, "parameters": body["jobParameters"]}
         )
         if answer.status == 201:
-            self._known.append(answer.told["executionId"])
+            self._begun(answer.told["executionId"])
 
     async def _restart(self) -> None:
-        if self._known:
+        if self._known and await self._has_room():
             execution = self._chance.choice(self._known)
             path = f"/batch/jobexecutions/{execution}?action=restart"
             answer = await self._call("restart", "PUT", path, None, {"execution": execution})
             if answer.status == 200:
-                self._known.append(answer.told["executionId"])
+                self._begun(answer.told["executionId"])
+
+    def _begun(self, execution: int) -> None:
+        self._known.append(execution)
+        self._open.append(execution)
+
+    async def _has_room(self) -> bool:
+        """Whether the client may have one more unfinished job execution. If it has too many, it looks at the oldest."""
+        if len(self._open) < MOST_OPEN:
+            return True
+        answer = await self._read_execution(self._open[0])
+        if answer.told.get("batchStatus") in UNFINISHED:
+            return False
+        self._open.pop(0)
+        return True
 
     async def _stop(self) -> None:
         if self._known:
@@ -182,11 +203,14 @@ class SoakClient:
                 raise Wrong(f"{self._name}, {key}: first {before}, then {answer}")
 
     async def _read(self) -> None:
-        execution = self._chance.choice(self._known) if self._known else 1
+        await self._read_execution(self._chance.choice(self._known) if self._known else 1)
+
+    async def _read_execution(self, execution: int) -> Answer:
         least = self._least
         answer = await self._until_answered("GET", f"/batch/jobexecutions/{execution}?atLeast={least}", None, None)
         self._seen.reads.append(Read(self._name, execution, answer.status, answer.told, answer.operations or 0, least))
         self._least = max(self._least, answer.operations or 0)
+        return answer
 
     async def _until_answered(self, method: str, path: str, body: Any, key: str | None) -> Answer:
         while True:
@@ -288,18 +312,21 @@ def operations_of_log(parts: Parts) -> list[Operation]:
 
 
 async def until_quiet(parts: Parts) -> None:
-    """Waits until no job execution is unfinished."""
-    deadline = time.monotonic() + QUIET_SECONDS
-    while time.monotonic() < deadline:
+    """Waits until no job execution is unfinished, as long as their number changes."""
+    before: dict[str, int] = {}
+    changed = time.monotonic()
+    while time.monotonic() < changed + QUIET_SECONDS:
         for service in parts.services:
             try:
                 counts = (await Caller(service.url).ask("GET", "/batch/jobs")).told["statusCounts"]
             except (aiohttp.ClientError, KeyError, OSError):
                 continue
-            if not counts.keys() & {"STARTING", "STARTED", "STOPPING"}:
+            if not counts.keys() & UNFINISHED:
                 return
+            if counts != before:
+                before, changed = counts, time.monotonic()
         await asyncio.sleep(0.5)
-    raise Wrong(f"job executions are unfinished after {QUIET_SECONDS:g} seconds: {counts}")
+    raise Wrong(f"no job execution ended for {QUIET_SECONDS:g} seconds, and some are unfinished: {before}")
 
 
 async def soak(parts: Parts, kills: int, seed: int, most_seconds: float) -> None:
