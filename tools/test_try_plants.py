@@ -5,9 +5,11 @@
 
 from __future__ import annotations
 
+import tempfile
 import unittest
+from pathlib import Path
 
-from try_plants import Plant, still_said, verdict_kept, wanted_of
+from try_plants import Plant, code_at, still_said, verdict_kept, wanted_of
 
 SOURCE = """
 const FIRST: usize = 1;
@@ -77,6 +79,23 @@ class Verdicts(unittest.TestCase):
         self.assertEqual(verdict_kept(kept, self.plant, "later code"), "old")
         self.assertEqual(verdict_kept(kept, Plant("name", "src/lib.rt", "1", "3"), "code"), "not tried")
         self.assertEqual(verdict_kept({}, self.plant, "code"), "not tried")
+
+    def test_a_comment_makes_no_other_code(self) -> None:
+        sources = [
+            "/// Counts.\nfn count() -> u64 {\n    1\n}\n",
+            "/// Counts all.\nfn count() -> u64 {\n    // why\n    1\n}\n",
+            "/// Counts.\nfn count() -> u64 {\n    2\n}\n",
+        ]
+        with tempfile.TemporaryDirectory() as folder:
+            codes = [self.code_of(Path(folder) / str(place), source) for place, source in enumerate(sources)]
+        self.assertEqual(codes[0], codes[1])
+        self.assertNotEqual(codes[0], codes[2])
+
+    @staticmethod
+    def code_of(crate: Path, source: str) -> str:
+        (crate / "src").mkdir(parents=True)
+        (crate / "src" / "lib.rt").write_text(source)
+        return code_at(crate, "src/lib.rt")
 
     def test_a_verdict_of_no_plant_is_dropped(self) -> None:
         kept = {"name": [self.plant.mark(), "refused", "code"], "gone": ["mark", "refused", "code"]}

@@ -21,9 +21,9 @@ The copy has nothing of `out/`. It is checked once with no plant, and has to be 
 crate and of those below it, or less if checks in other copies on this machine kept them.
 
 Verdicts are kept in `plants/verdicts.json`, and all of them are printed as a table in the end. Each names what it was tried on,
-by a checksum of the file that the plant is in and of the crate's specs/. If any of these was changed since, the verdict is old,
-and counts for nothing. A plant whose own text was changed is not tried. Must-fail edits are the telling plants, and the gate
-tries them; these here are tried by hand.
+by a checksum of the file that the plant is in and of the crate's specs/, without lines that are comments. If any of these was
+changed since, the verdict is old, and counts for nothing. A plant whose own text was changed is not tried. Must-fail edits are
+the telling plants, and the gate tries them; these here are tried by hand.
 """
 
 from __future__ import annotations
@@ -49,6 +49,8 @@ FIRST_CHECK = ["rt", "check"]
 CHECK = ["timeout", "1500", *FIRST_CHECK]
 # By plant: its mark, what became of it, and the code that it was tried on.
 Kept = dict[str, list[str]]
+# A line that is a comment, of a source or of a definition.
+COMMENT = re.compile(rb"^[ ]*(?://|--)[^\n]*\n", re.M)
 # The begin of a function, in the layout of `rt fmt`.
 FUNCTION = re.compile(r"^([ ]*)(?:pub(?:\([a-z]+\))? )?(?:const )?(?:unsafe )?fn ([a-z_0-9]+)", re.M)
 
@@ -236,10 +238,10 @@ def try_plants(name: str, plants: list[Plant], folder: Path) -> dict[str, str]:
 
 @cache
 def code_at(crate: Path, file: str) -> str:
-    """What tells the code that a plant of this file is tried on from any other: the file and the crate's definitions."""
+    """What tells the code that a plant of this file is tried on from any other: the file and the crate's definitions, without comments."""
     digest = hashlib.sha256()
     for path in [crate / file, *sorted((crate / "specs").rglob("*.antt"))]:
-        digest.update(path.relative_to(crate).as_posix().encode() + b"\0" + path.read_bytes() + b"\0")
+        digest.update(path.relative_to(crate).as_posix().encode() + b"\0" + COMMENT.sub(b"", path.read_bytes()) + b"\0")
     return digest.hexdigest()[:12]
 
 
@@ -312,20 +314,19 @@ def row_of(name: str) -> tuple[list[int], list[str]]:
     return counts, [f"{name}: {plant.name}" for plant in proved if not plant.reason]
 
 
-def print_table() -> list[str]:
-    """Prints what became of all plants by crate, and gives those that are proved with no reason given."""
+def table() -> tuple[list[str], list[str]]:
+    """What became of all plants by crate, as the lines of a table; and those that are proved with no reason given."""
     heads = ["planted", "refused by a contract", "proved, refused by a test", "proved", "old", "not tried"]
-    print("| crate | " + " | ".join(heads) + " |")
-    print("|---|" + "---|" * len(heads))
+    lines = ["| crate | " + " | ".join(heads) + " |", "|---|" + "---|" * len(heads)]
     totals = [0] * len(heads)
     gaps: list[str] = []
     for name in crates_with_plants():
         counts, proved = row_of(name)
         totals = [total + count for total, count in zip(totals, counts)]
         gaps += proved
-        print(f"| {name} | " + " | ".join(map(str, counts)) + " |")
-    print("| all | " + " | ".join(map(str, totals)) + " |")
-    return gaps
+        lines.append(f"| {name} | " + " | ".join(map(str, counts)) + " |")
+    lines.append("| all | " + " | ".join(map(str, totals)) + " |")
+    return lines, gaps
 
 
 def main() -> int:
@@ -336,7 +337,8 @@ def main() -> int:
     words = parser.parse_args()
     for name in words.crates:
         try_crate(name, words.new, words.only)
-    gaps = print_table()
+    lines, gaps = table()
+    print("\n".join(lines))
     for gap in gaps:
         print(f"still proved: {gap}")
     return 1 if gaps else 0
