@@ -1,14 +1,24 @@
-"""Prints, as a table, what the repository has by crate: lines, public functions, must-fail edits and tests.
+"""Prints what the repository has by crate: lines, public functions, must-fail edits and tests. Checks the page that has it.
 
-    python3 tools/counts.py
+    python3 tools/counts.py            prints the table
+    python3 tools/counts.py --check    compares docs/TESTING.md's tables of crates and of plants with the repository
+    python3 tools/counts.py --write    puts both tables into the page
 """
 
 from __future__ import annotations
 
+import argparse
 import re
+import sys
 from pathlib import Path
 
 from repository import ROOT, uses_by_crate
+from try_plants import table as table_of_plants
+
+PAGE = ROOT / "docs" / "TESTING.md"
+LINES = ["code", "specs", "proofs"]
+# The page has no lines: they change with each commit.
+COUNTED = ["public functions", "must-fail edits", "tests"]
 
 
 def lines_of(folder: Path, ending: str) -> int:
@@ -24,29 +34,62 @@ def count_of(folder: Path, pattern: str) -> int:
     return sum(len(re.findall(pattern, path.read_text(), re.M)) for path in folder.rglob("*.rt"))
 
 
-def row(name: str) -> list[int]:
+def row(name: str) -> dict[str, int]:
     crate = ROOT / "crates" / name
-    return [
-        lines_of(crate / "src", ".rt"),
-        lines_of(crate / "specs", ".antt"),
-        lines_of(crate / "proofs", ".antt"),
-        count_of(crate / "src", r"^\s*pub (?:const )?fn "),
-        len(list((crate / "must-fail").glob("*.edit"))),
-        count_of(crate / "src", r"^\s*#\[test\]"),
-    ]
+    return {
+        "code": lines_of(crate / "src", ".rt"),
+        "specs": lines_of(crate / "specs", ".antt"),
+        "proofs": lines_of(crate / "proofs", ".antt"),
+        "public functions": count_of(crate / "src", r"^\s*pub (?:const )?fn "),
+        "must-fail edits": len(list((crate / "must-fail").glob("*.edit"))),
+        "tests": count_of(crate / "src", r"^\s*#\[test\]"),
+    }
 
 
-def main() -> None:
-    heads = ["code", "specs", "proofs", "public functions", "must-fail edits", "tests"]
-    print("| crate | " + " | ".join(heads) + " |")
-    print("|---|" + "---|" * len(heads))
-    totals = [0] * len(heads)
-    for name in uses_by_crate():
-        counts = row(name)
-        totals = [total + count for total, count in zip(totals, counts)]
-        print(f"| {name} | " + " | ".join(map(str, counts)) + " |")
-    print("| all | " + " | ".join(map(str, totals)) + " |")
+def table_of_crates(heads: list[str]) -> list[str]:
+    lines = ["| crate | " + " | ".join(heads) + " |", "|---|" + "---|" * len(heads)]
+    rows = {name: [row(name)[head] for head in heads] for name in uses_by_crate()}
+    rows["all"] = [sum(column) for column in zip(*rows.values())]
+    return lines + [f"| {name} | " + " | ".join(map(str, counts)) + " |" for name, counts in rows.items()]
+
+
+def table_in(page: list[str], head: str) -> tuple[int, int]:
+    """Where the table with this head begins in the page, and the place behind its end."""
+    if head not in page:
+        return len(page), len(page)
+    begin = page.index(head)
+    end = next((at for at in range(begin, len(page)) if not page[at].startswith("|")), len(page))
+    return begin, end
+
+
+def other_lines(page: list[str], wanted: list[str]) -> list[str]:
+    """The lines of a table that the page has otherwise, or lacks; and those that it has too many."""
+    begin, end = table_in(page, wanted[0])
+    has = page[begin:end]
+    return [line for line in wanted if line not in has] + [line for line in has if line not in wanted]
+
+
+def main() -> int:
+    parser = argparse.ArgumentParser(description=(__doc__ or "").splitlines()[0])
+    parser.add_argument("--check", action="store_true", help="compare the page's tables")
+    parser.add_argument("--write", action="store_true", help="put the tables into the page")
+    words = parser.parse_args()
+    tables = [table_of_crates(COUNTED), table_of_plants()[0]]
+    page = PAGE.read_text().splitlines()
+    if words.check:
+        other = [line for wanted in tables for line in other_lines(page, wanted)]
+        for line in other:
+            print(f"{PAGE.relative_to(ROOT)}: otherwise: {line}")
+        return 1 if other else 0
+    if words.write:
+        for wanted in tables:
+            begin, end = table_in(page, wanted[0])
+            page[begin:end] = wanted
+        PAGE.write_text("\n".join(page) + "\n")
+        return 0
+    print("\n".join(table_of_crates(LINES + COUNTED)))
+    return 0
 
 
 if __name__ == "__main__":
-    main()
+    sys.exit(main())

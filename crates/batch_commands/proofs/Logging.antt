@@ -3,10 +3,9 @@ use Rattle.std.proofs.Common.{inl, inr, ℕ, List, Result, Ok, Err, ap}
 use Rattle.log_host.specs.Host.{Outcomes, LeavesOnly}
 use Rattle.log_host.specs.Past.{Past}
 use Rattle.durable_log.specs.Format.{LogRecord}
-use Rattle.durable_log.specs.declared.log.Log.{Log}
 use Rattle.script_lines.specs.Device.{Told}
 use Rattle.script_lines.specs.Unread.{Unread}
-use Rattle.logged_script.specs.Faults.{HasFailed, IsOpeningFault}
+use Rattle.logged_script.specs.Faults.{HasFailedSince, HasFailed, IsOpeningFault}
 use Rattle.logged_script.specs.Logged.{IsAnsweredOver, IsLoggedOutcome}
 use Rattle.logged_script.specs.declared.opening.OpeningFault.{OpeningFault}
 use Rattle.logged_script.specs.declared.opening.OpeningFault.TheVariants as openings
@@ -33,14 +32,17 @@ module _ {D : Type 0} (past : D → Past) where
   pub leaves_by : (old new : D) (P : Outcomes) → LeavesOnly moment_by left_by old new P → LeavesOnly moment_of left_since (past old) (past new) P
   leaves_by old new P leaves = record { later = leaves.later; each = leaves.each; before = leaves.before }
 
-  failed_by : (old new : D) → HasFailed moment_by faults_by old new → HasFailed moment_of faults_of (past old) (past new)
-  failed_by old new (inl (middle, later, more)) = inl (past middle, later, more)
-  failed_by old new (inr (log, is, full)) = inr (record { host = past log.host; end = log.end; waiting = log.waiting }, ap past is, full)
+  since_by : (old new : D) → HasFailedSince moment_by faults_by old new → HasFailedSince moment_of faults_of (past old) (past new)
+  since_by old new (middle, later, more) = (past middle, later, more)
 
-  opening_by : (file line heard : List ℕ) (old new : D) (fault : OpeningFault) → IsOpeningFault moment_by left_by faults_by file line heard old new fault
-      → IsOpeningFault moment_of left_since faults_of file line heard (past old) (past new) fault
+  failed_by : (records : List LogRecord) (old new : D) → HasFailed seen_by moment_by faults_by records old new → HasFailed seen_of moment_of faults_of records (past old) (past new)
+  failed_by records old new (inl failed) = inl (since_by old new failed)
+  failed_by records old new (inr full) = inr full
+
+  opening_by : (file line heard : List ℕ) (old new : D) (fault : OpeningFault) → IsOpeningFault seen_by moment_by left_by faults_by file line heard old new fault
+      → IsOpeningFault seen_of moment_of left_since faults_of file line heard (past old) (past new) fault
   opening_by file line heard old new (openings.Refused fault) why = (why.0, ap past why.1)
-  opening_by file line heard old new openings.Failed why = (leaves_by old new _ why.0, failed_by old new why.1)
+  opening_by file line heard old new openings.Failed why = (leaves_by old new _ why.0, failed_by _ old new why.1)
   opening_by file line heard old new openings.OutOfMemory (inl same) = inl (ap past same)
   opening_by file line heard old new openings.OutOfMemory (inr leaves) = inr (leaves_by old new _ leaves)
 
@@ -49,8 +51,9 @@ module _ {D : Type 0} (past : D → Past) where
   over_by records r r' p p' old new (Ok done) over = over
   over_by records r r' p p' old new (Err (logged.Refused fault)) over = absurd over
   over_by records r r' p p' old new (Err logged.Read) over = over
-  over_by records r r' p p' old new (Err logged.Write) (middle, later, more) = (past middle, later, more)
-  over_by records r r' p p' old new (Err logged.Log) over = failed_by old new over
+  over_by records r r' p p' old new (Err logged.Write) failed = since_by old new failed
+  over_by records r r' p p' old new (Err logged.Log) (inl failed) = inl (since_by old new failed)
+  over_by records r r' p p' old new (Err logged.Log) (inr full) = inr full
   over_by records r r' p p' old new (Err logged.OutOfMemory) over = over
 
   pub outcome_by : (file line : List ℕ) (r r' : Told) (p p' : Unread) (old new : D) (result : Result Unit LoggedFault)

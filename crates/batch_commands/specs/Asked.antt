@@ -27,7 +27,7 @@ IsLogName name = (first : ℕ) × (rest : List ℕ) × (name ≡ first ∷ rest)
 abbrev pub NamesLog : List ℕ → List (List ℕ) → Type 0
 NamesLog name words = (words ≡ (codes "--log=" ++ name) ∷ []) ⊎ (words ≡ codes "--log" ∷ name ∷ [])
 
--- a script is asked for by one word, or with a log,, a run by its first word, with 1 to 16 workers by its options
+-- a script is asked for by one word, or with a log, a run by its first word, with 1 to 16 workers by its options
 abbrev pub IsAsked : Arguments → List (List ℕ) → Type 0
 IsAsked Script words = words ≡ codes "script" ∷ []
 IsAsked (LoggedScript log) words = IsLogName log.now × ((rest : List (List ℕ)) × (words ≡ codes "script" ∷ rest) × NamesLog log.now rest)

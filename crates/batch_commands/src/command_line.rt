@@ -212,7 +212,7 @@ fn bare_command<'a>(alloc: Global) -> Result<Command<'a>, AllocError>
     Ok(
         named
             .about(ABOUT)
-            .version("0.1.0")
+            .version("1.0.0-rc.1")
             .no_binary_name(true)
             .subcommand_required(true)
             .arg_required_else_help(true),

@@ -10,3 +10,4 @@ pub mod Found
 pub mod One
 pub mod Damages
 pub mod NewLogs
+pub mod Sums

@@ -15,8 +15,40 @@ pub struct Sums {
     ghost high_small: { high < 65521 },
 }
 
-// The sums with more bytes.
-fn add(sums: Sums, bytes: &[u8]) -> Sums
+// The sums with eight bytes more, by one division each.
+fn add_eight(sums: Sums, bytes: [u8; 8]) -> Sums
+    ensures { (rest : List ℕ) → check_from result.low result.high rest ≡ check_from sums.low sums.high (bytes ++ rest) }
+{
+    let one = sums.low + bytes[0] as u32;
+    let two = one + bytes[1] as u32;
+    let three = two + bytes[2] as u32;
+    let four = three + bytes[3] as u32;
+    let five = four + bytes[4] as u32;
+    let six = five + bytes[5] as u32;
+    let seven = six + bytes[6] as u32;
+    let eight = seven + bytes[7] as u32;
+    Sums {
+        low: eight % 65521,
+        high: (sums.high + one + two + three + four + five + six + seven + eight) % 65521,
+    }
+}
+
+// The sums with more bytes, by eights, and the bytes that are left.
+fn add_eights(sums: Sums, bytes: &[u8]) -> (Sums, &[u8])
+    ensures { (rest : List ℕ) → check_from result.0.low result.0.high (result.1.now ++ rest)
+        ≡ check_from sums.low sums.high (bytes.now ++ rest) }
+{
+    let mut now = sums;
+    let mut left = bytes;
+    while let [a, b, c, d, e, f, g, h, rest @ ..] = left {
+        now = add_eight(now, [*a, *b, *c, *d, *e, *f, *g, *h]);
+        left = rest;
+    }
+    (now, left)
+}
+
+// The sums with more bytes, one after another.
+fn add_each(sums: Sums, bytes: &[u8]) -> Sums
     ensures { (rest : List ℕ) → check_from result.low result.high rest ≡ check_from sums.low sums.high (bytes.now ++ rest) }
 {
     let mut low = sums.low;
@@ -26,6 +58,14 @@ fn add(sums: Sums, bytes: &[u8]) -> Sums
         high = (high + low) % 65521;
     }
     Sums { low, high }
+}
+
+// The sums with more bytes.
+fn add(sums: Sums, bytes: &[u8]) -> Sums
+    ensures { (rest : List ℕ) → check_from result.low result.high rest ≡ check_from sums.low sums.high (bytes.now ++ rest) }
+{
+    let (begun, left) = add_eights(sums, bytes);
+    add_each(begun, left)
 }
 
 /// The check of bytes: Adler-32 (RFC 1950).

@@ -1,14 +1,14 @@
 -- A log that is opened, and what a crash leaves meanwhile.
-use Rattle.std.proofs.Common.{◌≡◌, ◌∙◌, inl, inr, ℕ, ◌<◌, ◌≤◌, ◌^◌, Bool, true, false, List, [], ◌∷◌, ◌++◌, length, map, Result, Ok, Err, refl, sym, ap, subst, arith}
+use Rattle.std.proofs.Common.{◌≡◌, ◌∙◌, inl, inr, ℕ, ◌<◌, ◌≤◌, ◌^◌, ◌+◌, Bool, true, false, List, [], ◌∷◌, ◌++◌, length, map, Result, Ok, Err, refl, sym, ap, subst, arith}
+use Rattle.std.proofs.lemmas.List.{length-append}
 use Rattle.std.specs.Prelude.{box_value}
 use Rattle.jsl_model.specs.Jobs.{JobTree}
 use Rattle.log_host.specs.Host.{Outcomes, LeavesOnly}
-use Rattle.durable_log.specs.Format.{LogRecord}
+use Rattle.durable_log.specs.Format.{LogRecord, shut}
 use Rattle.durable_log.specs.Files.{StandsFor, opening}
-use Rattle.durable_log.specs.Logs.{records_of, BeforeOrAfter, Same, IsDamagedAt}
+use Rattle.durable_log.specs.Logs.{records_of, waiting_in, behind_gate, BeforeOrAfter, Same, IsDamagedAt}
 use Rattle.durable_log.specs.Shown.{HasFault}
 use Rattle.durable_log.specs.declared.log.Log.{Log}
-use Rattle.durable_log.specs.declared.log.CommitFault.{CommitFault}
 use Rattle.durable_log.specs.declared.log.CommitFault.TheVariants as commits
 use Rattle.durable_log.specs.declared.reading.ReadFault.{ReadFault}
 use Rattle.durable_log.specs.declared.reading.ReadFault.TheVariants as reads
@@ -16,14 +16,14 @@ use Rattle.durable_log.proofs.Moments.{weaker, then_leaves}
 use Rattle.script_engine.specs.Script.{begin, catalogue_at, history_past}
 use Rattle.script_engine.specs.Standing.{Stands}
 use Rattle.script_log.specs.Runs.{catalogue_record, last_catalogue, kept_lines, history_of}
-use Rattle.script_log.specs.Faults.{HasAppendFault, HasFailed as HasCommitFailed}
+use Rattle.script_log.specs.Faults.{IsFull, HasAppendFault}
 use Rattle.script_log.specs.Openings.{IsOtherReply, IsRefusal, replayed}
 use Rattle.script_log.specs.declared.fault.AppendFault.{AppendFault}
 use Rattle.script_log.specs.declared.fault.AppendFault.TheVariants as appends
 use Rattle.script_log.specs.declared.opening.OpenFault.{OpenFault}
 use Rattle.script_log.specs.declared.opening.OpenFault.TheVariants as opens
 use Rattle.logged_script.specs.Histories.{Answers, is_kept, reply_at, jobs_read}
-use Rattle.logged_script.specs.Faults.{HasFailed, IsAddingFault, IsGrowthFault, IsNoScriptLog, IsOpeningFault, IsOtherJob}
+use Rattle.logged_script.specs.Faults.{HasFailedSince, IsFullWith, HasFailed, IsAddingFault, IsGrowthFault, IsNoScriptLog, IsOpeningFault, IsOtherJob}
 use Rattle.logged_script.specs.Openings.{GoesOnFrom, fault_of_read, fault_of_open, fault_of_append}
 use Rattle.logged_script.specs.declared.engine.ScriptEngine.{ScriptEngine}
 use Rattle.logged_script.specs.declared.fault.LogFault.{LogFault}
@@ -37,7 +37,19 @@ stands-same engine records line (kept, given, is_kept_catalogue, is_given, same)
     let jobs : jobs_read (catalogue_at line) ≡ jobs_read (catalogue_at (last_catalogue [] records)) = ap jobs_read is_given ∙ same ∙ sym (ap jobs_read is_kept_catalogue) in
     subst (λ (jobs : List JobTree). Stands (box_value engine.repository) (history_past (begin jobs) (kept_lines records))) jobs stands
 
-module _ {D : Type 0} (moment : D → ℕ) (left_since : D → ℕ → Outcomes) (counts : D → ℕ) (line heard : List ℕ) where
+-- a failure since a moment is one since an earlier moment
+pub failed-since : {D : Type 0} (moment counts : D → ℕ) (old mid new : D) → moment old ≤ moment mid → HasFailedSince moment counts mid new → HasFailedSince moment counts old new
+failed-since moment counts old mid new later (middle, behind, more) = (middle, omega (arith, later, behind), more)
+
+-- the file of a log that is full
+pub full-file : {D : Type 0} (seen heard : D → List ℕ) (may_leave : D → Outcomes) (records : List LogRecord) (log : Log D) → IsFull seen heard may_leave records log → IsFullWith records (seen log.host)
+full-file seen heard may_leave records log full =
+    let rest = full.settled.rest in
+    let file : length (seen log.host) ≡ length rest.base + length shut = ap length rest.split ∙ length-append rest.base shut in
+    let waits : length log.waiting.items ≡ length (behind_gate (waiting_in log)) = ap length full.settled.waits in
+    (waiting_in log, full.records_are, omega (arith, full.size, rest.place, file, waits))
+
+module _ {D : Type 0} (seen : D → List ℕ) (moment : D → ℕ) (left_since : D → ℕ → Outcomes) (counts : D → ℕ) (line heard : List ℕ) where
   -- the records stayed, so they or those with the catalogue are left
   pub same-or-more : (old new : D) (records : List LogRecord) → LeavesOnly moment left_since old new (Same records heard)
       → LeavesOnly moment left_since old new (BeforeOrAfter records (catalogue_record line ∷ []) heard)
@@ -51,34 +63,32 @@ module _ {D : Type 0} (moment : D → ℕ) (left_since : D → ℕ → Outcomes)
   opened-then old mid new records first second =
       then_leaves moment left_since old mid new (BeforeOrAfter records (catalogue_record line ∷ []) heard) (same-or-more old mid records first) second
 
-  failed-since : (old mid new : D) → moment old ≤ moment mid → HasFailed moment counts mid new → HasFailed moment counts old new
-  failed-since old mid new later (inl (middle, behind, more)) = inl (middle, omega (arith, later, behind), more)
-  failed-since old mid new later (inr full) = inr full
+  failed-later : (old mid new : D) (records : List LogRecord) → moment old ≤ moment mid → HasFailed seen moment counts records mid new → HasFailed seen moment counts records old new
+  failed-later old mid new records later (inl failed) = inl (failed-since moment counts old mid new later failed)
+  failed-later old mid new records later (inr full) = inr full
 
   -- the log was opened, and the catalogue not added
   pub not-added : (old mid new : D) (file : List ℕ) (records : List LogRecord) (fault : OpeningFault) → records ≡ records_of file → LeavesOnly moment left_since old mid (Same records heard)
-      → IsAddingFault moment left_since counts records line heard mid new fault → IsOpeningFault moment left_since counts file line heard old new fault
+      → IsAddingFault seen moment left_since counts records line heard mid new fault → IsOpeningFault seen moment left_since counts file line heard old new fault
   not-added old mid new file records (Refused fault) is first why = absurd why
-  not-added old mid new file records Failed is first why = (
-    subst (λ (rs : List LogRecord). LeavesOnly moment left_since old new (BeforeOrAfter rs (catalogue_record line ∷ []) heard)) is (opened-then old mid new records first why.0),
-    failed-since old mid new first.later why.1,
-  )
+  not-added old mid new file records Failed is first why =
+      subst (λ (rs : List LogRecord). LeavesOnly moment left_since old new (BeforeOrAfter rs (catalogue_record line ∷ []) heard) × HasFailed seen moment counts (rs ++ catalogue_record line ∷ []) old new) is
+      (opened-then old mid new records first why.0, failed-later old mid new (records ++ catalogue_record line ∷ []) first.later why.1)
   not-added old mid new file records OutOfMemory is first why =
       inr (subst (λ (rs : List LogRecord). LeavesOnly moment left_since old new (BeforeOrAfter rs (catalogue_record line ∷ []) heard)) is (opened-then old mid new records first why))
 
   -- why the catalogue was not added
-  adding-by : (old new : Log D) (fault : CommitFault) → HasCommitFailed counts old new fault → HasFailed moment counts old.host new.host
-  adding-by old new commits.Failed more = inl (old.host, omega arith, more)
-  adding-by old new commits.Full full = inr (new, refl, full)
-
-  pub adding-fault : (old new : Log D) (records : List LogRecord) (fault : AppendFault) → LeavesOnly moment left_since old.host new.host (BeforeOrAfter records (catalogue_record line ∷ []) heard)
-      → HasAppendFault counts old new fault → IsAddingFault moment left_since counts records line heard old.host new.host (fault_of_append fault)
-  adding-fault old new records (appends.Log fault) leaves why = (leaves, adding-by old new fault why)
-  adding-fault old new records appends.OutOfMemory leaves why = leaves
+  pub adding-fault : (hears : D → List ℕ) (may_leave : D → Outcomes) (old new : Log D) (fault : AppendFault)
+      → LeavesOnly moment left_since old.host new.host (BeforeOrAfter (records_of (seen old.host)) (catalogue_record line ∷ []) heard)
+      → HasAppendFault seen hears may_leave counts old new (catalogue_record line) fault
+      → IsAddingFault seen moment left_since counts (records_of (seen old.host)) line heard old.host new.host (fault_of_append fault)
+  adding-fault hears may_leave old new (appends.Log commits.Failed) leaves why = (leaves, inl (old.host, omega arith, why))
+  adding-fault hears may_leave old new (appends.Log commits.Full) leaves why = (leaves, inr (full-file seen hears may_leave (records_of (seen old.host) ++ catalogue_record line ∷ []) new why))
+  adding-fault hears may_leave old new appends.OutOfMemory leaves why = leaves
 
   -- the lines were not answered again
   pub not-answered : (old new : D) (file : List ℕ) (records : List LogRecord) (fault : OpenFault) → records ≡ records_of file
-      → IsRefusal moment left_since counts is_kept reply_at line records heard old new fault → IsOpeningFault moment left_since counts file line heard old new (fault_of_open fault)
+      → IsRefusal moment left_since counts is_kept reply_at line records heard old new fault → IsOpeningFault seen moment left_since counts file line heard old new (fault_of_open fault)
   not-answered old new file records (opens.OtherReply number) is why = (subst (λ (rs : List LogRecord). IsOtherReply is_kept reply_at line rs number) is why.0, why.1)
   not-answered old new file records opens.OutOfMemory is why = inl why
   not-answered old new file records opens.Failed is why = (
@@ -87,7 +97,7 @@ module _ {D : Type 0} (moment : D → ℕ) (left_since : D → ℕ → Outcomes)
   )
 
   -- the file is no log
-  pub not-read : (host : D) (file : List ℕ) (fault : ReadFault) → HasFault file fault → IsOpeningFault moment left_since counts file line heard host host (fault_of_read fault)
+  pub not-read : (host : D) (file : List ℕ) (fault : ReadFault) → HasFault file fault → IsOpeningFault seen moment left_since counts file line heard host host (fault_of_read fault)
   not-read host file reads.Foreign is = (inl is, refl)
   not-read host file reads.Later is = (is, refl)
   not-read host file (reads.Damaged number byte) is = (is, refl)
@@ -95,7 +105,7 @@ module _ {D : Type 0} (moment : D → ℕ) (left_since : D → ℕ → Outcomes)
 
   -- its catalogue is another one
   pub not-grown : (host : D) (file : List ℕ) (records : List LogRecord) (given : List JobTree) (fault : OpeningFault) → records ≡ records_of file → catalogue_at line ≡ Ok given
-      → IsGrowthFault records given fault → IsOpeningFault moment left_since counts file line heard host host fault
+      → IsGrowthFault records given fault → IsOpeningFault seen moment left_since counts file line heard host host fault
   not-grown host file records given (Refused InUse) is catalogue why = absurd why
   not-grown host file records given (Refused Foreign) is catalogue why = (inr (subst IsNoScriptLog is why), refl)
   not-grown host file records given (Refused Later) is catalogue why = absurd why
@@ -114,10 +124,10 @@ module _ {D : Type 0} (moment : D → ℕ) (left_since : D → ℕ → Outcomes)
       (subst (λ (rs : List LogRecord). LeavesOnly moment left_since mid new (BeforeOrAfter rs (catalogue_record line ∷ []) heard)) is
       (subst (λ (h : List ℕ). LeavesOnly moment left_since mid new (BeforeOrAfter there (catalogue_record line ∷ []) h)) same second)))
 
-module _ {D : Type 0} (moment : D → ℕ) (left_since : D → ℕ → Outcomes) (counts : D → ℕ) (line heard : List ℕ) where
+module _ {D : Type 0} (seen : D → List ℕ) (moment : D → ℕ) (left_since : D → ℕ → Outcomes) (counts : D → ℕ) (line heard : List ℕ) where
   pub not-added-over : (old mid new : D) (file : List ℕ) (records there : List LogRecord) (now : List ℕ) (fault : OpeningFault) → there ≡ records → now ≡ heard → records_of file ≡ records
-      → LeavesOnly moment left_since old mid (Same records heard) → IsAddingFault moment left_since counts there line now mid new fault → IsOpeningFault moment left_since counts file line heard old new fault
+      → LeavesOnly moment left_since old mid (Same records heard) → IsAddingFault seen moment left_since counts there line now mid new fault → IsOpeningFault seen moment left_since counts file line heard old new fault
   not-added-over old mid new file records there now fault is same at first why =
-      not-added moment left_since counts line heard old mid new file records fault (sym at) first
-      (subst (λ (rs : List LogRecord). IsAddingFault moment left_since counts rs line heard mid new fault) is
-      (subst (λ (h : List ℕ). IsAddingFault moment left_since counts there line h mid new fault) same why))
+      not-added seen moment left_since counts line heard old mid new file records fault (sym at) first
+      (subst (λ (rs : List LogRecord). IsAddingFault seen moment left_since counts rs line heard mid new fault) is
+      (subst (λ (h : List ℕ). IsAddingFault seen moment left_since counts there line h mid new fault) same why))

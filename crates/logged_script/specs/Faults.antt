@@ -6,8 +6,7 @@ use Rattle.catalogue_growth.specs.Growth.{IsGrown, IsFirstOther}
 use Rattle.log_host.specs.Host.{Outcomes, LeavesOnly}
 use Rattle.durable_log.specs.Format.{LogRecord}
 use Rattle.durable_log.specs.Files.{opening, Foreign as ForeignFile, Later as LaterFile}
-use Rattle.durable_log.specs.Logs.{records_of, BeforeOrAfter, IsDamagedAt}
-use Rattle.durable_log.specs.declared.log.Log.{Log}
+use Rattle.durable_log.specs.Logs.{records_of, behind_gate, BeforeOrAfter, IsDamagedAt}
 use Rattle.script_engine.specs.Script.{catalogue_at}
 use Rattle.script_log.specs.Runs.{catalogue_record, last_catalogue}
 use Rattle.script_log.specs.Catalogues.{BeginsWithCatalogue}
@@ -62,23 +61,31 @@ HasLogFault file line (Damaged number byte) = IsDamagedAt file number byte
 HasLogFault file line (OtherCatalogue job) = (given : List JobTree) × (catalogue_at line ≡ Ok given) × IsOtherJob (records_of file) given job
 HasLogFault file line (OtherReply number) = IsOtherReply is_kept reply_at line (records_of file) number
 
--- the host failed at some time since, or the file is full
-abbrev pub HasFailed : {D : Type 0} (moment counts : D → ℕ) → D → D → Type 0
-HasFailed {D} moment counts old new =
-    ((middle : D) × (moment old ≤ moment middle) × (counts middle < counts new))
-    ⊎ ((log : Log D) × (log.host ≡ new) × (2 ^ 62 ≤ log.end + length log.waiting.items))
+-- the host failed at some time since
+abbrev pub HasFailedSince : {D : Type 0} (moment counts : D → ℕ) → D → D → Type 0
+HasFailedSince {D} moment counts old new = (middle : D) × (moment old ≤ moment middle) × (counts middle < counts new)
+
+-- THE FILE IS FULL: these are its records with others that wait, and if those were written, it would have 2^62 bytes or more
+abbrev pub IsFullWith : List LogRecord → List ℕ → Type 0
+IsFullWith records file = (waits : List LogRecord) × (records_of file ++ waits ≡ records) × (2 ^ 62 ≤ length file + length (behind_gate waits))
+
+-- the host failed at some time since, or the file is full with these records
+abbrev pub HasFailed : {D : Type 0} (seen : D → List ℕ) (moment counts : D → ℕ) → List LogRecord → D → D → Type 0
+HasFailed seen moment counts records old new = HasFailedSince moment counts old new ⊎ IsFullWith records (seen new)
 
 -- why a log was not opened: nothing was written; or a crash leaves its records, or those and the given catalogue
-abbrev pub IsOpeningFault : {D : Type 0} (moment : D → ℕ) (left_since : D → ℕ → Outcomes) (counts : D → ℕ) (file line heard : List ℕ) (old new : D) → OpeningFault → Type 0
-IsOpeningFault moment left_since counts file line heard old new (Refused fault) = HasLogFault file line fault × (new ≡ old)
-IsOpeningFault moment left_since counts file line heard old new Failed =
-    LeavesOnly moment left_since old new (BeforeOrAfter (records_of file) (catalogue_record line ∷ []) heard) × HasFailed moment counts old new
-IsOpeningFault moment left_since counts file line heard old new OutOfMemory =
+abbrev pub IsOpeningFault : {D : Type 0} (seen : D → List ℕ) (moment : D → ℕ) (left_since : D → ℕ → Outcomes) (counts : D → ℕ) (file line heard : List ℕ) (old new : D) → OpeningFault → Type 0
+IsOpeningFault seen moment left_since counts file line heard old new (Refused fault) = HasLogFault file line fault × (new ≡ old)
+IsOpeningFault seen moment left_since counts file line heard old new Failed =
+    LeavesOnly moment left_since old new (BeforeOrAfter (records_of file) (catalogue_record line ∷ []) heard)
+    × HasFailed seen moment counts (records_of file ++ catalogue_record line ∷ []) old new
+IsOpeningFault seen moment left_since counts file line heard old new OutOfMemory =
     (new ≡ old) ⊎ LeavesOnly moment left_since old new (BeforeOrAfter (records_of file) (catalogue_record line ∷ []) heard)
 
 -- why the given catalogue was not added: a crash leaves the records, or those and the given catalogue
-abbrev pub IsAddingFault : {D : Type 0} (moment : D → ℕ) (left_since : D → ℕ → Outcomes) (counts : D → ℕ) (records : List LogRecord) (line heard : List ℕ) (old new : D) → OpeningFault → Type 0
-IsAddingFault moment left_since counts records line heard old new (Refused fault) = ⊥
-IsAddingFault moment left_since counts records line heard old new Failed =
-    LeavesOnly moment left_since old new (BeforeOrAfter records (catalogue_record line ∷ []) heard) × HasFailed moment counts old new
-IsAddingFault moment left_since counts records line heard old new OutOfMemory = LeavesOnly moment left_since old new (BeforeOrAfter records (catalogue_record line ∷ []) heard)
+abbrev pub IsAddingFault : {D : Type 0} (seen : D → List ℕ) (moment : D → ℕ) (left_since : D → ℕ → Outcomes) (counts : D → ℕ) (records : List LogRecord) (line heard : List ℕ) (old new : D) → OpeningFault → Type 0
+IsAddingFault seen moment left_since counts records line heard old new (Refused fault) = ⊥
+IsAddingFault seen moment left_since counts records line heard old new Failed =
+    LeavesOnly moment left_since old new (BeforeOrAfter records (catalogue_record line ∷ []) heard)
+    × HasFailed seen moment counts (records ++ catalogue_record line ∷ []) old new
+IsAddingFault seen moment left_since counts records line heard old new OutOfMemory = LeavesOnly moment left_since old new (BeforeOrAfter records (catalogue_record line ∷ []) heard)

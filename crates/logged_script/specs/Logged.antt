@@ -6,12 +6,13 @@ use Rattle.durable_log.specs.Logs.{records_of}
 use Rattle.script_lines.specs.Device.{Told}
 use Rattle.script_lines.specs.Unread.{Unread}
 use Rattle.script_lines.specs.Lines.{HasEnded, lines_since}
+use Rattle.script_log.specs.Runs.{records_of_lines, history_of}
 use Rattle.script_log.specs.Covered.{Covered}
 use Rattle.script_log.specs.Outcomes.{AreAnswered}
 use Rattle.script_log.specs.declared.fault.RunFault.{RunFault}
 use Rattle.script_log.specs.declared.fault.RunFault.TheVariants as runs
 use Rattle.logged_script.specs.Histories.{is_kept, reply_at}
-use Rattle.logged_script.specs.Faults.{IsOpeningFault, HasFailed}
+use Rattle.logged_script.specs.Faults.{IsOpeningFault, HasFailedSince, IsFullWith}
 use Rattle.logged_script.specs.Openings.{IsBegun}
 use Rattle.logged_script.specs.declared.opening.OpeningFault.{OpeningFault}
 use Rattle.logged_script.specs.declared.opening.OpeningFault.TheVariants as openings
@@ -45,9 +46,10 @@ Leaves file line lines heard c o = ((c ≡ file) × (o ≡ heard))
 abbrev pub HasReadFault : Told → Told → Unread → Type 0
 HasReadFault r r' p' = (r'.failures ≡ r.failures + 1) ⊎ ((r'.failures ≡ r.failures) × (p'.reads_left ≡ 0))
 
--- the listener failed at some time since
-abbrev pub HasListenerFailed : {D : Type 0} (moment counts : D → ℕ) → D → D → Type 0
-HasListenerFailed {D} moment counts old new = (middle : D) × (moment old ≤ moment middle) × (counts middle < counts new)
+-- the file is full with these records, and those of the first of the lines behind them
+abbrev pub IsFullBy : List LogRecord → List (List ℕ) → List ℕ → Type 0
+IsFullBy records lines file = (done : List (List ℕ)) × (others : List (List ℕ)) × (done ++ others ≡ lines)
+    × IsFullWith (records ++ records_of_lines is_kept reply_at (history_of records) done) file
 
 -- what was answered over these records, by how the run ended
 abbrev pub IsAnsweredOver : {D : Type 0} (seen heard : D → List ℕ) (moment counts : D → ℕ) (records : List LogRecord) (r r' : Told) (p p' : Unread) (old new : D) → Result Unit LoggedFault → Type 0
@@ -58,8 +60,9 @@ IsAnsweredOver seen heard moment counts records r r' p p' old new (Err (Refused 
 -- all complete lines
 IsAnsweredOver seen heard moment counts records r r' p p' old new (Err Read) =
     AreAnswered is_kept reply_at records (lines_since r r' p) (heard old) (records_of (seen new)) (heard new) × HasReadFault r r' p'
-IsAnsweredOver seen heard moment counts records r r' p p' old new (Err Write) = HasListenerFailed moment counts old new
-IsAnsweredOver seen heard moment counts records r r' p p' old new (Err Log) = HasFailed moment counts old new
+IsAnsweredOver seen heard moment counts records r r' p p' old new (Err Write) = HasFailedSince moment counts old new
+IsAnsweredOver seen heard moment counts records r r' p p' old new (Err Log) =
+    HasFailedSince moment counts old new ⊎ IsFullBy records (lines_since r r' p) (seen new)
 -- the first lines
 IsAnsweredOver seen heard moment counts records r r' p p' old new (Err OutOfMemory) =
     (done : List (List ℕ)) × (others : List (List ℕ)) × (done ++ others ≡ lines_since r r' p) × AreAnswered is_kept reply_at records done (heard old) (records_of (seen new)) (heard new)
@@ -68,5 +71,5 @@ IsAnsweredOver seen heard moment counts records r r' p p' old new (Err OutOfMemo
 -- and the given catalogue, if it has grown
 abbrev pub IsLoggedOutcome : {D : Type 0} (seen heard : D → List ℕ) (moment : D → ℕ) (left_since : D → ℕ → Outcomes) (counts : D → ℕ) (file line : List ℕ) (r r' : Told) (p p' : Unread) (old new : D) → Result Unit LoggedFault → Type 0
 IsLoggedOutcome seen heard moment left_since counts file line r r' p p' old new result =
-    ((fault : OpeningFault) × (result ≡ Err (fault_of_opening fault)) × IsOpeningFault moment left_since counts file line (heard old) old new fault × (r' ≡ r) × (p' ≡ p))
+    ((fault : OpeningFault) × (result ≡ Err (fault_of_opening fault)) × IsOpeningFault seen moment left_since counts file line (heard old) old new fault × (r' ≡ r) × (p' ≡ p))
     ⊎ ((begun : List LogRecord) × IsBegun (records_of file) line begun × IsAnsweredOver seen heard moment counts begun r r' p p' old new result)

@@ -101,7 +101,7 @@ fn with_catalogue<H: Host>(
     ensures heard { IfOk result (λ opened. H.heard opened.log.host ≡ H.heard log.host) }
     ensures any_moment { IfOk result (λ opened. LeavesOnly H.moment H.left_since log.host opened.log.host
         (BeforeOrAfter (records_of (H.seen log.host)) (catalogue_record line.now ∷ []) (H.heard log.host))) }
-    ensures fault { IfErr result (λ e. IsAddingFault H.moment H.left_since H.faults (records_of (H.seen log.host)) line.now (H.heard log.host) log.host e.1 e.0) }
+    ensures fault { IfErr result (λ e. IsAddingFault H.seen H.moment H.left_since H.faults (records_of (H.seen log.host)) line.now (H.heard log.host) log.host e.1 e.0) }
 {
     if !grown {
         return Ok(OpenedLog { log, engine });
@@ -132,7 +132,7 @@ fn open_records<H: Host>(
     ensures heard { IfOk result (λ opened. H.heard opened.log.host ≡ H.heard host) }
     ensures any_moment { IfOk result (λ opened. LeavesOnly H.moment H.left_since host opened.log.host
         (BeforeOrAfter (records_of (H.seen host)) (catalogue_record line.now ∷ []) (H.heard host))) }
-    ensures fault { IfErr result (λ e. IsOpeningFault H.moment H.left_since H.faults (H.seen host) line.now (H.heard host) host e.1 e.0) }
+    ensures fault { IfErr result (λ e. IsOpeningFault H.seen H.moment H.left_since H.faults (H.seen host) line.now (H.heard host) host e.1 e.0) }
 {
     match open(alloc, host, contents, &mut engine, line) {
         Ok(log) => with_catalogue(alloc, log, engine, line, grown),
@@ -169,7 +169,7 @@ pub fn open_log<H: Host>(
     ensures heard { IfOk result (λ opened. H.heard opened.log.host ≡ H.heard host) }
     ensures any_moment { IfOk result (λ opened. LeavesOnly H.moment H.left_since host opened.log.host
         (BeforeOrAfter (records_of file.now) (catalogue_record line.now ∷ []) (H.heard host))) }
-    ensures fault { IfErr result (λ e. IsOpeningFault H.moment H.left_since H.faults file.now line.now (H.heard host) host e.1 e.0) }
+    ensures fault { IfErr result (λ e. IsOpeningFault H.seen H.moment H.left_since H.faults file.now line.now (H.heard host) host e.1 e.0) }
 {
     let contents = match read_log(alloc, file) {
         Ok(contents) => contents,

@@ -1,33 +1,36 @@
 -- How a run over the lines of a reader ends, before what waits is passed on.
 use Rattle.std.proofs.Common.{◌≡◌, inl, inr, ℕ, ◌≤◌, List, [], ◌∷◌, ◌++◌, ◌||◌, Bool, true, false, nat_lt, Some, None, Ok, Err, refl, sym, ◌∙◌, ap, subst, arith}
+use Rattle.std.proofs.lemmas.Bool.{false≢true}
 use Rattle.std.proofs.lemmas.List.{append-nil}
 use Rattle.log_host.specs.Host.{Outcomes, LeavesOnly}
 use Rattle.durable_log.specs.Format.{LogRecord}
 use Rattle.durable_log.specs.Files.{StandsFor}
 use Rattle.durable_log.specs.Logs.{records_of, waiting_in, IsSettled}
 use Rattle.durable_log.specs.declared.log.Log.{Log}
+use Rattle.durable_log.specs.declared.log.CommitFault.TheVariants as commits
 use Rattle.durable_log.proofs.Moments.{begun}
 use Rattle.durable_log.proofs.Waiting.{settled-leaves}
 use Rattle.script_lines.specs.declared.line.Line.{Line}
+use Rattle.script_lines.specs.declared.line_fault.LineFault.TheVariants as line_faults
 use Rattle.script_lines.specs.Device.{Told, Tells}
 use Rattle.script_lines.specs.Cut.{lines_of}
 use Rattle.script_lines.specs.Unread.{Unread}
 use Rattle.script_lines.specs.Lines.{Shows, LineRead, LinesRead, told_since, complete_lines, lines_since}
 use Rattle.script_lines.proofs.Telling.{tells_nothing}
 use Rattle.script_lines.proofs.CutLaws.{lines_of-nil}
-use Rattle.script_lines.proofs.Following.{told_is, follow_next, follow_all, read_so_far, read_short}
+use Rattle.script_lines.proofs.Following.{told_is, follow_next, follow_so_far, follow_short, follow_all, follow_fault, read_so_far, read_short}
 use Rattle.script_log.specs.Runs.{History, after, after_all, records_of_line, history_of}
 use Rattle.script_log.specs.Covered.{Covered}
 use Rattle.script_log.specs.Passing.{Standing, standing, Passing, IsPassedOn}
 use Rattle.script_log.specs.Outcomes.{AreAnswered}
-use Rattle.script_log.specs.Faults.{line_result, is_broken, HasBroken}
+use Rattle.script_log.specs.Faults.{line_result, is_broken, all_records, IsFull, IsFullBy, HasBroken, HasCause}
 use Rattle.script_log.specs.SoFar.{RanSoFar}
 use Rattle.script_log.specs.declared.fault.RunFault.{RunFault}
 use Rattle.script_log.specs.declared.fault.RunFault.TheVariants as faults
 use Rattle.script_log.proofs.Lines.{after_all-append}
 use Rattle.script_log.proofs.Passed.{standing-same, standing-grown}
 use Rattle.script_log.proofs.Steps.{steady-none, steady-covers, steady-answered, covered-longer}
-use Rattle.script_log.proofs.Going.{Going, going-none, going-line, going-leaves, short-leaves, short-covers, short-answered, all-answered, line-answered, line-cause, broken-later, broken-cause, broken-answered, broken-unless}
+use Rattle.script_log.proofs.Going.{Going, going-none, going-line, going-leaves, short-leaves, short-covers, short-answered, all-answered, line-answered, broken-answered, broken-unless}
 
 -- nothing was told
 nothing-since : (t : Told) → told_since t t ≡ []
@@ -87,11 +90,43 @@ module _ {D E : Type 0} (seen heard : D → List ℕ) (may_leave : D → Outcome
   going-begun out running settled waits empty only =
       going-none keeps reply (records_of (seen log0.host)) (heard log0.host) moment left_since log0.host start before (standing seen heard log0 out) running refl waits refl empty (covered-begun [] settled only)
 
+  -- the file is full with the lines before
+  full-by : (now : Told) (others lines : List (List ℕ)) (p : Unread) (log new : Log D) (out : List ℕ)
+      (G : Going keeps reply (records_of (seen log0.host)) (heard log0.host) moment left_since log0.host start before now p log.host (standing seen heard log out))
+      → lines ≡ G.done ++ others → IsFull seen heard may_leave (all_records seen log) new → IsFullBy seen heard may_leave keeps reply (records_of (seen log0.host)) lines new
+  full-by now others lines p log new out G split full = (G.done, others, sym split, subst (λ (rs : List LogRecord). IsFull seen heard may_leave rs new) G.steady.records_are full)
+
+  -- why there is no next line
+  line-cause : (now next : Told) (p q : Unread) (log new : Log D) (out : List ℕ) (f : RunFault)
+      (G : Going keeps reply (records_of (seen log0.host)) (heard log0.host) moment left_since log0.host start before now p log.host (standing seen heard log out))
+      → LineRead now next p q (line_result (Err f)) → counts log0.host ≤ counts log.host → HasBroken seen heard may_leave counts log new f
+      → HasCause seen heard may_leave counts keeps reply (lines_since start next before) log0 new start next q f
+  line-cause now next p q log new out faults.Read G t later cause = (follow_fault start now next before p q G.done G.following t).1
+  line-cause now next p q log new out faults.Write G t later cause = omega (arith, later, cause)
+  line-cause now next p q log new out (faults.Log commits.Failed) G t later cause = omega (arith, later, cause)
+  line-cause now next p q log new out (faults.Log commits.Full) G t later cause =
+      let all = follow_short start now next before p q G.done (Err line_faults.Write) G.following t in
+      full-by now all.0 (lines_since start next before) p log new out G all.1 cause
+  line-cause now next p q log new out faults.OutOfMemory G t later cause = tt
+
+  -- why a reply was not passed on
+  put-cause : (now : Told) (p : Unread) (log new : Log D) (out : List ℕ) (f : RunFault)
+      (G : Going keeps reply (records_of (seen log0.host)) (heard log0.host) moment left_since log0.host start before now p log.host (standing seen heard log out))
+      → is_broken f ≡ true → counts log0.host ≤ counts log.host → HasBroken seen heard may_leave counts log new f
+      → HasCause seen heard may_leave counts keeps reply (lines_since start now before) log0 new start now p f
+  put-cause now p log new out faults.Read G broken later cause = absurd (false≢true broken)
+  put-cause now p log new out faults.Write G broken later cause = omega (arith, later, cause)
+  put-cause now p log new out (faults.Log commits.Failed) G broken later cause = omega (arith, later, cause)
+  put-cause now p log new out (faults.Log commits.Full) G broken later cause =
+      let all = follow_so_far start now before p G.done G.following in
+      full-by now all.0 (lines_since start now before) p log new out G all.1 cause
+  put-cause now p log new out faults.OutOfMemory G broken later cause = absurd (false≢true broken)
+
   -- there is no next line
   pub line-failed : (now next : Told) (p q : Unread) (log log1 : Log D) (out out1 : List ℕ) (engine : E) (f : RunFault) (G : Going keeps reply (records_of (seen log0.host)) (heard log0.host) moment left_since log0.host start before now p log.host (standing seen heard log out))
       → LineRead now next p q (line_result (Err f)) → (is_broken f ≡ false → IsPassedOn (standing seen heard log out) (standing seen heard log1 out1))
       → LeavesOnly moment left_since log.host log1.host (Passing (standing seen heard log out)) → (is_broken f ≡ false → IsSettled seen heard may_leave log1)
-      → counts log0.host ≤ counts log.host → counts log.host ≤ counts log1.host → HasBroken counts log log1 f
+      → counts log0.host ≤ counts log.host → counts log.host ≤ counts log1.host → HasBroken seen heard may_leave counts log log1 f
       → RanSoFar seen heard may_leave moment left_since counts stands keeps reply start next before q log0 log1 out1 engine (Err f)
   line-failed now next p q log log1 out out1 engine f G t on leaves settled before_it later cause =
       let records = records_of (seen log0.host) in
@@ -106,7 +141,7 @@ module _ {D E : Type 0} (seen heard : D → List ℕ) (may_leave : D → Outcome
         stands_now = tt;
         ended = tt;
         later = omega (arith, before_it, later);
-        cause = line-cause keeps reply records (heard log0.host) moment left_since log0.host start before counts log0 log log1 now next p q log.host s f G t before_it cause;
+        cause = line-cause now next p q log log1 out f G t before_it cause;
       }
 
   -- there are no more lines
@@ -159,11 +194,12 @@ module _ {D E : Type 0} (seen heard : D → List ℕ) (may_leave : D → Outcome
       }
 
   -- a reply could not be passed on
-  pub put-failed : (now : Told) (p : Unread) (log log1 : Log D) (s : Standing) (out1 : List ℕ) (engine : E) (f : RunFault) (G : Going keeps reply (records_of (seen log0.host)) (heard log0.host) moment left_since log0.host start before now p log.host s)
-      → LeavesOnly moment left_since log.host log1.host (Passing s) → is_broken f ≡ true → counts log0.host ≤ counts log.host → counts log.host ≤ counts log1.host → HasBroken counts log log1 f
+  pub put-failed : (now : Told) (p : Unread) (log log1 : Log D) (out out1 : List ℕ) (engine : E) (f : RunFault) (G : Going keeps reply (records_of (seen log0.host)) (heard log0.host) moment left_since log0.host start before now p log.host (standing seen heard log out))
+      → LeavesOnly moment left_since log.host log1.host (Passing (standing seen heard log out)) → is_broken f ≡ true → counts log0.host ≤ counts log.host → counts log.host ≤ counts log1.host → HasBroken seen heard may_leave counts log log1 f
       → RanSoFar seen heard may_leave moment left_since counts stands keeps reply start now before p log0 log1 out1 engine (Err f)
-  put-failed now p log log1 s out1 engine f G leaves broken before_it later cause =
+  put-failed now p log log1 out out1 engine f G leaves broken before_it later cause =
       let records = records_of (seen log0.host) in
+      let s = standing seen heard log out in
       record {
         read = read_so_far start now before p G.done G.following;
         any_moment = going-leaves keeps reply records (heard log0.host) moment left_since log0.host start before now p log.host log1.host s G leaves;
@@ -173,7 +209,7 @@ module _ {D E : Type 0} (seen heard : D → List ℕ) (may_leave : D → Outcome
         stands_now = tt;
         ended = tt;
         later = omega (arith, before_it, later);
-        cause = broken-cause counts log0 log1 start now p f broken (broken-later counts log0 log log1 f before_it cause);
+        cause = put-cause now p log log1 out f G broken before_it cause;
       }
 
   -- what the engine stands for after a line

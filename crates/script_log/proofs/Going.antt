@@ -1,11 +1,8 @@
 -- A run over the lines of a reader, one line after another.
-use Rattle.std.proofs.Common.{◌≡◌, ℕ, ◌≤◌, List, [], ◌∷◌, ◌++◌, Bool, true, false, Option, None, Result, Ok, Err, refl, sym, ◌∙◌, subst, arith}
+use Rattle.std.proofs.Common.{◌≡◌, ℕ, List, [], ◌∷◌, ◌++◌, Bool, true, false, Option, None, Result, Ok, Err, refl, sym, ◌∙◌, subst}
 use Rattle.std.proofs.lemmas.Bool.{false≢true}
 use Rattle.log_host.specs.Host.{Outcomes, LeavesOnly}
 use Rattle.durable_log.specs.Format.{LogRecord}
-use Rattle.durable_log.specs.declared.log.Log.{Log}
-use Rattle.durable_log.specs.declared.log.CommitFault.{CommitFault}
-use Rattle.durable_log.specs.declared.log.CommitFault.TheVariants as commits
 use Rattle.script_lines.specs.declared.line.Line.{Line}
 use Rattle.script_lines.specs.declared.line_fault.LineFault.{LineFault}
 use Rattle.script_lines.specs.declared.line_fault.LineFault.TheVariants as line_faults
@@ -17,7 +14,7 @@ use Rattle.script_log.specs.Runs.{History, after_all, records_of_line, history_o
 use Rattle.script_log.specs.Covered.{Covered}
 use Rattle.script_log.specs.Passing.{Standing, Passing, IsPassedOn}
 use Rattle.script_log.specs.Outcomes.{AreAnswered, HasAnswered}
-use Rattle.script_log.specs.Faults.{line_result, is_broken, HasFailed, HasBroken, HasCause}
+use Rattle.script_log.specs.Faults.{line_result, is_broken}
 use Rattle.script_log.specs.declared.fault.RunFault.{RunFault}
 use Rattle.script_log.specs.declared.fault.RunFault.TheVariants as faults
 use Rattle.script_log.proofs.Passed.{grown}
@@ -33,24 +30,6 @@ line-broken old new before after faults.OutOfMemory broken t = absurd (false≢t
 -- of a log that broke nothing more is said
 pub broken-unless : (P : Type 0) (f : RunFault) → is_broken f ≡ true → is_broken f ≡ false → P
 broken-unless P f broken whole = absurd (false≢true (sym whole ∙ broken))
-
--- a cause counts from an earlier moment, too
-failed-later : {D : Type 0} (counts : D → ℕ) (start old new : Log D) (f : CommitFault) → counts start.host ≤ counts old.host → HasFailed counts old new f → HasFailed counts start new f
-failed-later counts start old new commits.Failed later cause = omega (arith, later, cause)
-failed-later counts start old new commits.Full later cause = cause
-
-pub broken-later : {D : Type 0} (counts : D → ℕ) (start old new : Log D) (f : RunFault) → counts start.host ≤ counts old.host → HasBroken counts old new f → HasBroken counts start new f
-broken-later counts start old new faults.Read later cause = tt
-broken-later counts start old new faults.Write later cause = omega (arith, later, cause)
-broken-later counts start old new (faults.Log fault) later cause = failed-later counts start old new fault later cause
-broken-later counts start old new faults.OutOfMemory later cause = tt
-
--- the cause of a run that broke
-pub broken-cause : {D : Type 0} (counts : D → ℕ) (old new : Log D) (r r' : Told) (left : Unread) (f : RunFault) → is_broken f ≡ true → HasBroken counts old new f → HasCause counts old new r r' left f
-broken-cause counts old new r r' left faults.Read broken cause = absurd (false≢true broken)
-broken-cause counts old new r r' left faults.Write broken cause = cause
-broken-cause counts old new r r' left (faults.Log fault) broken cause = cause
-broken-cause counts old new r r' left faults.OutOfMemory broken cause = absurd (false≢true broken)
 
 module _ (keeps : History → List ℕ → Bool) (reply : History → List ℕ → List ℕ) (records : List LogRecord) (heard : List ℕ) where
   pub broken-answered : (lines : List (List ℕ)) (now : List LogRecord) (heard_now : List ℕ) (f : RunFault) → is_broken f ≡ true → HasAnswered keeps reply records lines heard now heard_now (Err f)
@@ -149,11 +128,3 @@ module _ (keeps : History → List ℕ → Bool) (reply : History → List ℕ �
     line-answered now next p q host s s1 faults.Write G t on = tt
     line-answered now next p q host s s1 (faults.Log fault) G t on = tt
     line-answered now next p q host s s1 faults.OutOfMemory G t on = short-answered now next p q (Err line_faults.OutOfMemory) host s s1 G t (on refl)
-
-    -- why there is no next line
-    pub line-cause : (counts : D → ℕ) (log0 log new : Log D) (now next : Told) (p q : Unread) (host : D) (s : Standing) (f : RunFault) → Going now p host s → LineRead now next p q (line_result (Err f))
-        → counts log0.host ≤ counts log.host → HasBroken counts log new f → HasCause counts log0 new start next q f
-    line-cause counts log0 log new now next p q host s faults.Read G t later cause = (follow_fault start now next before p q G.done G.following t).1
-    line-cause counts log0 log new now next p q host s faults.Write G t later cause = broken-later counts log0 log new faults.Write later cause
-    line-cause counts log0 log new now next p q host s (faults.Log fault) G t later cause = broken-later counts log0 log new (faults.Log fault) later cause
-    line-cause counts log0 log new now next p q host s faults.OutOfMemory G t later cause = tt

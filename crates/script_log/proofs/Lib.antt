@@ -3,6 +3,7 @@ pub mod Passed
 pub mod Steps
 pub mod Telling
 pub mod Replaying
+pub mod Failing
 pub mod Going
 pub mod Catalogued
 pub mod Ending

@@ -9,6 +9,11 @@ use Rattle.durable_log.specs.declared.log.Log.{Log}
 use Rattle.durable_log.proofs.Waiting.{settled-leaves}
 use Rattle.script_log.specs.Passing.{Standing, standing, Passing, AreOnDisk, IsPassedOn}
 
+-- passing on loses no record
+pub all-kept : (a b : Standing) → IsPassedOn a b → b.records ++ b.waits ≡ a.records ++ a.waits
+all-kept a b (inl same) = ap (λ (s : Standing). s.records ++ s.waits) same
+all-kept a b (inr D) = ap (λ (w : List LogRecord). b.records ++ w) D.waits ∙ append-nil b.records ∙ D.records
+
 pub passed-two : (a b c : Standing) → IsPassedOn a b → IsPassedOn b c → IsPassedOn a c
 passed-two a b c (inl e) p = subst (λ (s : Standing). IsPassedOn s c) e p
 passed-two a b c (inr D) (inl e) = inr (subst (λ (s : Standing). AreOnDisk a s) (sym e) D)
@@ -24,9 +29,8 @@ pub passing-two : (a b : Standing) (f o : List ℕ) → IsPassedOn a b → Passi
 passing-two a b f o (inl e) at = subst (λ (s : Standing). Passing s f o) e at
 passing-two a b f o (inr D) (inl at) = inr (subst (λ (r : List LogRecord). StandsFor r f) D.records at.0, (D.front, b.text, D.text, at.1 ∙ D.heard))
 passing-two a b f o (inr D) (inr at) =
-    let all : b.records ++ b.waits ≡ a.records ++ a.waits = ap (λ (w : List LogRecord). b.records ++ w) D.waits ∙ append-nil b.records ∙ D.records in
     inr (
-      subst (λ (r : List LogRecord). StandsFor r f) all at.0,
+      subst (λ (r : List LogRecord). StandsFor r f) (all-kept a b (inr D)) at.0,
       (
         D.front ++ at.1.0,
         at.1.1,

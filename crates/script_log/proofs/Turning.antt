@@ -20,8 +20,9 @@ use Rattle.script_log.specs.Faults.{line_result, is_broken, HasBroken}
 use Rattle.script_log.specs.InTurn.{LineInTurn}
 use Rattle.script_log.specs.declared.fault.RunFault.{RunFault}
 use Rattle.script_log.specs.declared.fault.RunFault.TheVariants as faults
-use Rattle.script_log.proofs.Passed.{passed-two, passing-two, settled-passing}
-use Rattle.script_log.proofs.Going.{line-broken, broken-unless, broken-later}
+use Rattle.script_log.proofs.Passed.{all-kept, passed-two, passing-two, settled-passing}
+use Rattle.script_log.proofs.Going.{line-broken, broken-unless}
+use Rattle.script_log.proofs.Failing.{broken-later}
 
 -- the reader told its end, and nothing is left
 line-ended : (old now : Told) (before mid : Unread) (grown : Line) (last : Option Line) → Growing old now before mid grown
@@ -158,7 +159,7 @@ module _ {D : Type 0} (seen heard : D → List ℕ) (may_leave : D → Outcomes)
       then_leaves moment left_since log0.host log.host log1.host (Passing s0) before (weaker moment left_since log.host log1.host (Passing s) (Passing s0) step (λ f o at. passing-two s0 s f o on at))
 
   pub turn-stopped : (start now : Told) (p q q' : Unread) (part longer : Line) (log0 log log1 : Log D) (out0 out out1 : List ℕ) (f : RunFault) → Turning start now p q part log0 log out0 out → IsAtHand part q q' (given.Part longer)
-      → LeavesOnly moment left_since log.host log1.host (Passing (standing seen heard log out)) → counts log.host ≤ counts log1.host → is_broken f ≡ true → HasBroken counts log log1 f
+      → LeavesOnly moment left_since log.host log1.host (Passing (standing seen heard log out)) → counts log.host ≤ counts log1.host → is_broken f ≡ true → HasBroken seen heard may_leave counts log log1 f
       → LineInTurn seen heard may_leave moment left_since counts start now p q' log0 log1 out0 out1 (Err f)
   turn-stopped start now p q q' part longer log0 log log1 out0 out out1 f T t leaves later broken cause = record {
     line = subst (λ (u : Unread). LineRead start now p u (line_result (Err f))) (sym t.1) (line-broken start now p (emptied q) f broken (line-stopped start now p q part T.growing t.0));
@@ -166,7 +167,7 @@ module _ {D : Type 0} (seen heard : D → List ℕ) (may_leave : D → Outcomes)
     passed_on = broken-unless _ f broken;
     any_moment = leaves-two log0 log log1 out0 out T.passed_on T.any_moment leaves;
     later = omega (arith, T.later, later);
-    cause = broken-later counts log0 log log1 f T.later cause;
+    cause = broken-later seen heard may_leave counts log0 log log1 f T.later (all-kept (standing seen heard log0 out0) (standing seen heard log out) T.passed_on) cause;
   }
 
   pub turn-failed : (start now next : Told) (p q q1 q' : Unread) (part longer : Line) (log0 log log1 : Log D) (out0 out out1 : List ℕ) (e : LineFault) → Turning start now p q part log0 log out0 out → IsAtHand part q q1 (given.Part longer)

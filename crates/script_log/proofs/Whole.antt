@@ -1,5 +1,5 @@
 -- How a run ends, once what waits was passed on.
-use Rattle.std.proofs.Common.{◌≡◌, ℕ, List, [], ◌++◌, Bool, true, false, Result, Ok, Err, OnOk, refl, sym, ◌∙◌, ap, subst}
+use Rattle.std.proofs.Common.{◌≡◌, ℕ, List, [], ◌++◌, Bool, true, false, Result, Ok, Err, OnOk, refl, sym, ◌∙◌, ap, subst, arith}
 use Rattle.std.specs.Prelude.{IfErr}
 use Rattle.std.proofs.lemmas.Bool.{false≢true}
 use Rattle.std.proofs.lemmas.List.{append-nil}
@@ -7,6 +7,7 @@ use Rattle.log_host.specs.Host.{Outcomes, LeavesOnly}
 use Rattle.durable_log.specs.Format.{LogRecord}
 use Rattle.durable_log.specs.Logs.{records_of, waiting_in, IsSettled}
 use Rattle.durable_log.specs.declared.log.Log.{Log}
+use Rattle.durable_log.specs.declared.log.CommitFault.TheVariants as commits
 use Rattle.durable_log.proofs.Moments.{weaker, then_leaves}
 use Rattle.script_lines.specs.Device.{Told}
 use Rattle.script_lines.specs.Unread.{Unread}
@@ -15,13 +16,13 @@ use Rattle.script_log.specs.Runs.{History, after_all, history_of}
 use Rattle.script_log.specs.Covered.{Covered}
 use Rattle.script_log.specs.Passing.{standing, Passing}
 use Rattle.script_log.specs.Outcomes.{HasAnswered}
-use Rattle.script_log.specs.Faults.{is_broken, has_broken, UnlessBroken, HasBroken, HasCause}
+use Rattle.script_log.specs.Faults.{is_broken, has_broken, UnlessBroken, IsFull, IsFullBy, HasBroken, HasCause}
 use Rattle.script_log.specs.SoFar.{RanSoFar}
 use Rattle.script_log.specs.Ran.{Ran}
 use Rattle.script_log.specs.declared.fault.RunFault.{RunFault}
 use Rattle.script_log.specs.declared.fault.RunFault.TheVariants as faults
 use Rattle.script_log.proofs.Lines.{history-after}
-use Rattle.script_log.proofs.Going.{broken-later, broken-cause, broken-answered, broken-unless}
+use Rattle.script_log.proofs.Going.{broken-answered, broken-unless}
 use Rattle.script_log.proofs.Ending.{none-read}
 
 unless-whole : (P : Type 0) (result : Result Unit RunFault) → has_broken result ≡ false → UnlessBroken result P → P
@@ -40,17 +41,38 @@ ok-broken : (P : Type 0) (result : Result Unit RunFault) → has_broken result �
 ok-broken P (Ok u) broken = absurd (false≢true broken)
 ok-broken P (Err f) broken = tt
 
-cause-by : {D : Type 0} (counts : D → ℕ) (log mid log1 : Log D) (r r' : Told) (p : Unread) (f : RunFault) → is_broken f ≡ false → HasCause counts log mid r r' p f → HasCause counts log log1 r r' p f
-cause-by counts log mid log1 r r' p faults.Read whole cause = cause
-cause-by counts log mid log1 r r' p faults.Write whole cause = absurd (false≢true (sym whole))
-cause-by counts log mid log1 r r' p (faults.Log fault) whole cause = absurd (false≢true (sym whole))
-cause-by counts log mid log1 r r' p faults.OutOfMemory whole cause = tt
-
-cause-whole : {D : Type 0} (counts : D → ℕ) (log mid log1 : Log D) (r r' : Told) (p : Unread) (result : Result Unit RunFault) → has_broken result ≡ false → IfErr result (HasCause counts log mid r r' p) → IfErr result (HasCause counts log log1 r r' p)
-cause-whole counts log mid log1 r r' p (Ok u) whole cause = tt
-cause-whole counts log mid log1 r r' p (Err f) whole cause = cause-by counts log mid log1 r r' p f whole cause
-
 module _ {D E : Type 0} (seen heard : D → List ℕ) (may_leave : D → Outcomes) (moment : D → ℕ) (left_since : D → ℕ → Outcomes) (counts : D → ℕ) (stands : E → History → Type 0) (keeps : History → List ℕ → Bool) (reply : History → List ℕ → List ℕ) (r r' : Told) (p p' : Unread) (log : Log D) where
+  cause-by : (lines : List (List ℕ)) (mid log1 : Log D) (f : RunFault) → is_broken f ≡ false → HasCause seen heard may_leave counts keeps reply lines log mid r r' p' f → HasCause seen heard may_leave counts keeps reply lines log log1 r r' p' f
+  cause-by lines mid log1 faults.Read whole cause = cause
+  cause-by lines mid log1 faults.Write whole cause = absurd (false≢true (sym whole))
+  cause-by lines mid log1 (faults.Log fault) whole cause = absurd (false≢true (sym whole))
+  cause-by lines mid log1 faults.OutOfMemory whole cause = tt
+
+  cause-whole : (lines : List (List ℕ)) (mid log1 : Log D) (result : Result Unit RunFault) → has_broken result ≡ false
+      → IfErr result (HasCause seen heard may_leave counts keeps reply lines log mid r r' p') → IfErr result (HasCause seen heard may_leave counts keeps reply lines log log1 r r' p')
+  cause-whole lines mid log1 (Ok u) whole cause = tt
+  cause-whole lines mid log1 (Err f) whole cause = cause-by lines mid log1 f whole cause
+
+  -- the file is full with the lines that were answered
+  full-whole : (lines : List (List ℕ)) (now : List LogRecord) (heard_now : List ℕ) (log1 : Log D) (result : Result Unit RunFault) → has_broken result ≡ false
+      → HasAnswered keeps reply (records_of (seen log.host)) lines (heard log.host) now heard_now result → IsFull seen heard may_leave now log1
+      → IsFullBy seen heard may_leave keeps reply (records_of (seen log.host)) lines log1
+  full-whole lines now heard_now log1 (Ok u) whole answered full = (lines, [], append-nil lines, subst (λ (rs : List LogRecord). IsFull seen heard may_leave rs log1) answered.records_are full)
+  full-whole lines now heard_now log1 (Err faults.Read) whole answered full = (lines, [], append-nil lines, subst (λ (rs : List LogRecord). IsFull seen heard may_leave rs log1) answered.records_are full)
+  full-whole lines now heard_now log1 (Err faults.Write) whole answered full = absurd (false≢true (sym whole))
+  full-whole lines now heard_now log1 (Err (faults.Log fault)) whole answered full = absurd (false≢true (sym whole))
+  full-whole lines now heard_now log1 (Err faults.OutOfMemory) whole (done, others, split, answered) full =
+      (done, others, split, subst (λ (rs : List LogRecord). IsFull seen heard may_leave rs log1) answered.records_are full)
+
+  -- why what waits could not be passed on
+  stopped-cause : (mid log1 : Log D) (out : List ℕ) (engine : E) (result : Result Unit RunFault) (f : RunFault) → RanSoFar seen heard may_leave moment left_since counts stands keeps reply r r' p p' log mid out engine result → has_broken result ≡ false
+      → is_broken f ≡ true → HasBroken seen heard may_leave counts mid log1 f → HasCause seen heard may_leave counts keeps reply (lines_since r r' p) log log1 r r' p' f
+  stopped-cause mid log1 out engine result faults.Read R whole broken cause = absurd (false≢true broken)
+  stopped-cause mid log1 out engine result faults.Write R whole broken cause = omega (arith, R.later, cause)
+  stopped-cause mid log1 out engine result (faults.Log commits.Failed) R whole broken cause = omega (arith, R.later, cause)
+  stopped-cause mid log1 out engine result (faults.Log commits.Full) R whole broken cause = full-whole (lines_since r r' p) _ _ log1 result whole R.answered cause
+  stopped-cause mid log1 out engine result faults.OutOfMemory R whole broken cause = absurd (false≢true broken)
+
   answered-broken : (lines : List (List ℕ)) (now : List LogRecord) (heard_now : List ℕ) (result : Result Unit RunFault) → has_broken result ≡ true → HasAnswered keeps reply (records_of (seen log.host)) lines (heard log.host) now heard_now result
   answered-broken lines now heard_now (Ok u) broken = absurd (false≢true broken)
   answered-broken lines now heard_now (Err f) broken = broken-answered keeps reply (records_of (seen log.host)) (heard log.host) lines now heard_now f broken
@@ -68,15 +90,15 @@ module _ {D E : Type 0} (seen heard : D → List ℕ) (may_leave : D → Outcome
   }
 
   -- what waits could not be passed on
-  pub ran-stopped : (mid log1 : Log D) (out : List ℕ) (engine : E) (result : Result Unit RunFault) (f : RunFault) → RanSoFar seen heard may_leave moment left_since counts stands keeps reply r r' p p' log mid out engine result
-      → is_broken f ≡ true → HasBroken counts mid log1 f → Ran seen heard may_leave counts stands keeps reply r r' p p' log log1 engine (Err f)
-  ran-stopped mid log1 out engine result f R broken cause = record {
+  pub ran-stopped : (mid log1 : Log D) (out : List ℕ) (engine : E) (result : Result Unit RunFault) (f : RunFault) → RanSoFar seen heard may_leave moment left_since counts stands keeps reply r r' p p' log mid out engine result → has_broken result ≡ false
+      → is_broken f ≡ true → HasBroken seen heard may_leave counts mid log1 f → Ran seen heard may_leave counts stands keeps reply r r' p p' log log1 engine (Err f)
+  ran-stopped mid log1 out engine result f R whole broken cause = record {
     read = R.read;
     answered = answered-broken (lines_since r r' p) _ _ (Err f) broken;
     settled = broken-unless _ f broken;
     ended = tt;
     stands_now = tt;
-    cause = broken-cause counts log log1 r r' p' f broken (broken-later counts log mid log1 f R.later cause);
+    cause = stopped-cause mid log1 out engine result f R whole broken cause;
   }
 
   -- each moment, while what waits is passed on
@@ -112,7 +134,7 @@ module _ {D E : Type 0} (seen heard : D → List ℕ) (may_leave : D → Outcome
         settled = unless-then _ result (settled, none);
         ended = R.ended;
         stands_now = stands-whole (lines_since r r' p) (records_of (seen log1.host)) (heard log1.host) engine result answered R.stands_now;
-        cause = cause-whole counts log mid log1 r r' p' result whole R.cause;
+        cause = cause-whole (lines_since r r' p) mid log1 result whole R.cause;
       }
 
 -- memory was refused before the first line

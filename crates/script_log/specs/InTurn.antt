@@ -18,4 +18,4 @@ pub record LineInTurn {D : Type 0} (seen heard : D → List ℕ) (may_leave : D 
   pub passed_on : UnlessBroken result (IsPassedOn (standing seen heard log out) (standing seen heard log' out'))
   pub any_moment : LeavesOnly moment left_since log.host log'.host (Passing (standing seen heard log out))
   pub later : counts log.host ≤ counts log'.host
-  pub cause : IfErr result (HasBroken counts log log')
+  pub cause : IfErr result (HasBroken seen heard may_leave counts log log')

@@ -23,4 +23,4 @@ pub record Ran {D E : Type 0} (seen heard : D → List ℕ) (may_leave : D → O
   pub ended : OnOk result ((p.ended ≡ true) ⊎ HasEnded r r')
   pub stands_now : OnOk result (stands engine (history_of (records_of (seen log'.host))))
   -- a fault has a cause
-  pub cause : IfErr result (HasCause counts log log' r r' p')
+  pub cause : IfErr result (HasCause seen heard may_leave counts keeps reply (lines_since r r' p) log log' r r' p')

@@ -23,4 +23,4 @@ pub record RanSoFar {D E : Type 0} (seen heard : D → List ℕ) (may_leave : D 
   pub stands_now : OnOk result (stands engine (after_all keeps (history_of (records_of (seen log.host))) (lines_since r r' p)))
   pub ended : OnOk result ((p.ended ≡ true) ⊎ HasEnded r r')
   pub later : counts log.host ≤ counts log'.host
-  pub cause : IfErr result (HasCause counts log log' r r' p')
+  pub cause : IfErr result (HasCause seen heard may_leave counts keeps reply (lines_since r r' p) log log' r r' p')

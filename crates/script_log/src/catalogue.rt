@@ -69,7 +69,7 @@ pub fn append_catalogue<H: Host>(
     ensures heard { H.heard log.new.host ≡ H.heard log.old.host }
     ensures any_moment { LeavesOnly H.moment H.left_since log.old.host log.new.host
         (BeforeOrAfter (records_of (H.seen log.old.host)) (catalogue_record text.now ∷ []) (H.heard log.old.host)) }
-    ensures cause { IfErr result (HasAppendFault H.faults log.old log.new) }
+    ensures cause { IfErr result (HasAppendFault H.seen H.heard H.may_leave H.faults log.old log.new (catalogue_record text.now)) }
 {
     let entry = Record {
         mark: CATALOGUE_MARK,

@@ -54,7 +54,7 @@ pub(crate) fn commit_and_tell<H: Host>(
         (Passing (standing H.seen H.heard log.old output.old)) }
     ensures later { H.faults log.old.host ≤ H.faults log.new.host }
     ensures broken { IfErr result (λ fault. is_broken fault ≡ true) }
-    ensures cause { IfErr result (HasBroken H.faults log.old log.new) }
+    ensures cause { IfErr result (HasBroken H.seen H.heard H.may_leave H.faults log.old log.new) }
 {
     if let Err(fault) = log.commit() {
         return Err(RunFault::Log(fault));
@@ -77,7 +77,7 @@ pub(crate) fn put_reply<H: Host>(
         (Passing (standing H.seen H.heard log.old (output.old ++ text.now))) }
     ensures later { H.faults log.old.host ≤ H.faults log.new.host }
     ensures broken { IfErr result (λ fault. is_broken fault ≡ true) }
-    ensures cause { IfErr result (HasBroken H.faults log.old log.new) }
+    ensures cause { IfErr result (HasBroken H.seen H.heard H.may_leave H.faults log.old log.new) }
 {
     if text.len() <= output.room() {
         output.append(text);

@@ -250,7 +250,7 @@ fn helps<R: Threads + Wait + AllocGlobal + Files<File = File> + Sync>(rt: &R) ->
 #[test]
 fn help_goes_to_the_writer(rt: HostRuntime) {
     assert!(rt; helps(&rt));
-    assert!(rt; writes(&rt, &["--version"], SCRIPT, 0, "batchctl 0.1.0\n"));
+    assert!(rt; writes(&rt, &["--version"], SCRIPT, 0, "batchctl 1.0.0-rc.1\n"));
 }
 
 /// Command lines, and what they ask for.

@@ -15,4 +15,4 @@ returns-then-not-grown-clause-any_moment g c =
 pub returns-in-Err-clause-fault : goal.returns-in-Err-clause-fault
 returns-in-Err-clause-fault g c =
     let log = c.args.log in
-    rw (c.unadded.ensures, c.into_host.ensures) (adding-fault g.H.Host.moment g.H.Host.left_since g.H.Host.faults c.args.line.now (g.H.Host.heard log.host) log c.append_catalogue.new.log (records_of (g.H.Host.seen log.host)) c.in-Err.fault c.append_catalogue.ensures.any_moment c.in-Err.ensures.cause)
+    rw (c.unadded.ensures, c.into_host.ensures) (adding-fault g.H.Host.seen g.H.Host.moment g.H.Host.left_since g.H.Host.faults c.args.line.now (g.H.Host.heard log.host) g.H.Host.heard g.H.Host.may_leave log c.append_catalogue.new.log c.in-Err.fault c.append_catalogue.ensures.any_moment c.in-Err.ensures.cause)

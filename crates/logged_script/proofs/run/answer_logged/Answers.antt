@@ -1,4 +1,4 @@
-use Rattle.std.proofs.Common.{◌∙◌, ◌∷◌, [], List, ℕ, inl, inr, subst}
+use Rattle.std.proofs.Common.{◌∙◌, ◌∷◌, [], List, ℕ, Err, inl, inr, refl, ap, subst}
 use Rattle.log_host.specs.Host.{LeavesOnly}
 use Rattle.durable_log.specs.Logs.{records_of, BeforeOrAfter}
 use Rattle.durable_log.proofs.Moments.{begun}
@@ -40,5 +40,11 @@ returns-in-Err-clause-any_moment g c =
     let lines = lines_since (g.S.Source.tape c.args.source.now) (g.S.Source.tape c.args.source.now) c.args.input.now in
     let here = begun g.H.Host.moment g.H.Host.left_since host (Leaves c.args.file.items line lines heard)
     (λ file o left. let only = c.requires.durable file o (g.met.H.Host.only_now host file o left) in inl (only.0 ∙ c.requires.seen, only.1)) in
-    let why = subst (λ (file : List ℕ). IsOpeningFault g.H.Host.moment g.H.Host.left_since g.H.Host.faults file line heard host c.in-Err.host c.in-Err.fault) c.deref.ensures.value c.in-Err.ensures.fault in
-    fault-leaves g.H.Host.moment g.H.Host.left_since c.args.file.items line lines heard g.H.Host.faults host c.in-Err.host c.in-Err.fault here why
+    let why = subst (λ (file : List ℕ). IsOpeningFault g.H.Host.seen g.H.Host.moment g.H.Host.left_since g.H.Host.faults file line heard host c.in-Err.host c.in-Err.fault) c.deref.ensures.value c.in-Err.ensures.fault in
+    fault-leaves g.H.Host.moment g.H.Host.left_since c.args.file.items line lines heard g.H.Host.seen g.H.Host.faults host c.in-Err.host c.in-Err.fault here why
+
+pub returns-in-Err-clause-outcome : goal.returns-in-Err-clause-outcome
+returns-in-Err-clause-outcome g c =
+    let host = c.args.host in
+    let why = subst (λ (file : List ℕ). IsOpeningFault g.H.Host.seen g.H.Host.moment g.H.Host.left_since g.H.Host.faults file c.args.line.now (g.H.Host.heard host) host c.in-Err.host c.in-Err.fault) c.deref.ensures.value c.in-Err.ensures.fault in
+    inl (c.in-Err.fault, ap Err c.unopened.ensures, why, refl, refl)

@@ -1,9 +1,10 @@
-use Rattle.std.proofs.Common.{◌∙◌, [], sym}
+use Rattle.std.proofs.Common.{◌∙◌, [], Err, sym, ap}
 use Rattle.std.proofs.lemmas.List.{append-nil}
 use Rattle.durable_log.specs.Logs.{records_of}
 use Rattle.durable_log.proofs.Moments.{weaker, then_leaves}
 use Rattle.script_log.specs.Passing.{standing, Passing}
 use Rattle.script_log.proofs.Passed.{commit-passing, told-passing}
+use Rattle.script_log.proofs.Failing.{commit-failed}
 use Rattle.script_log.proofs.passing.commit_and_tell.Goals as goal
 
 pub returns-in-Err-clause-any_moment : goal.returns-in-Err-clause-any_moment
@@ -30,3 +31,8 @@ returns-clause-any_moment g c =
     let told = weaker g.H.Host.moment g.H.Host.left_since mid c.tell_all.new.log.host _ (Passing s) c.tell_all.ensures.any_moment
     (λ f o at. told-passing s (records_of (g.H.Host.seen mid)) (g.H.Host.heard mid) [] c.waiting.result.now f o c.in_default.ensures.acknowledged.1 (c.commit.ensures.heard ∙ sym (append-nil (g.H.Host.heard old))) c.waiting.ensures at) in
     then_leaves g.H.Host.moment g.H.Host.left_since old mid c.tell_all.new.log.host (Passing s) before told
+
+pub returns-in-Err-clause-cause : goal.returns-in-Err-clause-cause
+returns-in-Err-clause-cause g c =
+    commit-failed g.H.Host.seen g.H.Host.heard g.H.Host.may_leave g.H.Host.faults c.args.log.now c.commit.new.self c.in-Err.fault c.requires
+    (λ is. c.commit.ensures.failed (c.in-Err.is ∙ ap Err is)) (λ is. c.commit.ensures.full (c.in-Err.is ∙ ap Err is))

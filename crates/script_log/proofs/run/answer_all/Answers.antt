@@ -1,4 +1,4 @@
-use Rattle.std.proofs.Common.{◌≤◌, ◌∙◌, Option, Ok, sym, subst, arith}
+use Rattle.std.proofs.Common.{◌≤◌, ◌∙◌, ◌++◌, Option, Ok, sym, subst, arith}
 use Rattle.std.proofs.lemmas.Result.{err_from_is_err_and}
 use Rattle.script_lines.specs.declared.line.Line.{Line}
 use Rattle.durable_log.specs.Logs.{records_of}
@@ -52,7 +52,7 @@ returns-in_err-put_reply g c =
     let later : g.H.Host.faults c.args.log.now.host ≤ g.H.Host.faults c.answer_line.new.log.host = subst (λ d. g.H.Host.faults c.args.log.now.host ≤ g.H.Host.faults d) (sym c.answer_line.ensures.host) (omega (arith, I.later, T.later)) in
     let failed = c.in_err-put_reply.ensures in
     rw (r.1, r.2) (put-failed g.H.Host.seen g.H.Host.heard g.H.Host.may_leave g.H.Host.moment g.H.Host.left_since g.H.Host.faults g.E.Engine.stands g.E.Engine.keeps g.E.Engine.reply (g.S.Source.tape c.args.source.now) c.args.input.now c.args.log.now
-    (g.S.Source.tape c.next_line.new.source) c.next_line.new.input c.answer_line.new.log c.put_reply.new.log _ c.put_reply.new.output c.answer_line.new.engine c.in_err-put_reply.field-0.0 A.0 c.put_reply.ensures.any_moment failed.broken later c.put_reply.ensures.later failed.cause)
+    (g.S.Source.tape c.next_line.new.source) c.next_line.new.input c.answer_line.new.log c.put_reply.new.log (c.next_line.new.output ++ c.deref.result.now) c.put_reply.new.output c.answer_line.new.engine c.in_err-put_reply.field-0.0 A.0 c.put_reply.ensures.any_moment failed.broken later c.put_reply.ensures.later failed.cause)
 
 pub loop-line-preserved : goal.loop-line-preserved
 loop-line-preserved g c =

@@ -32,7 +32,7 @@ returns-in_err-commit_and_tell-clause-ran g c =
     let r = err_from_is_err_and c.from_residual-in_err-commit_and_tell.result c.from_residual-in_err-commit_and_tell.ensures.1 in
     let stopped = c.in_err-commit_and_tell.ensures in
     rw (r.1, r.2) (ran-stopped g.H.Host.seen g.H.Host.heard g.H.Host.may_leave g.H.Host.moment g.H.Host.left_since g.H.Host.faults g.E.Engine.stands g.E.Engine.keeps g.E.Engine.reply _ _ _ _ _ _ _ _ _ _ _
-    c.answer_all-outcome.ensures stopped.broken stopped.cause)
+    c.answer_all-outcome.ensures (sym c.has_broken.ensures ∙ c.if-has_broken.false) stopped.broken stopped.cause)
 
 pub returns-clause-any_moment : goal.returns-clause-any_moment
 returns-clause-any_moment g c =

@@ -1,6 +1,6 @@
 use Rattle.std.proofs.Common.{◌≡◌, ◌<◌, ◌++◌, ℕ, List, drop}
 use Rattle.durable_log.specs.Format.{check_from}
-use Rattle.durable_log.proofs.adler.add.Given as goal
+use Rattle.durable_log.proofs.adler.add_each.Given as goal
 
 abbrev pub invariant-loop-b : goal.invariant-loop-b
 invariant-loop-b l = record {
