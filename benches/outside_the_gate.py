@@ -34,8 +34,8 @@ def copy_to(name: str, folder: Path, libraries: set[str] = LIBRARIES) -> Path:
     return crates / name
 
 
-def run(name: str, words: list[str]) -> int:
+def run(name: str, words: list[str], libraries: set[str] = LIBRARIES) -> int:
     """Runs the program `benches/NAME` with these words, and gives its exit status."""
     with tempfile.TemporaryDirectory(prefix=f"{name}-") as folder:
-        crate = copy_to(name, Path(folder))
+        crate = copy_to(name, Path(folder), libraries)
         return subprocess.run(["rt", "run", "--", *words], cwd=crate).returncode

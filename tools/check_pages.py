@@ -14,7 +14,8 @@ found, and ends with status 1. The word after a block's fence says what the bloc
 - `rust`: an excerpt that stands, line for line, in a source file of a crate.
 
 docs/LINES.md must also have each command, query, reply and refusal of the sources, and each member of a work item, a job
-execution and a step execution. The program is the one that `rt ci` or `rt run` has built.
+execution and a step execution. docs/OPERATOR.md must show the program of `benches/host`. The program is the one that `rt ci` or
+`rt run` has built.
 """
 
 from __future__ import annotations
@@ -36,6 +37,8 @@ from repository import ROOT
 PROGRAM = ROOT / "crates" / "batchctl" / "out" / "batchctl"
 LINES = ROOT / "docs" / "LINES.md"
 PAGES = [ROOT / "docs" / "TUTORIAL.md", LINES, ROOT / "docs" / "DURABILITY.md"]
+# A page that shows a whole program, and its source.
+HOST_PAGE, HOST = ROOT / "docs" / "OPERATOR.md", ROOT / "benches" / "host" / "src" / "main.rt.txt"
 # The sources of the words that docs/LINES.md must have, a pattern that finds these, and how the page spells each.
 WORDS = [
     ("script_text/src/calls.rt", r'^ +"(\w+)" => \w+_of\(value\)', '"do":"{}"'),
@@ -209,6 +212,12 @@ def check_excerpts(blocks: list[Block]) -> Iterator[Difference]:
             yield Difference(block.page, block.number, "these lines in a file of crates/*/src", "none that has them")
 
 
+def check_host(page: str, text: str, source: str) -> Iterator[Difference]:
+    """The page shows the whole program."""
+    if f"```rust\n{source}```\n" not in text:
+        yield Difference(page, 1, f"all lines of {HOST.relative_to(ROOT)} in one block", "none that is so")
+
+
 def check_words(page: str, text: str) -> Iterator[Difference]:
     """The page has each word of the sources."""
     for source, pattern, spelling in WORDS:
@@ -240,6 +249,7 @@ def main() -> int:
         difference for path in PAGES for difference in check_page(program, str(path.relative_to(ROOT)), path.read_text())
     ]
     differences += check_words(str(LINES.relative_to(ROOT)), LINES.read_text())
+    differences += check_host(str(HOST_PAGE.relative_to(ROOT)), HOST_PAGE.read_text(), HOST.read_text())
     for difference in differences:
         print(difference, file=sys.stderr)
     return 1 if differences else 0

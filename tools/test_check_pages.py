@@ -9,7 +9,7 @@ import tempfile
 import unittest
 from pathlib import Path
 
-from check_pages import Difference, check_page, check_words
+from check_pages import Difference, check_host, check_page, check_words
 
 # Answers each line after the first with its number and the line.
 PROGRAM = """#!/bin/sh
@@ -122,6 +122,11 @@ class Pages(unittest.TestCase):
         self.assertEqual(
             found_in(excerpt.format("\n```\n")), [(2, "these lines in a file of crates/*/src", "none that has them")]
         )
+
+    def test_a_whole_program_is_shown(self) -> None:
+        source = "fn main() {\n}\n"
+        self.assertEqual(list(check_host("page", f"text\n```rust\n{source}```\n", source)), [])
+        self.assertEqual(len(list(check_host("page", "```rust\nfn main() {\n```\n", source))), 1)
 
     def test_words_without_an_example_are_told(self) -> None:
         some = {'"do":"start"', '"ask":"job_names"', '{"stop":', "`item-count`", "`updated`", '{"refused":"NoSuchWork"}'}
