@@ -14,8 +14,8 @@ found, and ends with status 1. The word after a block's fence says what the bloc
 - `rust`: an excerpt that stands, line for line, in a source file of a crate.
 
 docs/LINES.md must also have each command, query, reply and refusal of the sources, and each member of a work item, a job
-execution and a step execution. docs/OPERATOR.md must show the program of `benches/host`. The program is the one that `rt ci` or
-`rt run` has built.
+execution and a step execution. docs/OPERATOR.md must show the program of `benches/host`. README's first script and its
+replies are compared, and its commands of `batchctl` succeed. The program is the one that `rt ci` or `rt run` has built.
 """
 
 from __future__ import annotations
@@ -39,6 +39,8 @@ LINES = ROOT / "docs" / "LINES.md"
 PAGES = [ROOT / "docs" / "TUTORIAL.md", LINES, ROOT / "docs" / "DURABILITY.md"]
 # A page that shows a whole program, and its source.
 HOST_PAGE, HOST = ROOT / "docs" / "OPERATOR.md", ROOT / "benches" / "host" / "src" / "main.rt.txt"
+# The first page, and the script that it shows with its replies.
+README, FIRST_SCRIPT = ROOT / "README.md", ROOT / "crates" / "batchctl" / "stdin"
 # The sources of the words that docs/LINES.md must have, a pattern that finds these, and how the page spells each.
 WORDS = [
     ("script_text/src/calls.rt", r'^ +"(\w+)" => \w+_of\(value\)', '"do":"{}"'),
@@ -54,6 +56,7 @@ SENT = "> "
 NOTHING = "nothing"
 # Ends what a block prints, and tells of a last command that failed.
 BLOCK_END = "\ncase $? in 0) ;; *) echo \"status $?\" ;; esac; printf '\\0'\n"
+FAILED = re.compile(r"(?:\A|\n)(?:status \d+|the shell has ended)\n\Z")
 # A program that never ends is ended by the alarm.
 MOST_SECONDS = 120
 
@@ -218,6 +221,34 @@ def check_host(page: str, text: str, source: str) -> Iterator[Difference]:
         yield Difference(page, 1, f"all lines of {HOST.relative_to(ROOT)} in one block", "none that is so")
 
 
+def check_readme(program: Path, page: str, text: str, script: str) -> Iterator[Difference]:
+    """The blocks without a word are the script and its replies, and the commands of the program succeed."""
+    blocks = list(blocks_in(page, text))
+    replies = subprocess.run([program, "script"], input=script.encode(), capture_output=True, check=False).stdout.decode()
+    shown = [block for block in blocks if block.word == ""]
+    for block, wanted in zip_longest(shown, [script, replies]):
+        if block is None or wanted is None:
+            yield Difference(page, 1, "two blocks without a word: a script, and its replies", f"{len(shown)}")
+            return
+        yield from first_difference(page, numbered(block), wanted.splitlines(), block.number)
+    yield from check_commands(program, [block for block in blocks if block.word == "sh"])
+
+
+def check_commands(program: Path, blocks: list[Block]) -> Iterator[Difference]:
+    """Each line that is a command of the program succeeds, in a folder of its own; other lines build, install or serve."""
+    commands = [
+        Block(block.page, number, "sh", ['cd "$TMPDIR"', line.replace(" crates/", f" {ROOT}/crates/")])
+        for block in blocks
+        for number, line in numbered(block)
+        if line.startswith("batchctl ")
+    ]
+    with tempfile.TemporaryDirectory(prefix="readme-") as folder:
+        printed = run_shell(commands, program, Path(folder))
+    for command, text in zip(commands, printed):
+        if FAILED.search(text):
+            yield Difference(command.page, command.number, "a command that succeeds", text.strip())
+
+
 def check_words(page: str, text: str) -> Iterator[Difference]:
     """The page has each word of the sources."""
     for source, pattern, spelling in WORDS:
@@ -249,6 +280,7 @@ def main() -> int:
         difference for path in PAGES for difference in check_page(program, str(path.relative_to(ROOT)), path.read_text())
     ]
     differences += check_words(str(LINES.relative_to(ROOT)), LINES.read_text())
+    differences += check_readme(program, str(README.relative_to(ROOT)), README.read_text(), FIRST_SCRIPT.read_text())
     differences += check_host(str(HOST_PAGE.relative_to(ROOT)), HOST_PAGE.read_text(), HOST.read_text())
     for difference in differences:
         print(difference, file=sys.stderr)

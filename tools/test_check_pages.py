@@ -9,7 +9,7 @@ import tempfile
 import unittest
 from pathlib import Path
 
-from check_pages import Difference, check_host, check_page, check_words
+from check_pages import Block, Difference, check_commands, check_host, check_page, check_readme, check_words
 
 # Answers each line after the first with its number and the line.
 PROGRAM = """#!/bin/sh
@@ -127,6 +127,24 @@ class Pages(unittest.TestCase):
         source = "fn main() {\n}\n"
         self.assertEqual(list(check_host("page", f"text\n```rust\n{source}```\n", source)), [])
         self.assertEqual(len(list(check_host("page", "```rust\nfn main() {\n```\n", source))), 1)
+
+    def test_the_first_page_shows_a_script_and_its_replies(self) -> None:
+        page = "```\n{}\none\n```\n```\n{reply}\n```\n```sh\nbatchctl script < crates/batchctl/stdin # again\n```\n"
+        with tempfile.TemporaryDirectory() as folder:
+            program = Path(folder) / "batchctl"
+            program.write_text(PROGRAM)
+            program.chmod(0o755)
+            self.assertEqual(list(check_readme(program, "page", page.replace("{reply}", "1 one"), "{}\none\n")), [])
+            self.assertEqual(len(list(check_readme(program, "page", page.replace("{reply}", "2 one"), "{}\none\n"))), 1)
+            self.assertEqual(len(list(check_readme(program, "page", page.replace("{reply}", "1 one"), "{}\ntwo\n"))), 2)
+
+    def test_a_command_of_the_first_page_that_fails_is_told(self) -> None:
+        blocks = [Block("page", 4, "sh", ["batchctl walk", "not-run", "batchctl script"])]
+        with tempfile.TemporaryDirectory() as folder:
+            program = Path(folder) / "batchctl"
+            program.write_text('#!/bin/sh\n[ "$1" = script ]\n')
+            program.chmod(0o755)
+            self.assertEqual([difference.number for difference in check_commands(program, blocks)], [4])
 
     def test_words_without_an_example_are_told(self) -> None:
         some = {'"do":"start"', '"ask":"job_names"', '{"stop":', "`item-count`", "`updated`", '{"refused":"NoSuchWork"}'}

@@ -3,6 +3,7 @@
 from __future__ import annotations
 
 import importlib
+import re
 import sys
 from pathlib import Path
 
@@ -21,3 +22,11 @@ def test_the_night_on_one_machine_goes_as_the_page_says(tmp_path: Path, monkeypa
     monkeypatch.setenv("JOBHOST_BATCHCTL", str(Path(BATCHCTL[0]).resolve()))
     differences = list(check_pages.check_page(Path(BATCHCTL[0]).resolve(), str(PAGE), PAGE.read_text()))
     assert "\n".join(map(str, differences)) == ""
+
+
+def test_the_first_page_has_commands_of_that_night() -> None:
+    night = PAGE.read_text().splitlines()
+    page = (ROOT / "README.md").read_text().splitlines()
+    commands = [re.split(r" +[&#]", line)[0] for line in page if line.startswith("jobhost ")]
+    assert commands
+    assert [command for command in commands if not any(line.startswith(command) for line in night)] == []
