@@ -21,7 +21,7 @@ metric_name WriteSkipCount = codes "WRITE_SKIP_COUNT"
 abbrev pub all_metrics : List Metric
 all_metrics = ReadCount ∷ WriteCount ∷ CommitCount ∷ RollbackCount ∷ ReadSkipCount ∷ ProcessSkipCount ∷ FilterCount ∷ WriteSkipCount ∷ []
 
--- the metric that a text is the name of
+-- the metric with this name, if there is one
 abbrev pub metric_named : List ℕ → Option Metric
 metric_named text = find (λ metric. bytes_eq (metric_name metric) text) all_metrics
 
@@ -36,7 +36,7 @@ metric_count metrics ProcessSkipCount = metrics.process_skip_count
 metric_count metrics FilterCount = metrics.filter_count
 metric_count metrics WriteSkipCount = metrics.write_skip_count
 
--- the step with another count of a metric
+-- the metric step with another number for one metric
 abbrev pub step_with : MetricStep → Metric → ℕ → MetricStep
 step_with step ReadCount n = record step { read_count = n }
 step_with step WriteCount n = record step { write_count = n }
@@ -51,11 +51,11 @@ step_with step WriteSkipCount n = record step { write_skip_count = n }
 abbrev pub zero_metrics : Metrics
 zero_metrics = record { read_count = 0; write_count = 0; commit_count = 0; rollback_count = 0; read_skip_count = 0; process_skip_count = 0; filter_count = 0; write_skip_count = 0 }
 
--- the step that adds nothing
+-- the metric step that adds nothing
 abbrev pub zero_step : MetricStep
 zero_step = record { read_count = 0; write_count = 0; commit_count = 0; rollback_count = 0; read_skip_count = 0; process_skip_count = 0; filter_count = 0; write_skip_count = 0 }
 
--- the metrics with each count of the step added to the same count
+-- the metrics with each number of a metric step added to its count
 abbrev pub added : Metrics → MetricStep → Metrics
 added metrics step = record {
   read_count = metrics.read_count + step.read_count;
@@ -68,7 +68,7 @@ added metrics step = record {
   write_skip_count = metrics.write_skip_count + step.write_skip_count;
 }
 
--- the sums of two metrics
+-- the sums of two metrics, count by count
 abbrev pub both_metrics : Metrics → Metrics → Metrics
 both_metrics one other = record {
   read_count = one.read_count + other.read_count;
@@ -81,12 +81,12 @@ both_metrics one other = record {
   write_skip_count = one.write_skip_count + other.write_skip_count;
 }
 
--- the sums of all these
+-- the sums of all these metrics
 abbrev pub sum_of_metrics : List Metrics → Metrics
 sum_of_metrics [] = zero_metrics
 sum_of_metrics (metrics ∷ rest) = both_metrics metrics (sum_of_metrics rest)
 
--- each sum of the two is a number of 64 bits
+-- each sum of the two metrics fits in 64 bits
 pub record HaveRoom (one other : Metrics) : Type 0 where
   pub read : one.read_count + other.read_count < 2 ^ 64
   pub write : one.write_count + other.write_count < 2 ^ 64
@@ -97,7 +97,7 @@ pub record HaveRoom (one other : Metrics) : Type 0 where
   pub filter : one.filter_count + other.filter_count < 2 ^ 64
   pub write_skip : one.write_skip_count + other.write_skip_count < 2 ^ 64
 
--- each sum is a number of 64 bits
+-- each sum of the metrics and the metric step fits in 64 bits
 pub record HasRoom (metrics : Metrics) (step : MetricStep) : Type 0 where
   pub read : metrics.read_count + step.read_count < 2 ^ 64
   pub write : metrics.write_count + step.write_count < 2 ^ 64
@@ -108,11 +108,11 @@ pub record HasRoom (metrics : Metrics) (step : MetricStep) : Type 0 where
   pub filter : metrics.filter_count + step.filter_count < 2 ^ 64
   pub write_skip : metrics.write_skip_count + step.write_skip_count < 2 ^ 64
 
--- what a count comes to at most after so many steps, each of which adds at most 4,294,967,295
+-- the most that a count can be after so many metric steps, each of which adds at most 4,294,967,295
 abbrev pub most_after : ℕ → ℕ
 most_after steps = steps * 4294967295
 
--- each count is at most this
+-- each count is at most `most`
 pub record IsWithin (most : ℕ) (metrics : Metrics) : Type 0 where
   pub read : metrics.read_count ≤ most
   pub write : metrics.write_count ≤ most

@@ -26,18 +26,18 @@ abbrev pub IsRising : List Pair → Type 0
 IsRising [] = Unit {0}
 IsRising (first ∷ rest) = ComesBefore first rest × IsRising rest
 
--- what a job execution may have as parameters: at most 64, by rising keys
+-- a job execution can have these parameters: at most 64, by rising keys
 pub record AreParameters (pairs : List Pair) : Type 0 where
   pub rising : IsRising pairs
   pub few : length pairs ≤ 64
 
--- the first, second or third of three, by an ordering
+-- one of three values, chosen by an ordering
 abbrev pub by_order : {A : Type 0} → Ordering → A → A → A → A
 by_order Less less equal greater = less
 by_order Equal less equal greater = equal
 by_order Greater less equal greater = greater
 
--- the pairs with a new one: behind the lower keys, and in place of a pair with its key
+-- the pairs with a new one: after the lower keys, and in place of a pair with its key
 abbrev pub with_pair : List Pair → Pair → List Pair
 with_pair [] new = new ∷ []
 with_pair (held ∷ rest) new = by_order (key_cmp held new) (held ∷ with_pair rest new) (new ∷ rest) (new ∷ held ∷ rest)
@@ -47,11 +47,11 @@ abbrev pub with_all : List Pair → List Pair → List Pair
 with_all held [] = held
 with_all held (new ∷ rest) = with_all (with_pair held new) rest
 
--- the value that was given last with a key, if one was
+-- the value that was given last with a key, if there is one
 abbrev pub value_given_last : List Pair → List ℕ → Option (List ℕ)
 value_given_last given key = option_map (λ pair. pair.1) (last_or None (filter (λ pair. bytes_eq pair.0 key) given))
 
--- the parameters that these pairs give: of a key given twice the last value counts
+-- the parameters for these pairs: if a key is given twice, its last value counts
 abbrev pub parameters_of : List Pair → List Pair
 parameters_of given = with_all [] given
 

@@ -1,4 +1,4 @@
--- The refusals by their numbers and names.
+-- The refusals' numbers and names.
 use Rattle.std.specs.Prelude.{ℕ, Bool, true, false, List, codes}
 use Rattle.batch_ids.specs.declared.refusal.Refusal.{Refusal}
 use Rattle.batch_ids.specs.declared.refusal.Refusal.TheVariants.{JobStartException, NoSuchJobException, NoSuchJobInstanceException, NoSuchJobExecutionException, JobExecutionNotRunningException, JobExecutionIsRunningException, JobExecutionAlreadyCompleteException, JobExecutionNotMostRecentException, JobRestartException, NoSuchWork, WorkNotRunning, NotClaimer, NotStopping, WrongOutcome, TextTooLong, RepositoryFull, OutOfMemory}
@@ -23,7 +23,7 @@ refusal_number TextTooLong = 15
 refusal_number RepositoryFull = 16
 refusal_number OutOfMemory = 18
 
--- the name that a refusal prints as
+-- the printed name of a refusal
 abbrev pub refusal_name : Refusal → List ℕ
 refusal_name JobStartException = codes "JobStartException"
 refusal_name NoSuchJobException = codes "NoSuchJobException"

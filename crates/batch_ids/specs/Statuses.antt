@@ -1,4 +1,4 @@
--- The statuses by their names, and which of them are finished.
+-- The batch statuses' names, and which of them are finished.
 use Rattle.std.specs.Prelude.{ℕ, Bool, true, false, Option, List, [], ◌∷◌, codes, find}
 use Rattle.std.specs.Str.{bytes_eq}
 use Rattle.batch_ids.specs.declared.status.BatchStatus.{BatchStatus}
@@ -6,7 +6,7 @@ use Rattle.batch_ids.specs.declared.status.BatchStatus.TheVariants.{Starting, St
 use Rattle.batch_ids.specs.declared.status.WorkOutcome.{WorkOutcome}
 use Rattle.batch_ids.specs.declared.status.WorkOutcome.TheVariants.{Completed as CameCompleted, Failed as CameFailed, Stopped as CameStopped}
 
--- the name of a status
+-- the name of a batch status
 abbrev pub status_name : BatchStatus → List ℕ
 status_name Starting = codes "STARTING"
 status_name Started = codes "STARTED"
@@ -16,11 +16,11 @@ status_name Failed = codes "FAILED"
 status_name Completed = codes "COMPLETED"
 status_name Abandoned = codes "ABANDONED"
 
--- every status
+-- every batch status
 abbrev pub all_statuses : List BatchStatus
 all_statuses = Starting ∷ Started ∷ Stopping ∷ Stopped ∷ Failed ∷ Completed ∷ Abandoned ∷ []
 
--- the status that a text is the name of
+-- the batch status with this name, if there is one
 abbrev pub status_named : List ℕ → Option BatchStatus
 status_named text = find (λ status. bytes_eq (status_name status) text) all_statuses
 
@@ -34,13 +34,13 @@ is_unfinished Failed = false
 is_unfinished Completed = false
 is_unfinished Abandoned = false
 
--- the status that an outcome gives
+-- the batch status for an outcome
 abbrev pub outcome_status : WorkOutcome → BatchStatus
 outcome_status CameCompleted = Completed
 outcome_status CameFailed = Failed
 outcome_status CameStopped = Stopped
 
--- the name of an outcome, which is also the default exit status: that of its status
+-- the name of an outcome, that of its batch status; it is also the default exit status
 abbrev pub outcome_name : WorkOutcome → List ℕ
 outcome_name outcome = status_name (outcome_status outcome)
 
@@ -48,6 +48,6 @@ outcome_name outcome = status_name (outcome_status outcome)
 abbrev pub all_outcomes : List WorkOutcome
 all_outcomes = CameCompleted ∷ CameFailed ∷ CameStopped ∷ []
 
--- the outcome that a text is the name of
+-- the outcome with this name, if there is one
 abbrev pub outcome_named : List ℕ → Option WorkOutcome
 outcome_named text = find (λ outcome. bytes_eq (outcome_name outcome) text) all_outcomes

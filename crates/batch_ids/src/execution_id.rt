@@ -2,11 +2,11 @@ ghost use Rattle.std.specs.Prelude.{◌≡◌};
 
 use std::marker::Model;
 
-/// The number of a job execution. Contracts see the number.
+/// A job execution's number. Contracts see the number.
 ///
 /// Job executions are numbered from 1 upwards, without gaps, in the order of their starts and
-/// restarts, over all job instances. 0 names nothing.
-/// See Jakarta Batch 2.1, "JobExecution" (`getExecutionId`).
+/// restarts, over all job instances. No job execution has the number 0. See Jakarta Batch 2.1,
+/// "JobExecution" (`getExecutionId`).
 #[derive(Clone, Copy, PartialEq, Eq, PartialOrd, Ord, Hash, Debug)]
 pub struct ExecutionId {
     number: u64,
@@ -23,14 +23,14 @@ impl Model for ExecutionId {
 }
 
 impl ExecutionId {
-    /// The identifier with this number.
+    /// Returns the identifier with this number.
     pub fn new(number: u64) -> ExecutionId
         ensures { result ≡ number }
     {
         ExecutionId { number }
     }
 
-    /// The number.
+    /// Returns the number.
     pub fn value(self) -> u64
         ensures { result ≡ self }
     {

@@ -2,10 +2,10 @@ ghost use Rattle.std.specs.Prelude.{◌≡◌};
 
 use std::marker::Model;
 
-/// The number of a job instance. Contracts see the number.
+/// A job instance's number. Contracts see the number.
 ///
-/// Job instances are numbered from 1 upwards, without gaps, in the order of their starts. 0 names nothing.
-/// See Jakarta Batch 2.1, "JobInstance" (`getInstanceId`).
+/// Job instances are numbered from 1 upwards, without gaps, in the order of their starts. No job
+/// instance has the number 0. See Jakarta Batch 2.1, "JobInstance" (`getInstanceId`).
 #[derive(Clone, Copy, PartialEq, Eq, PartialOrd, Ord, Hash, Debug)]
 pub struct InstanceId {
     number: u64,
@@ -22,14 +22,14 @@ impl Model for InstanceId {
 }
 
 impl InstanceId {
-    /// The identifier with this number.
+    /// Returns the identifier with this number.
     pub fn new(number: u64) -> InstanceId
         ensures { result ≡ number }
     {
         InstanceId { number }
     }
 
-    /// The number.
+    /// Returns the number.
     pub fn value(self) -> u64
         ensures { result ≡ self }
     {

@@ -1,5 +1,5 @@
-//! The identifiers, texts, parameters, metrics, statuses and refusals that every other crate of the
-//! job service speaks of.
+//! Identifiers, texts, parameters, metrics, statuses and refusals: the values that all other crates
+//! of the job service use.
 #![tactic(auto)]
 
 mod execution_id;

@@ -7,8 +7,8 @@ use crate::UnknownName;
 use std::fmt;
 use std::str::FromStr;
 
-/// One of the counts that a step execution keeps (Jakarta Batch 2.1, "Metric"). It prints as its
-/// name, and is read from it.
+/// One of a step execution's counts (Jakarta Batch 2.1, "Metric"). It prints as its name, and can
+/// be parsed from it.
 #[derive(Clone, Copy, PartialEq, Eq, Hash, Debug)]
 pub enum Metric {
     /// Items read.
@@ -30,7 +30,7 @@ pub enum Metric {
 }
 
 impl Metric {
-    /// The name that is printed: the constant of `Metric.MetricType`.
+    /// Returns the printed name: the constant of `Metric.MetricType`.
     pub fn name(self) -> &'static str
         ensures name { result.now ≡ metric_name self }
         ensures short { length result.now ≤ 18 }
@@ -58,11 +58,11 @@ impl fmt::Display for Metric {
     }
 }
 
-/// Reads a metric's printed name, byte for byte.
+/// Parses a metric's printed name. All bytes have to agree.
 ///
 /// # Errors
 ///
-/// `UnknownName` for any other text.
+/// Returns `UnknownName` for any other text.
 impl FromStr for Metric {
     type Err = UnknownName;
 

@@ -3,8 +3,8 @@ ghost use Rattle.batch_ids.specs.Metrics.{zero_step, step_with};
 
 use crate::Metric;
 
-/// What is added to the counts of a step execution at once, one for each `Metric` (Jakarta Batch 2.1,
-/// "Metric").
+/// A metric step: numbers that are added to a step execution's counts together, one for each
+/// `Metric` (Jakarta Batch 2.1, "Metric").
 #[derive(Clone, Copy, PartialEq, Eq, Debug)]
 pub struct MetricStep {
     /// Items read.
@@ -26,7 +26,7 @@ pub struct MetricStep {
 }
 
 impl MetricStep {
-    /// Nothing is added to any count.
+    /// Returns the metric step that adds 0 to each count.
     pub fn zero() -> MetricStep
         ensures { result ≡ zero_step }
     {
@@ -42,7 +42,7 @@ impl MetricStep {
         }
     }
 
-    /// The same step with another count of this metric.
+    /// Returns this metric step with another number for one metric.
     pub fn with(self, metric: Metric, count: u32) -> MetricStep
         ensures { result ≡ step_with self metric count }
     {

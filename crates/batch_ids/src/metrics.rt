@@ -3,7 +3,7 @@ ghost use Rattle.batch_ids.specs.Metrics.{zero_metrics, added, both_metrics, met
 
 use crate::{Metric, MetricStep};
 
-/// The counts of a step execution so far, one for each `Metric` (Jakarta Batch 2.1, "Metric").
+/// A step execution's counts, one for each `Metric` (Jakarta Batch 2.1, "Metric").
 #[derive(Clone, Copy, PartialEq, Eq, Debug)]
 pub struct Metrics {
     /// Items read.
@@ -25,7 +25,7 @@ pub struct Metrics {
 }
 
 impl Metrics {
-    /// All counts are 0, as when a step execution begins.
+    /// Returns the metrics of a step execution that begins: each count is 0.
     pub fn zero() -> Metrics
         ensures { result ≡ zero_metrics }
     {
@@ -41,7 +41,7 @@ impl Metrics {
         }
     }
 
-    /// Adds to each count. The caller sees to it that no sum passes `u64::MAX`.
+    /// Adds a metric step to the counts. The caller guarantees that no sum exceeds `u64::MAX`.
     pub fn add(&mut self, step: &MetricStep)
         requires { HasRoom self.old step.now }
         ensures { self.new ≡ added self.old step.now }
@@ -56,7 +56,7 @@ impl Metrics {
         self.write_skip_count += u64::from(step.write_skip_count);
     }
 
-    /// Adds the counts of others. The caller sees to it that no sum passes `u64::MAX`.
+    /// Adds other metrics to the counts. The caller guarantees that no sum exceeds `u64::MAX`.
     pub fn join(&mut self, other: &Metrics)
         requires { HaveRoom self.old other.now }
         ensures { self.new ≡ both_metrics self.old other.now }
@@ -71,7 +71,7 @@ impl Metrics {
         self.write_skip_count += other.write_skip_count;
     }
 
-    /// The count of this metric.
+    /// Returns the count of one metric.
     pub fn count(&self, metric: Metric) -> u64
         ensures { result ≡ metric_count self.now metric }
     {

@@ -10,11 +10,11 @@ use std::cmp::Ordering;
 use std::marker::Model;
 use std::slice;
 
-/// How many parameters a job execution has at most.
+/// The largest number of parameters of a job execution.
 const MOST_PARAMETERS: usize = 64;
 
 /// One parameter of a job execution: a key of at most 256 bytes, and a value of at most 4,096.
-/// Contracts see the pair of them, in bytes.
+/// Contracts see a pair of bytes.
 #[derive(PartialEq, Eq, Debug, Drop)]
 pub struct Parameter {
     key: T256,
@@ -32,14 +32,14 @@ impl Model for Parameter {
 }
 
 impl Parameter {
-    /// The key, of at most 256 bytes.
+    /// Returns the key, of at most 256 bytes.
     pub fn key(&self) -> &T256
         ensures { result.now ≡ self.now.0 }
     {
         &self.key
     }
 
-    /// The value, of at most 4,096 bytes.
+    /// Returns the value, of at most 4,096 bytes.
     pub fn value(&self) -> &Text<4096>
         ensures { result.now ≡ self.now.1 }
     {
@@ -65,7 +65,7 @@ impl Model for SortedParameters {
 }
 
 impl SortedParameters {
-    /// The parameters that these pairs give. Of a key given twice the last value counts.
+    /// Sorts the given pairs. If a key is given twice, its last value counts.
     fn new(alloc: Global, given: Vec<(String, String)>) -> Result<SortedParameters, Refusal>
         ensures same { IfOk result (λ made. made ≡ parameters_of (pairs_of given.items)) }
         ensures fits { OnOk result (is_too_large (pairs_of given.items) ≡ false) }
@@ -84,7 +84,7 @@ impl SortedParameters {
         Ok(made)
     }
 
-    /// Puts a pair in its place.
+    /// Inserts a pair by its key, or replaces the pair with the same key.
     fn put(&mut self, alloc: Global, key: &str, value: &str) -> Result<(), Refusal>
         ensures put { OnOk result (self.new ≡ with_pair self.old (key.now, value.now)) }
         ensures few { OnOk result (length self.new ≤ 64) }
@@ -109,7 +109,7 @@ impl SortedParameters {
         Ok(())
     }
 
-    /// Where this key is, or where it would stand.
+    /// Returns the index of this key, or else the index at which to insert it.
     fn place(&self, key: &str) -> Result<usize, usize>
         ensures held { IfOk result (λ at. (at < length self.now)
             × ((value : List ℕ) → with_pair self.now (key.now, value) ≡ slice_set self.now at (key.now, value))) }
@@ -128,8 +128,8 @@ impl SortedParameters {
     }
 }
 
-/// The parameters of a job execution, which its copies share: at most 64, by rising keys, each key
-/// once. Contracts see the list of pairs. See Jakarta Batch 2.1, "JobOperator" (`start`,
+/// A job execution's parameters: at most 64, by rising keys, each key once. Clones share them.
+/// Contracts see the list of pairs. See Jakarta Batch 2.1, "JobOperator" (`start`,
 /// `getParameters`).
 #[derive(Debug, Drop)]
 pub struct Parameters {
@@ -150,17 +150,18 @@ impl Model for Parameters {
 }
 
 impl Parameters {
-    /// The parameters that these pairs of a key and a value give. Of a key given twice the last value
-    /// counts.
+    /// Returns the parameters for these pairs of a key and a value. If a key is given twice, its
+    /// last value counts.
     ///
-    /// For each pair it copies the texts and compares at most 64 keys. Where none is given, it takes no
-    /// memory.
+    /// For each pair the call copies both texts and compares at most 64 keys. An empty list takes
+    /// no memory.
     ///
     /// # Errors
     ///
-    /// Where a given key has more than 256 bytes, a given value more than 4,096, or more than 64
-    /// different keys are given, `TextTooLong`, or `OutOfMemory` if memory is refused before that is
-    /// seen; else `OutOfMemory` where memory is refused.
+    /// - Returns `TextTooLong` if a key has more than 256 bytes, if a value has more than 4,096, or
+    ///   if more than 64 different keys are given. It may return `OutOfMemory` instead if memory is
+    ///   refused before the call sees this.
+    /// - Otherwise returns `OutOfMemory` if memory is refused.
     pub fn new(alloc: Global, given: Vec<(String, String)>) -> Result<Parameters, Refusal>
         ensures same { IfOk result (λ made. made ≡ parameters_of (pairs_of given.items)) }
         ensures fits { OnOk result (is_too_large (pairs_of given.items) ≡ false) }
@@ -180,14 +181,15 @@ impl Parameters {
         })
     }
 
-    /// No parameters. It takes no memory.
+    /// Returns no parameters. The call takes no memory.
     pub fn none() -> Parameters
         ensures { result ≡ [] }
     {
         Parameters { shared: None }
     }
 
-    /// The value of this key, if there is one. It compares at most 64 keys.
+    /// Returns the value of this key, or `None` if there is no such key. The call compares at most
+    /// 64 keys.
     pub fn get(&self, key: &str) -> Option<&str>
         ensures { option_copied result ≡ value_of self.now key.now }
     {
@@ -199,7 +201,7 @@ impl Parameters {
         None
     }
 
-    /// The parameters, by rising keys (in the order of their bytes).
+    /// Returns the parameters by rising keys, in the order of the keys' bytes.
     pub fn pairs(&self) -> &[Parameter]
         ensures same { result.now ≡ self.now }
         ensures kept { AreParameters self.now }
@@ -210,7 +212,7 @@ impl Parameters {
         }
     }
 
-    /// The parameters one after another, by rising keys (in the order of their bytes).
+    /// Returns an iterator over the parameters by rising keys, in the order of the keys' bytes.
     pub fn iter(&self) -> slice::Iter<'_, Parameter>
         ensures rest { iter_rest result ≡ self.now }
         ensures few { length (iter_rest result) ≤ 64 }
@@ -219,7 +221,7 @@ impl Parameters {
         self.pairs().iter()
     }
 
-    /// How many there are, at most 64.
+    /// Returns the number of parameters, at most 64.
     pub fn len(&self) -> usize
         ensures number { result ≡ length self.now }
         ensures few { result ≤ 64 }
@@ -227,18 +229,18 @@ impl Parameters {
         self.pairs().len()
     }
 
-    /// Whether there are none.
+    /// Checks whether there are no parameters.
     pub fn is_empty(&self) -> bool
         ensures { IsTrue result ↔ (self.now ≡ []) }
     {
         self.pairs().is_empty()
     }
 
-    /// Equal parameters, which share the pairs. It takes no memory.
+    /// Returns equal parameters, which share the pairs. The call takes no memory.
     ///
     /// # Errors
     ///
-    /// `OutOfMemory` where 2^63 parameters share them already, of which there are some.
+    /// Returns `OutOfMemory` if there are parameters and 2^63 clones share them already.
     pub fn try_clone(&self) -> Result<Parameters, OutOfMemory>
         ensures same { IfOk result (λ copy. copy ≡ self.now) }
         ensures none_held { self.now ≡ [] → result ≡ Ok [] }

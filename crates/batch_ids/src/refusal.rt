@@ -4,13 +4,13 @@ ghost use Rattle.batch_ids.specs.Refusals.{refusal_name, refusal_number};
 use std::alloc::{AllocError, AllocFailed};
 use thiserror::Error;
 
-/// Memory was refused. The call that answers it has changed nothing.
+/// Memory was refused. The call that returns this error has changed nothing.
 pub type OutOfMemory = AllocError;
 
-/// Why a call was refused. A refused call leaves everything as it was.
+/// The reason why a call was refused. A refused call changes nothing.
 ///
-/// The first nine are the exceptions of the `JobOperator` (Jakarta Batch 2.1, "JobOperator"); the
-/// others are this service's own. It prints as its name.
+/// The first nine are exceptions of the `JobOperator` (Jakarta Batch 2.1, "JobOperator"). The
+/// others are this service's own. A refusal prints as its name.
 #[derive(Clone, Copy, PartialEq, Eq, Debug, Error)]
 pub enum Refusal {
     /// The job is not in the catalogue (start).
@@ -19,11 +19,10 @@ pub enum Refusal {
     /// No job instance has this job name (a query by job name).
     #[error("{}", self.name())]
     NoSuchJobException,
-    /// There is no job instance of this number (a query by job instance).
+    /// No job instance has this number (a query by job instance).
     #[error("{}", self.name())]
     NoSuchJobInstanceException,
-    /// There is no job execution of this number (restart, stop, abandon, and queries by job
-    /// execution).
+    /// No job execution has this number (restart, stop, abandon, and queries by job execution).
     #[error("{}", self.name())]
     NoSuchJobExecutionException,
     /// The job execution is finished (stop).
@@ -41,36 +40,36 @@ pub enum Refusal {
     /// The job execution is unfinished or ABANDONED, or its job is not restartable (restart).
     #[error("{}", self.name())]
     JobRestartException,
-    /// There is no work item of this number (checkpoint, finish and lose).
+    /// No work item has this number (checkpoint, finish and lose).
     #[error("{}", self.name())]
     NoSuchWork,
-    /// The work item is over already (checkpoint, finish and lose).
+    /// The work item has ended already (checkpoint, finish and lose).
     #[error("{}", self.name())]
     WorkNotRunning,
     /// Another session claimed the work item (checkpoint and finish).
     #[error("{}", self.name())]
     NotClaimer,
-    /// The outcome is STOPPED and no stop of the job execution was accepted (finish).
+    /// The outcome is STOPPED, but no stop of the job execution was accepted (finish).
     #[error("{}", self.name())]
     NotStopping,
-    /// The call does not fit the kind of work (checkpoint of what is no chunk, a decision finished
-    /// STOPPED).
+    /// The call does not fit the kind of work: a checkpoint of a work item that is no chunk, or a
+    /// decision that is finished as STOPPED.
     #[error("{}", self.name())]
     WrongOutcome,
-    /// A text is above its bound, or there are too many parameters (every call with a text).
+    /// A text exceeds its limit, or there are too many parameters (every call with a text).
     #[error("{}", self.name())]
     TextTooLong,
-    /// The history has as many operations as it may have (every call that would be entered in it,
-    /// after the call's own refusals).
+    /// The history is full. Every call that would add an operation to it returns this refusal,
+    /// after the call's own refusals.
     #[error("{}", self.name())]
     RepositoryFull,
-    /// Memory was refused (every call that takes memory; nothing has changed).
+    /// Memory was refused (every call that takes memory). Nothing has changed.
     #[error("{}", self.name())]
     OutOfMemory,
 }
 
 impl Refusal {
-    /// The number by which a refusal is known: 1 to 16 and 18.
+    /// Returns the refusal's number: 1 to 16, or 18.
     pub fn number(self) -> u8
         ensures { result ≡ refusal_number self }
     {
@@ -95,7 +94,7 @@ impl Refusal {
         }
     }
 
-    /// The name that is printed.
+    /// Returns the printed name.
     pub fn name(self) -> &'static str
         ensures name { result.now ≡ refusal_name self }
         ensures short { length result.now ≤ 36 }

@@ -5,7 +5,7 @@ use std::alloc::Global;
 use std::marker::Model;
 use std::sync::Arc;
 
-/// A value that its copies share, in any threads. Contracts see the value.
+/// A value that its clones share, in any number of threads. Contracts see the value.
 #[derive(Debug, Drop)]
 pub struct Shared<T> {
     inner: Arc<T>,
@@ -20,11 +20,11 @@ impl<T> Model for Shared<T> {
 }
 
 impl<T: Drop> Shared<T> {
-    /// This value, to be shared.
+    /// Moves a value to a place that clones can share.
     ///
     /// # Errors
     ///
-    /// `OutOfMemory` where memory is refused.
+    /// Returns `OutOfMemory` if memory is refused.
     pub fn new(alloc: Global, value: T) -> Result<Shared<T>, OutOfMemory>
         ensures { IfOk result (λ made. made ≡ value) }
     {
@@ -32,18 +32,18 @@ impl<T: Drop> Shared<T> {
         Ok(Shared { inner })
     }
 
-    /// The value.
+    /// Returns the value.
     pub fn get(&self) -> &T
         ensures { result.now ≡ self.now }
     {
         &self.inner
     }
 
-    /// An equal value, which shares it. It takes no memory.
+    /// Returns a clone, which shares the value. The call takes no memory.
     ///
     /// # Errors
     ///
-    /// `OutOfMemory` where 2^63 copies share it already.
+    /// Returns `OutOfMemory` if 2^63 clones share the value already.
     pub fn try_clone(&self) -> Result<Shared<T>, OutOfMemory>
         ensures { IfOk result (λ copy. copy ≡ self.now) }
     {

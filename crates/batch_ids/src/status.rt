@@ -7,44 +7,45 @@ use crate::UnknownName;
 use std::fmt;
 use std::str::FromStr;
 
-/// A moment, in whole milliseconds. Moments are handed in with each call, and nothing compares them.
+/// A moment, in whole milliseconds. Callers pass a moment with each call, and nothing compares
+/// moments.
 pub type Moment = u64;
 
-/// The status of a job execution or of a step execution (Jakarta Batch 2.1, "Batch and Exit
-/// Status"). It prints as its name, and is read from it.
+/// The batch status of a job execution or of a step execution (Jakarta Batch 2.1, "Batch and Exit
+/// Status"). It prints as its name, and can be parsed from it.
 #[derive(Clone, Copy, PartialEq, Eq, Hash, Debug)]
 pub enum BatchStatus {
-    /// Started or restarted, and no work of it was handed out yet.
+    /// Started or restarted, and none of its work has been claimed yet.
     Starting,
     /// Running.
     Started,
-    /// A stop was accepted, and some of its work is still busy.
+    /// A stop was accepted, and some of its work has not ended yet.
     Stopping,
     /// Ended by a stop.
     Stopped,
     /// Ended by a failure.
     Failed,
-    /// Ended well.
+    /// Ended successfully.
     Completed,
-    /// Abandoned by the operator: it is never restarted.
+    /// Abandoned by the operator, so it can never be restarted.
     Abandoned,
 }
 
-/// How a work item ended: the batch status that its step execution then has, where the step is not
-/// partitioned (Jakarta Batch 2.1, "Batch and Exit Status"). It prints as its name, and is read
-/// from it.
+/// The outcome of a work item. If its step is not partitioned, the step execution then has the
+/// batch status of this name (Jakarta Batch 2.1, "Batch and Exit Status"). An outcome prints as its
+/// name, and can be parsed from it.
 #[derive(Clone, Copy, PartialEq, Eq, Hash, Debug)]
 pub enum WorkOutcome {
-    /// It ended well.
+    /// It ended successfully.
     Completed,
     /// It failed.
     Failed,
-    /// It stopped because a stop of its job execution was requested.
+    /// It stopped because a stop of its job execution had been requested.
     Stopped,
 }
 
 impl BatchStatus {
-    /// The name that is printed, which is also the default exit status.
+    /// Returns the printed name, which is also the default exit status.
     pub fn name(self) -> &'static str
         ensures name { result.now ≡ status_name self }
         ensures short { length result.now ≤ 16 }
@@ -60,7 +61,8 @@ impl BatchStatus {
         }
     }
 
-    /// Whether a job execution of this status is still under way: STARTING, STARTED or STOPPING.
+    /// Checks whether a job execution with this batch status is unfinished: STARTING, STARTED or
+    /// STOPPING.
     pub fn is_unfinished(self) -> bool
         ensures { result ≡ is_unfinished self }
     {
@@ -77,7 +79,7 @@ impl BatchStatus {
 }
 
 impl WorkOutcome {
-    /// The name that is printed, which is also the default exit status: that of its status.
+    /// Returns the printed name, that of its batch status. It is also the default exit status.
     pub fn name(self) -> &'static str
         ensures name { result.now ≡ outcome_name self }
         ensures short { length result.now ≤ 16 }
@@ -85,7 +87,7 @@ impl WorkOutcome {
         self.status().name()
     }
 
-    /// The status that a step execution of one work item has once that ended so.
+    /// Returns the batch status of a step execution whose one work item has this outcome.
     pub fn status(self) -> BatchStatus
         ensures { result ≡ outcome_status self }
     {
@@ -117,11 +119,11 @@ impl fmt::Display for WorkOutcome {
     }
 }
 
-/// Reads a status's printed name, byte for byte.
+/// Parses a batch status's printed name. All bytes have to agree.
 ///
 /// # Errors
 ///
-/// `UnknownName` for any other text.
+/// Returns `UnknownName` for any other text.
 impl FromStr for BatchStatus {
     type Err = UnknownName;
 
@@ -146,11 +148,11 @@ impl FromStr for BatchStatus {
     }
 }
 
-/// Reads an outcome's printed name, byte for byte.
+/// Parses an outcome's printed name. All bytes have to agree.
 ///
 /// # Errors
 ///
-/// `UnknownName` for any other text.
+/// Returns `UnknownName` for any other text.
 impl FromStr for WorkOutcome {
     type Err = UnknownName;
 

@@ -7,7 +7,7 @@ use std::hash::{Hash, Hasher};
 use std::marker::Model;
 use std::sync::ArcStr;
 
-/// A text of at most `MAX` bytes of UTF-8, which its copies share. Contracts see its bytes.
+/// A text of at most `MAX` bytes of UTF-8. Clones share its bytes. Contracts see the bytes.
 #[derive(Debug, Drop)]
 pub struct Text<const MAX: usize> {
     inner: Option<ArcStr>,
@@ -29,12 +29,12 @@ impl<const MAX: usize> Model for Text<MAX> {
 }
 
 impl<const MAX: usize> Text<MAX> {
-    /// The text of these bytes. There is no lower bound: the empty text is one.
+    /// Copies a text. The empty text is allowed.
     ///
     /// # Errors
     ///
-    /// `TextTooLong` exactly for a text of more than `MAX` bytes, else `OutOfMemory` where memory is
-    /// refused.
+    /// - Returns `TextTooLong` exactly if the text has more than `MAX` bytes.
+    /// - Otherwise returns `OutOfMemory` if memory is refused.
     pub fn new(alloc: Global, text: &str) -> Result<Text<MAX>, Refusal>
         ensures same { IfOk result (λ made. made ≡ text.now) }
         ensures fits { OnOk result (length text.now ≤ MAX) }
@@ -50,11 +50,11 @@ impl<const MAX: usize> Text<MAX> {
         }
     }
 
-    /// The text of these bytes, which the caller knows to be at most `MAX`.
+    /// Copies a text. The caller guarantees that it has at most `MAX` bytes.
     ///
     /// # Errors
     ///
-    /// `OutOfMemory` where memory is refused.
+    /// Returns `OutOfMemory` if memory is refused.
     pub fn within(alloc: Global, text: &str) -> Result<Text<MAX>, OutOfMemory>
         requires { length text.now ≤ MAX }
         ensures { IfOk result (λ made. made ≡ text.now) }
@@ -63,14 +63,14 @@ impl<const MAX: usize> Text<MAX> {
         Ok(Text { inner: Some(inner) })
     }
 
-    /// The empty text. It takes no memory.
+    /// Returns the empty text. The call takes no memory.
     pub fn empty() -> Text<MAX>
         ensures { result ≡ [] }
     {
         Text { inner: None }
     }
 
-    /// The text.
+    /// Returns the text, of at most `MAX` bytes.
     pub fn as_str(&self) -> &str
         ensures same { result.now ≡ self.now }
         ensures fits { length self.now ≤ MAX }
@@ -81,11 +81,11 @@ impl<const MAX: usize> Text<MAX> {
         }
     }
 
-    /// An equal text, which shares the bytes. It takes no memory.
+    /// Returns an equal text, which shares the bytes. The call takes no memory.
     ///
     /// # Errors
     ///
-    /// `OutOfMemory` where 2^63 texts share them already.
+    /// Returns `OutOfMemory` if 2^63 texts share the bytes already.
     pub fn try_clone(&self) -> Result<Text<MAX>, OutOfMemory>
         ensures { IfOk result (λ copy. copy ≡ self.now) }
     {
@@ -98,11 +98,11 @@ impl<const MAX: usize> Text<MAX> {
     }
 }
 
-/// A copy of a text that may be left out. Where it is, no memory is taken.
+/// Clones an optional text. The call takes no memory.
 ///
 /// # Errors
 ///
-/// `OutOfMemory` where memory is refused.
+/// Returns `OutOfMemory` if 2^63 texts share the bytes already.
 pub fn try_clone_option<const MAX: usize>(
     text: &Option<Text<MAX>>,
 ) -> Result<Option<Text<MAX>>, OutOfMemory>

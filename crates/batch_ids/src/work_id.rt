@@ -2,13 +2,13 @@ ghost use Rattle.std.specs.Prelude.{◌≡◌};
 
 use std::marker::Model;
 
-/// The number of a work item, one run of a step, of a partition of a step, or of a decision.
+/// A work item's number. A work item is one run of a step, of a step's partition, or of a decision.
 /// Contracts see the number.
 ///
-/// Work items are numbered from 1 upwards, without gaps, in the order in which they are handed
-/// out. The number of a step's work item is its step execution's id, and that of the first one
-/// where the step is partitioned. 0 names nothing.
-/// See Jakarta Batch 2.1, "StepExecution" (`getStepExecutionId`).
+/// Work items are numbered from 1 upwards, without gaps, in the order in which they are claimed. A
+/// step execution's id is the number of its work item, or of its first work item if the step is
+/// partitioned. No work item has the number 0. See Jakarta Batch 2.1, "StepExecution"
+/// (`getStepExecutionId`).
 #[derive(Clone, Copy, PartialEq, Eq, PartialOrd, Ord, Hash, Debug)]
 pub struct WorkId {
     number: u64,
@@ -25,14 +25,14 @@ impl Model for WorkId {
 }
 
 impl WorkId {
-    /// The identifier with this number.
+    /// Returns the identifier with this number.
     pub fn new(number: u64) -> WorkId
         ensures { result ≡ number }
     {
         WorkId { number }
     }
 
-    /// The number.
+    /// Returns the number.
     pub fn value(self) -> u64
         ensures { result ≡ self }
     {
