@@ -1,4 +1,4 @@
--- What a cursor keeps of each list of its job, and what a report changes of it.
+-- A cursor's stored lists, one for each list of its job, and the changes of them by a report.
 use Rattle.std.specs.Prelude.{ℕ, zero, suc, ◌≡◌, ◌≢◌, ◌+◌, Bool, true, false, List, [], ◌∷◌, ◌++◌, length, map, slice_set}
 use Rattle.jsl_model.specs.Trees.{joined}
 use Rattle.jsl_model.specs.declared.element.Element.{Element, Element-F, fold-Element}
@@ -20,24 +20,24 @@ use Rattle.walk_rules.specs.Shown.{shows}
 use Rattle.walk_rules.specs.Standing.{progress}
 use Rattle.walk_rules.specs.Counts.{one_if}
 
--- ---- What is kept
+-- ---- Stored lists
 
--- an element, with what is kept of the lists inside it
+-- an element, with the stored lists inside it
 pub record KeptElement : Type 0 where
   pub row : WalkedElement
   pub inside : List KeptList
 
--- a body
+-- a body, with the stored lists inside it
 pub record KeptBody : Type 0 where
   pub part : BodyResult
   pub inside : List KeptList
 
--- a list: what is kept of it, and of the lists inside it
+-- a stored list, with the stored lists inside it
 pub record KeptTree : Type 0 where
   pub head : KeptList
   pub inside : List KeptList
 
--- how many lists stand before those inside each element
+-- for each element, the number of lists before those inside it
 abbrev pub starts_from : ℕ → List (List KeptList) → List ℕ
 starts_from n [] = []
 starts_from n (inside ∷ rest) = n ∷ starts_from (n + length inside) rest
@@ -95,34 +95,34 @@ kept_body facts = fold-Body KeptBody KeptElement KeptTree body_kept (element_kep
 abbrev pub kept_flow : (WorkKey → Fact) → SplitFlow → KeptTree
 kept_flow facts = fold-SplitFlow KeptBody KeptElement KeptTree body_kept (element_kept facts) flow_kept
 
--- what is kept of a list of elements, from one of them on
+-- the stored list of elements whose walk begins at one of them, with those inside it
 abbrev pub tree_of : (WorkKey → Fact) → List Element → List ℕ → KeptTree
 tree_of facts elements from = tree_from (map (kept_element facts) elements) from
 
--- what is kept of a list, and of those inside it
+-- the stored list of these elements, and then those inside it
 abbrev pub kept_of : (WorkKey → Fact) → List Element → List ℕ → List KeptList
 kept_of facts elements from = lists_in (tree_of facts elements from)
 
--- ---- How often a work key stands
+-- ---- The count of a work key
 
--- how often a work key stands in a list
+-- how often a list has a work key
 abbrev pub key_count : WorkKey → List WorkKey → ℕ
 key_count key [] = 0
 key_count key (one ∷ rest) = one_if (is_same_key key one) + key_count key rest
 
--- ---- What a report changes
+-- ---- The changes by a report
 
--- whether what an element comes to by itself shows it
+-- whether an element's own result shows the work key
 abbrev pub result_shows : WorkKey → ElementResult → Bool
 result_shows key (ListValue value) = shows key value
 result_shows key (Outcome outcome exit) = false
 
--- whether the first of these lists shows it
+-- whether the value of the first of these lists shows the work key
 abbrev pub first_shows : WorkKey → List KeptList → Bool
 first_shows key [] = false
 first_shows key (kept ∷ rest) = shows key kept.progress.value
 
--- a kept list with what one element comes to changed, and so what the list comes to
+-- a stored list with one element's own result changed, and with it the walk's progress
 abbrev pub put_in : ListChange → KeptList → KeptList
 put_in change kept = record kept { progress = change.progress; results = slice_set kept.results change.place change.result }
 
@@ -131,60 +131,63 @@ put_at n change [] = []
 put_at zero change (kept ∷ rest) = put_in change kept ∷ rest
 put_at (suc n) change (kept ∷ rest) = kept ∷ put_at n change rest
 
--- the last of these first
+-- the lists with these changes, the last change first
 abbrev pub put_all : List ListChange → List KeptList → List KeptList
 put_all [] lists = lists
 put_all (change ∷ rest) lists = put_at change.list change (put_all rest lists)
 
--- what is learnt makes the old lists the new ones, where they begin at this number: with these changes put before those
+-- these changes, put before those others, make the old lists the new ones, if the lists begin at this number
 abbrev pub Puts : List ListChange → List ListChange → ℕ → List KeptList → List KeptList → Type 0
 Puts others changes base old new =
     (before after : List KeptList) → length before ≡ base
     → put_all changes ((before ++ old) ++ after) ≡ put_all others ((before ++ new) ++ after)
 
--- what is kept of a list that begins somewhere, with what is kept of those inside it, and then others
+-- the lists begin with the stored list of these elements, whose walk begins at some element, and those inside
+-- it
 abbrev pub Keeps : (WorkKey → Fact) → List Element → List KeptList → Type 0
 Keeps facts elements lists = (from : List ℕ) × (rest : List KeptList) × (lists ≡ kept_of facts elements from ++ rest)
 
--- what is kept of a list that begins at its first element, and then others
+-- the lists begin with the stored list of these elements, whose walk begins at the first element, and those
+-- inside it
 abbrev pub KeepsFirst : (WorkKey → Fact) → List Element → List KeptList → Type 0
 KeepsFirst facts elements lists = (rest : List KeptList) × (lists ≡ lists_in (tree_first (map (kept_element facts) elements)) ++ rest)
 
--- what is kept of the lists inside an element, and then others
+-- the lists begin with the stored lists inside an element
 abbrev pub KeepsInside : (WorkKey → Fact) → Element → List KeptList → Type 0
 KeepsInside facts element lists = (rest : List KeptList) × (lists ≡ (kept_element facts element).inside ++ rest)
 
--- what is kept of the flows of a split, one after another, and then others
+-- the lists begin with the stored lists of a split's flows, one flow after another
 abbrev pub KeepsFlows : (WorkKey → Fact) → List SplitFlow → List KeptList → Type 0
 KeepsFlows facts flows lists =
     (rest : List KeptList) × (lists ≡ joined (map (λ (f : SplitFlow). lists_in (kept_flow facts f)) flows) ++ rest)
 
--- what is kept of the flows of a split, whose own result shows a work key
+-- the lists begin with the stored lists of a split's flows, and the split's own result shows a work key
 abbrev pub ShowsInFlow : WorkKey → List SplitFlow → List KeptList → Type 0
 ShowsInFlow key flows lists =
     (facts : WorkKey → Fact) × KeepsFlows facts flows lists
     × (result_shows key (split_result (map (λ (f : SplitFlow). value_kept (kept_flow facts f)) flows)) ≡ true)
 
--- what is known, once this is learnt of a work key
+-- the facts after a new one of a work key
 abbrev pub facts_after : List Known → WorkKey → Fact → WorkKey → Fact
 facts_after known key fact = fact_of (put_fact known key fact)
 
--- where this is kept of a list, what is learnt changes that into what is kept of it then
+-- if the lists begin with the stored list of these elements, the changes make it the stored list by the later
+-- facts
 abbrev pub ChangesList : List ListChange → List ListChange → ℕ → List KeptList → (WorkKey → Fact) → (WorkKey → Fact) → List Element → Type 0
 ChangesList others changes base lists facts later elements =
     (from : List ℕ) (rest : List KeptList) → lists ≡ kept_of facts elements from ++ rest
     → Puts others changes base (kept_of facts elements from) (kept_of later elements from)
 
--- and then the list comes to this
+-- if the lists begin with the stored list of these elements, this is the list's value by the later facts
 abbrev pub ComesTo : Value → List KeptList → (WorkKey → Fact) → (WorkKey → Fact) → List Element → Type 0
 ComesTo value lists facts later elements =
     (from : List ℕ) (rest : List KeptList) → lists ≡ kept_of facts elements from ++ rest → value ≡ value_kept (tree_of later elements from)
 
--- facts that differ at the work keys of one id alone
+-- facts that differ only at the work keys of one id
 abbrev pub DifferAt : List ℕ → (WorkKey → Fact) → (WorkKey → Fact) → Type 0
 DifferAt id facts later = (key : WorkKey) → key.element ≢ id → later key ≡ facts key
 
--- a walk that keeps these of its job's lists
+-- a walk with these stored lists
 pub record IsKept (lists : List KeptList) (cursor : CursorState) : Type 0 where
   pub same : lists ≡ kept_of (fact_of cursor.facts) cursor.job.elements cursor.from
   pub state : IsCursor cursor

@@ -1,4 +1,4 @@
--- The lists of a job, as a walk goes over them, and what is known of their steps and decisions.
+-- The lists of a job, as a walk goes over them, and the facts of their steps and decisions.
 use Rattle.std.specs.Prelude.{◌≡◌, ℕ, Bool, false, List, All, Contains}
 use Rattle.std.specs.List.{list_any}
 use Rattle.std.specs.Str.{bytes_eq}
@@ -18,13 +18,14 @@ use Rattle.walk_rules.specs.Walk.{walked_element, value_by_result, value_of}
 abbrev pub has_element : List Element → List ℕ → Bool
 has_element elements id = list_any (λ element. bytes_eq element.id id) elements
 
--- what each list of a checked job keeps: what `next` and `to` name in it is there, and numbers below its length rise
--- from each element to what it names
+-- each list of a checked job has the targets of its `next` and `to`, and numbers below its length rise from
+-- each element to its targets
 pub record IsOrdered (items : List Item) : Type 0 where
   pub complete : lacks_target items ≡ false
   pub ranked : HasRanks items
 
--- a list stands in another: it is that list itself, or it stands in the list of a flow there, or of a flow of a split
+-- a list lies in another: it is that list itself, or it lies in the list of a flow there, or of a flow of a
+-- split
 pub data StandsIn (list : List Element) : List Element → Type 0 where
   Itself : StandsIn list list
   InFlow : (elements inner : List Element) (element : Element) → Contains elements element → element.body ≡ Flow inner
@@ -32,14 +33,14 @@ pub data StandsIn (list : List Element) : List Element → Type 0 where
   InSplit : (elements : List Element) (element : Element) (flows : List SplitFlow) (flow : SplitFlow) → Contains elements element
       → element.body ≡ Split flows → Contains flows flow → StandsIn list (out-SplitFlow flow).elements → StandsIn list elements
 
--- where a list goes from an element of it: what the element comes to by itself, and then the list's value from the
--- element to which that leads
+-- a list's value from an element: its own result, and then the list's value from the element to which that
+-- leads
 abbrev pub value_from : (WorkKey → Fact) → List Element → Element → Value
 value_from facts elements element =
     value_by_result (value_of facts elements) (walked_element facts element) (walked_element facts element).own_result
 
 -- ---- Steps and decisions
 
--- the same is known of each work key of these steps and decisions
+-- facts that are equal at each work key of these steps and decisions
 abbrev pub Agree : (WorkKey → Fact) → (WorkKey → Fact) → List Leaf → Type 0
 Agree facts later leaves = All (λ key. facts key ≡ later key) (all_keys leaves)

@@ -1,4 +1,4 @@
--- What a plan says of the work keys of steps (Jakarta Batch 2.1, "Job Restart Processing").
+-- A plan's facts of the work keys of steps (Jakarta Batch 2.1, "Job Restart Processing").
 use Rattle.std.specs.Prelude.{ℕ, ◌&&◌, Bool, true, false, Option, Some, None, List, find}
 use Rattle.std.specs.List.{list_all}
 use Rattle.std.specs.Option.{option_map}
@@ -20,7 +20,7 @@ carried_exit carried id = option_map (λ (step : List ℕ × List ℕ). step.1) 
 abbrev pub is_kept : Plan → WorkKey → Bool
 is_kept plan key = has_key plan.kept key
 
--- a work key of which nothing is known may be of a step that has reached its start limit
+-- this fact, or that the step has reached its start limit if there is no fact
 abbrev pub unless_barred : Fact → Bool → Fact
 unless_barred Nothing true = Barred
 unless_barred Nothing false = Nothing
@@ -29,28 +29,29 @@ unless_barred (Over outcome exit) barred = Over outcome exit
 unless_barred (Carried exit) barred = Carried exit
 unless_barred Barred barred = Barred
 
--- whether the partition of a work key is kept: a step that is not partitioned has none
+-- whether the partition of a work key is kept: a step that is not partitioned has no kept partition
 abbrev pub keeps_partition : Plan → Option ℕ → WorkKey → Bool
 keeps_partition plan None key = false
 keeps_partition plan (Some count) key = is_kept plan key
 
--- whether each work key of a step is of a partition that is kept: then nothing else counts that is known of it
+-- whether each work key of a step is of a kept partition
 abbrev pub keeps_each : Plan → List ℕ → Option ℕ → Bool
 keeps_each plan id partitions = list_all (keeps_partition plan partitions) (keys_of_step id partitions)
 
--- whether a step has reached its start limit, and nothing is known of it but that each of its partitions is kept
+-- whether a step has reached its start limit and each of its partitions is kept
 abbrev pub bars_kept : Plan → List ℕ → Option ℕ → Bool
 bars_kept plan id partitions = is_among plan.barred id && keeps_each plan id partitions
 
--- a work key of a step: that its step is carried counts first, then that the step is barred though each partition is kept, then
--- that its partition is kept, which came to COMPLETED, then what is known of it, and last the start limit of its step
+-- the fact of a step's work key. The first of these counts: its step is carried; the step is barred though
+-- each partition is kept; its partition is kept, and so COMPLETED; the fact already there; the step has
+-- reached its start limit
 abbrev pub step_fact : Option (List ℕ) → Bool → Bool → Fact → Bool → Fact
 step_fact (Some exit) all_barred kept known barred = Carried exit
 step_fact None true kept known barred = Barred
 step_fact None false true known barred = Carried (status_name Completed)
 step_fact None false false known barred = unless_barred known barred
 
--- what is known of a work key of a step of so many partitions by a plan, where this is known of it already
+-- the fact of a work key of a step of so many partitions, from a plan and the fact already there
 abbrev pub planned_fact : Plan → Option ℕ → WorkKey → Fact → Fact
 planned_fact plan partitions key known =
     step_fact (carried_exit plan.carried key.element) (bars_kept plan key.element partitions) (keeps_partition plan partitions key)

@@ -1,4 +1,4 @@
--- What a walk is about to learn.
+-- A prepared new fact of a walk.
 use Rattle.std.specs.Prelude.{◌≡◌, ◌≤◌, true, List}
 use Rattle.walk_rules.specs.declared.facts.Fact.{Fact}
 use Rattle.job_walk.specs.declared.kept_list.KeptList.{KeptList}
@@ -9,12 +9,12 @@ use Rattle.job_walk.specs.KeptLists.{kept_of, key_count, put_all}
 use Rattle.walk_rules.specs.Keys.{has_key}
 use Rattle.walk_rules.specs.Walk.{fact_of}
 
--- what is kept of a walk's lists
+-- the stored lists of a walk
 abbrev pub kept_in : CursorState → List KeptList
 kept_in cursor = kept_of (fact_of cursor.facts) cursor.job.elements cursor.from
 
--- this is what the walk changes when it learns this fact of a work key, which stands once among those of which it knows
--- something, and what its job comes to then
+-- a prepared new fact of a work key, with the changes that it makes in the walk and the job's value after it;
+-- the walk has one fact of the work key
 pub record IsPrepared (cursor : CursorState) (key : WorkKey) (fact : Fact) (prepared : Prepared) : Type 0 where
   pub same_key : prepared.key ≡ key
   pub same_fact : prepared.fact ≡ fact

@@ -1,4 +1,4 @@
-//! Putting what has changed into what is kept. It takes no memory.
+//! Puts prepared changes into a cursor's stored lists, without memory.
 ghost use Rattle.std.specs.Prelude.{◌≡◌};
 ghost use Rattle.job_walk.specs.KeptLists.{put_in, put_at, put_all};
 
@@ -35,7 +35,7 @@ fn put_at(lists: &mut Vec<KeptList>, change: ListChange)
     }
 }
 
-/// Puts what has changed into what is kept, the last change first.
+/// Puts all changes into the stored lists, the last change first.
 #[tactic(auto, using(crate::proofs::Putting::put_last))]
 pub(crate) fn put_changes(lists: &mut Vec<KeptList>, mut changes: Vec<ListChange>)
     ensures { lists.new.items ≡ put_all changes.items lists.old.items }

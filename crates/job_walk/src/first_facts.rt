@@ -1,4 +1,4 @@
-//! What is known at first of each work key of a job.
+//! The first facts of a job's work keys.
 ghost use Rattle.std.specs.Prelude.{◌≡◌, ◌++◌, ◌∷◌, [], map, IfOk, OnOk};
 ghost use Rattle.std.specs.List.{flat_map};
 ghost use Rattle.std.specs.Option.{option_copied};
@@ -15,7 +15,7 @@ use jsl_model::{Body, Element};
 use std::alloc::Global;
 use walk_rules::{Fact, Known, WorkKey, fact_of, has_key, key_of, name_of};
 
-/// The exit status with which an earlier job execution completed this step.
+/// Returns the exit status with which an earlier job execution completed this step.
 fn find_carried<'a>(carried: &'a [(T256, T256)], id: &T256) -> Option<&'a T256>
     ensures { option_copied result ≡ carried_exit carried.now id.now }
 {
@@ -38,7 +38,7 @@ fn is_among(steps: &[T256], id: &T256) -> bool
     false
 }
 
-/// This fact, unless nothing is known and the step has reached its start limit.
+/// Returns this fact, or `Barred` if there is none and the step has reached its start limit.
 fn unless_barred(known: Fact, barred: &[T256], id: &T256) -> Fact
     ensures { result ≡ unless_barred known (is_among barred.now id.now) }
 {
@@ -57,7 +57,8 @@ fn unless_barred(known: Fact, barred: &[T256], id: &T256) -> Fact
     }
 }
 
-/// Whether the partition of a work key is kept: a step that isn't partitioned has none.
+/// Checks whether the plan keeps a work key's partition. A step that isn't partitioned has no kept
+/// partition.
 fn keeps_partition(plan: &Plan, partitions: Option<u32>, key: &WorkKey) -> bool
     ensures { result ≡ keeps_partition plan.now partitions key.now }
 {
@@ -67,7 +68,7 @@ fn keeps_partition(plan: &Plan, partitions: Option<u32>, key: &WorkKey) -> bool
     }
 }
 
-/// Whether each partition of a step is kept.
+/// Checks whether the plan keeps each partition of a step.
 #[tactic(auto, using(crate::proofs::Beginning::numbers_ahead))]
 fn keeps_each(plan: &Plan, id: &T256, partitions: Option<u32>) -> Result<bool, OutOfMemory>
     ensures { IfOk result (λ each. each ≡ keeps_each plan.now id.now partitions) }
@@ -86,7 +87,7 @@ fn keeps_each(plan: &Plan, id: &T256, partitions: Option<u32>) -> Result<bool, O
     }
 }
 
-/// Whether a step has reached its start limit, though each of its partitions is kept.
+/// Checks whether a step has reached its start limit, though the plan keeps each of its partitions.
 fn bars_kept(plan: &Plan, id: &T256, partitions: Option<u32>) -> Result<bool, OutOfMemory>
     ensures { IfOk result (λ bars. bars ≡ bars_kept plan.now id.now partitions) }
 {
@@ -97,7 +98,7 @@ fn bars_kept(plan: &Plan, id: &T256, partitions: Option<u32>) -> Result<bool, Ou
     }
 }
 
-/// What is known of a work key of a step by the plan, where this is known already.
+/// Returns the first fact of a step's work key, from the plan and `known`.
 fn step_at_first(
     alloc: Global,
     plan: &Plan,
@@ -122,7 +123,7 @@ fn step_at_first(
     Ok(unless_barred(fact, plan.barred.as_slice(), &key.element))
 }
 
-/// Adds what is known of a partition of a step.
+/// Adds the first fact of a step's partition.
 fn add_partition(
     facts: &mut Vec<Known>,
     plan: &Plan,
@@ -143,7 +144,7 @@ fn add_partition(
     Ok(())
 }
 
-/// Adds what is known of the partitions of a step.
+/// Adds the first facts of a step's partitions.
 fn add_step(
     facts: &mut Vec<Known>,
     plan: &Plan,
@@ -166,7 +167,7 @@ fn add_step(
     }
 }
 
-/// Adds what is known of a decision.
+/// Adds the first fact of a decision.
 fn add_decision(facts: &mut Vec<Known>, known: &[Known], id: &T256) -> Result<(), OutOfMemory>
     ensures { OnOk result (facts.new.items ≡ facts.old.items
         ++ known_of (fact_of known.now) (key_of id.now 0 ∷ [])) }
@@ -177,7 +178,7 @@ fn add_decision(facts: &mut Vec<Known>, known: &[Known], id: &T256) -> Result<()
     Ok(())
 }
 
-/// Adds what is known of the work keys in an element.
+/// Adds the first facts of the work keys in an element.
 #[cycle(knowing)]
 fn add_inside(
     facts: &mut Vec<Known>,
@@ -201,7 +202,7 @@ fn add_inside(
     }
 }
 
-/// Adds what is known of the work keys of a list.
+/// Adds the first facts of the work keys in a list.
 #[cycle(knowing)]
 fn add_all(
     facts: &mut Vec<Known>,
@@ -218,8 +219,8 @@ fn add_all(
     Ok(())
 }
 
-/// What is known of each work key of these elements, in written order and by rising partition,
-/// where this is known beside the plan.
+/// Returns the first fact of each work key of these elements, from the plan and `known`. The facts
+/// are in written order and by rising partition.
 pub(crate) fn known_at_first(
     alloc: Global,
     plan: &Plan,

@@ -1,4 +1,4 @@
-//! What a walk comes to at its beginning.
+//! The value of a walk at its beginning.
 ghost use Rattle.std.specs.Prelude.{◌≡◌, [], true, IfOk};
 ghost use Rattle.job_walk.specs.Cursors.{begins_in, resumed, value_in};
 
@@ -10,7 +10,7 @@ use jsl_model::Job;
 use std::alloc::Global;
 use walk_rules::{Known, Value};
 
-/// Whether a plan says nothing of any step.
+/// Checks whether a plan says nothing of any step.
 fn says_nothing(plan: &Plan) -> bool
     ensures { result ≡ true
         → (plan.now.carried ≡ []) × (plan.now.kept ≡ []) × (plan.now.barred ≡ []) }
@@ -18,15 +18,15 @@ fn says_nothing(plan: &Plan) -> bool
     plan.carried.is_empty() && plan.kept.is_empty() && plan.barred.is_empty()
 }
 
-/// What a job comes to, where its walk begins by this plan and this is known already: what the cursor
-/// that `Cursor::resume` makes comes to.
+/// Returns the value of the job whose walk begins by this plan, with these facts already. It is the
+/// value of the cursor that `Cursor::resume` makes.
 ///
-/// Where the plan says nothing of any step and nothing is known, it walks no further than to the first
-/// steps and decisions that may be run, and else each list of the job once.
+/// If the plan says nothing of any step and `known` is empty, it walks only to the first steps and
+/// decisions that may be run. Otherwise it walks each list of the job once.
 ///
 /// # Errors
 ///
-/// `OutOfMemory` where memory is refused.
+/// Returns `OutOfMemory` if memory is refused.
 pub fn value_at_first(
     alloc: Global,
     job: &Job,

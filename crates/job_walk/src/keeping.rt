@@ -1,4 +1,4 @@
-//! What is kept of a job at first.
+//! Builds a cursor's stored lists at the beginning of a walk.
 ghost use Rattle.std.specs.Prelude.{◌≡◌, ◌++◌, ◌≤◌, ℕ, List, [], length, map, IfOk, OnOk};
 ghost use Rattle.jsl_model.specs.Trees.{joined};
 ghost use Rattle.jsl_model.specs.declared.element.Element.{Element};
@@ -21,7 +21,7 @@ use walk_rules::{
     split_result, walk_on,
 };
 
-/// What stands in the place of what is kept of a list, until that is known.
+/// Makes the placeholder for a list that hasn't been walked yet.
 fn nothing_kept(alloc: Global) -> KeptList {
     KeptList {
         progress: Progress {
@@ -37,8 +37,8 @@ fn nothing_kept(alloc: Global) -> KeptList {
     }
 }
 
-/// Adds what is kept of the lists inside the elements of a list; what each element comes to by
-/// itself, and how many of the added lists stand before those inside it.
+/// Adds the stored lists inside the elements of a list. Also adds each element's own result, and
+/// the number of added lists before those inside it.
 #[cycle(keeping)]
 fn keep_each(
     alloc: Global,
@@ -69,7 +69,7 @@ fn keep_each(
     Ok(())
 }
 
-/// How far the walk comes over a list of which nothing has changed.
+/// Returns how far the walk from `from` comes over a list, with these own results of its elements.
 fn walk_all(
     alloc: Global,
     index: &ElementIndex,
@@ -92,7 +92,7 @@ fn walk_all(
     come
 }
 
-/// Adds what is kept of a list, and of those inside it.
+/// Adds the stored list of these elements, and those inside it.
 #[cycle(keeping)]
 pub(crate) fn keep_list(
     alloc: Global,
@@ -132,7 +132,7 @@ pub(crate) fn keep_list(
     Ok(())
 }
 
-/// The same of a list that begins at its first element; what it comes to.
+/// Like `keep_list`, for a list that begins at its first element. Returns the list's value.
 #[cycle(keeping)]
 fn keep_first(
     alloc: Global,
@@ -159,7 +159,7 @@ fn keep_first(
     lists[base].progress.value.try_clone()
 }
 
-/// What an element comes to by itself. Adds what is kept of the lists inside it.
+/// Returns an element's own result, and adds the stored lists inside the element.
 #[cycle(keeping)]
 fn keep_element(
     alloc: Global,
@@ -192,7 +192,7 @@ fn keep_element(
     }
 }
 
-/// What a decision, or a step that isn't partitioned, comes to by itself.
+/// Returns the own result of a decision, or of a step that isn't partitioned.
 fn runnable_kept(
     alloc: Global,
     index: &ElementIndex,
@@ -209,7 +209,7 @@ fn runnable_kept(
     made
 }
 
-/// What a step comes to by itself.
+/// Returns a step's own result.
 fn step_kept(
     alloc: Global,
     index: &ElementIndex,
@@ -236,7 +236,7 @@ fn step_kept(
     }
 }
 
-/// What a flow comes to by itself.
+/// Returns a flow's own result.
 pub(crate) fn flow_result(value: Value) -> ElementResult
     ensures { result ≡ flow_result value }
 {

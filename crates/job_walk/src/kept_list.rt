@@ -1,37 +1,37 @@
-//! What a cursor keeps of each list of its job, and what changes of it.
+//! A cursor's stored lists, one for each list of its job, and the changes of them.
 ghost use Rattle.std.specs.Prelude.{◌≡◌};
 
 use batch_ids::Listed;
 use walk_rules::{ElementResult, Progress, Value};
 
-/// What is kept of a list of elements.
+/// The stored state of a list of elements.
 #[derive(Debug, Drop)]
 pub(crate) struct KeptList {
-    /// How far its walk has come.
+    /// How far the list's walk has come.
     pub progress: Progress,
-    /// What each of its elements comes to by itself.
+    /// Each element's own result.
     pub results: Listed<ElementResult>,
-    /// How many lists stand before those inside each of its elements.
+    /// For each element, the number of lists before those inside it.
     pub starts: Listed<usize>,
-    /// How many lists these are, with those inside.
+    /// The number of lists, with this one and all inside it.
     pub size: usize,
 }
 
-/// What changes of one list.
+/// A change of one stored list.
 #[derive(Debug, Drop)]
 pub(crate) struct ListChange {
     /// The number of the list.
     pub list: usize,
-    /// How far its walk has come.
+    /// How far the list's walk has come.
     pub progress: Progress,
-    /// The place of the element inside which something was learnt.
+    /// The place of the element whose work key has a new fact.
     pub place: usize,
-    /// What this element comes to by itself.
+    /// This element's own result.
     pub result: ElementResult,
 }
 
 impl ListChange {
-    /// What changes of a list with this number.
+    /// Makes a change of the list with this number.
     pub(crate) fn new(
         list: usize,
         place: usize,

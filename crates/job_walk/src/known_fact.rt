@@ -9,8 +9,8 @@ use batch_ids::{OutOfMemory, T256};
 use jsl_model::ElementIndex;
 use walk_rules::{Fact, Known, fact_of};
 
-/// What is known of a partition of an element. Where it stands at the place that the index has, this
-/// takes no search.
+/// Returns the fact of an element's partition. There is no search if it is at the place that the
+/// index has.
 #[tactic(auto, using(crate::proofs::KeysOnce::known_there))]
 pub(crate) fn known_fact(
     index: &ElementIndex,

@@ -18,11 +18,10 @@ ghost use Rattle.walk_rules.specs.Walk.{fact_of, value_of, walked_element};
 use jsl_model::Element;
 use walk_rules::Value;
 
-/// What a walk learns of a work key is what is known of it from then on, and what is known of any
-/// other one stays.
+/// A work key's fact is the last one that a walk was given. The facts of other work keys stay.
 ///
-/// It does nothing: its contract is the law. Since something is known of all that is ready or busy,
-/// a partition is busy after `take` and over after `report`, whatever was known of it before.
+/// The function does nothing: its contract is the law. Each ready or busy work key has a fact. So a
+/// partition is busy after `take` and over after `report`, whatever its fact was before.
 pub fn the_newest_fact_counts()
     ensures known { (cursor : CursorState) → IsCursor cursor → (key : WorkKey)
         → is_shown (value_in cursor) key ≡ true → has_key (known_keys cursor.facts) key ≡ true }
@@ -34,10 +33,11 @@ pub fn the_newest_fact_counts()
         → fact_of (with_fact cursor key fact).facts other ≡ fact_of cursor.facts other }
 {}
 
-/// A restart begins at an element of the job's own list: the restart point with which the walk of a
-/// checked job ends is the id of one, whatever is known and wherever the walk began.
+/// A restart begins at an element of the job's own list. The restart point with which a checked
+/// job's walk ends is the id of such an element, whatever the facts and the walk's beginning.
 ///
-/// It does nothing: its contract is the law. See Jakarta Batch 2.1, "Job Restart Processing".
+/// The function does nothing: its contract is the law. See Jakarta Batch 2.1, "Job Restart
+/// Processing".
 pub fn a_restart_begins_at_a_job_level_element()
     ensures { (job : JobTree) → IsChecked job → (facts : WorkKey → Fact) (from : List ℕ)
         (status : BatchStatus) (exit point : List ℕ)
@@ -45,12 +45,13 @@ pub fn a_restart_begins_at_a_job_level_element()
         → has_element job.elements point ≡ true }
 {}
 
-/// A list goes on from element to element: its value from an element of it is what the element came
-/// to by itself, carried on by the list's value from the element to which that leads, and that
-/// element is in the list. So no walk over a list of a checked job, at any depth, runs out of
-/// elements or leaves the list.
+/// A list goes on from element to element. Its value from an element is that element's own result,
+/// carried on by the list's value from the element that follows. The following element is in the
+/// list. So no walk over a list of a checked job, at any depth, runs out of elements or leaves the
+/// list.
 ///
-/// It does nothing: its contract is the law. See Jakarta Batch 2.1, "Job Specification Language".
+/// The function does nothing: its contract is the law. See Jakarta Batch 2.1, "Job Specification
+/// Language".
 pub fn a_list_goes_on_from_element_to_element()
     ensures value { (job : JobTree) → IsChecked job
         → (list : List Element) → StandsIn list job.elements
@@ -64,11 +65,11 @@ pub fn a_list_goes_on_from_element_to_element()
         → has_element list to ≡ true }
 {}
 
-/// A walk depends on what is known of the job's work keys alone: where the same is known of those
-/// of a list, the list comes to the same value, and where the same is known of those in an element,
-/// the element comes to the same by itself.
+/// A walk depends only on the facts of the job's work keys. Equal facts of a list's work keys give
+/// the list the same value. Equal facts of an element's work keys give the element the same own
+/// result.
 ///
-/// It does nothing: its contract is the law.
+/// The function does nothing: its contract is the law.
 pub fn steps_and_decisions_decide_a_walk()
     ensures value { (facts later : WorkKey → Fact) (elements : List Element)
         → Agree facts later (all_leaves elements)
@@ -78,10 +79,10 @@ pub fn steps_and_decisions_decide_a_walk()
         → walked_element facts element ≡ walked_element later element }
 {}
 
-/// What a walk shows as ready or busy is a work key of a step or a decision of its list, at any
+/// Each ready or busy work key that a walk shows is of a step or a decision of its list, at any
 /// depth.
 ///
-/// It does nothing: its contract is the law.
+/// The function does nothing: its contract is the law.
 pub fn what_is_shown_is_a_step_or_decision()
     ensures ready { (facts : WorkKey → Fact) (elements : List Element) (from : List ℕ)
         (key : WorkKey) → has_key (ready_of (value_of facts elements from)) key ≡ true
@@ -91,10 +92,10 @@ pub fn what_is_shown_is_a_step_or_decision()
         → has_key (all_keys (all_leaves elements)) key ≡ true }
 {}
 
-/// What is known at first decides a walk: where facts say of each work key of the job what is known
-/// of it at first, the walk comes to what the job comes to by these facts.
+/// The first facts decide a walk. If `facts` has the first fact of each work key of the job, the
+/// walk's value is the job's value by `facts`.
 ///
-/// It does nothing: its contract is the law.
+/// The function does nothing: its contract is the law.
 pub fn what_is_known_at_first_decides_a_walk()
     ensures { (job : JobTree) (plan : Plan) (known : List Known) (facts : WorkKey → Fact)
         → All (λ leaf. All (λ key.

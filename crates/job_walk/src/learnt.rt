@@ -1,5 +1,5 @@
-//! What a walk changes when it learns something: the lists on the way from the element to the job's
-//! list, and no other.
+//! The changes that a new fact makes: in the lists on the way from the element up to the job's
+//! list, and in no others.
 ghost use Rattle.std.specs.Prelude.{◌≡◌, ◌+◌, ◌++◌, ◌∷◌, [], ◌<◌, ◌≤◌, ◌^◌, true, false, ℕ, List, length, map, drop, slice_index_or, IfOk, OnOk};
 ghost use Rattle.jsl_model.specs.declared.element.Body.TheVariants.{Split};
 ghost use Rattle.job_walk.specs.declared.kept_list.KeptList.{KeptList};
@@ -21,7 +21,7 @@ use walk_rules::{
     ElementResult, Fact, Known, Value, WorkKey, key_of, partitioned_result, result_by, walk_on,
 };
 
-/// What is known of a partition of an element, once this is learnt of a work key.
+/// Returns the fact of an element's partition, after `key` got its new fact.
 fn fact_after(
     index: &ElementIndex,
     known: &[Known],
@@ -42,7 +42,7 @@ fn fact_after(
     }
 }
 
-/// What a decision, or a step that isn't partitioned, comes to by itself, once this is learnt.
+/// Returns the own result of a decision, or of a step that isn't partitioned, after the new fact.
 fn runnable_after(
     alloc: Global,
     index: &ElementIndex,
@@ -62,7 +62,7 @@ fn runnable_after(
     made
 }
 
-/// What a step comes to by itself, once this is learnt.
+/// Returns a step's own result after the new fact.
 fn step_after(
     alloc: Global,
     index: &ElementIndex,
@@ -93,7 +93,7 @@ fn step_after(
     }
 }
 
-/// The lists from this one on.
+/// Returns the lists from this one on.
 fn lists_from(lists: &[KeptList], start: usize) -> &[KeptList]
     requires { start ≤ length lists.now }
     ensures { result.now ≡ drop start lists.now }
@@ -101,7 +101,7 @@ fn lists_from(lists: &[KeptList], start: usize) -> &[KeptList]
     &lists[start..]
 }
 
-/// Adds a change of a list; what the list comes to by it.
+/// Adds a change of a list, and returns the list's new value.
 fn add_change(changes: &mut Vec<ListChange>, change: ListChange) -> Result<Value, OutOfMemory>
     ensures value { IfOk result (λ value. value ≡ change.progress.value) }
     ensures changes { OnOk result (changes.new.items ≡ changes.old.items ++ change ∷ []) }
@@ -111,9 +111,9 @@ fn add_change(changes: &mut Vec<ListChange>, change: ListChange) -> Result<Value
     changes[place].progress.value.try_clone()
 }
 
-/// What changes of a list and of those inside it, once this is learnt of a work key that it shows,
-/// and what the list comes to then. `lists` begins with what is kept of them, and the first of these
-/// has the number `base`.
+/// Adds the changes that a new fact of a shown work key makes in a list and in those inside it.
+/// Returns the list's new value. `lists` begins with their stored lists, and the first of these has
+/// the number `base`.
 #[cycle(learning)]
 pub(crate) fn list_changes(
     alloc: Global,
@@ -177,8 +177,8 @@ pub(crate) fn list_changes(
     }
 }
 
-/// What an element comes to by itself, once this is learnt of a work key that it shows, with what
-/// changes of the lists inside it.
+/// Returns an element's own result after the new fact of a work key that it shows. Adds the changes
+/// of the lists inside the element.
 #[cycle(learning)]
 fn element_changes(
     alloc: Global,
@@ -231,8 +231,8 @@ fn element_changes(
     }
 }
 
-/// The same of a split: it learns inside the flow that shows the work key, and what is kept of the
-/// others is lent.
+/// Like `element_changes`, for a split. Only the flow that shows the work key is walked, and the
+/// stored values of the others are borrowed.
 #[cycle(learning)]
 fn split_changes(
     alloc: Global,

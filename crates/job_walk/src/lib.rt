@@ -1,4 +1,5 @@
-//! The walk of a job execution: what the job's lists come to, by what is known of each work key.
+//! The walk of a job execution: the value of each of the job's lists, from the facts about its work
+//! keys.
 #![tactic(auto)]
 
 mod changes;

@@ -1,11 +1,11 @@
-//! What a walk is about to learn.
+//! A prepared new fact of a walk.
 ghost use Rattle.std.specs.Prelude.{◌≡◌};
 
 use crate::kept_list::ListChange;
 use walk_rules::{Fact, Value, WorkKey};
 
-/// What a walk is about to learn of a work key, with all that changes by it. `Cursor::put` takes it
-/// up and takes no memory for it.
+/// A prepared new fact of a work key, with all the changes that it makes. `Cursor::put` puts it
+/// without memory.
 #[derive(Debug, Drop)]
 pub struct Prepared {
     pub(crate) key: WorkKey,
@@ -15,7 +15,7 @@ pub struct Prepared {
 }
 
 impl Prepared {
-    /// What the job comes to once this is learnt.
+    /// Returns the job's value after the new fact.
     pub fn value(&self) -> &Value
         ensures { result.now ≡ self.now.value }
     {

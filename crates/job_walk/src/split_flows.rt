@@ -1,4 +1,4 @@
-//! What is kept of the flows of a split, and which of them shows a work key.
+//! The stored lists of a split's flows, and the flow that shows a work key.
 ghost use Rattle.std.specs.Prelude.{◌≡◌, ◌<◌, ◌≤◌, true, length, map, take, IfOk, slice_index_or, slice_set};
 ghost use Rattle.jsl_model.specs.Trees.{joined};
 ghost use Rattle.walk_rules.specs.declared.facts.Fact.{Fact as AFact};
@@ -15,14 +15,14 @@ use jsl_model::{ElementIndex, SplitFlow};
 use std::alloc::Global;
 use walk_rules::{ElementResult, Value, WorkKey, has_key, split_result_of};
 
-/// How deep an element may stand.
+/// The most levels of elements, one inside another.
 const MOST_LEVELS: u32 = 16;
 
-/// Of so many flows the one that shows a work key is found by a look at each as fast as by the job's
-/// index, which is asked once for each level between.
+/// The number of flows up to which a look at each flow is as fast as the job's index. The index is
+/// asked once for each level in between.
 const FEW_FLOWS: usize = 8;
 
-/// Whether a value shows this work key as ready or busy.
+/// Checks whether a value shows this work key as ready or busy.
 fn shows(value: &Value, key: &WorkKey) -> bool
     ensures { result ≡ is_shown value.now key.now }
 {
@@ -34,7 +34,7 @@ fn shows(value: &Value, key: &WorkKey) -> bool
     }
 }
 
-/// The list with this number.
+/// Returns the list with this number.
 fn list_at(lists: &[KeptList], number: usize) -> &KeptList
     requires { number < length lists.now }
     ensures { (d : Kept) → result.now ≡ slice_index_or lists.now number d }
@@ -42,7 +42,7 @@ fn list_at(lists: &[KeptList], number: usize) -> &KeptList
     &lists[number]
 }
 
-/// How many lists are kept of the flows of a split before this place.
+/// Returns the number of stored lists of a split's flows before this place.
 pub(crate) fn lists_before(lists: &[KeptList], flows: &[SplitFlow], place: usize) -> usize
     requires kept { (facts : Key → AFact) × KeepsFlows facts flows.now lists.now }
     requires within { place ≤ length flows.now }
@@ -56,7 +56,7 @@ pub(crate) fn lists_before(lists: &[KeptList], flows: &[SplitFlow], place: usize
     start
 }
 
-/// What each flow of a split comes to, where the one at the changed place comes to this.
+/// Returns the value of each flow of a split, with `comes_to` as the value of the changed one.
 fn flow_values<'v>(
     alloc: Global,
     lists: &'v [KeptList],
@@ -84,7 +84,7 @@ fn flow_values<'v>(
     Ok(values)
 }
 
-/// What a split comes to by itself, where its flow at the changed place comes to this.
+/// Returns a split's own result, with `comes_to` as the value of its changed flow.
 pub(crate) fn split_after(
     alloc: Global,
     lists: &[KeptList],
@@ -101,8 +101,8 @@ pub(crate) fn split_after(
     split_result_of(alloc, values.as_slice())
 }
 
-/// The flow of a split of so many flows inside which the job's index has an element; `None` where it
-/// has it in none, or where the flows are few.
+/// Returns the flow of a split in which the job's index has an element. Returns `None` if the index
+/// has it in none of them, or if the flows are few.
 fn indexed_flow(index: &ElementIndex, split: &T256, many: usize, id: &T256) -> Option<usize> {
     if many <= FEW_FLOWS {
         return None;
@@ -117,7 +117,7 @@ fn indexed_flow(index: &ElementIndex, split: &T256, many: usize, id: &T256) -> O
     None
 }
 
-/// The place of the flow of a split that shows this work key, found by a search.
+/// Returns the place of the split's flow that shows this work key, by a search.
 fn search_place(lists: &[KeptList], flows: &[SplitFlow], key: &WorkKey) -> usize
     requires { ShowsInFlow key.now flows.now lists.now }
     ensures within { result < length flows.now }
@@ -136,8 +136,8 @@ fn search_place(lists: &[KeptList], flows: &[SplitFlow], key: &WorkKey) -> usize
     unreachable!()
 }
 
-/// The place of the flow of a split that shows this work key. Where it is the one of many that the index
-/// has, this looks at no other.
+/// Returns the place of the split's flow that shows this work key. If there are many flows and it
+/// is the one that the index has, no other is looked at.
 pub(crate) fn place_that_shows(
     index: &ElementIndex,
     split: &T256,
