@@ -1,4 +1,4 @@
--- What a search from vertex to vertex keeps true of its marks.
+-- The invariants of a search through a graph and its marks.
 use Rattle.std.specs.Prelude.{◌≡◌, ℕ, ◌+◌, ◌<◌, ◌≤◌, List, length, slice_index, slice_index_or, sum_by, Contains}
 use Rattle.target_graph.specs.declared.search.Mark.{Mark}
 use Rattle.target_graph.specs.declared.search.Mark.TheVariants.{New, Open, Ranked}
@@ -10,7 +10,7 @@ stage New = 0
 stage Open = 1
 stage (Ranked r) = r + 2
 
--- the stage of a vertex; what is no vertex counts as new
+-- the stage of a vertex; a number that is no vertex counts as new
 abbrev pub stage_of : List Mark → ℕ → ℕ
 stage_of marks v = stage (slice_index_or marks v New)
 
@@ -32,25 +32,25 @@ is_open New = 0
 is_open Open = 1
 is_open (Ranked r) = 0
 
--- how many vertices are still new
+-- the number of vertices that are still new
 abbrev pub new_in : List Mark → ℕ
 new_in marks = sum_by is_new marks
 
--- how many vertices are open
+-- the number of open vertices
 abbrev pub open_in : List Mark → ℕ
 open_in marks = sum_by is_open marks
 
--- how many vertices have no rank
+-- the number of vertices without a rank
 abbrev pub unranked_in : List Mark → ℕ
 unranked_in marks = sum_by is_unranked marks
 
--- the rank of a ranked vertex
+-- the rank of a ranked vertex, else 0
 abbrev pub rank_in : Mark → ℕ
 rank_in New = 0
 rank_in Open = 0
 rank_in (Ranked r) = r
 
--- the ranks given so far, all of them at least how many vertices have none
+-- the ranks so far: they rise along each target, and none is less than the number of vertices without a rank
 pub record IsPartRanked (graph : List (List ℕ)) (marks : List Mark) (left : ℕ) : Type 0 where
   pub places : length marks ≡ length graph
   pub left_over : unranked_in marks ≡ left
@@ -59,20 +59,20 @@ pub record IsPartRanked (graph : List (List ℕ)) (marks : List Mark) (left : �
   pub below : (v : ℕ) → stage_of marks v < length graph + 2
   pub rise : (v w : ℕ) → Contains (targets_of graph v) w → 1 < stage_of marks v → stage_of marks v < stage_of marks w
 
--- a visit changes new vertices alone, and leaves none of them open
+-- a visit changes only new vertices, and leaves none of them open
 pub record IsVisited (old new : List Mark) : Type 0 where
   pub kept : (v : ℕ) → 0 < stage_of old v → stage_of new v ≡ stage_of old v
   pub opens : (v : ℕ) → stage_of new v ≡ 1 → stage_of old v ≡ 1
   pub same_open : open_in new ≡ open_in old
   pub fewer : new_in new ≤ new_in old
 
--- of an open vertex, these first of its targets have ranks
+-- an open vertex under way: the first `upto` of its targets have ranks
 pub record IsUnderWay (graph : List (List ℕ)) (old new : List Mark) (left : ℕ) (targets : List ℕ) (upto : ℕ) : Type 0 where
   pub ranked : IsPartRanked graph new left
   pub visited : IsVisited old new
   pub reached : (k : ℕ) → k < upto → 1 < stage_of new (slice_index targets k)
 
--- between visits no vertex is open, and these first ones have ranks
+-- between visits, no vertex is open, and the first `upto` vertices have ranks
 pub record IsSearched (graph : List (List ℕ)) (marks : List Mark) (left : ℕ) (upto : ℕ) : Type 0 where
   pub ranked : IsPartRanked graph marks left
   pub closed : (v : ℕ) → stage_of marks v ≡ 1 → ⊥

@@ -3,8 +3,8 @@ ghost use Rattle.target_graph.specs.Graph.{targets_of, IsGraph};
 
 use std::marker::Model;
 
-/// The targets of each vertex, in their order. The vertices are numbered from 0, and contracts see
-/// the list of the lists of targets.
+/// A directed graph: a list of targets for each vertex. Vertices are numbered from 0. Contracts see
+/// it as a list of lists of targets.
 #[derive(Debug, Drop)]
 pub struct Graph {
     targets: Vec<Vec<usize>>,
@@ -22,8 +22,8 @@ impl Model for Graph {
 }
 
 impl Graph {
-    /// The graph with these targets: the list at a place holds the targets of the vertex of that
-    /// number. Each target has to be below the number of lists. It costs no memory.
+    /// Creates a graph from the lists of targets: the list at index `v` has the targets of vertex
+    /// `v`. Each target must be less than the number of lists. It allocates no memory.
     pub fn new(targets: Vec<Vec<usize>>) -> Graph
         requires { IsGraph (map (λ list. list.items) targets.items) }
         ensures { result ≡ map (λ list. list.items) targets.items }
@@ -31,14 +31,14 @@ impl Graph {
         Graph { targets }
     }
 
-    /// How many vertices it has.
+    /// Returns the number of vertices.
     pub(crate) fn len(&self) -> usize
         ensures { result ≡ length self.now }
     {
         self.targets.len()
     }
 
-    /// The targets of a vertex.
+    /// Returns the targets of a vertex.
     pub(crate) fn targets(&self, vertex: usize) -> &[usize]
         requires { vertex < length self.now }
         ensures targets { result.now ≡ targets_of self.now vertex }

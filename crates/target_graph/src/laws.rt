@@ -1,13 +1,12 @@
 ghost use Rattle.std.specs.Prelude.{◌≡◌, ℕ, List, true};
 ghost use Rattle.target_graph.specs.Graph.{IsRanked, HasCycle, has_cycle};
 
-/// Numbers that rise along each target, and a path of any length from a vertex back to itself,
-/// exclude each other.
+/// A graph whose ranks rise along each target has no cycle of any length.
 pub fn ranked_has_no_cycle()
     ensures { (graph : List (List ℕ)) (ranks : List ℕ) → IsRanked ranks graph → HasCycle graph → ⊥ }
 {}
 
-/// Where a graph is said to have a cycle, there is a path from a vertex back to itself.
+/// If `has_cycle` is true of a graph, then a path leads from some vertex back to itself.
 pub fn cycle_is_a_path()
     ensures { (graph : List (List ℕ)) → has_cycle graph ≡ true → HasCycle graph }
 {}

@@ -1,4 +1,4 @@
-//! Ranks that rise along every target of a graph, or the answer that the graph has a cycle.
+//! Finds ranks that rise along every target of a graph, or finds that the graph has a cycle.
 #![tactic(auto)]
 
 mod graph;

@@ -7,14 +7,14 @@ use crate::graph::Graph;
 use batch_ids::OutOfMemory;
 use std::alloc::Global;
 
-/// What the search knows of a vertex.
+/// The search's state of a vertex.
 #[derive(Clone, Copy, PartialEq, Eq, Debug)]
 enum Mark {
-    /// Not met yet.
+    /// Not visited yet.
     New,
-    /// On the way to where the search is.
+    /// On the path from the start of the search to the current vertex.
     Open,
-    /// Its rank.
+    /// Done, with this rank.
     Ranked(usize),
 }
 
@@ -30,15 +30,15 @@ impl Mark {
     }
 }
 
-/// Numbers, one for each vertex and each below how many there are, that rise along each target.
-/// `None`: the graph has a cycle.
+/// Returns a rank for each vertex, such that ranks rise along each target. Each rank is less than
+/// the number of vertices. Returns `None` if the graph has a cycle.
 ///
-/// It costs time as there are vertices and targets, memory as there are vertices, and a call stack
-/// as deep as there are vertices on one path.
+/// It takes time proportional to the number of vertices and targets, and memory proportional to the
+/// number of vertices. The call stack is as deep as the longest path that it follows has vertices.
 ///
 /// # Errors
 ///
-/// `OutOfMemory` where memory is refused.
+/// `OutOfMemory` if memory is refused.
 pub fn ranks(alloc: Global, graph: &Graph) -> Result<Option<Vec<usize>>, OutOfMemory>
     ensures ranked { IfOk result (λ found. IfSome found (λ ranks. IsRanked ranks.items graph.now)) }
     ensures cycle { IfOk result (λ found. is_none found ≡ has_cycle graph.now) }
@@ -57,8 +57,8 @@ pub fn ranks(alloc: Global, graph: &Graph) -> Result<Option<Vec<usize>>, OutOfMe
     Ok(Some(found))
 }
 
-// Ranks a vertex and all that it leads to, from the highest free number down, and says how many
-// vertices have no rank then. `None`: the graph has a cycle.
+// Ranks a vertex and all vertices that it leads to, from the highest free rank down. Returns how
+// many vertices have no rank afterwards, or `None` if the graph has a cycle.
 fn visit(graph: &Graph, vertex: usize, marks: &mut [Mark], left: usize) -> Option<usize>
     requires ranked { IsPartRanked graph.now marks.old left }
     requires within { vertex < length graph.now }
