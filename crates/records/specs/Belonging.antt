@@ -1,4 +1,4 @@
--- What belongs to a job instance or a job execution: filters of the rows.
+-- The rows that belong to a job instance or to a job execution, as filters of all rows.
 use Rattle.std.specs.Prelude.{ℕ, ◌==◌, Bool, List, filter}
 use Rattle.batch_history.specs.Lists.{is_at}
 use Rattle.batch_history.specs.Replies.{instance_in}
@@ -13,7 +13,7 @@ executions_of i rows = filter (λ row. row.instance == i) rows
 abbrev pub works_of : ℕ → List WorkRow → List WorkRow
 works_of x rows = filter (λ row. row.execution == x) rows
 
--- whether a work item is of a job execution of this job instance
+-- whether a work item belongs to a job execution of this job instance
 abbrev pub is_work_of_instance : ℕ → List ExecutionRow → WorkRow → Bool
 is_work_of_instance i executions work = is_at i (instance_in executions work.execution)
 

@@ -1,4 +1,4 @@
--- What the readers of an index have left: filters of the rows.
+-- The rows that the readers of an index have still to return, as filters of all rows.
 use Rattle.std.specs.Prelude.{ℕ, Bool, List, find, map, filter, filter_map, slice_get}
 use Rattle.batch_history.specs.declared.rows.JobInstance.{JobInstance}
 use Rattle.batch_history.specs.declared.rows.ExecutionRow.{ExecutionRow}
@@ -15,7 +15,7 @@ use Rattle.records.specs.declared.readers.InstancesOf.{InstancesOf}
 use Rattle.records.specs.declared.readers.ExecutionsOf.{ExecutionsOf}
 use Rattle.records.specs.declared.readers.WorksOf.{WorksOf}
 
--- the names of job instances, in their order
+-- the job names of these job instances, in their order
 abbrev pub job_names : List JobInstance → List (List ℕ)
 job_names rows = map (λ row. row.job) rows
 
@@ -26,15 +26,15 @@ is_first_of_job rows row = is_at row.instance (slice_get (instance_numbers (inst
 abbrev pub names_left : Names → List (List ℕ)
 names_left names = job_names (filter (is_first_of_job names.records.now.instances) (rows_left names.rows))
 
--- the rows of these job instances that are there
+-- the existing job instances with these numbers
 abbrev pub instances_numbered : List ℕ → List JobInstance → List JobInstance
 instances_numbered numbers rows = filter_map (λ i. find (is_instance i) rows) numbers
 
--- the rows of these job executions that are there
+-- the existing job executions with these numbers
 abbrev pub executions_numbered : List ℕ → List ExecutionRow → List ExecutionRow
 executions_numbered numbers rows = filter_map (λ x. find (is_execution x) rows) numbers
 
--- the rows of these work items that are there
+-- the existing work items with these numbers
 abbrev pub works_numbered : List ℕ → List WorkRow → List WorkRow
 works_numbered numbers rows = filter_map (λ w. find (is_work w) rows) numbers
 

@@ -10,8 +10,8 @@ use Rattle.batch_history.specs.Replies.{is_execution}
 use Rattle.batch_history.specs.Works.{is_work}
 use Rattle.walk_rules.specs.Keys.{is_same_key}
 
--- the job instances, the job executions and the work items by their numbers, and the checkpoints by job instance and step
--- (`mark_at`), in any order
+-- the job instances, job executions and work items by their numbers, and the checkpoints by job instance and
+-- step (`mark_at`), in any order
 pub record Maps : Type 0 where
   pub instances : List JobInstance
   pub executions : List ExecutionRow
@@ -31,7 +31,7 @@ abbrev pub AreBelow : ℕ → List ℕ → Type 0
 AreBelow bound [] = Unit {0}
 AreBelow bound (number ∷ rest) = (number < bound) × AreBelow bound rest
 
--- the numbers rise, with gaps or without
+-- the numbers are in ascending order, with or without gaps
 abbrev pub AreRising : List ℕ → Type 0
 AreRising [] = Unit {0}
 AreRising (number ∷ rest) = AreAbove number rest × AreRising rest
@@ -48,7 +48,7 @@ work_numbers rows = map (λ row. row.work) rows
 abbrev pub is_instance : ℕ → JobInstance → Bool
 is_instance i row = row.instance == i
 
--- the step of a job instance that a checkpoint is of
+-- the step of a job instance that a checkpoint belongs to
 abbrev pub step_of : CheckpointRow → InstanceStep
 step_of row = record { instance = row.instance; step = row.step }
 
@@ -59,20 +59,21 @@ is_place p row = row.instance == p.instance && is_same_key row.step p.step
 abbrev pub mark_at : List CheckpointRow → InstanceStep → Option (List ℕ)
 mark_at rows p = option_map (λ row. row.mark) (find (is_place p) rows)
 
--- no two checkpoints are of one step of a job instance
+-- no two checkpoints belong to the same step of a job instance
 abbrev pub AreApart : List CheckpointRow → Type 0
 AreApart [] = Unit {0}
 AreApart (row ∷ rest) = (mark_at rest (step_of row) ≡ None) × AreApart rest
 
--- job instances, job executions and work items each stand by rising number, and a step of a job instance has one
--- checkpoint at most
+-- job instances, job executions and work items are each in ascending order of number; a step of a job
+-- instance has one checkpoint at most
 pub record AreKeyed (maps : Maps) : Type 0 where
   pub instances : AreRising (instance_numbers maps.instances)
   pub executions : AreRising (execution_numbers maps.executions)
   pub works : AreRising (work_numbers maps.works)
   pub checkpoints : AreApart maps.checkpoints
 
--- the checkpoint of step p is this mark, if there is one, that of every other step is what it was, and all else is as it was
+-- the checkpoint of step p becomes this mark, or is cleared without one; all other checkpoints and rows are
+-- unchanged
 pub record SetsCheckpoint (before after : Maps) (p : InstanceStep) (mark : Option (List ℕ)) : Type 0 where
   pub here : mark_at after.checkpoints p ≡ mark
   pub others : (q : InstanceStep) → q ≢ p → mark_at after.checkpoints q ≡ mark_at before.checkpoints q
@@ -80,22 +81,22 @@ pub record SetsCheckpoint (before after : Maps) (p : InstanceStep) (mark : Optio
   pub executions : after.executions ≡ before.executions
   pub works : after.works ≡ before.works
 
--- a changed row keeps what the indexes of job executions go by: its number, its job instance and its job
+-- a changed row has the same number, job instance and job, which the indexes of job executions use
 pub record KeepsExecution (before after : ExecutionRow) : Type 0 where
   pub execution : after.execution ≡ before.execution
   pub instance : after.instance ≡ before.instance
   pub job : after.job ≡ before.job
 
--- a changed row keeps what the indexes of work items go by: its number, its job execution and its step or decision
+-- a changed row has the same number, job execution and step or decision, which the indexes of work items use
 pub record KeepsWork (before after : WorkRow) : Type 0 where
   pub work : after.work ≡ before.work
   pub execution : after.execution ≡ before.execution
   pub element : after.element ≡ before.element
 
--- a row may stand in place of that of job execution x, which is there
+-- a row may replace that of job execution x, which exists
 abbrev pub MayReplaceExecution : List ExecutionRow → ℕ → ExecutionRow → Type 0
 MayReplaceExecution rows x row = (before : ExecutionRow) × (find (is_execution x) rows ≡ Some before) × KeepsExecution before row
 
--- a row may stand in place of that of work item w, which is there
+-- a row may replace that of work item w, which exists
 abbrev pub MayReplaceWork : List WorkRow → ℕ → WorkRow → Type 0
 MayReplaceWork rows w row = (before : WorkRow) × (find (is_work w) rows ≡ Some before) × KeepsWork before row

@@ -1,14 +1,15 @@
--- The rows without those of a job instance.
+-- The rows without those of a removed job instance.
 use Rattle.std.specs.Prelude.{ℕ, ◌==◌, Bool, not, List, filter}
 use Rattle.batch_history.specs.Rows.{instances_there, executions_there, works_there}
 use Rattle.batch_history.specs.declared.rows.CheckpointRow.{CheckpointRow}
 use Rattle.records.specs.Maps.{Maps}
 
--- the checkpoints of job instances that are not gone
+-- the checkpoints of the job instances that haven't been removed
 abbrev pub checkpoints_there : (ℕ → Bool) → List CheckpointRow → List CheckpointRow
 checkpoints_there gone rows = filter (λ row. not (gone row.instance)) rows
 
--- a job instance is gone, with its job executions, their work items and its checkpoints, and all else is as it was
+-- the rows without a job instance, its job executions, their work items and its checkpoints; all other rows
+-- are unchanged
 abbrev pub without_instance : ℕ → Maps → Maps
 without_instance i maps =
     record {

@@ -10,8 +10,8 @@ use std::alloc::Global;
 use std::collections::BTreeMap;
 use std::marker::Model;
 
-/// Checkpoints, in a list for each job instance that has one, by its number. Contracts see all of them
-/// in one list.
+/// Checkpoints in one list per job instance, by the number of the job instance. A job instance
+/// without checkpoints has no list. Contracts see all checkpoints in a single list.
 #[derive(Debug, Drop)]
 pub struct CheckpointLists {
     alloc: Global,
@@ -31,7 +31,7 @@ impl Model for CheckpointLists {
 }
 
 impl CheckpointLists {
-    /// No checkpoint. It takes no memory.
+    /// Returns lists without any checkpoint. Allocates nothing.
     pub(crate) fn new(alloc: Global) -> CheckpointLists
         ensures { result ≡ [] }
     {
@@ -41,7 +41,7 @@ impl CheckpointLists {
         }
     }
 
-    /// The checkpoints of a job instance.
+    /// Returns the checkpoints of a job instance.
     fn of_instance(&self, i: InstanceId) -> &[CheckpointRow]
         ensures { result.now ≡ filter (λ row. row.instance == i) self.now }
     {
@@ -51,7 +51,8 @@ impl CheckpointLists {
         }
     }
 
-    /// The checkpoint of a step of a job instance, or of a partition of it, if there is one.
+    /// Returns the checkpoint of a step of a job instance, or of a partition of the step, if there
+    /// is one.
     pub(crate) fn mark(&self, i: InstanceId, step: &WorkKey) -> Option<&Text<65536>>
         ensures { option_copied result
             ≡ mark_at self.now record { instance = i; step = step.now } }
@@ -64,7 +65,9 @@ impl CheckpointLists {
         None
     }
 
-    /// Puts a checkpoint in place of that of its step, if there is one.
+    /// Sets the checkpoint of a step. It replaces the checkpoint that the step has, if any.
+    ///
+    /// Returns `OutOfMemory`, with nothing changed, if memory is refused.
     pub(crate) fn put(&mut self, row: CheckpointRow) -> Result<(), OutOfMemory>
         ensures set { OnOk result (SetsMark self.old self.new
             record { instance = row.instance; step = row.step } (Some row.mark)) }
@@ -82,7 +85,7 @@ impl CheckpointLists {
         Ok(())
     }
 
-    /// Removes the checkpoint of a step, if there is one. It takes no memory.
+    /// Removes the checkpoint of a step, if there is one. Allocates nothing.
     pub(crate) fn clear(&mut self, i: InstanceId, step: &WorkKey)
         ensures set { SetsMark self.old self.new record { instance = i; step = step.now } None }
         ensures apart { AreApart self.new }
@@ -102,7 +105,7 @@ impl CheckpointLists {
         }
     }
 
-    /// Removes the checkpoints of a job instance. It takes no memory.
+    /// Removes all checkpoints of a job instance. Allocates nothing.
     pub(crate) fn remove_instance(&mut self, i: InstanceId)
         ensures { self.new ≡ checkpoints_there (λ j. j == i) self.old }
     {
@@ -110,7 +113,7 @@ impl CheckpointLists {
     }
 }
 
-/// Puts a checkpoint among those of its job instance.
+/// Sets a checkpoint in the list of its job instance.
 fn put_row(rows: &mut Vec<CheckpointRow>, row: CheckpointRow) -> Result<(), OutOfMemory>
     ensures put { OnOk result (rows.new.items
         ≡ with_mark record { instance = row.instance; step = row.step } row.mark rows.old.items) }
@@ -130,7 +133,7 @@ fn remove_row(rows: &mut Vec<CheckpointRow>, i: InstanceId, step: &WorkKey)
     rows.retain(|row| is_elsewhere(i, step, row));
 }
 
-/// Where the checkpoint of a step stands.
+/// Returns the position of a step's checkpoint in the list, if there is one.
 fn place_of(rows: &[CheckpointRow], i: InstanceId, step: &WorkKey) -> Option<usize>
     ensures held { IfSome result (λ k. (k < length rows.now)
         × ((mark : List ℕ) → with_mark record {
@@ -154,14 +157,14 @@ fn place_of(rows: &[CheckpointRow], i: InstanceId, step: &WorkKey) -> Option<usi
     None
 }
 
-/// Whether a row is that of this step of this job instance.
+/// Checks whether a row is the checkpoint of this step of this job instance.
 fn is_place(i: InstanceId, step: &WorkKey, row: &CheckpointRow) -> bool
     ensures { result ≡ is_place record { instance = i; step = step.now } row.now }
 {
     row.instance == i && row.step == *step
 }
 
-/// Whether a row is that of another step or job instance.
+/// Checks whether a row is the checkpoint of another step or job instance.
 fn is_elsewhere(i: InstanceId, step: &WorkKey, row: &CheckpointRow) -> bool
     ensures { result ≡ is_elsewhere record { instance = i; step = step.now } row.now }
 {

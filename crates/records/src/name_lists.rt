@@ -5,8 +5,8 @@ use batch_ids::{Listed, OutOfMemory};
 use indexmap::IndexMap;
 use std::alloc::Global;
 
-/// Lists of numbers, each under a name: which job instances a job has. A name with none has an empty
-/// list.
+/// Lists of numbers by name, such as the numbers of each job's job instances. A name without
+/// numbers has an empty list.
 #[derive(Debug, Drop)]
 pub struct NameLists {
     alloc: Global,
@@ -14,7 +14,7 @@ pub struct NameLists {
 }
 
 impl NameLists {
-    /// Empty lists. It takes no memory.
+    /// Returns empty lists. Allocates nothing.
     pub(crate) fn new(alloc: Global) -> NameLists
         ensures { (q : List ℕ) → numbers_named result q ≡ [] }
     {
@@ -24,7 +24,7 @@ impl NameLists {
         }
     }
 
-    /// The numbers under this name.
+    /// Returns the numbers under a name.
     pub(crate) fn under(&self, name: &str) -> &[u64]
         ensures { result.now ≡ numbers_named self.now name.now }
     {
@@ -34,7 +34,9 @@ impl NameLists {
         }
     }
 
-    /// Puts a number last under this name.
+    /// Appends a number to the list of a name.
+    ///
+    /// Returns `OutOfMemory`, with nothing changed, if memory is refused.
     pub(crate) fn push(&mut self, name: &str, number: u64) -> Result<(), OutOfMemory>
         ensures added { OnOk result ((q : List ℕ) → numbers_named self.new q
             ≡ (if bytes_eq name.now q then numbers_named self.old q ++ number ∷ [] else numbers_named self.old q)) }
@@ -52,8 +54,8 @@ impl NameLists {
         Ok(())
     }
 
-    /// Removes a number from those under this name. It takes no memory, and compares the numbers
-    /// before it.
+    /// Removes a number from the list of a name. Allocates nothing, and compares the numbers before
+    /// the removed one.
     pub(crate) fn remove(&mut self, name: &str, number: u64)
         ensures { (q : List ℕ) → numbers_named self.new q
             ≡ (if bytes_eq name.now q then without_number number (numbers_named self.old q) else numbers_named self.old q) }
@@ -73,7 +75,7 @@ impl NameLists {
         }
     }
 
-    /// Lets the list under a name go, which is empty.
+    /// Drops the empty list of a name.
     fn forget(&mut self, name: &str)
         requires { numbers_named self.old name.now ≡ [] }
         ensures { (q : List ℕ) → numbers_named self.new q ≡ numbers_named self.old q }
@@ -81,7 +83,7 @@ impl NameLists {
         self.lists.swap_remove(name);
     }
 
-    /// A number that none of those which stand first in a list is above.
+    /// Returns the highest number that is the first of its list, or 0 if there are no lists.
     pub(crate) fn newest(&self) -> u64
         ensures { (q : List ℕ) → IfSome (slice_get (numbers_named self.now q) 0) (λ n. n ≤ result) }
     {
@@ -95,7 +97,7 @@ impl NameLists {
     }
 }
 
-/// Removes the first number that is this one.
+/// Removes the first occurrence of a number.
 pub(crate) fn remove_number(numbers: &mut Listed<u64>, number: u64)
     ensures { numbers.new ≡ without_number number numbers.old }
 {
@@ -104,7 +106,7 @@ pub(crate) fn remove_number(numbers: &mut Listed<u64>, number: u64)
     }
 }
 
-/// Where a number stands first.
+/// Returns the position of a number's first occurrence.
 fn place_of(numbers: &[u64], number: u64) -> Option<usize>
     ensures { result ≡ position (λ n. n == number) numbers.now }
 {

@@ -8,8 +8,8 @@ use batch_ids::{Listed, OutOfMemory};
 use indexmap::IndexMap;
 use std::alloc::Global;
 
-/// Lists of numbers, each under a number: which rows belong to what. A number with none has an empty
-/// list.
+/// Lists of numbers by number: the rows that belong to another row. A number without rows has an
+/// empty list.
 #[derive(Debug, Drop)]
 pub struct NumberLists {
     alloc: Global,
@@ -17,7 +17,7 @@ pub struct NumberLists {
 }
 
 impl NumberLists {
-    /// Empty lists. It takes no memory.
+    /// Returns empty lists. Allocates nothing.
     pub(crate) fn new(alloc: Global) -> NumberLists
         ensures { (q : ℕ) → numbers_under result q ≡ [] }
     {
@@ -27,7 +27,7 @@ impl NumberLists {
         }
     }
 
-    /// The numbers under this one.
+    /// Returns the numbers under `key`.
     pub(crate) fn under(&self, key: u64) -> &[u64]
         ensures { result.now ≡ numbers_under self.now key }
     {
@@ -37,7 +37,9 @@ impl NumberLists {
         }
     }
 
-    /// Puts a number last under this one.
+    /// Appends a number to the list of `key`.
+    ///
+    /// Returns `OutOfMemory`, with nothing changed, if memory is refused.
     pub(crate) fn push(&mut self, key: u64, number: u64) -> Result<(), OutOfMemory>
         ensures added { OnOk result ((q : ℕ) → numbers_under self.new q
             ≡ (if key == q then numbers_under self.old q ++ number ∷ [] else numbers_under self.old q)) }
@@ -54,7 +56,7 @@ impl NumberLists {
         Ok(())
     }
 
-    /// Removes a number from those under this one. It takes no memory.
+    /// Removes a number from the list of `key`. Allocates nothing.
     pub(crate) fn leave_out(&mut self, key: u64, number: u64)
         ensures { (q : ℕ) → numbers_under self.new q
             ≡ (if key == q then without_number number (numbers_under self.old q) else numbers_under self.old q) }
@@ -74,7 +76,7 @@ impl NumberLists {
         }
     }
 
-    /// Removes what is under a number. It takes no memory.
+    /// Removes the list of `key`. Allocates nothing.
     pub(crate) fn remove(&mut self, key: u64)
         ensures { (q : ℕ) → numbers_under self.new q
             ≡ (if key == q then [] else numbers_under self.old q) }
@@ -82,7 +84,7 @@ impl NumberLists {
         self.lists.swap_remove(&key);
     }
 
-    /// Removes what is under these numbers. It takes no memory.
+    /// Removes the lists of these keys. Allocates nothing.
     pub(crate) fn remove_all(&mut self, keys: &[u64])
         ensures { (q : ℕ) → numbers_under self.new q
             ≡ (if list_any (λ key. key == q) keys.now then [] else numbers_under self.old q) }
@@ -93,7 +95,8 @@ impl NumberLists {
     }
 }
 
-/// The numbers under each of those that are under a key, one list after the other.
+/// Follows two indexes: concatenates the lists in `second` of the numbers that `first` has under
+/// `key`.
 pub(crate) fn numbers_through(
     alloc: Global,
     first: &NumberLists,
@@ -110,7 +113,7 @@ pub(crate) fn numbers_through(
     Ok(numbers)
 }
 
-/// Whether each of these numbers is above the one before it.
+/// Checks whether each number is above the one before it.
 pub(crate) fn are_rising(numbers: &[u64]) -> bool
     ensures { result ≡ true → AreRising numbers.now }
 {

@@ -7,8 +7,9 @@ use crate::row_list::RowsLeft;
 use batch_history::{ExecutionRow, JobInstance, WorkRow};
 use batch_ids::{ExecutionId, InstanceId, T256, WorkId};
 
-/// The names of the jobs that have a job instance, by rising number of the first one that is there.
-/// They cost a look at each job instance up to the first one of the job that came last.
+/// The names of the jobs that have a job instance, in ascending order of each job's first remaining
+/// job instance. Reading all of them looks at each job instance up to the first one of the newest
+/// job.
 #[derive(Debug, Drop)]
 pub struct Names<'r> {
     records: &'r Records,
@@ -44,7 +45,7 @@ impl<'r> Iterator for Names<'r> {
     }
 }
 
-/// The job instances of a job, by rising number.
+/// The job instances of a job, in ascending order of their numbers.
 #[derive(Debug, Drop)]
 pub struct InstancesOf<'r> {
     records: &'r Records,
@@ -80,7 +81,7 @@ impl<'r> Iterator for InstancesOf<'r> {
     }
 }
 
-/// The job executions of a job instance, by rising number.
+/// The job executions of a job instance, in ascending order of their numbers.
 #[derive(Debug, Drop)]
 pub struct ExecutionsOf<'r> {
     records: &'r Records,
@@ -116,7 +117,7 @@ impl<'r> Iterator for ExecutionsOf<'r> {
     }
 }
 
-/// The work items of a job execution, by rising number.
+/// The work items of a job execution, in ascending order of their numbers.
 #[derive(Debug, Drop)]
 pub struct WorksOf<'r> {
     records: &'r Records,

@@ -30,20 +30,25 @@ use job_walk::WorkKey;
 use std::alloc::Global;
 use std::marker::Model;
 
-/// The rows of a job repository (Jakarta Batch 2.1, "JobRepository"): a row for each job instance, job
-/// execution and work item, by its number, and one for each step of a job instance, or partition of
-/// it, that has a checkpoint.
+/// The rows of a job repository. See Jakarta Batch 2.1, "JobRepository".
 ///
-/// Job instances, job executions and work items each have a number of their own and stand by rising
-/// number. Where a job instance was removed, its numbers are missing. A step of a job instance, or a
-/// partition of it, has one checkpoint at most.
+/// Each job instance, job execution and work item has a row and a number of its own. The rows of
+/// each kind are in ascending order of their numbers. The numbers of a removed job instance, and of
+/// its job executions and work items, are missing. A step of a job instance, or a partition of it,
+/// has one checkpoint at most.
 ///
-/// Indexes lead from the name of a job to its job instances and to its unfinished job executions, from a
-/// job instance to its job executions and to its checkpoints, from a step of a job instance to its work
-/// items, and from a job execution to its work items. How many job executions have each batch status is
-/// kept beside them. Adding a row costs constant time on average, but for a search of the numbers beside
-/// it, and for an unfinished job execution a search among those of its job; one call may cost time as there
-/// are rows, if a list of them grows.
+/// These indexes exist:
+///
+/// - from a job's name to its job instances and to its unfinished job executions
+/// - from a job instance to its job executions and to its checkpoints
+/// - from a step of a job instance to its work items
+/// - from a job execution to its work items
+///
+/// The number of job executions with each batch status is counted, too.
+///
+/// Adding a row costs constant time on average, plus a search of the numbers beside it. An
+/// unfinished job execution also costs a search among the unfinished ones of its job. A single call
+/// may cost time proportional to the number of rows, if a list of them grows.
 #[derive(Debug, Drop)]
 pub struct Records {
     instances: RowList<JobInstance>,
@@ -72,7 +77,7 @@ impl Model for Records {
 }
 
 impl Records {
-    /// No rows. It takes no memory.
+    /// Returns a repository without rows. Allocates nothing.
     pub fn new(alloc: Global) -> Records
         ensures { result ≡ no_rows }
     {
@@ -90,15 +95,16 @@ impl Records {
         }
     }
 
-    /// The job instance of this number, if there is one: looked for at the place that its number says, then
-    /// by a binary search.
+    /// Returns the job instance with this number, if there is one.
+    ///
+    /// Looks first at the position that the number suggests, then does a binary search.
     pub fn instance(&self, i: InstanceId) -> Option<&JobInstance>
         ensures { option_copied result ≡ find (is_instance i) self.now.instances }
     {
         self.instances.get(i.value())
     }
 
-    /// The job execution of this number, if there is one, found likewise.
+    /// Returns the job execution with this number, if there is one. Costs the same as `instance`.
     pub fn execution(&self, x: ExecutionId) -> Option<&ExecutionRow>
         ensures found { option_copied result ≡ find (is_execution x) self.now.executions }
         ensures keyed { AreKeyed self.now }
@@ -106,15 +112,17 @@ impl Records {
         self.executions.get(x.value())
     }
 
-    /// The work item of this number, if there is one, found likewise.
+    /// Returns the work item with this number, if there is one. Costs the same as `instance`.
     pub fn work(&self, w: WorkId) -> Option<&WorkRow>
         ensures { option_copied result ≡ find (is_work w) self.now.works }
     {
         self.works.get(w.value())
     }
 
-    /// The checkpoint of a step of a job instance, or of a partition of it, if there is one, in time
-    /// proportional to the number of checkpoints of the job instance.
+    /// Returns the checkpoint of a step of a job instance, or of a partition of the step, if there
+    /// is one.
+    ///
+    /// Costs time proportional to the number of checkpoints of the job instance.
     pub fn checkpoint(&self, i: InstanceId, step: &WorkKey) -> Option<&Text<65536>>
         ensures { option_copied result ≡ mark_at self.now.checkpoints record {
           instance = i;
@@ -124,15 +132,15 @@ impl Records {
         self.checkpoints.mark(i, step)
     }
 
-    /// The names of the jobs that have a job instance, by rising number of the first one that is
-    /// there. It takes no memory.
+    /// Returns the names of the jobs that have a job instance. They are in ascending order of each
+    /// job's first remaining job instance. Allocates nothing.
     pub fn names(&self) -> Names<'_>
         ensures { names_left result ≡ distinct (job_names self.now.instances) }
     {
         Names::new(self, self.rows_to_newest_job())
     }
 
-    /// The job instances up to the last one that is the first of its job.
+    /// Returns the job instances up to the first one of the newest job.
     fn rows_to_newest_job(&self) -> RowsLeft<'_, JobInstance>
         ensures { job_names (filter (is_first_of_job self.now.instances) (rows_left result))
             ≡ distinct (job_names self.now.instances) }
@@ -140,7 +148,7 @@ impl Records {
         self.instances.rows_through(self.instances_by_name.newest())
     }
 
-    /// Whether this is the number of the first job instance of its job.
+    /// Checks whether a job instance is the first of its job.
     pub(crate) fn is_first_of_job(&self, row: &JobInstance) -> bool
         ensures { result ≡ is_first_of_job self.now.instances row.now }
     {
@@ -150,8 +158,10 @@ impl Records {
         }
     }
 
-    /// The job instances of this name, by rising number, fewer than 2^64. It takes no memory, and each
-    /// of them costs a binary search.
+    /// Returns the job instances of a job, in ascending order of their numbers. There are fewer
+    /// than 2^64.
+    ///
+    /// Allocates nothing. Reading costs a binary search for each job instance.
     #[tactic(auto, using(crate::proofs::Naming::instances_few))]
     pub fn instances_of<'r>(&'r self, name: &'r str) -> InstancesOf<'r>
         ensures named { instances_left result ≡ instances_of_job name.now self.now.instances }
@@ -160,15 +170,17 @@ impl Records {
         InstancesOf::new(self, self.instances_by_name.under(name))
     }
 
-    /// How many job instances a job has, in constant time.
+    /// Returns the number of job instances of a job, in constant time.
     pub fn instance_count(&self, name: &str) -> usize
         ensures { result ≡ length (instances_of_job name.now self.now.instances) }
     {
         self.instances_by_name.under(name).len()
     }
 
-    /// The job instances of this name, by rising number, from the place `from` of them to the place
-    /// before `to`. It takes no memory, and each of them costs a binary search.
+    /// Returns a range of a job's job instances, in ascending order of their numbers. The range
+    /// includes position `from` and excludes position `to`.
+    ///
+    /// Allocates nothing. Reading costs a binary search for each job instance.
     pub fn instances_between(&self, name: &str, from: usize, to: usize) -> InstancesOf<'_>
         requires order { from ≤ to }
         requires within { to ≤ length (instances_of_job name.now self.now.instances) }
@@ -178,15 +190,16 @@ impl Records {
         InstancesOf::new(self, &self.instances_by_name.under(name)[from..to])
     }
 
-    /// The job executions of this job instance, by rising number. It takes no memory, and each of them
-    /// costs a binary search.
+    /// Returns the job executions of a job instance, in ascending order of their numbers.
+    ///
+    /// Allocates nothing. Reading costs a binary search for each job execution.
     pub fn executions_of(&self, i: InstanceId) -> ExecutionsOf<'_>
         ensures { executions_left result ≡ executions_of i self.now.executions }
     {
         ExecutionsOf::new(self, self.executions_by_instance.under(i.value()))
     }
 
-    /// Whether a job instance has a job execution of a number above this one, in constant time.
+    /// Checks whether a job instance has a job execution with a number above `x`, in constant time.
     pub fn has_execution_above(&self, i: InstanceId, x: ExecutionId) -> bool
         ensures { result
             ≡ list_any (λ row. nat_lt x row.execution) (executions_of i self.now.executions) }
@@ -197,21 +210,24 @@ impl Records {
         }
     }
 
-    /// The work items of this job execution, by rising number. It takes no memory, and each of them
-    /// costs a binary search.
+    /// Returns the work items of a job execution, in ascending order of their numbers.
+    ///
+    /// Allocates nothing. Reading costs a binary search for each work item.
     pub fn works_of(&self, x: ExecutionId) -> WorksOf<'_>
         ensures { works_left result ≡ works_of x self.now.works }
     {
         WorksOf::new(self, self.works_by_execution.under(x.value()))
     }
 
-    /// The work items of this job instance, of all its job executions, by rising number. It costs time
-    /// as there are of them, where those of a job execution come before those of the next one; else as
-    /// there are work items.
+    /// Returns the work items of all job executions of a job instance, in ascending order of their
+    /// numbers.
+    ///
+    /// Costs time proportional to the number of these work items, if those of each job execution
+    /// precede those of the next one. Otherwise, it looks at every work item of the repository.
     ///
     /// # Errors
     ///
-    /// `OutOfMemory` where memory is refused.
+    /// Returns `OutOfMemory` if memory is refused.
     pub fn works_of_instance(&self, i: InstanceId) -> Result<Vec<&WorkRow>, OutOfMemory>
         ensures { IfOk result (λ found. map (λ row. row.now) found.items
             ≡ works_of_instance i self.now.executions self.now.works) }
@@ -226,19 +242,20 @@ impl Records {
         }
     }
 
-    /// Which work items each step of a job instance has, by the ids of the steps, if that is looked up:
-    /// it is where the job instance was restarted.
+    /// Returns the index of a job instance's work items by the ids of their steps, if there is one.
+    /// A job instance that was restarted has one.
     pub fn steps_of(&self, i: InstanceId) -> Option<&NameLists>
         ensures { IfSome result (λ names. AreStepsOf i self.now (numbers_named names.now)) }
     {
         self.works_by_step.of(i.value())
     }
 
-    /// The same made anew. It costs a look-up for each work item of the job instance.
+    /// Builds the index of a job instance's work items by the ids of their steps. Costs a look-up
+    /// for each work item of the job instance.
     ///
     /// # Errors
     ///
-    /// `OutOfMemory` where memory is refused.
+    /// Returns `OutOfMemory` if memory is refused.
     pub fn steps_made(&self, i: InstanceId) -> Result<NameLists, OutOfMemory>
         ensures { IfOk result (λ names. AreStepsOf i self.now (numbers_named names)) }
     {
@@ -246,7 +263,7 @@ impl Records {
         steps_among(self.works.alloc(), works.as_slice())
     }
 
-    /// The numbers of the work items of a step by these lists.
+    /// Returns the numbers of a step's work items from an index of its job instance.
     fn step_numbers<'s>(&self, steps: &'s NameLists, step: &str) -> &'s [u64]
         ensures numbers { result.now ≡ numbers_named steps.now step.now }
         ensures keyed { AreKeyed self.now }
@@ -255,12 +272,12 @@ impl Records {
         steps.under(step)
     }
 
-    /// The work items of a step by these lists of its job instance, by rising number. It costs a binary
-    /// search for each of them.
+    /// Returns the work items of a step from an index of its job instance, in ascending order of
+    /// their numbers. Costs a binary search for each of them.
     ///
     /// # Errors
     ///
-    /// `OutOfMemory` where memory is refused.
+    /// Returns `OutOfMemory` if memory is refused.
     pub fn works_of_step(&self, steps: &NameLists, step: &str) -> Result<Vec<&WorkRow>, OutOfMemory>
         ensures { (i : ℕ) → AreStepsOf i self.now (numbers_named steps.now)
             → IfOk result (λ found. map (λ row. row.now) found.items
@@ -269,8 +286,8 @@ impl Records {
         self.works_numbered(self.step_numbers(steps, step))
     }
 
-    /// The newest work item of a step by these lists of its job instance, if there is one, by a binary
-    /// search.
+    /// Returns the newest work item of a step from an index of its job instance, if there is one.
+    /// Costs a binary search.
     pub fn newest_of_step(&self, steps: &NameLists, step: &str) -> Option<&WorkRow>
         ensures { (i : ℕ) → AreStepsOf i self.now (numbers_named steps.now)
             → option_copied result ≡ newest_work
@@ -282,7 +299,7 @@ impl Records {
         }
     }
 
-    /// How many work items a step has by these lists of its job instance.
+    /// Returns the number of a step's work items from an index of its job instance.
     pub fn count_of_step(&self, steps: &NameLists, step: &str) -> usize
         ensures { (i : ℕ) → AreStepsOf i self.now (numbers_named steps.now)
             → result ≡ length
@@ -291,7 +308,7 @@ impl Records {
         steps.under(step).len()
     }
 
-    /// Looks up the steps of a job instance from now on.
+    /// Indexes the work items of a job instance by their steps, unless they are indexed already.
     fn index_steps(&mut self, i: InstanceId) -> Result<(), OutOfMemory>
         ensures { self.new ≡ self.old }
     {
@@ -302,14 +319,14 @@ impl Records {
         self.works_by_step.put(i.value(), names)
     }
 
-    /// Whether there is no work of a job execution of this number.
+    /// Checks whether there is no work item of a job execution with this number.
     fn has_no_work(&self, x: ExecutionId) -> bool
         ensures { result ≡ true → works_of x self.now.works ≡ [] }
     {
         self.works_by_execution.under(x.value()).is_empty()
     }
 
-    /// The work items of these numbers.
+    /// Returns the work items with these numbers.
     fn works_numbered(&self, numbers: &[u64]) -> Result<Vec<&WorkRow>, OutOfMemory>
         ensures { IfOk result (λ found. map (λ row. row.now) found.items
             ≡ works_numbered numbers.now self.now.works) }
@@ -323,7 +340,7 @@ impl Records {
         Ok(found)
     }
 
-    /// The work items of this job instance, by a look at each work item.
+    /// Returns the work items of a job instance by a look at every work item.
     fn works_searched(&self, i: InstanceId) -> Result<Vec<&WorkRow>, OutOfMemory>
         ensures { IfOk result (λ found. map (λ row. row.now) found.items
             ≡ works_of_instance i self.now.executions self.now.works) }
@@ -337,14 +354,15 @@ impl Records {
         Ok(found)
     }
 
-    /// Adds a job instance with its first job execution, both with a number above those that are there.
+    /// Adds a job instance with its first job execution. Both need a number above the existing
+    /// ones.
     ///
-    /// It takes constant time on average, but for its place among the unfinished job executions of its job:
-    /// that takes as many comparisons as their number has binary digits.
+    /// Costs constant time on average, plus a search among the unfinished job executions of the
+    /// job. That search compares as many numbers as their count has binary digits.
     ///
     /// # Errors
     ///
-    /// `OutOfMemory` alone, and then nothing has changed.
+    /// Returns only `OutOfMemory`, with nothing changed, if memory is refused.
     pub fn add_instance(
         &mut self,
         instance: JobInstance,
@@ -383,11 +401,14 @@ impl Records {
         Ok(())
     }
 
-    /// Adds a job execution with a number above those that are there. It takes time as `add_instance` does.
+    /// Adds a job execution. It needs a number above the existing ones.
+    ///
+    /// Costs as much as `add_instance`. If the job instance's work items aren't indexed by step
+    /// yet, each of them costs a look-up.
     ///
     /// # Errors
     ///
-    /// `OutOfMemory` alone, and then nothing has changed.
+    /// Returns only `OutOfMemory`, with nothing changed, if memory is refused.
     pub fn add_execution(&mut self, row: ExecutionRow) -> Result<(), OutOfMemory>
         requires { AreBelow row.execution (execution_numbers self.old.executions) }
         ensures added { OnOk result (self.new ≡
@@ -403,7 +424,7 @@ impl Records {
         }
     }
 
-    /// The same of a job instance whose steps are looked up already.
+    /// Adds a job execution of a job instance whose work items are indexed by step already.
     fn put_execution(&mut self, row: ExecutionRow) -> Result<(), OutOfMemory>
         requires { AreBelow row.execution (execution_numbers self.old.executions) }
         ensures added { OnOk result (self.new ≡
@@ -426,11 +447,11 @@ impl Records {
         Ok(())
     }
 
-    /// Adds a work item with a number above those that are there.
+    /// Adds a work item. It needs a number above the existing ones.
     ///
     /// # Errors
     ///
-    /// `OutOfMemory` alone, and then nothing has changed.
+    /// Returns only `OutOfMemory`, with nothing changed, if memory is refused.
     pub fn add_work(&mut self, row: WorkRow) -> Result<(), OutOfMemory>
         requires { AreBelow row.work (work_numbers self.old.works) }
         ensures added { OnOk result (self.new ≡
@@ -455,8 +476,8 @@ impl Records {
         Ok(())
     }
 
-    /// Changes the row of a job execution, which keeps what the indexes go by: its number, its job
-    /// instance and its job. It takes no memory.
+    /// Replaces the row of a job execution. The new row must have the old one's number, job
+    /// instance and job, because the indexes use them. Allocates nothing.
     pub fn change_execution(&mut self, x: ExecutionId, row: ExecutionRow)
         requires { MayReplaceExecution self.old.executions x row }
         ensures { self.new ≡ record self.old {
@@ -474,8 +495,8 @@ impl Records {
         self.executions.put(x.value(), row);
     }
 
-    /// Changes the row of a work item, which keeps what the indexes go by: its number, its job execution
-    /// and its step or decision. It takes no memory.
+    /// Replaces the row of a work item. The new row must have the old one's number, job execution
+    /// and step or decision, because the indexes use them. Allocates nothing.
     pub fn change_work(&mut self, w: WorkId, row: WorkRow)
         requires { MayReplaceWork self.old.works w row }
         ensures { self.new ≡ record self.old {
@@ -486,12 +507,14 @@ impl Records {
         self.works.put(w.value(), row);
     }
 
-    /// The numbers of the unfinished job executions of a job, rising. It costs time as there are of
-    /// them; as there are job executions, once memory for looking them up was refused.
+    /// Returns the numbers of the unfinished job executions of a job, in ascending order.
+    ///
+    /// Costs time proportional to their number. After memory for their index was refused, it looks
+    /// at every job execution.
     ///
     /// # Errors
     ///
-    /// `OutOfMemory` where memory is refused.
+    /// Returns `OutOfMemory` if memory is refused.
     pub fn running_of(&self, name: &str) -> Result<Vec<ExecutionId>, OutOfMemory>
         ensures { IfOk result (λ found. found.items
             ≡ running_executions name.now self.now.executions) }
@@ -502,8 +525,8 @@ impl Records {
         }
     }
 
-    /// Whether a job instance has an unfinished job execution, in constant time; in time as it has job
-    /// executions, once memory for looking them up was refused.
+    /// Checks whether a job instance has an unfinished job execution, in constant time. After
+    /// memory for the index was refused, it looks at each job execution of the job instance.
     pub fn has_unfinished(&self, i: InstanceId) -> bool
         ensures { result ≡ list_any (is_running_in i) self.now.executions }
     {
@@ -513,7 +536,8 @@ impl Records {
         }
     }
 
-    /// The same by a look at each job execution of the job instance.
+    /// Checks whether a job instance has an unfinished job execution, by a look at each of its job
+    /// executions.
     fn finds_unfinished(&self, i: InstanceId) -> bool
         ensures { result ≡ list_any (is_running_in i) self.now.executions }
     {
@@ -525,14 +549,15 @@ impl Records {
         false
     }
 
-    /// How many job executions have each batch status, in constant time.
+    /// Returns the number of job executions with each batch status, in constant time.
     pub fn counts(&self) -> CountsByStatus
         ensures { result ≡ counts_of self.now.executions }
     {
         self.counts
     }
 
-    /// The same without those of a job instance, in time as it has job executions.
+    /// Returns the number of job executions with each batch status, without those of a job
+    /// instance. Costs time proportional to the number of its job executions.
     fn counts_without(&self, i: InstanceId) -> CountsByStatus
         ensures { result ≡ counts_of (executions_there (λ j. j == i) self.now.executions) }
     {
@@ -543,9 +568,11 @@ impl Records {
         counts
     }
 
-    /// Removes a job instance, its job executions, their work items and its checkpoints. It takes no
-    /// memory, and time as it has of them: each costs a binary search, and its own number is shifted out
-    /// of those of its job. The slots of its rows stay, empty, among those of the others.
+    /// Removes a job instance, its job executions, their work items and its checkpoints.
+    ///
+    /// Allocates nothing. Each removed row costs a binary search, and removing the job instance
+    /// shifts the later numbers of its job. The slots of the removed rows stay, empty, between the
+    /// others.
     pub fn remove_instance(&mut self, i: InstanceId)
         requires { is_some (find (is_instance i) self.old.instances) ≡ true }
         ensures { self.new ≡ without_instance i self.old }
@@ -568,12 +595,13 @@ impl Records {
         forget_if(&mut self.running, has_unfinished);
     }
 
-    /// Sets the checkpoint of a step of a job instance, or of a partition of it, or clears it where
-    /// there is no mark.
+    /// Sets the checkpoint of a step of a job instance, or of a partition of the step. Clears it if
+    /// `mark` is `None`.
     ///
     /// # Errors
     ///
-    /// `OutOfMemory` alone, where a mark is set, and then nothing has changed. Clearing takes no memory.
+    /// Returns only `OutOfMemory`, with nothing changed, if memory is refused for a mark. Clearing
+    /// allocates nothing and succeeds.
     #[tactic(auto, using(crate::proofs::Marks::set_one))]
     pub fn set_checkpoint(
         &mut self,
@@ -600,7 +628,7 @@ impl Records {
     }
 }
 
-/// Makes room for a job execution, and puts it into the index by the job instance.
+/// Reserves room for a job execution, and adds it to the index by job instance.
 fn index_execution(
     executions: &mut RowList<ExecutionRow>,
     by_instance: &mut NumberLists,
@@ -618,8 +646,8 @@ fn index_execution(
     by_instance.push(row.instance.value(), row.execution.value())
 }
 
-/// Makes room for a job instance and its first job execution, and puts the one into the index by its
-/// name, the other into that by the job instance.
+/// Reserves room for a job instance and its first job execution. Adds the job instance to the index
+/// by name, and the job execution to the index by job instance.
 fn index_instance(
     instances: &mut RowList<JobInstance>,
     executions: &mut RowList<ExecutionRow>,
@@ -656,7 +684,7 @@ fn index_instance(
     }
 }
 
-/// Which of these work items each step has, by the ids of the steps.
+/// Indexes these work items by the ids of their steps.
 fn steps_among(alloc: Global, works: &[&WorkRow]) -> Result<NameLists, OutOfMemory>
     ensures { IfOk result (λ names. (q : List ℕ) → numbers_named names q
         ≡ work_numbers (works_of_step q (map (λ row. row.now) works.now))) }
@@ -668,7 +696,7 @@ fn steps_among(alloc: Global, works: &[&WorkRow]) -> Result<NameLists, OutOfMemo
     Ok(names)
 }
 
-/// The job instance of a job execution, if it is there.
+/// Returns the job instance of a job execution, if the job execution exists.
 fn owner_of(executions: &RowList<ExecutionRow>, x: ExecutionId) -> Option<InstanceId>
     ensures { result ≡ instance_in executions.now.rows x }
 {
@@ -676,7 +704,8 @@ fn owner_of(executions: &RowList<ExecutionRow>, x: ExecutionId) -> Option<Instan
     Some(row.instance)
 }
 
-/// Whether a work item is of a job execution of this job instance, by the rows of the job executions.
+/// Checks whether a work item belongs to a job execution of this job instance, from the rows of the
+/// job executions.
 fn is_work_of_instance(executions: &RowList<ExecutionRow>, i: InstanceId, row: &WorkRow) -> bool
     ensures { result ≡ is_work_of_instance i executions.now.rows row.now }
 {
@@ -686,8 +715,8 @@ fn is_work_of_instance(executions: &RowList<ExecutionRow>, i: InstanceId, row: &
     }
 }
 
-/// Makes room for a work item, and puts it into the index by the step of its job instance, if that is
-/// given, and into that by its job execution.
+/// Reserves room for a work item, and adds it to the index by job execution. Adds it to the index
+/// by step, too, if the job instance is given.
 fn index_work(
     works: &mut RowList<WorkRow>,
     by_step: &mut StepLists,
@@ -717,7 +746,7 @@ fn index_work(
     }
 }
 
-/// Puts a work item into the index by the step of this job instance, and into that by the job execution.
+/// Adds a work item to the index by step of its job instance, and to the index by job execution.
 fn index_step(
     by_step: &mut StepLists,
     by_execution: &mut NumberLists,

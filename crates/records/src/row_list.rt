@@ -1,4 +1,4 @@
-//! Rows by rising number, of which any goes without a move of the others.
+//! Rows in ascending order of their numbers, of which any can be removed without moving the others.
 ghost use Rattle.std.specs.Prelude.{◌≡◌, ◌==◌, ◌<◌, ◌≤◌, ◌^◌, ◌++◌, ◌∷◌, [], ℕ, Bool, List, not, true, false, is_some, find, filter, map, length, position, vec_len, vec_capacity, slice_get, Some, IfSome, OnOk};
 ghost use Rattle.std.specs.List.{list_any};
 ghost use Rattle.std.specs.Option.{option_copied};
@@ -16,10 +16,10 @@ use std::marker::Model;
 pub trait Numbered: Drop {
     ghost use Rattle.std.specs.Prelude.{◌≡◌, ℕ};
 
-    /// The number in contracts.
+    /// The number of a row in contracts.
     ghost number: { Self → ℕ };
 
-    /// The number of the row.
+    /// Returns the number of the row.
     fn number(&self) -> u64
         ensures { result ≡ number self.now };
 }
@@ -48,14 +48,15 @@ impl Numbered for WorkRow {
     }
 }
 
-/// A place in a list of rows: a number, and the row of this number until that is removed.
+/// A slot of a list of rows: a number, and the row with this number until that is removed.
 #[derive(Debug, Drop)]
 pub struct Slot<T> {
     number: u64,
     row: Option<T>,
 }
 
-/// Rows by rising number. A row that is removed leaves an empty slot, so that no other row moves.
+/// Rows in ascending order of their numbers. A removed row leaves an empty slot, so that no other
+/// row moves.
 #[derive(Debug, Drop)]
 pub struct RowList<T: Numbered> {
     slots: Vec<Slot<T>>,
@@ -76,7 +77,7 @@ impl<T: Numbered> Model for RowList<T> {
 }
 
 impl<T: Numbered> RowList<T> {
-    /// No rows. It takes no memory.
+    /// Returns a list without rows. Allocates nothing.
     pub(crate) fn new(alloc: Global) -> RowList<T>
         ensures { result.rows ≡ [] }
     {
@@ -85,12 +86,13 @@ impl<T: Numbered> RowList<T> {
         }
     }
 
-    /// Where the memory of the rows comes from.
+    /// Returns the allocator of the rows.
     pub(crate) fn alloc(&self) -> Global {
         *self.slots.allocator()
     }
 
-    /// The row of a number, if it is there, by a look at its usual place, else by a binary search.
+    /// Returns the row with this number, if it exists. Looks at the row's usual position, then does
+    /// a binary search.
     pub(crate) fn get(&self, number: u64) -> Option<&T>
         ensures row { option_copied result ≡ find (λ row. T.number row == number) self.now.rows }
         ensures few { length self.now.rows < 2 ^ 63 }
@@ -99,7 +101,9 @@ impl<T: Numbered> RowList<T> {
         self.slots[place].row.as_ref()
     }
 
-    /// Makes room for a row. There are fewer rows than 2^63.
+    /// Reserves room for a row. There are fewer than 2^63 rows.
+    ///
+    /// Returns `OutOfMemory`, with the rows unchanged, if memory is refused.
     pub(crate) fn reserve(&mut self) -> Result<(), OutOfMemory>
         ensures rows { self.new.rows ≡ self.old.rows }
         ensures few { OnOk result (length self.old.rows < 2 ^ 63) }
@@ -109,7 +113,7 @@ impl<T: Numbered> RowList<T> {
         Ok(())
     }
 
-    /// Puts a row last, for which there is room, and whose number is above those that are there.
+    /// Appends a row, for which room was reserved. Its number must be above the existing ones.
     pub(crate) fn push_reserved(&mut self, row: T)
         requires room { 0 < self.old.room }
         requires above { AreBelow (T.number row) (map T.number self.old.rows) }
@@ -123,7 +127,7 @@ impl<T: Numbered> RowList<T> {
         });
     }
 
-    /// Puts a row in place of that of its number, which is there and goes.
+    /// Replaces the row with this number, which must exist.
     pub(crate) fn put(&mut self, number: u64, row: T)
         requires there { is_some (find (λ one. T.number one == number) self.old.rows) ≡ true }
         requires same { T.number row ≡ number }
@@ -136,7 +140,7 @@ impl<T: Numbered> RowList<T> {
         }
     }
 
-    /// Removes the rows of these numbers. It takes no memory, and a binary search for each.
+    /// Removes the rows with these numbers. Allocates nothing, and costs a binary search for each.
     pub(crate) fn remove_all(&mut self, numbers: &[u64])
         ensures { self.new.rows ≡ filter
             (λ row. not (list_any (λ n. n == T.number row) numbers.now)) self.old.rows }
@@ -146,7 +150,8 @@ impl<T: Numbered> RowList<T> {
         }
     }
 
-    /// Removes the row of a number, if it is there. It takes no memory, and a binary search.
+    /// Removes the row with this number, if it exists. Allocates nothing, and costs a binary
+    /// search.
     pub(crate) fn remove(&mut self, number: u64)
         ensures { self.new.rows ≡ filter (λ row. not (number == T.number row)) self.old.rows }
     {
@@ -155,7 +160,7 @@ impl<T: Numbered> RowList<T> {
         }
     }
 
-    /// All rows, by rising number.
+    /// Returns all rows, in ascending order of their numbers.
     pub(crate) fn rows(&self) -> RowsLeft<'_, T>
         ensures { rows_in result.slots.now ≡ self.now.rows }
     {
@@ -164,7 +169,8 @@ impl<T: Numbered> RowList<T> {
         }
     }
 
-    /// The rows up to that of a number, where it is there; else all.
+    /// Returns the rows up to the one with this number. Returns all rows if this number has no
+    /// slot.
     pub(crate) fn rows_through(&self, number: u64) -> RowsLeft<'_, T>
         ensures { (p : T → Bool) → ((row : T) → number < T.number row → p row ≡ false)
             → filter p (rows_in result.slots.now) ≡ filter p self.now.rows }
@@ -179,7 +185,7 @@ impl<T: Numbered> RowList<T> {
     }
 }
 
-/// The rows of a list that are left.
+/// The remaining rows of a list that is being read.
 #[derive(Debug, Drop)]
 pub struct RowsLeft<'r, T> {
     slots: &'r [Slot<T>],
@@ -206,7 +212,7 @@ impl<'r, T> Iterator for RowsLeft<'r, T> {
     }
 }
 
-/// Where the slot of a number stands, if there is one.
+/// Returns the position of the slot with this number, if there is one.
 fn slot_place<T>(slots: &[Slot<T>], number: u64) -> Option<usize>
     ensures { AreRising (slot_numbers slots.now)
         → result ≡ position (λ (slot : OneSlot T). slot.number == number) slots.now }
@@ -217,7 +223,7 @@ fn slot_place<T>(slots: &[Slot<T>], number: u64) -> Option<usize>
     }
 }
 
-/// The same by a binary search.
+/// Returns the position of the slot with this number by a binary search.
 fn searched_place<T>(slots: &[Slot<T>], number: u64) -> Option<usize>
     ensures { AreRising (slot_numbers slots.now)
         → result ≡ position (λ (slot : OneSlot T). slot.number == number) slots.now }
@@ -225,8 +231,8 @@ fn searched_place<T>(slots: &[Slot<T>], number: u64) -> Option<usize>
     slots.binary_search_by_key(&number, |slot| slot.number).ok()
 }
 
-/// Where the slot of a number stands if the slots up to it are those of 1, 2, 3 and so on, as they
-/// mostly are; `None` says nothing.
+/// Returns the position of the slot with this number if the slots up to it have the numbers 1, 2, 3
+/// and so on. That is the usual case. After `None`, the slot may still exist.
 fn gapless_place<T>(slots: &[Slot<T>], number: u64) -> Option<usize>
     ensures { AreRising (slot_numbers slots.now) → IfSome result (λ place.
         position (λ (slot : OneSlot T). slot.number == number) slots.now ≡ Some place) }
@@ -240,7 +246,7 @@ fn gapless_place<T>(slots: &[Slot<T>], number: u64) -> Option<usize>
     }
 }
 
-/// Drops the slots from a number on, which are empty.
+/// Drops the slots with this number or one above it, which are empty.
 fn drop_from<T: Numbered>(slots: &mut Vec<Slot<T>>, number: u64)
     requires slots { AreSlots T.number slots.old.items }
     requires above { AreBelow number (map T.number (rows_in slots.old.items)) }
@@ -255,7 +261,7 @@ fn drop_from<T: Numbered>(slots: &mut Vec<Slot<T>>, number: u64)
     }
 }
 
-/// Whether the last slot is of this number or one above it.
+/// Checks whether the last slot has this number or one above it.
 fn ends_from<T>(slots: &[Slot<T>], number: u64) -> bool
     ensures ends { result ≡ true → (front : List (OneSlot T)) × (last : OneSlot T)
         × (slots.now ≡ front ++ last ∷ []) × (number ≤ last.number) }

@@ -15,7 +15,8 @@ use batch_history::ExecutionRow;
 use batch_ids::{ExecutionId, OutOfMemory};
 use std::alloc::Global;
 
-/// The numbers of the unfinished job executions, by the name of their job and by their job instance.
+/// The numbers of the unfinished job executions, by the name of their job and by their job
+/// instance.
 #[derive(Debug, Drop)]
 pub struct RunningLists {
     by_name: RunningNames,
@@ -23,7 +24,7 @@ pub struct RunningLists {
 }
 
 impl RunningLists {
-    /// None. It takes no memory.
+    /// Returns lists without any job execution. Allocates nothing.
     pub(crate) fn new(alloc: Global) -> RunningLists
         ensures { AreRunning (Some result) [] }
     {
@@ -33,21 +34,23 @@ impl RunningLists {
         }
     }
 
-    /// Those of a job.
+    /// Returns the unfinished job executions of a job.
+    ///
+    /// Returns `OutOfMemory` if memory is refused.
     pub(crate) fn of_job(&self, name: &str) -> Result<Vec<ExecutionId>, OutOfMemory>
         ensures { IfOk result (λ found. found.items ≡ numbers_running self.now.by_name name.now) }
     {
         self.by_name.executions(name)
     }
 
-    /// Those of a job instance.
+    /// Returns the numbers of the unfinished job executions of a job instance.
     pub(crate) fn of_instance(&self, i: u64) -> &[u64]
         ensures { result.now ≡ numbers_under self.now.by_instance i }
     {
         self.by_instance.under(i)
     }
 
-    /// Puts a job execution last, and tells whether it stands there.
+    /// Appends a job execution, and returns whether that succeeded.
     fn push(&mut self, row: &ExecutionRow) -> bool
         ensures named { OnTrue result ((q : List ℕ) → numbers_running self.new.by_name q
             ≡ (if bytes_eq row.now.job q then numbers_running self.old.by_name q ++ row.now.execution ∷ [] else numbers_running self.old.by_name q)) }
@@ -59,7 +62,7 @@ impl RunningLists {
             && self.by_instance.push(row.instance.value(), x).is_ok()
     }
 
-    /// Removes a job execution. It takes no memory.
+    /// Removes a job execution. Allocates nothing.
     fn remove(&mut self, row: &ExecutionRow)
         ensures named { (q : List ℕ) → numbers_running self.new.by_name q
             ≡ (if bytes_eq row.now.job q then without_number row.now.execution (numbers_running self.old.by_name q) else numbers_running self.old.by_name q) }
@@ -72,8 +75,8 @@ impl RunningLists {
     }
 }
 
-/// Looks up a job execution that is added, if it is unfinished. Where memory for it is refused, none is
-/// looked up from then on.
+/// Adds a new job execution to the index, if it is unfinished. Drops the index if memory is
+/// refused.
 pub(crate) fn add_running(running: &mut Option<RunningLists>, row: &ExecutionRow)
     ensures { (rows : List Row) → AreRunning running.old rows
         → AreRunning running.new (rows ++ row.now ∷ []) }
@@ -90,9 +93,8 @@ pub(crate) fn add_running(running: &mut Option<RunningLists>, row: &ExecutionRow
     }
 }
 
-/// Looks up a job execution no more that is changed to this row, if it is finished now and was not
-/// before. None is looked up from then on where it is unfinished now and was finished before, which no
-/// operation does.
+/// Removes a job execution from the index if its new row is finished and its old one wasn't. Drops
+/// the index if the new row is unfinished and the old one was finished, which no operation does.
 pub(crate) fn change_running(
     running: &mut Option<RunningLists>,
     was_unfinished: bool,
@@ -114,7 +116,7 @@ pub(crate) fn change_running(
     }
 }
 
-/// Looks up an unfinished job execution no more, now that it has this row.
+/// Removes a job execution from the index, now that this row of it is finished.
 fn leave_out(running: &mut Option<RunningLists>, row: &ExecutionRow)
     ensures { (rows : List Row) (old : Row) → find (is_execution row.now.execution) rows ≡ Some old
         → old.job ≡ row.now.job → old.instance ≡ row.now.instance → is_unfinished (row_status old) ≡ true
@@ -126,7 +128,7 @@ fn leave_out(running: &mut Option<RunningLists>, row: &ExecutionRow)
     }
 }
 
-/// Looks up no job execution from now on, if that is to be.
+/// Drops the index if `goes`.
 pub(crate) fn forget_if(running: &mut Option<RunningLists>, goes: bool)
     ensures { running.new ≡ (if goes then None else running.old) }
 {
@@ -135,14 +137,16 @@ pub(crate) fn forget_if(running: &mut Option<RunningLists>, goes: bool)
     }
 }
 
-/// Looks up no job execution from now on.
+/// Drops the index.
 fn forget(running: &mut Option<RunningLists>)
     ensures { running.new ≡ None }
 {
     drop(running.take());
 }
 
-/// The numbers of the unfinished job executions of a job among these rows.
+/// Returns the unfinished job executions of a job by a look at every row.
+///
+/// Returns `OutOfMemory` if memory is refused.
 pub(crate) fn running_searched(
     rows: &RowList<ExecutionRow>,
     name: &str,

@@ -11,7 +11,8 @@ use std::collections::BTreeSet;
 use std::fmt::{self, Debug, Formatter};
 use std::marker::Model;
 
-/// Rising numbers. One more stands last, and any of them goes by a search of their tree.
+/// A set of numbers in ascending order, as a tree. A number can be appended, and any can be removed
+/// by a search of the tree.
 #[derive(Drop)]
 struct Numbers {
     set: BTreeSet<u64>,
@@ -26,7 +27,7 @@ impl Model for Numbers {
 }
 
 impl Numbers {
-    /// This number alone.
+    /// Returns a set of this number alone.
     fn of(alloc: Global, number: u64) -> Result<Numbers, OutOfMemory>
         ensures { IfOk result (λ numbers. numbers ≡ number ∷ []) }
     {
@@ -35,7 +36,7 @@ impl Numbers {
         Ok(Numbers { set })
     }
 
-    /// Whether all of them are below this one.
+    /// Checks whether all numbers of the set are below this one.
     fn are_below(&self, number: u64) -> bool
         ensures { OnTrue result (AreBelow number self.now) }
     {
@@ -45,8 +46,8 @@ impl Numbers {
         }
     }
 
-    /// Puts a number last, and tells whether it stands there: it does not where another is as great, or
-    /// where memory is refused.
+    /// Appends a number, and returns whether that succeeded. It fails if the set has a number that
+    /// isn't below this one, or if memory is refused.
     fn push(&mut self, number: u64) -> bool
         ensures { OnTrue result (self.new ≡ self.old ++ number ∷ []) }
     {
@@ -59,7 +60,7 @@ impl Numbers {
         }
     }
 
-    /// Removes a number. It takes no memory.
+    /// Removes a number. Allocates nothing.
     fn leave_out(&mut self, number: u64)
         ensures { self.new ≡ without_number number self.old }
     {
@@ -72,7 +73,7 @@ impl Numbers {
         self.set.is_empty()
     }
 
-    /// The job executions with these numbers.
+    /// Returns the job executions with these numbers.
     fn executions(&self, alloc: Global) -> Result<Vec<ExecutionId>, OutOfMemory>
         ensures { IfOk result (λ found. found.items ≡ self.now) }
     {
@@ -84,7 +85,7 @@ impl Numbers {
     }
 }
 
-/// They are printed as a list.
+/// Prints the numbers as a list.
 #[derive(Drop)]
 struct Printed<'a> {
     numbers: &'a BTreeSet<u64>,
@@ -107,7 +108,7 @@ impl Debug for Numbers {
     }
 }
 
-/// Rising numbers, each under a name. A name with none has no list.
+/// Numbers in ascending order, by name. A name without numbers has no list.
 #[derive(Drop)]
 pub struct RunningNames {
     alloc: Global,
@@ -124,7 +125,7 @@ impl Debug for RunningNames {
 }
 
 impl RunningNames {
-    /// Empty lists. It takes no memory.
+    /// Returns empty lists. Allocates nothing.
     pub(crate) fn new(alloc: Global) -> RunningNames
         ensures { (q : List ℕ) → numbers_running result q ≡ [] }
     {
@@ -134,7 +135,9 @@ impl RunningNames {
         }
     }
 
-    /// The job executions with the numbers under this name.
+    /// Returns the job executions with the numbers under a name.
+    ///
+    /// Returns `OutOfMemory` if memory is refused.
     pub(crate) fn executions(&self, name: &str) -> Result<Vec<ExecutionId>, OutOfMemory>
         ensures { IfOk result (λ found. found.items ≡ numbers_running self.now name.now) }
     {
@@ -144,8 +147,8 @@ impl RunningNames {
         }
     }
 
-    /// Puts a number last under this name, and tells whether it stands there: it does not where another is
-    /// as great, or where memory is refused.
+    /// Appends a number to the list of a name, and returns whether that succeeded. It fails if the
+    /// list has a number that isn't below this one, or if memory is refused.
     pub(crate) fn push(&mut self, name: &str, number: u64) -> bool
         ensures { OnTrue result ((q : List ℕ) → numbers_running self.new q
             ≡ (if bytes_eq name.now q then numbers_running self.old q ++ number ∷ [] else numbers_running self.old q)) }
@@ -156,7 +159,7 @@ impl RunningNames {
         }
     }
 
-    /// Puts a number under a name that has none.
+    /// Adds a list with one number for a name that has none.
     fn begin(&mut self, name: &str, number: u64) -> Result<(), OutOfMemory>
         requires { numbers_running self.old name.now ≡ [] }
         ensures { OnOk result ((q : List ℕ) → numbers_running self.new q
@@ -168,7 +171,8 @@ impl RunningNames {
         Ok(())
     }
 
-    /// Removes a number from those under this name. It takes no memory, and a search of their tree.
+    /// Removes a number from the list of a name. Allocates nothing, and costs a search of the
+    /// list's tree.
     pub(crate) fn remove(&mut self, name: &str, number: u64)
         ensures { (q : List ℕ) → numbers_running self.new q
             ≡ (if bytes_eq name.now q then without_number number (numbers_running self.old q) else numbers_running self.old q) }
@@ -178,7 +182,8 @@ impl RunningNames {
         }
     }
 
-    /// The same, but for the name, which stays; whether it has none then.
+    /// Removes a number from the list of a name, and returns whether the list is empty then. An
+    /// empty list stays.
     fn leave_out(&mut self, name: &str, number: u64) -> bool
         ensures left { (q : List ℕ) → numbers_running self.new q
             ≡ (if bytes_eq name.now q then without_number number (numbers_running self.old q) else numbers_running self.old q) }
@@ -193,7 +198,7 @@ impl RunningNames {
         }
     }
 
-    /// Lets the list under a name go, which is empty.
+    /// Drops the empty list of a name.
     fn forget(&mut self, name: &str)
         requires { numbers_running self.old name.now ≡ [] }
         ensures { (q : List ℕ) → numbers_running self.new q ≡ numbers_running self.old q }

@@ -6,7 +6,7 @@ use batch_ids::OutOfMemory;
 use indexmap::IndexMap;
 use std::alloc::Global;
 
-/// The lists of some job instances: which work items each step of them has.
+/// The work items of each step, for some of the job instances.
 #[derive(Debug, Drop)]
 pub struct StepLists {
     alloc: Global,
@@ -14,7 +14,7 @@ pub struct StepLists {
 }
 
 impl StepLists {
-    /// The lists of no job instance. It takes no memory.
+    /// Returns the lists of no job instance. Allocates nothing.
     pub(crate) fn new(alloc: Global) -> StepLists
         ensures { (i : ℕ) → has_steps result i ≡ false }
     {
@@ -24,7 +24,7 @@ impl StepLists {
         }
     }
 
-    /// The lists of a job instance, if there are any.
+    /// Returns the lists of a job instance, if it has any.
     pub(crate) fn of(&self, instance: u64) -> Option<&NameLists>
         ensures there { is_some result ≡ has_steps self.now instance }
         ensures lists { IfSome result (λ names. (q : List ℕ)
@@ -33,7 +33,9 @@ impl StepLists {
         self.lists.get(&instance)
     }
 
-    /// Puts the lists of a job instance.
+    /// Sets the lists of a job instance.
+    ///
+    /// Returns `OutOfMemory`, with nothing changed, if memory is refused.
     pub(crate) fn put(&mut self, instance: u64, names: NameLists) -> Result<(), OutOfMemory>
         ensures has { OnOk result ((i : ℕ)
             → has_steps self.new i ≡ (instance == i || has_steps self.old i)) }
@@ -47,7 +49,9 @@ impl StepLists {
         Ok(())
     }
 
-    /// Puts a number last under this step of a job instance, if that has lists.
+    /// Appends a number to the list of a step, if the job instance has lists.
+    ///
+    /// Returns `OutOfMemory`, with nothing changed, if memory is refused.
     pub(crate) fn push(&mut self, instance: u64, step: &str, number: u64) -> Result<(), OutOfMemory>
         ensures has { (i : ℕ) → has_steps self.new i ≡ has_steps self.old i }
         ensures added { OnOk result ((i : ℕ) (q : List ℕ) → has_steps self.old i ≡ true
@@ -62,7 +66,7 @@ impl StepLists {
         }
     }
 
-    /// Removes a number from those under this step of a job instance. It takes no memory.
+    /// Removes a number from the list of a step of a job instance. Allocates nothing.
     pub(crate) fn leave_out(&mut self, instance: u64, step: &str, number: u64)
         ensures has { (i : ℕ) → has_steps self.new i ≡ has_steps self.old i }
         ensures left { (i : ℕ) (q : List ℕ) → numbers_of_step self.new i q
@@ -73,7 +77,7 @@ impl StepLists {
         }
     }
 
-    /// Removes the lists of a job instance. It takes no memory.
+    /// Removes the lists of a job instance. Allocates nothing.
     pub(crate) fn remove(&mut self, instance: u64)
         ensures has { (i : ℕ) → has_steps self.new i
             ≡ (if instance == i then false else has_steps self.old i) }
@@ -83,7 +87,7 @@ impl StepLists {
         self.lists.swap_remove(&instance);
     }
 
-    /// Removes all lists, unless they are to be kept. It takes no memory.
+    /// Removes all lists unless `keeps`. Allocates nothing.
     pub(crate) fn keep_if(&mut self, keeps: bool)
         ensures has { (i : ℕ) → has_steps self.new i ≡ (keeps && has_steps self.old i) }
         ensures left { keeps ≡ true → (i : ℕ) (q : List ℕ)
