@@ -1,4 +1,4 @@
--- What contracts see of a table and of a desk's seat.
+-- The views that contracts have of a table and of a desk's seat.
 use Rattle.std.specs.Prelude.{ℕ, List, []}
 use Rattle.atomic_table.specs.Seated.{TableId}
 use Rattle.batch_history.specs.Legal.{IsLegal, most_operations}
@@ -12,15 +12,15 @@ pub record Place : Type 0 where
   pub table : TableId
   pub catalogue : List JobTree
 
--- a place that no table has
+-- a placeholder that is no table's place
 abbrev pub no_place : Place
 no_place = record { table = record { words = 0; slots = 0; views_name = 0; atom = 0; block = 0; offset = 0; slot_names = [] }; catalogue = [] }
 
--- a log is legal over a catalogue: each operation in it has the reply that was due after those before it
+-- a log is legal over a catalogue: each operation has the reply that the operations before it require
 abbrev pub IsLegalLog : List JobTree → List Entry → Type 0
 IsLegalLog catalogue log = IsLegal most_operations (history catalogue log)
 
--- what a desk's seat knows: the log, the last session number, and the sessions and the copies that it hosts
+-- the view of a desk's seat: the log, the last session number, and the sessions and copies that it hosts
 pub record Known : Type 0 where
   pub log : List Entry
   pub last : ℕ

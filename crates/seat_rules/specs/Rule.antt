@@ -1,4 +1,4 @@
--- The rule of the table: what its words and what its seats know have to do with one log.
+-- The invariant of the table, which relates its words and seats to one log.
 use Rattle.std.specs.Prelude.{ℕ, ◌≡◌, ◌<◌, ◌≤◌, ◌⊎◌, List, [], length, slice_index}
 use mathlib.Core.List.{IsPrefix}
 use mathlib.Core.Option.{some}
@@ -13,8 +13,9 @@ use Rattle.seat_rules.specs.Places.{IsLegalLog}
 use Rattle.batch_history.specs.Legal.{entries_by}
 use Rattle.seat_rules.specs.Views.{Each, HasStop, times, total}
 
--- what the rule says of a session: it has seen a beginning of the log, in which all its operations stand; the count that
--- it was shown is at most the log's length; the stops that it found stand among so many operations, or in the log
+-- the invariant of a session. It has seen a prefix of the log, which has all its operations. The count that
+-- it was shown is at most the log's length. The stops that it found are among that many operations; the fresh
+-- ones are in the log
 pub record IsSessionOf (log : List Entry) (last : ℕ) (s : SessionView) : Type 0 where
   pub seen : IsPrefix s.seen log
   pub least : s.least ≤ length log
@@ -24,20 +25,20 @@ pub record IsSessionOf (log : List Entry) (last : ℕ) (s : SessionView) : Type 
   pub stops : Each (HasStop log s.least) s.stops
   pub fresh : Each (HasStop log (length log)) s.fresh
 
--- what it says of the desk's seat: it knows the log and the last session number
+-- the invariant of the desk's seat: it has the log and the last session number
 pub record IsBookOf (log : List Entry) (last : ℕ) (b : BookView) : Type 0 where
   pub log_is : b.log ≡ log
   pub last_is : b.last ≡ last
 
--- what it says of any seat: each copy has absorbed a beginning of the log
+-- the invariant of any seat: its parts are of this log, and each copy has absorbed a prefix of it
 pub record IsShown (log : List Entry) (last : ℕ) (v : SeatView) : Type 0 where
   pub books : Each (IsBookOf log last) v.books
   pub sessions : Each (IsSessionOf log last) v.sessions
   pub copies : Each (λ l. IsPrefix l log) v.copies
 
--- the rule: word 0 is the length of the log, which is legal; each further word is 0 or a job execution whose stop stands in
--- the log; no operation is of a session that was not opened; one seat at most has the book, and each session number sits
--- on one seat at most
+-- the invariant of the table. Word 0 is the length of the log, which is legal. Each further word is 0 or a
+-- job execution whose stop is in the log. Each operation is of a session that was opened. One seat at most
+-- has the log, and each session number is on one seat at most
 pub record IsKept (catalogue : List JobTree) (log : List Entry) (last : ℕ) (words : List ℕ) (views : List SeatView) : Type 0 where
   pub some_word : 0 < length words
   pub stop_words : (k : ℕ) → 0 < k → (slice_index words k ≡ 0) ⊎ HasStop log (length log) (slice_index words k)
@@ -48,6 +49,6 @@ pub record IsKept (catalogue : List JobTree) (log : List Entry) (last : ℕ) (wo
   pub one_book : total (λ v. length v.books) views ≤ 1
   pub apart : (n : ℕ) → total (λ v. times n v.sessions) views ≤ 1
 
--- there is one log of which all this holds
+-- the table's invariant is true of some log
 abbrev pub Kept : List JobTree → State ℕ SeatView → Type 0
 Kept catalogue s = (log : List Entry) × (last : ℕ) × IsKept catalogue log last s.words s.views

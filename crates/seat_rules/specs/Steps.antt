@@ -1,4 +1,4 @@
--- What steps do to what a seat knows, and what they tell.
+-- The effects of atomic actions on the view of a seat, and the facts that they prove.
 use Rattle.std.specs.Prelude.{ℕ, ◌≡◌, ◌+◌, ◌≤◌, List, [], ◌∷◌, ◌++◌, map, take, length}
 use Rattle.atomic_table.specs.Table.{Step, Me}
 use Rattle.batch_history.specs.declared.call.Entry.{Entry}
@@ -13,7 +13,7 @@ use Rattle.seat_rules.specs.Views.{book_view, glanced_at, informed, known_in, li
 abbrev pub hosting : SeatView → SeatView → SeatView
 hosting v w = view_of (v.books ++ w.books) (v.sessions ++ w.sessions) (v.copies ++ w.copies)
 
--- a session is opened: the number after the last is its own, and it has seen the log
+-- a session is opened: its number is one above the last, and it has seen the log
 abbrev pub opened : SeatView → SeatView
 opened v = view_of (map (λ b. book_view b.log (b.last + 1)) v.books) v.sessions v.copies
 
@@ -41,14 +41,14 @@ without_copy v = view_of v.books v.sessions []
 abbrev pub released : ℕ → SeatView → SeatView
 released n v = view_of [] [] (map (λ _. take n (known_in v).log) v.copies)
 
--- the session leaves a copy with what that has absorbed
+-- the session leaves the copy, and has seen the operations that the copy has absorbed
 abbrev pub caught_up : SeatView → SeatView
 caught_up v = view_of v.books (map (informed (list_of v.copies)) v.sessions) []
 
 abbrev pub copy_read : SeatView → SeatView
 copy_read v = view_of [] [] v.copies
 
--- two sessions part, each with what either had seen
+-- two sessions part, and both have seen the longer of their lists
 abbrev pub met_one : List SessionView → List SessionView
 met_one (s ∷ t ∷ rest) = met s t ∷ []
 met_one sessions = sessions
@@ -63,17 +63,17 @@ one_met v = view_of v.books (met_one v.sessions) v.copies
 abbrev pub other_met : SeatView → SeatView
 other_met v = view_of [] (met_other v.sessions) []
 
--- ---- Steps on words
+-- ---- Actions on words
 
--- there is a log of which this view speaks, its length was found, and no two sessions here have one number
+-- this view is of some log, n is the log's length, and no two of its sessions have the same number
 abbrev pub Found : SeatView → ℕ → Type 0
 Found v n = (log : List Entry) × (last : ℕ) × (n ≡ length log) × IsShown log last v × ((m : ℕ) → times m v.sessions ≤ 1)
 
--- a look at word 0
+-- word 0 is read, and no session is shown it
 abbrev pub Looked : Step ℕ → Me ℕ SeatView → ℕ → Me ℕ SeatView → Type 0
 Looked s v n w = (w ≡ v) × Found v.0 n
 
--- word 0 is read as a count
+-- word 0 is read, and the sessions are shown it as a count
 abbrev pub Glanced : Step ℕ → Me ℕ SeatView → ℕ → Me ℕ SeatView → Type 0
 Glanced s v n w = (w ≡ (view_of v.0.books (map (glanced_at n) v.0.sessions) v.0.copies, v.1)) × Found v.0 n
 

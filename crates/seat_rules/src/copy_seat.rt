@@ -7,8 +7,8 @@ use atomic_table::{Badge, Seat};
 use std::marker::{Model, PhantomData};
 use std::mem;
 
-/// The seat of a read copy. Contracts see the operations that the copy has absorbed, as a list of
-/// one, and nothing while the seat is away with a desk or a session. No call takes memory.
+/// The seat of a read copy. Contracts see a list with one entry, the operations that the copy has
+/// absorbed. The list is empty while a desk or a session has the seat. No call allocates memory.
 #[derive(Drop)]
 pub struct CopySeat<N: Site> {
     badge: Badge<SeatView>,
@@ -28,7 +28,7 @@ impl<N: Site> Model for CopySeat<N> {
 }
 
 impl<N: Site> CopySeat<N> {
-    /// The place of a seat that is away.
+    /// Returns a placeholder for a seat that a desk or a session has.
     pub fn away() -> CopySeat<N>
         ensures { result ≡ [] }
     {
@@ -38,7 +38,7 @@ impl<N: Site> CopySeat<N> {
         }
     }
 
-    /// Moves the seat out of its place.
+    /// Takes the seat and leaves a placeholder.
     pub fn take(&mut self) -> CopySeat<N>
         ensures away { self.new ≡ [] }
         ensures seat { result ≡ self.old }

@@ -17,8 +17,8 @@ use batch_history::Entry;
 use batch_ids::ExecutionId;
 use std::marker::{Brand, Model, PhantomData};
 
-/// The seat that knows the log, with the session or the copy that it hosts. Contracts see what it
-/// knows. No call takes memory.
+/// The seat of the desk, which has the whole log and the session or copy that it hosts. Contracts
+/// see both. No call allocates memory.
 #[derive(Drop)]
 pub struct DeskSeat<N: Site> {
     seat: Seat<u8, SeatView>,
@@ -48,7 +48,7 @@ impl<N: Site> DeskSeat<N> {
         }
     }
 
-    /// Opens a session: its number is the one after the last, and it has seen the whole log.
+    /// Opens a session. Its number is one above the last session's, and it has seen the whole log.
     pub fn open(&mut self, table: &SeatTable) -> SessionSeat<N>
         requires table { table.now ≡ N.place }
         requires alone { self.old.sessions ≡ [] }
@@ -58,7 +58,7 @@ impl<N: Site> DeskSeat<N> {
         SessionSeat::of(table.table.shared.split_seat::<Newcomer>(&mut self.seat))
     }
 
-    /// Takes a session in, and learns that what it has seen is a beginning of the log.
+    /// Hosts a session. Ensures that the operations that it has seen are a prefix of the log.
     pub fn host(&mut self, other: &mut SessionSeat<N>, table: &SeatTable)
         requires table { table.now ≡ N.place }
         requires alone { (self.old.sessions ≡ []) × (self.old.copies ≡ []) }
@@ -74,7 +74,7 @@ impl<N: Site> DeskSeat<N> {
         table.table.shared.load::<Look>(&mut self.seat, 0);
     }
 
-    /// The log grows by this operation of the session that it hosts, and word 0 counts it.
+    /// Appends an operation of the hosted session to the log, and counts it in word 0.
     pub fn append(&mut self, entry: &Entry, table: &SeatTable)
         requires table { table.now ≡ N.place }
         requires session { (s : _) × (self.old.sessions ≡ s ∷ []) × (s.number ≡ entry.now.who) }
@@ -97,7 +97,8 @@ impl<N: Site> DeskSeat<N> {
             .fetch_add::<Append<E>>(&mut self.seat, 0, 1);
     }
 
-    /// Stores the job execution in its stop word. Its stop has to stand in the log.
+    /// Stores a job execution's number in its stop word. The log must have a stop of this job
+    /// execution.
     pub fn raise(&mut self, execution: ExecutionId, table: &SeatTable)
         requires table { table.now ≡ N.place }
         requires stopped { HasStop self.old.log (length self.old.log) execution }
@@ -109,7 +110,7 @@ impl<N: Site> DeskSeat<N> {
             .store::<Raise>(&mut self.seat, stop_word(execution), execution.value());
     }
 
-    /// The session leaves, and has seen the whole log.
+    /// Returns the hosted session to its seat, as having seen the whole log.
     pub fn part(&mut self, other: &mut SessionSeat<N>, table: &SeatTable)
         requires table { table.now ≡ N.place }
         ensures book { self.new ≡ known self.old.log self.old.last [] self.old.copies }
@@ -118,7 +119,7 @@ impl<N: Site> DeskSeat<N> {
         other.put(table.table.shared.split_seat::<Leaves>(&mut self.seat));
     }
 
-    /// Makes a copy that has absorbed nothing.
+    /// Returns the seat of a new copy, which has absorbed nothing.
     pub fn copy_seat(&mut self, table: &SeatTable) -> CopySeat<N>
         requires table { table.now ≡ N.place }
         ensures book { self.new ≡ self.old }
@@ -127,7 +128,7 @@ impl<N: Site> DeskSeat<N> {
         CopySeat::of(table.table.shared.split_seat::<NewCopy>(&mut self.seat))
     }
 
-    /// Takes a copy in, and learns that what it has absorbed is a beginning of the log.
+    /// Hosts a copy. Ensures that the operations that it has absorbed are a prefix of the log.
     pub fn host_copy(&mut self, copy: CopySeat<N>, table: &SeatTable)
         requires table { table.now ≡ N.place }
         requires alone { (self.old.sessions ≡ []) × (self.old.copies ≡ []) }
@@ -142,7 +143,7 @@ impl<N: Site> DeskSeat<N> {
         table.table.shared.load::<Look>(&mut self.seat, 0);
     }
 
-    /// The copy leaves, with as many operations as it has absorbed.
+    /// Returns the hosted copy's seat, as having absorbed this many operations of the log.
     pub fn part_copy(&mut self, absorbed: u64, table: &SeatTable) -> CopySeat<N>
         requires table { table.now ≡ N.place }
         requires long { (l : _) × (self.old.copies ≡ l ∷ []) × (length l ≤ absorbed) }

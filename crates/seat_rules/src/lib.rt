@@ -1,6 +1,6 @@
-//! The rule that ties one growing log of operations to what sessions, read copies and a desk know of
-//! it, over one table of atomic words: word 0 is the log's length, words 1 to 64 are stop words.
-//! Only this crate names the table's own steps.
+//! The rule that relates sessions, read copies and a desk to one growing log of operations. They
+//! share a table of atomic words: word 0 is the log's length, and words 1 to 64 are stop words.
+//! Only this crate names the table's atomic actions.
 #![tactic(auto)]
 
 mod copy_seat;

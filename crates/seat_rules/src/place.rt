@@ -10,9 +10,11 @@ use jsl_model::Catalogue;
 use std::alloc::Global;
 use std::marker::{Brand, Model};
 
-/// A name of one table. Whoever uses desks and sessions is a function generic in `N: Site` that is
-/// handed a new table, and is called with a name of that table alone for `N`: `std`'s `Brand`, or a
-/// type that serves as well. Desks and sessions of one name belong to one table.
+/// A name of one table. Desks and sessions with the same name belong to the same table.
+///
+/// A function that uses desks and sessions is generic in `N: Site` and receives a new table. Its
+/// caller passes a name of that table alone for `N`: `std`'s `Brand`, or another type that is as
+/// unique.
 pub trait Site {
     ghost use Rattle.seat_rules.specs.Places.{Place};
 
@@ -25,8 +27,8 @@ impl Site for Brand {
     ghost place = { no_place };
 }
 
-/// The words that all threads share: a count of operations, and 64 stop words. Contracts see which
-/// table it is, and over which catalogue its log is.
+/// The words that all threads share: the number of operations, and 64 stop words. Contracts see the
+/// table's identity and the catalogue of its log.
 #[derive(Drop)]
 pub struct SeatTable {
     pub(crate) table: Table<u8, SeatView, Catalogue, SeatRule, Global>,
@@ -66,11 +68,11 @@ impl Model for BookSeat {
 }
 
 impl SeatTable {
-    /// A table for an empty log over this catalogue, with its first seat.
+    /// Returns a table for an empty log over this catalogue, with its first seat.
     ///
     /// # Errors
     ///
-    /// `OutOfMemory` where memory is refused.
+    /// Returns `OutOfMemory` if memory is refused.
     pub fn new(alloc: Global, catalogue: &Catalogue) -> Result<(SeatTable, BookSeat), OutOfMemory>
         ensures { IfOk result (λ made. (made.0.catalogue ≡ catalogue.now) × (made.1 ≡ made.0.table)) }
     {
@@ -80,7 +82,7 @@ impl SeatTable {
 }
 
 impl BookSeat {
-    /// The same seat, of the table that `N` names. It takes no memory.
+    /// Returns this seat as the desk of the table that `N` names. Allocates nothing.
     pub fn named<N: Site>(self) -> DeskSeat<N>
         requires { self ≡ N.place.table }
         ensures { result ≡ known [] 0 [] [] }

@@ -3,7 +3,7 @@ use atomic_table::{Join, Play, Split, TableRule};
 use jsl_model::Catalogue;
 use std::marker::{Brand, PhantomData};
 
-/// What holds of the words and of all seats between any two steps.
+/// The invariant of the words and of all seats between any two atomic actions.
 pub struct SeatRule;
 
 impl TableRule<u8, SeatView, Catalogue> for SeatRule {
@@ -15,7 +15,8 @@ impl TableRule<u8, SeatView, Catalogue> for SeatRule {
     ghost first = { λ _. first_view };
 }
 
-/// A look at the count, which tells that what the seat knows is of one log.
+/// The action of reading the count without showing it to a session. It proves that all views of the
+/// seat are of one log.
 pub struct Look;
 
 impl Play<u8, SeatView> for Look {
@@ -24,7 +25,7 @@ impl Play<u8, SeatView> for Look {
     ghost then = { Looked };
 }
 
-/// A session reads the count.
+/// The action of a session that reads the count.
 pub struct Glance;
 
 impl Play<u8, SeatView> for Glance {
@@ -33,7 +34,7 @@ impl Play<u8, SeatView> for Glance {
     ghost then = { Glanced };
 }
 
-/// The desk stores a stop word.
+/// The action of the desk that stores a stop word.
 pub struct Raise;
 
 impl Play<u8, SeatView> for Raise {
@@ -42,7 +43,7 @@ impl Play<u8, SeatView> for Raise {
     ghost then = { Raised };
 }
 
-/// A session reads a stop word.
+/// The action of a session that reads a stop word.
 pub struct ReadStop;
 
 impl Play<u8, SeatView> for ReadStop {
@@ -51,7 +52,7 @@ impl Play<u8, SeatView> for ReadStop {
     ghost then = { Stopped };
 }
 
-/// Which operation a step appends. Each call picks it.
+/// The operation that an action appends. Each call chooses its own.
 pub trait Pending {
     ghost use Rattle.batch_history.specs.declared.call.Entry.{Entry};
 
@@ -65,7 +66,7 @@ impl Pending for Brand {
     ghost entry = { record { who = 0; call = Claim; at = 0; reply = Nothing } };
 }
 
-/// The desk counts an operation, and the log grows by it.
+/// The action of the desk that counts an operation, by which the log grows.
 pub struct Append<E> {
     of: PhantomData<E>,
 }
@@ -76,7 +77,7 @@ impl<E: Pending> Play<u8, SeatView> for Append<E> {
     ghost then = { Appended E.entry };
 }
 
-/// Two seats become one.
+/// The union of two seats.
 pub struct Hosts;
 
 impl Join<SeatView> for Hosts {
@@ -88,7 +89,7 @@ impl Join<SeatView> for Hosts {
     ghost spent = { nobody };
 }
 
-/// A session is opened.
+/// The opening of a session.
 pub struct Newcomer;
 
 impl Split<SeatView> for Newcomer {
@@ -99,7 +100,7 @@ impl Split<SeatView> for Newcomer {
     ghost right = { newcomer };
 }
 
-/// The session that the desk hosts leaves.
+/// The leaving of the session that the desk hosts.
 pub struct Leaves;
 
 impl Split<SeatView> for Leaves {
@@ -110,7 +111,7 @@ impl Split<SeatView> for Leaves {
     ghost right = { leaver };
 }
 
-/// Two sessions that have met part.
+/// The parting of two sessions that have met.
 pub struct Parts;
 
 impl Split<SeatView> for Parts {
@@ -121,7 +122,7 @@ impl Split<SeatView> for Parts {
     ghost right = { other_met };
 }
 
-/// A copy is made.
+/// The making of a copy.
 pub struct NewCopy;
 
 impl Split<SeatView> for NewCopy {
@@ -132,7 +133,7 @@ impl Split<SeatView> for NewCopy {
     ghost right = { new_copy };
 }
 
-/// How many operations a copy leaves with. Each call picks it.
+/// The number of operations that a copy leaves with. Each call chooses its own.
 pub trait Absorbed {
     ghost use Rattle.std.specs.Prelude.{ℕ};
 
@@ -143,7 +144,7 @@ impl Absorbed for Brand {
     ghost absorbed = { 0 };
 }
 
-/// The copy that the desk hosts leaves.
+/// The leaving of the copy that the desk hosts.
 pub struct Releases<A> {
     of: PhantomData<A>,
 }
@@ -156,7 +157,7 @@ impl<A: Absorbed> Split<SeatView> for Releases<A> {
     ghost right = { released A.absorbed };
 }
 
-/// A session that has read a copy leaves it.
+/// The parting of a session from a copy that it has read.
 pub struct Reads;
 
 impl Split<SeatView> for Reads {

@@ -14,8 +14,8 @@ use batch_ids::ExecutionId;
 use std::marker::{Model, PhantomData};
 use std::mem;
 
-/// The seat of sessions. Contracts see what these know, and nothing while the seat is away with a
-/// desk or another session. No call takes memory.
+/// The seat of one session or of two that meet. Contracts see the views of these sessions. They see
+/// none while a desk or another session has the seat. No call allocates memory.
 #[derive(Drop)]
 pub struct SessionSeat<N: Site> {
     badge: Badge<SeatView>,
@@ -60,8 +60,8 @@ impl<N: Site> SessionSeat<N> {
         self.badge = seat.into_badge();
     }
 
-    /// Takes another session in, and learns that both have seen beginnings of one log, and have
-    /// different numbers.
+    /// Hosts another session. Ensures that both have seen prefixes of one log, and that their
+    /// numbers differ.
     pub fn host(&mut self, other: &mut SessionSeat<N>, table: &SeatTable)
         requires table { table.now ≡ N.place }
         requires some { 0 < length self.old }
@@ -80,7 +80,8 @@ impl<N: Site> SessionSeat<N> {
         self.put(seat);
     }
 
-    /// Two sessions part, each with the longer list and the greater count.
+    /// Parts two sessions that have met. Both have the longer list of seen operations and the
+    /// greater count then.
     pub fn part(&mut self, other: &mut SessionSeat<N>, table: &SeatTable)
         requires table { table.now ≡ N.place }
         requires two { (one : _) × (two : _) × (self.old ≡ one ∷ two ∷ []) }
@@ -93,8 +94,8 @@ impl<N: Site> SessionSeat<N> {
         other.put(leaver);
     }
 
-    /// Takes what a copy has absorbed, which is no shorter than what the session has seen, and learns
-    /// that both are beginnings of one log.
+    /// Takes over the operations that a copy has absorbed, which are at least as many as the
+    /// session has seen. Ensures that both lists are prefixes of one log.
     pub fn read(&mut self, copy: &mut CopySeat<N>, table: &SeatTable)
         requires table { table.now ≡ N.place }
         requires two { (s : _) × (l : _) × (self.old ≡ s ∷ []) × (copy.old ≡ l ∷ []) × (length s.seen ≤ length l) }
@@ -113,7 +114,7 @@ impl<N: Site> SessionSeat<N> {
         *copy = CopySeat::of(left);
     }
 
-    /// Reads the stop word of this job execution.
+    /// Returns the stop word of this job execution.
     pub fn read_stop(&mut self, execution: ExecutionId, table: &SeatTable) -> u64
         requires table { table.now ≡ N.place }
         requires one { 0 < length self.old }
@@ -128,7 +129,8 @@ impl<N: Site> SessionSeat<N> {
         found
     }
 
-    /// Reads the count of operations, which is at least what the session has seen and was shown.
+    /// Returns the number of operations. It is at least the number that the session has seen, and
+    /// at least any count that it was shown.
     pub fn glance(&mut self, table: &SeatTable) -> u64
         requires table { table.now ≡ N.place }
         requires one { 0 < length self.old }

@@ -2,7 +2,7 @@ ghost use Rattle.std.specs.Prelude.{◌<◌};
 
 use batch_ids::ExecutionId;
 
-/// The word for stops of this job execution: 64 words serve all of them.
+/// Returns the stop word's index for this job execution. All job executions share 64 words.
 pub fn stop_word(execution: ExecutionId) -> usize
     ensures { (0 < result) × (result < 65) }
 {

@@ -2,23 +2,23 @@ use batch_history::Entry;
 use batch_ids::ExecutionId;
 use std::collections::LinkedList;
 
-/// What is known of a session. No value of it is made: contracts speak of it.
+/// The view that contracts have of a session. No value of this type is ever made.
 pub struct SessionView {
-    /// Its number, which no other session has.
+    /// The session's number, which no other session has.
     pub number: u64,
-    /// The operations that it has seen, from the log's first on.
+    /// The operations that the session has seen: a prefix of the log.
     pub seen: LinkedList<Entry>,
-    /// Its own accepted operations, in their order.
+    /// The session's own accepted operations, in their order.
     pub mine: LinkedList<Entry>,
-    /// The greatest count of operations that it was shown.
+    /// The greatest count of operations that the session was shown.
     pub least: u64,
-    /// The job executions whose stop it has found, before it was last shown a count.
+    /// The job executions whose stop the session had found before it was last shown a count.
     pub stops: LinkedList<ExecutionId>,
-    /// The one whose stop it has found since then.
+    /// The job executions whose stop the session has found since then.
     pub fresh: LinkedList<ExecutionId>,
 }
 
-/// What the desk's seat knows of the log. No value of it is made: contracts speak of it.
+/// The view that contracts have of the desk's log. No value of this type is ever made.
 pub struct BookView {
     /// The log.
     pub log: LinkedList<Entry>,
@@ -26,13 +26,12 @@ pub struct BookView {
     pub last: u64,
 }
 
-/// What a seat knows: the log, if it is the desk's, the sessions that sit on it, and for each read
-/// copy on it the operations that this has absorbed. No value of it is made: contracts speak of it.
+/// The view that contracts have of a seat. No value of this type is ever made.
 pub struct SeatView {
-    /// The log, at one seat of a table.
+    /// The log, if this is the desk's seat. One seat of a table at most has it.
     pub books: LinkedList<BookView>,
-    /// The sessions.
+    /// The sessions on this seat.
     pub sessions: LinkedList<SessionView>,
-    /// The copies.
+    /// The operations that each read copy on this seat has absorbed.
     pub copies: LinkedList<LinkedList<Entry>>,
 }
