@@ -37,7 +37,7 @@ is_out_of_memory Loop = false
 is_out_of_memory RestartNotJobLevel = false
 is_out_of_memory OutOfMemory = true
 
--- what keeps parts from being built: a text that is too long, or want of memory
+-- a fault that stops the building of parts: a text that is too long, or refused memory
 abbrev pub IsBuildingFault : JobFault → Type 0
 IsBuildingFault TextTooLong = Unit {0}
 IsBuildingFault Empty = ⊥
@@ -53,47 +53,49 @@ IsBuildingFault OutOfMemory = Unit {0}
 abbrev pub has_long_text : JobTree → Bool
 has_long_text job = is_long job.id || any_true (map element_has_long job.elements)
 
--- whether something that has to be there is empty: an id (the job's too), an artifact name, a list of elements, the flows of a split, the items of a group
+-- whether a required part is empty: an id (the job's too), an artifact name, a list of elements, the flows of
+-- a split, the items of a group, the partitions of a partitioned step
 abbrev pub has_empty : JobTree → Bool
 has_empty job = is_empty job.id || is_lacking (map element_has_empty job.elements)
 
--- whether an element stands deeper than 16
+-- whether an element is deeper than level 16
 abbrev pub is_too_deep : JobTree → Bool
 is_too_deep job = nat_lt 16 (depth job.elements)
 
--- whether these are more than 64 partitions
+-- whether a number of partitions is given and more than 64
 abbrev pub are_many_partitions : Option ℕ → Bool
 are_many_partitions None = false
 are_many_partitions (Some n) = nat_lt 64 n
 
--- whether one of these is a step of more than 64 partitions
+-- whether a node is a step with more than 64 partitions
 abbrev pub has_many_partitions : List Node → Bool
 has_many_partitions all = list_any (λ (m : Node). are_many_partitions m.partitions) all
 
--- whether there are more than 1,000 elements, flows of splits included, or more than 64 partitions of a step
+-- whether there are more than 1,000 elements, flows of splits included, or a step with more than 64
+-- partitions
 abbrev pub has_too_many : JobTree → Bool
 has_too_many job = nat_lt 1000 (length (nodes job.elements)) || has_many_partitions (nodes job.elements)
 
--- the ids of these
+-- the ids of nodes
 abbrev pub node_ids : List Node → List (List ℕ)
 node_ids all = map (λ (m : Node). m.id) all
 
--- whether two elements, flows of splits included, have one id
+-- whether two elements, flows of splits included, have the same id
 abbrev pub has_duplicate : JobTree → Bool
 has_duplicate job = has_twice (node_ids (nodes job.elements))
 
--- the element at which a restart begins, where a stop names one
+-- the element at which a restart begins, if the transition element is a stop that names one
 abbrev pub restart_at : Then → Option (List ℕ)
 restart_at (Next to) = None
 restart_at (End exit_status) = None
 restart_at (Fail exit_status) = None
 restart_at (Stop exit_status restart) = restart
 
--- the elements at which restarts begin, by these transition elements
+-- the elements at which restarts begin, as these transition elements name them
 abbrev pub restarts_in : List Transition → List (List ℕ)
 restarts_in transitions = filter_map (λ (t : Transition). restart_at t.then) transitions
 
--- the elements at which restarts begin, by all transition elements
+-- the elements at which restarts begin, as all transition elements of the nodes name them
 abbrev pub restarts : List Node → List (List ℕ)
 restarts all = joined (map (λ (m : Node). restarts_in m.transitions) all)
 
@@ -101,7 +103,8 @@ restarts all = joined (map (λ (m : Node). restarts_in m.transitions) all)
 abbrev pub has_restarts : JobTree → Bool
 has_restarts job = are_among (ids (outline job.elements)) (restarts (nodes job.elements))
 
--- the first fault of a job whose texts are short enough, each tested over the whole job
+-- the first fault of a job whose texts are short enough; each fault is tested over the whole job before the
+-- next
 abbrev pub tree_fault : JobTree → Option JobFault
 tree_fault job =
     if has_empty job then Some Empty
@@ -112,13 +115,13 @@ tree_fault job =
     else (if has_some_loop job.elements then Some Loop
     else (if has_restarts job then None else Some RestartNotJobLevel))))))
 
--- the first fault of a job, each tested over the whole job
+-- the first fault of a job; each fault is tested over the whole job before the next
 abbrev pub job_fault : JobTree → Option JobFault
 job_fault job = if has_long_text job then Some TextTooLong else tree_fault job
 
--- what a checked job keeps
+-- the invariant of a checked job
 pub record IsChecked (job : JobTree) : Type 0 where
   pub faultless : job_fault job ≡ None
-  -- each list of the job has numbers on its elements that rise along every target
+  -- each list of the job has ranks of its elements that rise along every target
   pub ranked : All HasRanks (lists_of job.elements)
   pub has_elements : 0 < length job.elements

@@ -1,4 +1,4 @@
--- What a job is.
+-- The job, as contracts see it.
 use Rattle.std.specs.Prelude.{ℕ, Bool, List}
 use Rattle.jsl_model.specs.declared.element.Element.{Element}
 

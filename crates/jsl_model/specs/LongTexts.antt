@@ -15,12 +15,12 @@ use Rattle.jsl_model.specs.Trees.{any_true}
 abbrev pub is_long : List ℕ → Bool
 is_long text = nat_lt 256 (length text)
 
--- whether a text that may be left out is there and has more than 256 bytes
+-- whether an optional text is given and has more than 256 bytes
 abbrev pub is_long_option : Option (List ℕ) → Bool
 is_long_option None = false
 is_long_option (Some text) = is_long text
 
--- whether a transition element leads on by a text that is too long
+-- whether the effect of a transition element has a text that is too long
 abbrev pub then_has_long : Then → Bool
 then_has_long (Next to) = is_long to
 then_has_long (End exit_status) = is_long_option exit_status
@@ -36,18 +36,18 @@ abbrev pub task_has_long : Task → Bool
 task_has_long (Batchlet artifact) = is_long artifact
 task_has_long (Chunk reader processor writer item_count) = is_long reader || is_long_option processor || is_long writer
 
--- whether a body has a text that is too long, which is known of what is inside it
+-- whether a body has a text that is too long, given whether each of its elements or flows has one
 abbrev pub body_long : Body-F Bool Bool Bool → Bool
 body_long (Step step) = task_has_long step.task
 body_long (Flow elements) = any_true elements
 body_long (Split flows) = any_true flows
 body_long (Decision artifact) = is_long artifact
 
--- whether an element has a text that is too long, which is known of its body
+-- whether an element has a text that is too long, given whether its body has one
 abbrev pub element_long : Element-F Bool Bool Bool → Bool
 element_long element = is_long element.id || is_long_option element.next || any_true (map transition_has_long element.transitions) || element.body
 
--- whether a flow of a split has a text that is too long, which is known of its elements
+-- whether a flow of a split has a text that is too long, given whether each of its elements has one
 abbrev pub flow_long : SplitFlow-F Bool Bool Bool → Bool
 flow_long flow = is_long flow.id || any_true flow.elements
 
@@ -55,10 +55,10 @@ flow_long flow = is_long flow.id || any_true flow.elements
 abbrev pub element_has_long : Element → Bool
 element_has_long = fold-Element Bool Bool Bool body_long element_long flow_long
 
--- the same of a body
+-- whether a body has, at any depth, a text of more than 256 bytes
 abbrev pub body_has_long : Body → Bool
 body_has_long = fold-Body Bool Bool Bool body_long element_long flow_long
 
--- the same of a flow of a split
+-- whether a flow of a split has, at any depth, a text of more than 256 bytes
 abbrev pub flow_has_long : SplitFlow → Bool
 flow_has_long = fold-SplitFlow Bool Bool Bool body_long element_long flow_long

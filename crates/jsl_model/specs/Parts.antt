@@ -1,4 +1,4 @@
--- The parts of a job, and the tree that they give.
+-- The parts of a job, and the tree that is built from them.
 use Rattle.std.specs.Prelude.{ℕ, Option, None, option_map, List, [], map, String, string_bytes}
 use Rattle.std.specs.declared.alloc.Global.{Global}
 use Rattle.jsl_model.specs.declared.parts.ThenParts.{ThenParts}
@@ -24,11 +24,11 @@ use Rattle.jsl_model.specs.declared.element.Body.{Body}
 use Rattle.jsl_model.specs.declared.element.Body.TheVariants.{Step, Flow, Split, Decision}
 use Rattle.jsl_model.specs.Jobs.{JobTree}
 
--- the bytes of a text that may be left out
+-- the bytes of an optional text
 abbrev pub bytes_of_option : Option (String Global) → Option (List ℕ)
 bytes_of_option text = option_map string_bytes text
 
--- where a transition element leads
+-- the effect of a transition element
 abbrev pub then_of : ThenParts → Then
 then_of (NextParts to) = Next (string_bytes to)
 then_of (EndParts exit_status) = End (bytes_of_option exit_status)
@@ -39,7 +39,7 @@ then_of (StopParts exit_status restart) = Stop (bytes_of_option exit_status) (by
 abbrev pub transition_of : TransitionParts → Transition
 transition_of parts = record { on = string_bytes parts.on; then = then_of parts.then }
 
--- what a step runs
+-- the work of a step: a batchlet or a chunk
 abbrev pub task_of : TaskParts → Task
 task_of (BatchletParts artifact) = Batchlet (string_bytes artifact)
 task_of (ChunkParts reader processor writer item_count) =
@@ -55,13 +55,14 @@ step_of parts =
       task = task_of parts.task;
     }
 
--- what an element has beside its id
+-- the contents of an element besides its id
 pub record Content : Type 0 where
   pub next : Option (List ℕ)
   pub transitions : List Transition
   pub body : Body
 
--- what the parts of each kind give, what is inside them being known: a split has no transition elements, and a decision no `next`
+-- the contents from a body's parts, given its elements or flows: a split has no transition elements, and a
+-- decision no `next`
 abbrev pub body_tree : BodyParts-F Content Element SplitFlow → Content
 body_tree (StepOf step) =
     record { next = bytes_of_option step.next; transitions = map transition_of step.transitions; body = Step (step_of step) }
@@ -71,27 +72,27 @@ body_tree (SplitOf next flows) = record { next = bytes_of_option next; transitio
 body_tree (DecisionOf transitions artifact) =
     record { next = None; transitions = map transition_of transitions; body = Decision (string_bytes artifact) }
 
--- an element, of which all but its id is known
+-- an element, given its contents
 abbrev pub element_tree : ElementParts-F Content Element SplitFlow → Element
 element_tree parts =
     record { id = string_bytes parts.id; next = parts.body.next; transitions = parts.body.transitions; body = parts.body.body }
 
--- a flow of a split, whose elements are known
+-- a flow of a split, given its elements
 abbrev pub flow_tree : SplitFlowParts-F Content Element SplitFlow → SplitFlow
 flow_tree parts = roll-SplitFlow record { id = string_bytes parts.id; elements = parts.elements }
 
--- the element that its parts give, each text as its bytes
+-- the element that is built from its parts, each text as its bytes
 abbrev pub element_of : ElementParts → Element
 element_of = fold-ElementParts Content Element SplitFlow body_tree element_tree flow_tree
 
--- what the parts of a body give an element
+-- the contents of an element that are built from the parts of its body
 abbrev pub content_of : BodyParts → Content
 content_of = fold-BodyParts Content Element SplitFlow body_tree element_tree flow_tree
 
--- the flow of a split that its parts give
+-- the flow of a split that is built from its parts
 abbrev pub flow_of : SplitFlowParts → SplitFlow
 flow_of = fold-SplitFlowParts Content Element SplitFlow body_tree element_tree flow_tree
 
--- the job that its parts give, each text as its bytes
+-- the job that is built from its parts, each text as its bytes
 abbrev pub tree_of : JobParts → JobTree
 tree_of parts = record { id = string_bytes parts.id; restartable = parts.restartable; elements = map element_of parts.elements }

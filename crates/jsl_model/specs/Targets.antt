@@ -1,4 +1,4 @@
--- The lists of elements of a job, what the elements of a list name, and the graph that this makes.
+-- The lists of elements of a job, the ids that the elements of a list name, and the graph of these targets.
 use Rattle.std.specs.Prelude.{ℕ, ◌++◌, Bool, not, Option, Some, None, List, [], ◌∷◌, map, bytes_eq}
 use Rattle.std.specs.List.{filter_map, flat_map, list_any, position}
 use Rattle.std.specs.Option.{option_to_list}
@@ -12,14 +12,14 @@ use Rattle.jsl_model.specs.declared.element.Body.{Body, Body-F, fold-Body}
 use Rattle.jsl_model.specs.declared.element.Body.TheOpen.{Step, Flow, Split, Decision}
 use Rattle.jsl_model.specs.Names.{are_among}
 
--- ---- What an element names
+-- ---- The ids that an element names
 
 -- an element's id and the ids that it names by `next` and `to`, in written order
 pub record Item : Type 0 where
   pub id : List ℕ
   pub targets : List (List ℕ)
 
--- the id that a transition element leads to, if it leads on
+-- the id of the element that a transition element leads to, if it leads to one
 abbrev pub named_by : Then → Option (List ℕ)
 named_by (Next to) = Some to
 named_by (End exit_status) = None
@@ -40,27 +40,27 @@ outline elements = map item_of elements
 
 -- ---- The lists of a job
 
--- an element's item, and the lists inside the element
+-- an element's item, and the items of the lists inside the element
 pub record ItemLists : Type 0 where
   pub item : Item
   pub inside : List (List Item)
 
--- the list that these make, and then the lists inside them
+-- the list of these elements, and then the lists inside them
 abbrev pub lists_of_items : List ItemLists → List (List Item)
 lists_of_items elements = map (λ element. element.item) elements ∷ flat_map (λ element. element.inside) elements
 
--- the lists inside a body, what is inside it being known
+-- the lists inside a body, given those of its elements or flows
 abbrev pub body_lists : Body-F (List (List Item)) ItemLists (List (List Item)) → List (List Item)
 body_lists (Step step) = []
 body_lists (Flow elements) = lists_of_items elements
 body_lists (Split flows) = flat_map (λ lists. lists) flows
 body_lists (Decision artifact) = []
 
--- an element's item and the lists inside it, its body being known
+-- an element's item and the lists inside it, given the lists inside its body
 abbrev pub element_lists : Element-F (List (List Item)) ItemLists (List (List Item)) → ItemLists
 element_lists element = record { item = record { id = element.id; targets = named_in element.next element.transitions }; inside = element.body }
 
--- the lists of a flow of a split, whose elements are known
+-- the lists of a flow of a split, given those of its elements
 abbrev pub flow_lists : SplitFlow-F (List (List Item)) ItemLists (List (List Item)) → List (List Item)
 flow_lists flow = lists_of_items flow.elements
 
@@ -84,31 +84,31 @@ lists_in_body = fold-Body (List (List Item)) ItemLists (List (List Item)) body_l
 abbrev pub lists_of : List Element → List (List Item)
 lists_of elements = outline elements ∷ flat_map lists_inside elements
 
--- ---- Targets that are not there
+-- ---- Targets that don't exist
 
 -- the ids of a list
 abbrev pub ids : List Item → List (List ℕ)
 ids items = map (λ item. item.id) items
 
--- all ids that are named in a list
+-- all ids that the elements of a list name
 abbrev pub targets_in : List Item → List (List ℕ)
 targets_in items = flat_map (λ item. item.targets) items
 
--- whether an id is named that no element of the list has
+-- whether an element names an id that no element of the list has
 abbrev pub lacks_target : List Item → Bool
 lacks_target items = not (are_among (ids items) (targets_in items))
 
--- the same of a list of a job
+-- whether an element of a job names an id that no element of its list has
 abbrev pub lacks_some_target : List Element → Bool
 lacks_some_target elements = list_any lacks_target (lists_of elements)
 
 -- ---- Loops
 
--- the place of the first item with this id
+-- the index of the first item with this id
 abbrev pub place_in : List (List ℕ) → List ℕ → Option ℕ
 place_in ids id = position (λ held. bytes_eq held id) ids
 
--- the graph of a list: for each element the places of its targets; targets that are not there have none
+-- the graph of a list: for each element the indices of its targets; targets that don't exist are left out
 abbrev pub graph_of : List Item → List (List ℕ)
 graph_of items = map (λ item. filter_map (place_in (ids items)) item.targets) items
 
@@ -116,7 +116,7 @@ graph_of items = map (λ item. filter_map (place_in (ids items)) item.targets) i
 abbrev pub has_loop : List Item → Bool
 has_loop items = has_cycle (graph_of items)
 
--- numbers of the places of a list that rise from each element to its targets
+-- ranks of the elements of a list, which rise from each element to its targets
 abbrev pub HasRanks : List Item → Type 0
 HasRanks items = (ranks : List ℕ) × IsRanked ranks (graph_of items)
 

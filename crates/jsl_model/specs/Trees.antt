@@ -1,4 +1,4 @@
--- The tree of a job's elements: what stands in it at all depths, and how deep it is.
+-- The tree of a job's elements: its nodes at all depths, and its depth.
 use Rattle.std.specs.Prelude.{ℕ, ◌+◌, Bool, true, false, Option, None, List, [], ◌∷◌, ◌++◌, map, nat_lt, if◌then◌else◌}
 use Rattle.std.specs.List.{list_any, flat_map}
 use Rattle.std.specs.Option.{option_to_list}
@@ -11,7 +11,7 @@ use Rattle.jsl_model.specs.declared.element.Body.{Body, Body-F, fold-Body}
 use Rattle.jsl_model.specs.declared.element.Body.TheOpen.{Step, Flow, Split, Decision}
 use Rattle.jsl_model.specs.declared.element.Body.TheVariants.{Step as StepBody, Flow as FlowBody, Split as SplitBody, Decision as DecisionBody}
 
--- lists one after another
+-- the concatenation of lists
 abbrev pub joined : {X : Type 0} → List (List X) → List X
 joined [] = []
 joined (part ∷ rest) = part ++ joined rest
@@ -20,23 +20,23 @@ joined (part ∷ rest) = part ++ joined rest
 abbrev pub any_true : List Bool → Bool
 any_true tests = list_any (λ test. test) tests
 
--- whether a text or a list has nothing in it
+-- whether a text or a list is empty
 abbrev pub is_empty : {X : Type 0} → List X → Bool
 is_empty [] = true
 is_empty (first ∷ rest) = false
 
--- ---- All elements, with the flows of splits, in written order: each before what is inside it
+-- ---- All elements, with the flows of splits, in written order: each before its contents
 
--- an element or a flow of a split by itself; a flow of a split has no transition elements
+-- an element or a flow of a split without its contents; a flow of a split has no transition elements
 pub record Node : Type 0 where
   pub id : List ℕ
   pub transitions : List Transition
-  -- the artifacts that it names itself, in written order
+  -- the artifacts that it itself names, in written order
   pub artifacts : List (List ℕ)
-  -- in how many partitions it runs, where it is a partitioned step
+  -- the number of partitions, if it is a partitioned step
   pub partitions : Option ℕ
 
--- a body: the artifacts that it names itself, its partitions, and all that is inside it
+-- a body: the artifacts that it itself names, its partitions, and all nodes inside it
 pub record BodyNodes : Type 0 where
   pub artifacts : List (List ℕ)
   pub partitions : Option ℕ
@@ -65,19 +65,19 @@ element_nodes element =
 abbrev pub flow_nodes : SplitFlow-F BodyNodes (List Node) (List Node) → List Node
 flow_nodes flow = record { id = flow.id; transitions = []; artifacts = []; partitions = None } ∷ joined flow.elements
 
--- an element, and then what is inside it
+-- an element, and then all nodes inside it
 abbrev pub nodes_of : Element → List Node
 nodes_of = fold-Element BodyNodes (List Node) (List Node) body_nodes element_nodes flow_nodes
 
--- the artifacts that a body names itself, its partitions, and what is inside it
+-- the artifacts that a body itself names, its partitions, and all nodes inside it
 abbrev pub in_body : Body → BodyNodes
 in_body = fold-Body BodyNodes (List Node) (List Node) body_nodes element_nodes flow_nodes
 
--- a flow of a split, and then what is inside it
+-- a flow of a split, and then all nodes inside it
 abbrev pub nodes_of_flow : SplitFlow → List Node
 nodes_of_flow = fold-SplitFlow BodyNodes (List Node) (List Node) body_nodes element_nodes flow_nodes
 
--- all that a list of elements has, at all depths
+-- all nodes of a list of elements, at all depths
 abbrev pub nodes : List Element → List Node
 nodes elements = joined (map nodes_of elements)
 
@@ -85,14 +85,14 @@ nodes elements = joined (map nodes_of elements)
 abbrev pub artifacts : List Element → List (List ℕ)
 artifacts elements = joined (map (λ (m : Node). m.artifacts) (nodes elements))
 
--- ---- All elements as such, in written order: each before those inside it. A flow of a split is none.
+-- ---- All elements, without the flows of splits, in written order: each before those inside it
 
 -- an element, a body or a flow of a split, and all elements inside it
 pub record Opened (X : Type 0) : Type 0 where
   pub whole : X
   pub inside : List Element
 
--- the elements of opened ones, each before those inside it
+-- the opened elements, each before those inside it
 abbrev pub opened_elements : List (Opened Element) → List Element
 opened_elements elements = flat_map (λ (e : Opened Element). e.whole ∷ e.inside) elements
 
@@ -140,9 +140,9 @@ elements_in_flow flow = (open_flow flow).inside
 abbrev pub all_elements : List Element → List Element
 all_elements elements = flat_map (λ (e : Element). e ∷ elements_in_body e.body) elements
 
--- ---- Depth: the elements of a list stand at 1, those inside a flow one deeper than it, the flows of a split too
+-- ---- Depth: the elements of a list are at level 1, the contents of a flow or a split one level deeper than it
 
--- the greatest of these numbers
+-- the greatest of these numbers, or 0
 abbrev pub greatest : List ℕ → ℕ
 greatest [] = 0
 greatest (n ∷ rest) = if nat_lt n (greatest rest) then greatest rest else n
@@ -159,18 +159,18 @@ element_depth element = 1 + element.body
 abbrev pub flow_depth : SplitFlow-F ℕ ℕ ℕ → ℕ
 flow_depth flow = 1 + greatest flow.elements
 
--- how many levels an element has
+-- the number of levels of an element
 abbrev pub depth_of : Element → ℕ
 depth_of = fold-Element ℕ ℕ ℕ body_depth element_depth flow_depth
 
--- how many levels a body has
+-- the number of levels of a body
 abbrev pub depth_of_body : Body → ℕ
 depth_of_body = fold-Body ℕ ℕ ℕ body_depth element_depth flow_depth
 
--- how many levels a flow of a split has
+-- the number of levels of a flow of a split
 abbrev pub depth_of_flow : SplitFlow → ℕ
 depth_of_flow = fold-SplitFlow ℕ ℕ ℕ body_depth element_depth flow_depth
 
--- how deep the deepest element of a list stands
+-- the level of the deepest element of a list
 abbrev pub depth : List Element → ℕ
 depth elements = greatest (map depth_of elements)

@@ -12,10 +12,12 @@ use crate::parts::{
 use batch_ids::{Listed, T256};
 use std::alloc::Global;
 
-/// How many bytes a text of a job has at most.
+/// The most bytes that a text of a job may have.
 const MOST_BYTES: usize = 256;
 
-/// The bounded text of these bytes.
+/// Builds a bounded text from a text.
+///
+/// Returns `TextTooLong` if it has more than 256 bytes, and `OutOfMemory` if memory is refused.
 pub fn build_text(alloc: Global, text: &str) -> Result<T256, JobFault>
     ensures same { IfOk result (λ built. built ≡ text.now) }
     ensures short { OnOk result (is_long text.now ≡ false) }
@@ -149,7 +151,7 @@ fn build_step(alloc: Global, parts: &StepParts) -> Result<Step, JobFault>
     })
 }
 
-/// The `next` of an element; a decision has none.
+/// Builds the `next` of an element. A decision has none.
 #[tactic(auto, using(crate::proofs::Layers::step_given, crate::proofs::Layers::flow_given, crate::proofs::Layers::split_given, crate::proofs::Layers::decision_given))]
 fn build_next(alloc: Global, parts: &BodyParts) -> Result<Option<T256>, JobFault>
     ensures same { IfOk result (λ built. built ≡ (content_of parts.now).next) }
@@ -166,7 +168,7 @@ fn build_next(alloc: Global, parts: &BodyParts) -> Result<Option<T256>, JobFault
     }
 }
 
-/// The transition elements of an element; a split has none.
+/// Returns the transition elements of an element. A split has none.
 #[tactic(auto, using(crate::proofs::Layers::step_given, crate::proofs::Layers::flow_given, crate::proofs::Layers::split_given, crate::proofs::Layers::decision_given))]
 fn transitions_in(parts: &BodyParts) -> &[TransitionParts]
     ensures { map transition_of result.now ≡ (content_of parts.now).transitions }
@@ -221,7 +223,8 @@ fn build_body(alloc: Global, parts: &BodyParts) -> Result<Body, JobFault>
     }
 }
 
-/// The elements of these parts, or `TextTooLong` where a text has more than 256 bytes.
+/// Builds the elements of these parts. Returns `TextTooLong` if a text has more than 256 bytes, and
+/// `OutOfMemory` if memory is refused.
 #[cycle(building)]
 pub fn build_elements(alloc: Global, parts: &[ElementParts]) -> Result<Listed<Element>, JobFault>
     ensures same { IfOk result (λ built. built ≡ map element_of parts.now) }

@@ -14,11 +14,11 @@ use batch_ids::{Listed, OutOfMemory};
 use std::alloc::Global;
 use std::marker::Model;
 
-/// How many jobs a catalogue holds at most.
+/// The most jobs that a catalogue may have.
 const MOST_JOBS: usize = 256;
 
-/// The jobs that can be started: at most 256, each with an id of its own. Contracts see the list of
-/// jobs, in the order in which they were added.
+/// A catalogue of the jobs that can be started: at most 256, each with an id of its own. Contracts
+/// see the list of jobs, in the order in which they were added.
 #[derive(Debug, Drop)]
 pub struct Catalogue {
     alloc: Global,
@@ -42,7 +42,7 @@ impl Model for Catalogue {
 }
 
 impl Catalogue {
-    /// A catalogue without jobs. It takes no memory.
+    /// Creates a catalogue without jobs. It takes no memory.
     pub fn new(alloc: Global) -> Catalogue
         ensures { result ≡ [] }
     {
@@ -52,14 +52,14 @@ impl Catalogue {
         }
     }
 
-    /// Adds a job at the end. A job that is refused is dropped, and the catalogue stays as it was. It
-    /// costs time as the catalogue has jobs.
+    /// Adds a job at the end. If the job is refused, it is dropped, and the catalogue doesn't
+    /// change. It takes time proportional to the number of jobs in the catalogue.
     ///
     /// # Errors
     ///
-    /// The first in this order:
-    /// - `TooMany`: 256 jobs are held;
-    /// - `DuplicateId`: a job of this id is held;
+    /// The first of these that applies:
+    /// - `TooMany`: the catalogue has 256 jobs already;
+    /// - `DuplicateId`: the catalogue has a job with this id already;
     /// - `OutOfMemory`: memory was refused.
     pub fn add(&mut self, job: Job) -> Result<(), JobFault>
         ensures too_many { 256 ≤ length self.old → result ≡ Err JobFault.TooMany }
@@ -84,7 +84,8 @@ impl Catalogue {
         }
     }
 
-    /// The job with this id, if it is held. It costs time as the catalogue has jobs.
+    /// Returns the job with this id, if the catalogue has it. It takes time proportional to the
+    /// number of jobs in the catalogue.
     pub fn job(&self, id: &str) -> Option<&Job>
         ensures { option_copied result ≡ find (λ job. bytes_eq job.id id.now) self.now }
     {
@@ -96,14 +97,14 @@ impl Catalogue {
         None
     }
 
-    /// Its jobs, in the order in which they were added.
+    /// Returns the jobs, in the order in which they were added.
     pub fn jobs(&self) -> &[Job]
         ensures { result.now ≡ self.now }
     {
         self.jobs.as_slice()
     }
 
-    /// How many jobs it holds, at most 256.
+    /// Returns the number of jobs, at most 256.
     pub fn len(&self) -> usize
         ensures number { result ≡ length self.now }
         ensures kept { AreJobs self.now }
@@ -111,19 +112,20 @@ impl Catalogue {
         self.jobs.len()
     }
 
-    /// Whether it holds no job.
+    /// Returns `true` if the catalogue has no job.
     pub fn is_empty(&self) -> bool
         ensures { IsTrue result ↔ (self.now ≡ []) }
     {
         self.jobs.is_empty()
     }
 
-    /// The names of all artifacts that its jobs name, each once, the first use first. It costs time
-    /// and memory as its jobs have elements.
+    /// Returns the names of all artifacts that the jobs name. Each name is there once, in the order
+    /// of their first use. It takes time and memory proportional to the number of elements of the
+    /// jobs.
     ///
     /// # Errors
     ///
-    /// `OutOfMemory` where memory is refused.
+    /// `OutOfMemory` if memory is refused.
     pub fn artifacts(&self) -> Result<Vec<&str>, OutOfMemory>
         ensures { IfOk result (λ names. map (λ name. name.now) names.items
             ≡ distinct (flat_map (λ job. artifacts job.elements) self.now)) }
@@ -135,11 +137,12 @@ impl Catalogue {
         distinct(self.alloc, names.as_slice())
     }
 
-    /// An equal catalogue. It costs time and memory as its jobs have elements.
+    /// Returns an equal catalogue. It takes time and memory proportional to the number of elements
+    /// of the jobs.
     ///
     /// # Errors
     ///
-    /// `OutOfMemory` where memory is refused.
+    /// `OutOfMemory` if memory is refused.
     pub fn try_clone(&self) -> Result<Catalogue, OutOfMemory>
         ensures { IfOk result (λ copy. copy ≡ self.now) }
     {
@@ -154,7 +157,7 @@ impl Catalogue {
     }
 }
 
-/// Adds the artifacts that elements name at all depths.
+/// Adds the names of the artifacts that elements name, at all depths.
 fn add_all_artifacts<'a>(
     alloc: Global,
     elements: &'a [Element],

@@ -15,8 +15,8 @@ fn is_body_deeper(body: &Body, most: usize) -> bool
     }
 }
 
-/// Whether an element stands deeper than so many levels, those of this list being at 1. It looks no
-/// deeper than that.
+/// Checks whether an element is deeper than `most` levels. Level 1 has the elements of this list.
+/// It looks no deeper than `most` levels.
 #[cycle(depth)]
 pub fn is_deeper(elements: &[Element], most: usize) -> bool
     ensures { result ≡ nat_lt most (depth elements.now) }

@@ -2,61 +2,63 @@ ghost use Rattle.std.specs.Prelude.{◌≡◌, IfOk};
 
 use batch_ids::{Listed, OutOfMemory, T256, try_clone_option};
 
-/// Where a transition element leads (Jakarta Batch 2.1, "Job Specification Language", section
-/// "Transition Elements").
+/// The effect of a transition element that matches (Jakarta Batch 2.1, "Job Specification
+/// Language", section "Transition Elements").
 #[derive(Debug, Drop, PartialEq, Eq)]
 pub enum Then {
-    /// On to the element with this id, of the same list.
+    /// The job goes on to the element with this id, in the same list.
     Next {
         /// The id of that element.
         to: T256,
     },
     /// The job ends COMPLETED.
     End {
-        /// The job's exit status; without one it is `COMPLETED`.
+        /// The job's exit status. If it is `None`, the exit status is `COMPLETED`.
         exit_status: Option<T256>,
     },
     /// The job ends FAILED.
     Fail {
-        /// The job's exit status; without one it is `FAILED`.
+        /// The job's exit status. If it is `None`, the exit status is `FAILED`.
         exit_status: Option<T256>,
     },
     /// The job ends STOPPED.
     Stop {
-        /// The job's exit status; without one it is `STOPPED`.
+        /// The job's exit status. If it is `None`, the exit status is `STOPPED`.
         exit_status: Option<T256>,
         /// The id of the job-level element at which a restart begins.
         restart: Option<T256>,
     },
 }
 
-/// A transition element: where the job goes after an exit status (Jakarta Batch 2.1, "Job
-/// Specification Language", section "Transition Elements").
+/// A transition element, which says how the job goes on after an exit status (Jakarta Batch 2.1,
+/// "Job Specification Language", section "Transition Elements").
 #[derive(Debug, Drop, PartialEq, Eq)]
 pub struct Transition {
-    /// The pattern that the exit status has to match: `*` stands for any characters, `?` for one.
+    /// The pattern that the exit status has to match: `*` matches any characters, and `?` matches
+    /// one.
     pub on: T256,
-    /// Where the job goes then.
+    /// Its effect if the exit status matches.
     pub then: Then,
 }
 
-/// What a step runs (Jakarta Batch 2.1, "Job Specification Language", section "Step").
+/// The work of a step (Jakarta Batch 2.1, "Job Specification Language", section "Step").
 #[derive(Debug, Drop, PartialEq, Eq)]
 pub enum Task {
-    /// One artifact, which is run once.
+    /// A batchlet: one artifact, which is run once.
     Batchlet {
         /// The artifact's name.
         artifact: T256,
     },
-    /// Items that are read, processed and written in groups, with a checkpoint after each group.
+    /// A chunk: items are read, processed and written in groups, with a checkpoint after each
+    /// group.
     Chunk {
         /// The name of the artifact that reads items.
         reader: T256,
-        /// The name of the artifact that processes an item; without one each item is kept.
+        /// The name of the artifact that processes an item. If it is `None`, no item is left out.
         processor: Option<T256>,
         /// The name of the artifact that writes a group of items.
         writer: T256,
-        /// How many items a group has, from 1.
+        /// The number of items in a group, at least 1.
         item_count: u32,
     },
 }
@@ -64,14 +66,14 @@ pub enum Task {
 /// A step (Jakarta Batch 2.1, "Job Specification Language", section "Step").
 #[derive(Debug, Drop, PartialEq, Eq)]
 pub struct Step {
-    /// How often the step may be started in one job instance; 0 sets no limit.
+    /// How often the step may be started in one job instance. 0 sets no limit.
     pub start_limit: u32,
-    /// Whether a restart runs the step again although it is COMPLETED.
+    /// Whether a restart runs the step again even if it is COMPLETED.
     pub allow_start_if_complete: bool,
-    /// In how many partitions it runs, from 1 to 64 (Jakarta Batch 2.1, "Step Partitioning"); one that
-    /// names none is not partitioned.
+    /// The number of partitions, from 1 to 64 (Jakarta Batch 2.1, "Step Partitioning"). If it is
+    /// `None`, the step is not partitioned.
     pub partitions: Option<u32>,
-    /// What it runs.
+    /// Its batchlet or chunk.
     pub task: Task,
 }
 
@@ -81,49 +83,50 @@ pub struct Step {
 pub struct Element {
     /// Its id, of at least one byte.
     pub id: T256,
-    /// The id of the element that follows when it is COMPLETED and no transition element matches.
+    /// The id of the element that follows if this one is COMPLETED and no transition element
+    /// matches.
     pub next: Option<T256>,
-    /// Its transition elements, the first that matches counts.
+    /// Its transition elements. The first that matches takes effect.
     pub transitions: Listed<Transition>,
-    /// What it is.
+    /// Its kind, and the parts of that kind.
     pub body: Body,
 }
 
-/// What an element is (Jakarta Batch 2.1, "Job Specification Language", sections "Step", "Flow",
-/// "Split" and "Decision").
+/// An element's kind, with its parts (Jakarta Batch 2.1, "Job Specification Language", sections
+/// "Step", "Flow", "Split" and "Decision").
 #[cycle(element)]
 #[derive(Debug, Drop)]
 pub enum Body {
     /// A step.
     Step(Step),
-    /// A flow: a list of elements that begins at the first of them.
+    /// A flow: a list of elements, which begins at the first of them.
     Flow(Listed<Element>),
     /// A split: flows that run concurrently.
     Split(Listed<SplitFlow>),
-    /// A decision: an artifact whose exit status the transition elements look at.
+    /// A decision: an artifact, whose exit status the transition elements match.
     Decision {
         /// The artifact's name.
         artifact: T256,
     },
 }
 
-/// A flow that stands directly in a split (Jakarta Batch 2.1, "Job Specification Language", section
+/// A flow directly inside a split (Jakarta Batch 2.1, "Job Specification Language", section
 /// "Split"). It has no `next` and no transition elements.
 #[cycle(element)]
 #[derive(Debug, Drop)]
 pub struct SplitFlow {
     /// Its id, of at least one byte.
     pub id: T256,
-    /// Its elements; it begins at the first of them.
+    /// Its elements. The flow begins at the first of them.
     pub elements: Listed<Element>,
 }
 
 impl Task {
-    /// An equal task.
+    /// Returns an equal task.
     ///
     /// # Errors
     ///
-    /// `OutOfMemory` where memory is refused.
+    /// `OutOfMemory` if memory is refused.
     pub fn try_clone(&self) -> Result<Task, OutOfMemory>
         ensures { IfOk result (λ copy. copy ≡ self.now) }
     {

@@ -1,4 +1,4 @@
-//! Where to look for an element of a job, and for its work keys.
+//! An index from an element's id to its place in the job, and to its work keys.
 use crate::element::{Body, Element};
 use batch_ids::{OutOfMemory, T256};
 use std::alloc::Global;
@@ -6,23 +6,23 @@ use std::cmp::Ordering;
 use std::fmt::{self, Debug, Formatter};
 use std::hash::{FoldHasher, Hash, Hasher};
 
-/// Where to look for an element.
+/// The place of an element in its job.
 #[derive(Debug, Drop)]
 struct Spot {
-    /// Its place in its list.
+    /// Its index in its list.
     place: usize,
-    /// The place of its first work key, among those of the job.
+    /// The place of its first work key, among the work keys of the job.
     first: usize,
-    /// Inside what its list stands; nothing, where that is the job's own.
+    /// The element that contains its list. `None` for an element of the job's own list.
     outer: Option<Outer>,
 }
 
-/// The element that a list stands in.
+/// An element that contains a list of elements.
 #[derive(Debug, Drop)]
 pub struct Outer {
     /// Its id.
     pub id: T256,
-    /// The place of the flow that has the list, where the element is a split.
+    /// The index of the flow that has the list, if the element is a split.
     pub flow: usize,
 }
 
@@ -35,16 +35,16 @@ impl Outer {
     }
 }
 
-/// An element, and where to look for it.
+/// An element's id, and its place.
 #[derive(Drop)]
 struct Entry {
     id: T256,
     spot: Spot,
-    /// The place of the element that its list stands in, in that one's own list.
+    /// The index of the element that contains its list, in that element's own list.
     outer_place: usize,
 }
 
-/// Elements by their ids, which rise.
+/// The places of elements, ordered by id.
 #[derive(Drop)]
 struct Spots {
     list: Vec<Entry>,
@@ -60,24 +60,24 @@ impl Debug for Spots {
     }
 }
 
-/// Which of the spots has an id with this hash.
+/// An id's hash, and the number of the id's entry in `Spots`.
 #[derive(Clone, Copy, PartialEq, Eq, PartialOrd, Ord)]
 struct HashedSpot {
     hash: u64,
     number: usize,
 }
 
-/// Where to look for each element of a job, and for its work keys, by its id.
+/// An index of a job's elements by id, which finds an element's place and its work keys.
 ///
-/// No contract says what it holds: who looks compares what stands there, and searches where it is
-/// something else.
+/// No contract describes its contents. A caller compares the element at the place that was found,
+/// and searches for the element if it is another one.
 #[derive(Drop)]
 pub struct ElementIndex {
     spots: Spots,
-    /// Rising, so that ids whose hashes meet are told apart by halving.
+    /// In rising order, so that a binary search separates ids with equal hashes.
     hashes: Vec<HashedSpot>,
-    /// The hashes part their range into as many equal parts as there are spots: where each part begins
-    /// among `hashes`, and then where the last one ends.
+    /// The range of hashes has as many equal parts as there are spots. This has the index in
+    /// `hashes` at which each part begins, and then the index at which the last part ends.
     starts: Vec<usize>,
 }
 
@@ -90,7 +90,7 @@ impl Debug for ElementIndex {
 }
 
 impl ElementIndex {
-    /// The index of these elements and of those inside them.
+    /// Creates the index of these elements and of the elements inside them.
     pub(crate) fn of(alloc: Global, elements: &[Element]) -> Result<ElementIndex, OutOfMemory> {
         let mut list = Vec::new(alloc);
         add_all(&mut list, elements, None, 0)?;
@@ -105,7 +105,7 @@ impl ElementIndex {
         })
     }
 
-    /// The spots whose hashes lie in the same part of their range as this one.
+    /// Returns the spots whose hashes lie in the same part of the range as this hash.
     fn near(&self, hash: u64) -> Option<&[HashedSpot]> {
         let part = part_of(hash, self.hashes.len());
         let start = *self.starts.get(part)?;
@@ -113,7 +113,8 @@ impl ElementIndex {
         self.hashes.get(start..end)
     }
 
-    /// How the id of the spot with this number is to this one, which it mostly is.
+    /// Compares the id of the spot with this number with `id`. It tests for equality first, as they
+    /// are mostly equal.
     fn order(&self, number: usize, id: &T256) -> Ordering {
         match self.spots.list.get(number) {
             Some(entry) if entry.id == *id => Ordering::Equal,
@@ -122,8 +123,9 @@ impl ElementIndex {
         }
     }
 
-    /// The spot of the element with this id. It looks at one spot, mostly; if hashes meet, at one more than
-    /// their number has binary digits at most, and compares the id twice with each that differs.
+    /// Returns the entry of the element with this id. It mostly looks at one spot. If hashes
+    /// collide, it looks at no more than one spot more than their number has binary digits. It
+    /// compares the id twice with each id that differs.
     fn entry_of(&self, id: &T256) -> Option<&Entry> {
         let hash = hash_of(id);
         let near = self.near(hash)?;
@@ -136,8 +138,9 @@ impl ElementIndex {
         self.spots.list.get(near.get(place)?.number)
     }
 
-    /// The place of the element with this id in its list, and 0 where there is none. It costs a look-up by
-    /// the hash of the id; if hashes meet, it looks at one id more than their number has binary digits at most.
+    /// Returns the index of the element with this id in its list, or 0 if there is no such element.
+    /// It takes a look-up by the hash of the id. If hashes collide, it looks at no more than one id
+    /// more than their number has binary digits.
     pub fn place_of(&self, id: &T256) -> usize {
         match self.entry_of(id) {
             Some(entry) => entry.spot.place,
@@ -145,20 +148,22 @@ impl ElementIndex {
         }
     }
 
-    /// Inside what the list of the element with this id stands; nothing, where that is the job's own, or
-    /// there is no such element. It costs as much.
+    /// Returns the element that contains the list of the element with this id. Returns `None` if
+    /// this list is the job's own, or if there is no such element. It takes as long as `place_of`.
     pub fn outer_of(&self, id: &T256) -> Option<&Outer> {
         self.entry_of(id)?.spot.outer.as_ref()
     }
 
-    /// The same, with the place of the outer element in its own list. It costs as much.
+    /// Like `outer_of`, but also returns the index of the outer element in its own list. It takes
+    /// as long as `place_of`.
     pub fn outer_with_place(&self, id: &T256) -> Option<(&Outer, usize)> {
         let entry = self.entry_of(id)?;
         Some((entry.spot.outer.as_ref()?, entry.outer_place))
     }
 
-    /// The place of the work key of this partition of the element with this id, among those of the job
-    /// in written order, and 0 where there is none. It costs as much.
+    /// Returns the place of a work key, among those of the job in written order: that of this
+    /// partition of the element with this id. Returns 0 if there is no such element. It takes as
+    /// long as `place_of`.
     pub fn key_place_of(&self, id: &T256, partition: u32) -> usize {
         match self.entry_of(id) {
             Some(entry) => entry.spot.first.saturating_add(partition as usize),
@@ -167,7 +172,7 @@ impl ElementIndex {
     }
 }
 
-/// What the list of this flow of an element stands in.
+/// Returns the outer element of the elements in this flow of an element.
 fn outer_at(element: &Element, flow: usize) -> Result<Outer, OutOfMemory> {
     Ok(Outer {
         id: element.id.try_clone()?,
@@ -181,7 +186,8 @@ fn hash_of(id: &T256) -> u64 {
     hasher.finish()
 }
 
-/// In which of so many equal parts of their range a hash lies.
+/// Returns the number of the part in which a hash lies, if the range of hashes has this many equal
+/// parts.
 fn part_of(hash: u64, parts: usize) -> usize {
     ((u128::from(hash) * parts as u128) >> 64) as usize
 }
@@ -196,7 +202,8 @@ fn hashes_of(alloc: Global, spots: &Spots) -> Result<Vec<HashedSpot>, OutOfMemor
     Ok(hashes)
 }
 
-/// Where each part begins among rising hashes, and where the last one ends.
+/// Returns the index at which each part begins among rising hashes, and then the index at which the
+/// last part ends.
 fn starts_of(alloc: Global, hashes: &[HashedSpot]) -> Result<Vec<usize>, OutOfMemory> {
     let mut starts = Vec::with_capacity(alloc, hashes.len().saturating_add(1))?;
     for (place, one) in hashes.iter().enumerate() {
@@ -210,7 +217,7 @@ fn starts_of(alloc: Global, hashes: &[HashedSpot]) -> Result<Vec<usize>, OutOfMe
     Ok(starts)
 }
 
-/// Adds this place until there are so many.
+/// Adds this place until the list has `many` entries.
 fn fill(starts: &mut Vec<usize>, many: usize, place: usize) -> Result<(), OutOfMemory> {
     for _missing in starts.len()..many {
         starts.push(place)?;
@@ -218,8 +225,9 @@ fn fill(starts: &mut Vec<usize>, many: usize, place: usize) -> Result<(), OutOfM
     Ok(())
 }
 
-/// Adds the elements of a list and those inside them, of which the first work key has this place;
-/// the place of the next one. `outer` is what the list stands in, with its place.
+/// Adds the elements of a list and the elements inside them. `first` is the place of their first
+/// work key, and `outer` the element that contains the list, with its index. Returns the place of
+/// the next work key.
 #[cycle(indexing)]
 fn add_all(
     list: &mut Vec<Entry>,
@@ -249,7 +257,8 @@ fn add_all(
     Ok(next)
 }
 
-/// Adds the elements inside one that stands at this place of its list; the place of the next work key.
+/// Adds the elements inside an element, which is at this index of its list. Returns the place of
+/// the next work key.
 #[cycle(indexing)]
 fn add_inside(
     list: &mut Vec<Entry>,

@@ -57,7 +57,7 @@ fn is_empty_body(body: &Body) -> bool
     }
 }
 
-/// Whether there is no element, or one in which something is empty that has to be there.
+/// Checks whether there is no element, or an element with a required part that is empty.
 #[cycle(emptiness)]
 pub fn is_list_lacking(elements: &[Element]) -> bool
     ensures { result ≡ is_lacking (map element_has_empty elements.now) }

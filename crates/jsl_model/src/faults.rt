@@ -17,16 +17,17 @@ use crate::targets::{has_some_loop, lacks_some_target};
 use batch_ids::{OutOfMemory, T256};
 use std::alloc::Global;
 
-/// How deep an element may stand.
+/// The deepest level that an element may have.
 const MOST_DEEP: usize = 16;
 
-/// In how many partitions a step runs at most.
+/// The most partitions that a step may have.
 const MOST_PARTITIONS: u32 = 64;
 
-/// How many elements a job has at most, flows of splits included.
+/// The most elements that a job may have, flows of splits included.
 const MOST_ELEMENTS: usize = 1000;
 
-/// The first fault of a job whose texts are short enough, each tested over the whole job.
+/// Returns the first fault of a job whose texts are short enough. Each fault is tested over the
+/// whole job before the next one.
 pub fn fault_in(
     alloc: Global,
     id: &T256,
@@ -58,14 +59,14 @@ pub fn fault_in(
     Ok(None)
 }
 
-/// Whether there are more than 1,000 elements, or more than 64 partitions of a step.
+/// Checks whether there are more than 1,000 elements, or a step with more than 64 partitions.
 fn are_too_many(nodes: &[Node<'_>]) -> bool
     ensures { result ≡ (nat_lt 1000 (length nodes.now) || has_many_partitions (map node nodes.now)) }
 {
     nodes.len() > MOST_ELEMENTS || have_many_partitions(nodes)
 }
 
-/// Whether it is a step of more than 64 partitions.
+/// Checks whether the node is a step with more than 64 partitions.
 fn has_many_partitions(one: &Node<'_>) -> bool
     ensures { result ≡ are_many_partitions (node one.now).partitions }
 {
@@ -91,7 +92,7 @@ fn have_many_partitions(nodes: &[Node<'_>]) -> bool
     false
 }
 
-/// Whether two of these have one id.
+/// Checks whether two of the nodes have the same id.
 fn have_one_id_twice(alloc: Global, nodes: &[Node<'_>]) -> Result<bool, OutOfMemory>
     ensures { IfOk result (λ twice. twice ≡ has_twice (node_ids (map node nodes.now))) }
 {
@@ -99,7 +100,7 @@ fn have_one_id_twice(alloc: Global, nodes: &[Node<'_>]) -> Result<bool, OutOfMem
     has_twice(alloc, ids.as_slice())
 }
 
-/// The first fault in where `next` and `to` lead, in the lists at all depths.
+/// Returns the first fault in the targets of `next` and `to`, in the lists at all depths.
 fn fault_of_targets(alloc: Global, elements: &[Element]) -> Result<Option<JobFault>, OutOfMemory>
     ensures ranked { IfOk result (λ found. found ≡ None → All HasRanks (lists_of elements.now)) }
     ensures first { IfOk result (λ found. found
@@ -116,7 +117,7 @@ fn fault_of_targets(alloc: Global, elements: &[Element]) -> Result<Option<JobFau
     Ok(None)
 }
 
-/// Whether each restart begins at one of these elements.
+/// Checks whether each restart begins at one of these elements.
 fn are_restarts_own(
     alloc: Global,
     nodes: &[Node<'_>],

@@ -5,7 +5,7 @@ ghost use Rattle.jsl_model.specs.Trees.{all_elements, elements_in_body, elements
 
 use crate::element::{Body, Element, SplitFlow};
 
-/// The first element with this id, at any depth.
+/// Returns the first element with this id, at any depth.
 #[cycle(finding)]
 #[tactic(auto, using(crate::proofs::Opening::in_step, crate::proofs::Opening::in_flow, crate::proofs::Opening::in_split, crate::proofs::Opening::in_decision, crate::proofs::Opening::in_split_flow))]
 pub fn find_element<'a>(elements: &'a [Element], id: &str) -> Option<&'a Element>

@@ -16,30 +16,31 @@ use std::marker::Model;
 use std::sync::Arc;
 use thiserror::Error;
 
-/// What keeps parts from being a job, or a job from entering a catalogue. It prints as its name.
+/// A fault that prevents parts from being a job, or a job from being added to a catalogue. It
+/// prints as its name.
 #[derive(Clone, Copy, PartialEq, Eq, Debug, Error)]
 pub enum JobFault {
     /// A text has more than 256 bytes.
     #[error("{}", self.name())]
     TextTooLong,
-    /// An id or an artifact name is empty, a list has no element, a split no flow, or an item-count
-    /// or a number of partitions is 0.
+    /// An id or an artifact name is empty, or a list has no element, or a split has no flow. Or an
+    /// item-count or a number of partitions is 0.
     #[error("{}", self.name())]
     Empty,
-    /// An element stands deeper than 16; elements of the job's own list stand at 1.
+    /// An element is deeper than level 16. The elements of the job's own list are at level 1.
     #[error("{}", self.name())]
     TooDeep,
-    /// A job has more than 1,000 elements, or a step more than 64 partitions, or a catalogue holds 256
-    /// jobs already.
+    /// A job has more than 1,000 elements, a step has more than 64 partitions, or a catalogue has
+    /// 256 jobs already.
     #[error("{}", self.name())]
     TooMany,
-    /// Two elements of a job have one id, or a catalogue holds a job of this id already.
+    /// Two elements of a job have the same id, or a catalogue has a job with this id already.
     #[error("{}", self.name())]
     DuplicateId,
     /// A `next` or a `to` names no element of its own list.
     #[error("{}", self.name())]
     NoSuchTarget,
-    /// The targets of `next` and `to` form a cycle in one list.
+    /// The targets of `next` and `to` form a cycle in a list.
     #[error("{}", self.name())]
     Loop,
     /// A `restart` names no element of the job's own list.
@@ -51,7 +52,7 @@ pub enum JobFault {
 }
 
 impl JobFault {
-    /// The name that is printed.
+    /// Returns the name that is printed.
     pub fn name(self) -> &'static str
         ensures name { result.now ≡ fault_name self }
         ensures short { length result.now ≤ 18 }
@@ -92,7 +93,7 @@ impl<T: Drop> From<AllocFailed<T>> for JobFault {
     }
 }
 
-/// What the copies of a job share.
+/// The data that the copies of a job share.
 #[derive(Debug, Drop)]
 struct Shared {
     id: T256,
@@ -101,8 +102,8 @@ struct Shared {
     index: ElementIndex,
 }
 
-/// A checked job (Jakarta Batch 2.1, "Job Specification Language", section "Job"), which its copies
-/// share. Contracts see its id, whether it may be restarted, and its elements.
+/// A checked job, whose copies share its data (Jakarta Batch 2.1, "Job Specification Language",
+/// section "Job"). Contracts see its id, whether it may be restarted, and its elements.
 #[derive(Debug, Drop)]
 pub struct Job {
     shared: Arc<Shared>,
@@ -133,26 +134,28 @@ impl Model for Job {
 }
 
 impl Job {
-    /// The job that these parts give, if it is one (Jakarta Batch 2.1, chapter "Job Specification
-    /// Language"). The parts are dropped. The time is near linear in the size of the parts.
+    /// Builds a job from these parts, if they make one (Jakarta Batch 2.1, chapter "Job
+    /// Specification Language"). The parts are dropped. It takes time that is nearly linear in the
+    /// size of the parts.
     ///
     /// # Errors
     ///
-    /// The first that stands, each tested over the whole job:
-    /// - `TextTooLong`: a text (an id, a `next`, an artifact's name, an `on`, a `to`, an exit status,
-    ///   a `restart`) has more than 256 bytes;
-    /// - `Empty`: an id or an artifact's name is empty, a list has no element, a split has no flow, or
-    ///   an item-count or a number of partitions is 0;
-    /// - `TooDeep`: an element stands deeper than 16 (the job's own elements stand at 1, those inside a
-    ///   flow one deeper than it, the flows of a split one deeper than it and their elements two);
-    /// - `TooMany`: there are more than 1,000 elements, flows of splits included, or a step has more than
-    ///   64 partitions;
-    /// - `DuplicateId`: two of them have one id;
+    /// The first of these that applies, each tested over the whole job before the next one:
+    /// - `TextTooLong`: a text (an id, a `next`, an artifact's name, an `on`, a `to`, an exit
+    ///   status, a `restart`) has more than 256 bytes;
+    /// - `Empty`: an id or an artifact's name is empty, a list has no element, a split has no flow,
+    ///   or an item-count or a number of partitions is 0;
+    /// - `TooDeep`: an element is deeper than level 16 (the job's own elements are at level 1,
+    ///   those inside a flow one level deeper than the flow; the flows of a split are one level
+    ///   deeper than the split, and their elements two);
+    /// - `TooMany`: there are more than 1,000 elements, flows of splits included, or a step has
+    ///   more than 64 partitions;
+    /// - `DuplicateId`: two elements have the same id, flows of splits included;
     /// - `NoSuchTarget`: a `next` or a `to` names no element of its own list;
-    /// - `Loop`: in one list, the targets of `next` and `to` form a cycle;
+    /// - `Loop`: in a list, the targets of `next` and `to` form a cycle;
     /// - `RestartNotJobLevel`: a `restart` names no element of the job's own list.
     ///
-    /// `OutOfMemory` may stand in place of any answer.
+    /// It may return `OutOfMemory` instead of any of these results, if memory is refused.
     pub fn check(alloc: Global, parts: JobParts) -> Result<Job, JobFault>
         ensures same { IfOk result (λ job. job ≡ tree_of parts) }
         ensures faultless { OnOk result (job_fault (tree_of parts) ≡ None) }
@@ -164,7 +167,7 @@ impl Job {
         checked
     }
 
-    /// As `check`, which drops the parts.
+    /// Like `check`, but doesn't drop the parts.
     fn of_parts(alloc: Global, parts: &JobParts) -> Result<Job, JobFault>
         ensures same { IfOk result (λ job. job ≡ tree_of parts.now) }
         ensures faultless { OnOk result (job_fault (tree_of parts.now) ≡ None) }
@@ -191,7 +194,7 @@ impl Job {
         }
     }
 
-    /// The job's id, of 1 to 256 bytes.
+    /// Returns the job's id, which has 1 to 256 bytes.
     pub fn id(&self) -> &T256
         ensures same { result.now ≡ self.now.id }
         ensures checked { IsChecked self.now }
@@ -199,14 +202,14 @@ impl Job {
         &self.shared.id
     }
 
-    /// Whether a job execution of it may be restarted.
+    /// Returns `true` if a job execution of this job may be restarted.
     pub fn restartable(&self) -> bool
         ensures { result ≡ self.now.restartable }
     {
         self.shared.restartable
     }
 
-    /// Its elements, at least one; the job begins at the first.
+    /// Returns the job's elements, at least one. The job begins at the first.
     pub fn elements(&self) -> &[Element]
         ensures same { result.now ≡ self.now.elements }
         ensures checked { IsChecked self.now }
@@ -214,15 +217,15 @@ impl Job {
         self.shared.elements.as_slice()
     }
 
-    /// Where to look for its elements and their work keys.
+    /// Returns the index of the job's elements and their work keys.
     pub fn index(&self) -> &ElementIndex {
         &self.shared.index
     }
 
-    /// The element that has this id, at any depth, if there is one. A flow that stands directly in a
-    /// split is no element and is not found, but the elements inside it are.
+    /// Returns the element with this id, at any depth, if there is one. A flow directly inside a
+    /// split is no element, so it isn't found. The elements inside that flow are found.
     ///
-    /// It costs time as the job has elements, and no memory.
+    /// It takes time proportional to the number of elements of the job, and no memory.
     pub fn element(&self, id: &str) -> Option<&Element>
         ensures { option_copied result
             ≡ find (λ element. bytes_eq element.id id.now) (all_elements self.now.elements) }
@@ -230,11 +233,11 @@ impl Job {
         find_element(self.elements(), id)
     }
 
-    /// An equal job, which shares the elements. It takes no memory.
+    /// Returns an equal job, which shares the elements. It takes no memory.
     ///
     /// # Errors
     ///
-    /// `OutOfMemory` where 2^63 jobs share them already.
+    /// `OutOfMemory` if 2^63 jobs share the elements already.
     pub fn try_clone(&self) -> Result<Job, OutOfMemory>
         ensures { IfOk result (λ copy. copy ≡ self.now) }
     {

@@ -1,4 +1,4 @@
-//! Jobs as checked trees, and the catalogue of jobs (Jakarta Batch 2.1, "Job Specification
+//! Jobs as checked trees, and a catalogue of jobs (Jakarta Batch 2.1, "Job Specification
 //! Language").
 #![tactic(auto)]
 

@@ -5,9 +5,9 @@ use crate::element::{Body, Element};
 use batch_ids::OutOfMemory;
 use std::alloc::Global;
 
-/// All lists of a job, in written order: this one, and then those inside its elements, or
-/// `OutOfMemory`. It costs time as there are elements at all depths, and
-/// memory as there are lists.
+/// Returns all lists of a job in written order: this list, and then the lists inside its elements.
+/// It takes time proportional to the number of elements at all depths, and memory proportional to
+/// the number of lists. Returns `OutOfMemory` if memory is refused.
 pub fn lists_in<'a>(
     alloc: Global,
     elements: &'a [Element],

@@ -6,8 +6,8 @@ use batch_ids::OutOfMemory;
 use std::alloc::Global;
 use std::collections::HashSet;
 
-/// Whether one of the names stands twice, or `OutOfMemory`. It costs about as
-/// much time, and at most as much memory, as there are names.
+/// Checks whether a name is there twice. It takes time about proportional to the number of names,
+/// and memory at most proportional to it. Returns `OutOfMemory` if memory is refused.
 pub fn has_twice(alloc: Global, names: &[&str]) -> Result<bool, OutOfMemory>
     ensures { IfOk result (λ twice. twice ≡ has_twice (map (λ name. name.now) names.now)) }
 {
@@ -20,8 +20,9 @@ pub fn has_twice(alloc: Global, names: &[&str]) -> Result<bool, OutOfMemory>
     Ok(false)
 }
 
-/// Whether each of the names is one of those held, or `OutOfMemory`. It costs
-/// about as much time as there are names of both kinds, and memory as there are names held.
+/// Checks whether each of the names is in `held`. It takes time about proportional to the number of
+/// names in both lists, and memory proportional to the number of names in `held`. Returns
+/// `OutOfMemory` if memory is refused.
 pub fn are_among(alloc: Global, names: &[&str], held: &[&str]) -> Result<bool, OutOfMemory>
     ensures { IfOk result (λ among. among
         ≡ are_among (map (λ name. name.now) held.now) (map (λ name. name.now) names.now)) }
@@ -46,8 +47,8 @@ fn set_of<'a>(alloc: Global, names: &[&'a str]) -> Result<HashSet<&'a str>, OutO
     Ok(set)
 }
 
-/// Each of these names once, the first use first, or `OutOfMemory`. It costs
-/// about as much time and memory as there are names.
+/// Returns each of these names once, in the order of first use. It takes time and memory about
+/// proportional to the number of names. Returns `OutOfMemory` if memory is refused.
 pub fn distinct<'a>(alloc: Global, names: &[&'a str]) -> Result<Vec<&'a str>, OutOfMemory>
     ensures { IfOk result (λ kept. map (λ name. name.now) kept.items
         ≡ distinct (map (λ name. name.now) names.now)) }
@@ -60,7 +61,7 @@ pub fn distinct<'a>(alloc: Global, names: &[&'a str]) -> Result<Vec<&'a str>, Ou
     Ok(kept)
 }
 
-/// Keeps a name that was not seen yet.
+/// Adds a name that has not been seen yet.
 fn add_new<'a>(
     name: &'a str,
     seen: &mut HashSet<&'a str>,

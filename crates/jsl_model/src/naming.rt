@@ -9,7 +9,7 @@ use crate::node::Node;
 use batch_ids::OutOfMemory;
 use std::alloc::Global;
 
-/// The ids of these nodes.
+/// Returns the ids of these nodes.
 pub fn ids_of<'a>(alloc: Global, nodes: &[Node<'a>]) -> Result<Vec<&'a str>, OutOfMemory>
     ensures { IfOk result (λ found. map (λ id. id.now) found.items
         ≡ node_ids (map node nodes.now)) }
@@ -21,7 +21,7 @@ pub fn ids_of<'a>(alloc: Global, nodes: &[Node<'a>]) -> Result<Vec<&'a str>, Out
     Ok(ids)
 }
 
-/// The ids of a list's own elements.
+/// Returns the ids of a list's own elements.
 pub fn own_ids(alloc: Global, elements: &[Element]) -> Result<Vec<&str>, OutOfMemory>
     ensures { IfOk result (λ found. map (λ id. id.now) found.items ≡ ids (outline elements.now)) }
 {
@@ -32,7 +32,8 @@ pub fn own_ids(alloc: Global, elements: &[Element]) -> Result<Vec<&str>, OutOfMe
     Ok(ids)
 }
 
-/// The elements at which restarts begin, by all transition elements of these nodes.
+/// Returns the ids of the elements at which restarts begin, as all transition elements of these
+/// nodes name them.
 pub fn restarts_of<'a>(alloc: Global, nodes: &[Node<'a>]) -> Result<Vec<&'a str>, OutOfMemory>
     ensures { IfOk result (λ found. map (λ id. id.now) found.items
         ≡ restarts (map node nodes.now)) }
@@ -63,7 +64,7 @@ fn add_restarts<'a>(
     Ok(())
 }
 
-/// Adds the artifacts that a body names itself.
+/// Adds the names of the artifacts that a body itself names.
 pub fn add_artifacts<'a>(body: &'a Body, found: &mut Vec<&'a str>) -> Result<(), OutOfMemory>
     ensures { OnOk result (map (λ name. name.now) found.new.items
         ≡ map (λ name. name.now) found.old.items ++ (in_body body.now).artifacts) }

@@ -6,16 +6,16 @@ use crate::element::{Body, Element, SplitFlow, Transition};
 use batch_ids::OutOfMemory;
 use std::alloc::Global;
 
-/// An element, or a flow of a split, without what is inside it.
+/// An element, or a flow of a split, without its contents.
 #[derive(Clone, Copy)]
 pub struct Node<'a> {
     pub id: &'a str,
     pub transitions: &'a [Transition],
-    /// What it is; a flow of a split is nothing more.
+    /// The element's body. A flow of a split has none.
     pub body: Option<&'a Body>,
 }
 
-/// All elements of a list at all depths, flows of splits included, in written order.
+/// Returns all elements of a list at all depths, flows of splits included, in written order.
 pub fn nodes_in(alloc: Global, elements: &[Element]) -> Result<Vec<Node<'_>>, OutOfMemory>
     ensures { IfOk result (λ found. map node found.items ≡ nodes elements.now) }
 {

@@ -1,14 +1,14 @@
 use batch_ids::Listed;
 
 /// The parts of a job as they were read, unchecked (Jakarta Batch 2.1, "Job Specification
-/// Language"). `Job::check` makes a job of them.
+/// Language"). `Job::check` builds a job from them.
 #[derive(Debug, Drop)]
 pub struct JobParts {
     /// The job's id.
     pub id: String,
     /// Whether a job execution of it may be restarted.
     pub restartable: bool,
-    /// Its elements; it begins at the first of them.
+    /// Its elements. The job begins at the first of them.
     pub elements: Listed<ElementParts>,
 }
 
@@ -18,13 +18,13 @@ pub struct JobParts {
 pub struct ElementParts {
     /// Its id.
     pub id: String,
-    /// What it is, and all else that an element of its kind may have.
+    /// Its kind, and all parts that an element of this kind may have besides its id.
     pub body: BodyParts,
 }
 
-/// What an element is, in parts (Jakarta Batch 2.1, "Job Specification Language", sections "Step",
-/// "Flow", "Split" and "Decision"). Each kind has what it may have: a split has no transition
-/// elements, and a decision no `next`.
+/// An element's kind, with its parts (Jakarta Batch 2.1, "Job Specification Language", sections
+/// "Step", "Flow", "Split" and "Decision"). A split has no transition elements, and a decision no
+/// `next`.
 #[cycle(parts)]
 #[derive(Debug, Drop)]
 pub enum BodyParts {
@@ -36,7 +36,7 @@ pub enum BodyParts {
         next: Option<String>,
         /// Its transition elements.
         transitions: Listed<TransitionParts>,
-        /// Its elements; it begins at the first of them.
+        /// Its elements. The flow begins at the first of them.
         elements: Listed<ElementParts>,
     },
     /// A split.
@@ -55,13 +55,13 @@ pub enum BodyParts {
     },
 }
 
-/// The parts of a flow that stands directly in a split. It has no `next` and no transition elements.
+/// The parts of a flow directly inside a split. It has no `next` and no transition elements.
 #[cycle(parts)]
 #[derive(Debug, Drop)]
 pub struct SplitFlowParts {
     /// Its id.
     pub id: String,
-    /// Its elements; it begins at the first of them.
+    /// Its elements. The flow begins at the first of them.
     pub elements: Listed<ElementParts>,
 }
 
@@ -72,25 +72,25 @@ pub struct StepParts {
     pub next: Option<String>,
     /// Its transition elements.
     pub transitions: Listed<TransitionParts>,
-    /// How often the step may be started in one job instance; 0 sets no limit.
+    /// How often the step may be started in one job instance. 0 sets no limit.
     pub start_limit: u32,
-    /// Whether a restart runs the step again although it is COMPLETED.
+    /// Whether a restart runs the step again even if it is COMPLETED.
     pub allow_start_if_complete: bool,
-    /// In how many partitions it runs, from 1 to 64; one that names none is not partitioned.
+    /// The number of partitions, from 1 to 64. If it is `None`, the step is not partitioned.
     pub partitions: Option<u32>,
-    /// What it runs.
+    /// Its batchlet or chunk.
     pub task: TaskParts,
 }
 
-/// What a step runs, in parts.
+/// The work of a step, in parts.
 #[derive(Debug, Drop)]
 pub enum TaskParts {
-    /// One artifact, which is run once.
+    /// A batchlet: one artifact, which is run once.
     Batchlet {
         /// The artifact's name.
         artifact: String,
     },
-    /// Items that are read, processed and written in groups.
+    /// A chunk: items are read, processed and written in groups.
     Chunk {
         /// The name of the artifact that reads items.
         reader: String,
@@ -98,7 +98,7 @@ pub enum TaskParts {
         processor: Option<String>,
         /// The name of the artifact that writes a group of items.
         writer: String,
-        /// How many items a group has.
+        /// The number of items in a group.
         item_count: u32,
     },
 }
@@ -109,14 +109,14 @@ pub enum TaskParts {
 pub struct TransitionParts {
     /// The pattern that the exit status has to match.
     pub on: String,
-    /// Where the job goes then.
+    /// Its effect if the exit status matches.
     pub then: ThenParts,
 }
 
-/// Where a transition element leads, in parts.
+/// The effect of a transition element that matches, in parts.
 #[derive(Debug, Drop)]
 pub enum ThenParts {
-    /// On to another element of the same list.
+    /// The job goes on to another element of the same list.
     Next {
         /// The id of that element.
         to: String,

@@ -11,9 +11,9 @@ use std::alloc::Global;
 use std::collections::HashMap;
 use target_graph::{Graph, ranks};
 
-/// Whether an element of one of these lists names, by `next` or `to`, an id that no element of its
-/// list has (Jakarta Batch 2.1, "Job Specification Language"), or `OutOfMemory`. It costs about as
-/// much time as there are elements and targets.
+/// Checks whether a `next` or `to`, in one of these lists, is the id of no element of its list
+/// (Jakarta Batch 2.1, "Job Specification Language"). It takes time about proportional to the
+/// number of elements and targets. Returns `OutOfMemory` if memory is refused.
 pub fn lacks_some_target(alloc: Global, lists: &[&[Element]]) -> Result<bool, OutOfMemory>
     ensures { IfOk result (λ lacks. lacks
         ≡ list_any lacks_target (map (λ list. outline list.now) lists.now)) }
@@ -26,10 +26,10 @@ pub fn lacks_some_target(alloc: Global, lists: &[&[Element]]) -> Result<bool, Ou
     Ok(false)
 }
 
-/// Whether the targets of `next` and `to` form a cycle in one of these lists (Jakarta Batch 2.1,
-/// "Job Specification Language"), or `OutOfMemory`. Where two elements of a
-/// list have one id, the first is its target. It costs about as much time as there are elements and
-/// targets, and a call stack as deep as a list has elements.
+/// Checks whether the targets of `next` and `to` form a cycle in one of these lists (Jakarta Batch
+/// 2.1, "Job Specification Language"). If two elements of a list have the same id, the first of
+/// them is the target. It takes time about proportional to the number of elements and targets, and
+/// a call stack as deep as a list has elements. Returns `OutOfMemory` if memory is refused.
 pub fn has_some_loop(alloc: Global, lists: &[&[Element]]) -> Result<bool, OutOfMemory>
     ensures same { IfOk result (λ loops. loops
         ≡ list_any has_loop (map (λ list. outline list.now) lists.now)) }
@@ -52,7 +52,7 @@ fn lacks_target(alloc: Global, elements: &[Element]) -> Result<bool, OutOfMemory
     Ok(!are_among(alloc, &targets, &ids)?)
 }
 
-// The ids that the elements of a list name.
+// Returns the ids that the elements of a list name.
 fn targets_of(alloc: Global, elements: &[Element]) -> Result<Vec<&str>, OutOfMemory>
     ensures { IfOk result (λ found. map (λ name. name.now) found.items
         ≡ targets_in (outline elements.now)) }
@@ -102,7 +102,7 @@ fn add_targets<'a>(targets: &mut Vec<&'a str>, element: &'a Element) -> Result<(
     Ok(())
 }
 
-// The place of the first element with each id.
+// Returns the index of the first element with each id.
 fn places_of<'a>(
     alloc: Global,
     elements: &'a [Element],
@@ -117,7 +117,7 @@ fn places_of<'a>(
     Ok(places)
 }
 
-// The places of those of the names that have one.
+// Returns the indices of the names that are in the map.
 fn places_in<'a>(
     alloc: Global,
     places: &HashMap<&'a str, usize>,
