@@ -1,4 +1,4 @@
--- Which transition element an exit status matches.
+-- The transition element that an exit status matches.
 use Rattle.std.specs.Prelude.{ℕ, Bool, Option, List, find}
 use Rattle.std.specs.Str.{chars}
 use Rattle.jsl_model.specs.declared.element.Transition.{Transition}
@@ -8,10 +8,10 @@ use Rattle.transitions.specs.Patterns.{Matches, is_match}
 abbrev pub matches_on : List ℕ → Transition → Bool
 matches_on exit transition = is_match (chars transition.on) (chars exit)
 
--- the first written transition element whose `on` matches the exit status
+-- the first transition element, in written order, whose `on` matches the exit status
 abbrev pub matching_transition : List Transition → List ℕ → Option Transition
 matching_transition transitions exit = find (matches_on exit) transitions
 
--- the exit status can be cut into pieces that the `on` of a transition element faces
+-- the exit status can be cut into pieces that the characters of a transition element's `on` match
 abbrev pub MatchesOn : List ℕ → Transition → Type 0
 MatchesOn exit transition = Matches (chars transition.on) (chars exit)

@@ -1,4 +1,4 @@
-//! Transition elements: which of them an exit status matches.
+//! Finds the transition element that an exit status matches.
 #![tactic(auto)]
 
 mod matching;

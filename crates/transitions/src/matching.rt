@@ -7,8 +7,8 @@ use crate::pattern::matches;
 use batch_ids::T256;
 use jsl_model::Transition;
 
-/// The first written transition element whose `on` matches this exit status, or None if there is
-/// none (Jakarta Batch 2.1, "Transition Elements").
+/// Returns the first transition element, in written order, whose `on` matches this exit status.
+/// Returns `None` if no `on` matches. See Jakarta Batch 2.1, "Transition Elements".
 pub fn find_match<'a>(transitions: &'a [Transition], exit: &T256) -> Option<&'a Transition>
     ensures { option_copied result ≡ matching_transition transitions.now exit.now }
 {
@@ -16,8 +16,8 @@ pub fn find_match<'a>(transitions: &'a [Transition], exit: &T256) -> Option<&'a 
     Some(&transitions[place])
 }
 
-/// The least index of a transition element whose `on` matches this exit status, or None if there is
-/// none (Jakarta Batch 2.1, "Transition Elements").
+/// Returns the least index of a transition element whose `on` matches this exit status. Returns
+/// `None` if no `on` matches. See Jakarta Batch 2.1, "Transition Elements".
 pub fn first_match(transitions: &[Transition], exit: &str) -> Option<usize>
     ensures least { MatchOption result
         (All (λ t. ¬ MatchesOn exit.now t) transitions.now)

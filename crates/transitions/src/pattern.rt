@@ -2,13 +2,13 @@ ghost use Rattle.std.specs.Prelude.{◌≡◌, ◌↔◌, [], ◌∷◌, IsTrue,
 ghost use Rattle.std.specs.Str.{chars};
 ghost use Rattle.transitions.specs.Patterns.{Matches, is_match};
 
-/// What faces zero or more characters, in a pattern.
+/// The pattern character that matches zero or more characters.
 pub const ANY_TEXT: char = '*';
 
-/// What faces exactly one character, in a pattern.
+/// The pattern character that matches exactly one character.
 pub const ANY_CHARACTER: char = '?';
 
-// The first character of a text, and what follows it.
+// Returns the first character of a text, and the rest of the text.
 fn split_first_char(s: &str) -> Option<(char, &str)>
     ensures { MatchOption result (chars s.now ≡ [])
         (λ parts. chars s.now ≡ parts.0 ∷ chars parts.1.now) }
@@ -18,15 +18,15 @@ fn split_first_char(s: &str) -> Option<(char, &str)>
     Some((first, characters.as_str()))
 }
 
-// One pass over the text, with a place to go back to. A star is first tried at no character of the
-// text; where what follows it then fails, it is tried at one more. Only the last star met is ever
-// tried again.
+// Makes one pass over the text, with a place to go back to. A star first matches no character of
+// the text. If the pattern after the star then fails to match, the star matches one character more.
+// Only the last star that was seen is ever tried again.
 fn is_cut_by(pattern: &str, text: &str) -> bool
     ensures { IsTrue result ↔ Matches (chars pattern.now) (chars text.now) }
 {
     let mut pattern_left = pattern;
     let mut text_left = text;
-    // What follows the last star, and the text that it was last tried at.
+    // The pattern after the last star, and the text at which it was last tried.
     let mut retry: Option<(&str, &str)> = None;
     loop {
         if let Some((wanted, pattern_rest)) = split_first_char(pattern_left) {
@@ -57,11 +57,12 @@ fn is_cut_by(pattern: &str, text: &str) -> bool
     }
 }
 
-/// Whether a text matches a pattern, where `*` faces zero or more characters, `?` exactly one and
-/// any other character itself (Jakarta Batch 2.1, "Transition Elements", the attribute `on`).
+/// Checks whether a text matches a pattern. `*` matches zero or more characters, `?` exactly one,
+/// and any other character itself. See Jakarta Batch 2.1, "Transition Elements", the attribute
+/// `on`.
 ///
 /// A character is a Unicode scalar value. It takes no memory, and time at most proportional to the
-/// pattern's length times the text's.
+/// pattern's length times the text's length.
 pub fn matches(pattern: &str, text: &str) -> bool
     ensures cut { IsTrue result ↔ Matches (chars pattern.now) (chars text.now) }
     ensures same { result ≡ is_match (chars pattern.now) (chars text.now) }
