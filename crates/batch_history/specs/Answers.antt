@@ -1,4 +1,4 @@
--- What queries are answered after a history.
+-- The answers of queries after a history.
 use Rattle.std.specs.Prelude.{ℕ, ◌+◌, ◌==◌, ◌&&◌, Bool, Option, Some, None, Result, Ok, Err, List, [], ◌∷◌, length, map, find, filter, filter_map, reverse, take, drop, if◌then◌else◌}
 use Rattle.std.specs.List.{list_any}
 use Rattle.std.specs.Str.{bytes_eq}
@@ -26,7 +26,7 @@ use Rattle.batch_history.specs.Replies.{is_execution, row_status}
 use Rattle.batch_history.specs.Rows.{History, Rows, rows}
 use Rattle.batch_history.specs.StepExecutions.{step_executions}
 
--- ---- Records as they are shown
+-- ---- Shown records
 
 -- the record of a job execution
 abbrev pub record_of : ExecutionRow → JobExecution
@@ -49,12 +49,12 @@ record_of row =
 abbrev pub instances_of_job : List ℕ → List JobInstance → List JobInstance
 instances_of_job name instances = filter (λ i. bytes_eq i.job name) instances
 
--- the answer about a job that has a job instance
+-- this answer, or `NoSuchJobException` if there is no job instance
 abbrev pub if_job_known : List JobInstance → Answer → Result Answer Refusal
 if_job_known [] answer = Err NoSuchJobException
 if_job_known (i ∷ rest) answer = Ok answer
 
--- at most so many, without the first ones
+-- at most `count` entries, without the first `start`
 abbrev pub page : {A : Type 0} → ℕ → ℕ → List A → List A
 page start count all = take count (drop start all)
 
@@ -65,7 +65,7 @@ is_running_of name row = bytes_eq row.job name && is_unfinished (row_status row)
 abbrev pub running_executions : List ℕ → List ExecutionRow → List ℕ
 running_executions name executions = map (λ row. row.execution) (filter (is_running_of name) executions)
 
--- the answer about a job execution
+-- the answer about a job execution, or `NoSuchJobExecutionException` if there is none
 abbrev pub if_execution_known : Option ExecutionRow → (ExecutionRow → Answer) → Result Answer Refusal
 if_execution_known None answer = Err NoSuchJobExecutionException
 if_execution_known (Some row) answer = Ok (answer row)
@@ -90,7 +90,7 @@ with_one_more Failed counts = record counts { failed = counts.failed + 1 }
 with_one_more Completed counts = record counts { completed = counts.completed + 1 }
 with_one_more Abandoned counts = record counts { abandoned = counts.abandoned + 1 }
 
--- how many of this status are counted
+-- the count of this status
 abbrev pub counted : BatchStatus → CountsByStatus → ℕ
 counted Starting counts = counts.starting
 counted Started counts = counts.started
@@ -100,17 +100,17 @@ counted Failed counts = counts.failed
 counted Completed counts = counts.completed
 counted Abandoned counts = counts.abandoned
 
--- how many are counted
+-- the sum of all counts
 abbrev pub total : CountsByStatus → ℕ
 total counts =
     counts.starting + counts.started + counts.stopping + counts.stopped + counts.failed + counts.completed + counts.abandoned
 
--- how many of these job executions have each status
+-- the number of these job executions with each status
 abbrev pub counts_of : List ExecutionRow → CountsByStatus
 counts_of [] = no_counts
 counts_of (row ∷ rest) = with_one_more (row_status row) (counts_of rest)
 
--- what a query is answered by these rows
+-- the answer of a query by these rows
 abbrev pub answer_by : Rows → Query → Result Answer Refusal
 answer_by r JobNames = Ok (AreNames (distinct (map (λ i. i.job) r.instances)))
 answer_by r (JobInstanceCount name) = if_job_known (instances_of_job name r.instances) (IsCount (length (instances_of_job name r.instances)))
@@ -127,6 +127,6 @@ answer_by r (AskJobExecution x) = if_execution_known (find (is_execution x) r.ex
 answer_by r (StepExecutions x) = if_execution_known (find (is_execution x) r.executions) (λ row. AreStepExecutions (step_executions r row))
 answer_by r StatusCounts = Ok (AreCounts (counts_of r.executions))
 
--- THE ANSWER: what a query is answered after a history
+-- THE ANSWER: the answer of a query after a history
 abbrev pub answer : History → Query → Result Answer Refusal
 answer h query = answer_by (rows h) query

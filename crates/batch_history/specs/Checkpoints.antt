@@ -1,5 +1,5 @@
--- Checkpoints (Jakarta Batch 2.1, "Checkpoint Algorithm"): that of a step of a job instance is the last one reported,
--- unless a work item of the step completed after it.
+-- Checkpoints (Jakarta Batch 2.1, "Checkpoint Algorithm"). The checkpoint of a job instance's step is the
+-- last one reported, unless a work item of the step completed after it.
 use Rattle.std.specs.Option.{option_map}
 use Rattle.std.specs.Prelude.{ℕ, ◌==◌, ◌&&◌, Bool, false, Option, Some, None, List, [], ◌∷◌, find, if◌then◌else◌}
 use Rattle.batch_history.specs.Executions.{instance_of_execution}
@@ -44,16 +44,17 @@ checkpoint_by_report (Some mark) end earlier = Some mark
 checkpoint_by_report None (Some end) earlier = checkpoint_left end.outcome earlier
 checkpoint_by_report None None earlier = earlier
 
--- the checkpoint of a step after a report, `here` saying which work items are of the step
+-- the checkpoint of a step after a report; `here` says which work items are of the step
 abbrev pub checkpoint_after_report : (ℕ → Bool) → Option Report → Option (List ℕ) → Option (List ℕ)
 checkpoint_after_report here None earlier = earlier
 checkpoint_after_report here (Some r) earlier = if here r.work then checkpoint_by_report r.mark r.end earlier else earlier
 
--- the same after a call
+-- the checkpoint of a step after a call
 abbrev pub checkpoint_after : (ℕ → Bool) → Call → Option (List ℕ) → Option (List ℕ)
 checkpoint_after here call earlier = checkpoint_after_report here (effects call).reports earlier
 
--- the checkpoint of a step of a job instance: the newest entry that is a Checkpoint of its work, or completes it, tells
+-- the checkpoint of a job instance's step: the newest entry that is a Checkpoint of its work, or completes
+-- it, decides
 abbrev pub checkpoint_of : List Entry → InstanceStep → Option (List ℕ)
 checkpoint_of [] p = None
 checkpoint_of (e ∷ older) p = checkpoint_after (λ w. is_same_step p (instance_step_of older w)) e.call (checkpoint_of older p)

@@ -12,7 +12,7 @@ pub record JobStep : Type 0 where
   pub id : List ℕ
   pub step : StepRecord
 
--- what a body has: it is a step itself, or it holds steps
+-- the steps of a body: it is a step itself, or it holds steps
 pub data StepsInside : Type 0 where
   IsStep : StepRecord → StepsInside
   HoldsSteps : List JobStep → StepsInside
@@ -37,14 +37,14 @@ flow_steps x = joined x.elements
 abbrev pub steps_of_element : Element → List JobStep
 steps_of_element = fold-Element StepsInside (List JobStep) (List JobStep) body_steps element_steps flow_steps
 
--- those of a flow of a split
+-- the steps of a flow of a split
 abbrev pub steps_of_flow : SplitFlow → List JobStep
 steps_of_flow = fold-SplitFlow StepsInside (List JobStep) (List JobStep) body_steps element_steps flow_steps
 
--- those of a body
+-- the steps of a body
 abbrev pub steps_in_body : Body → StepsInside
 steps_in_body = fold-Body StepsInside (List JobStep) (List JobStep) body_steps element_steps flow_steps
 
--- those of a list of elements
+-- the steps of a list of elements
 abbrev pub all_steps : List Element → List JobStep
 all_steps elements = joined (map steps_of_element elements)

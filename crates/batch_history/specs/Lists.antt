@@ -11,7 +11,7 @@ abbrev pub is_at : ℕ → Option ℕ → Bool
 is_at x None = false
 is_at x (Some y) = y == x
 
--- P holds of each of a list
+-- P holds of each element of a list
 abbrev pub Each : {X : Type 0} → (X → Type 0) → List X → Type 0
 Each P [] = Unit {0}
 Each P (x ∷ xs) = P x × Each P xs

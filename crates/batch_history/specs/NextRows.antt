@@ -1,4 +1,5 @@
--- How one operation changes the rows: what is made, what of a job execution and of a work item is anew, and what is removed.
+-- The rows after one more operation: the new ones, the changed job execution and work item, and the removed
+-- ones.
 use Rattle.std.specs.Prelude.{ℕ, ◌+◌, ◌==◌, ◌||◌, Bool, false, Option, Some, None, List, [], ◌∷◌, ◌++◌, find}
 use Rattle.batch_history.specs.Checkpoints.{InstanceStep, instance_step_by, is_same_step, checkpoint_after}
 use Rattle.batch_history.specs.Lists.{change_first, is_at}
@@ -32,7 +33,7 @@ use Rattle.jsl_model.specs.Jobs.{JobTree}
 
 -- ---- Job instances and work items
 
--- the job instances after a call, this number being the next
+-- the job instances after a call; `n` is the next number
 abbrev pub instances_after : ℕ → Call → List JobInstance → List JobInstance
 instances_after n (Start job parameters) rows = rows ++ record { instance = n; job = job } ∷ []
 instances_after n (Restart y parameters) rows = rows
@@ -44,15 +45,15 @@ instances_after n (Finish w outcome exit step) rows = rows
 instances_after n (Lose w) rows = rows
 instances_after n (Purge i) rows = rows
 
--- a work item with these counts added to its metrics
+-- a work item with this metric step added to its metrics
 abbrev pub reported : MetricStep → WorkRow → WorkRow
 reported step row = record row { metrics = added row.metrics step }
 
--- a work item that is over, by the operation of this number
+-- a work item that the operation of this number ended
 abbrev pub over_as : WorkOutcome → List ℕ → MetricStep → ℕ → ℕ → WorkRow → WorkRow
 over_as outcome exit step at n row = record (reported step row) { state = Over outcome exit; end = Some at; ended = Some n }
 
--- the same with the exit status that was given, else the name of the outcome
+-- a work item that is over, with the given exit status, or else the outcome's name
 abbrev pub over : WorkOutcome → Option (List ℕ) → MetricStep → ℕ → ℕ → WorkRow → WorkRow
 over outcome exit step at n = over_as outcome (exit_or_name outcome exit) step at n
 
@@ -99,12 +100,12 @@ fresh_row x instance at job parameters plan =
       updated = at;
     }
 
--- the same, made of an earlier one
+-- the row of a job execution that a Restart of an earlier one made
 abbrev pub again_row : Rows → ℕ → ℕ → List Pair → Option ExecutionRow → ExecutionRow
 again_row r x at parameters None = fresh_row x 0 at [] parameters (first_plan None)
 again_row r x at parameters (Some row) = fresh_row x row.instance at row.job parameters (restart_plan r row)
 
--- the row anew, with this start, these marks and this value of the walk
+-- the changed row, with this start, these marks and this value of the walk
 abbrev pub renewed : Bool → Bool → Option ℕ → Value → ℕ → ExecutionRow → ExecutionRow
 renewed stop abandoned start value at row =
     record {
@@ -123,32 +124,32 @@ renewed stop abandoned start value at row =
       updated = at;
     }
 
--- what an operation does to the job execution that it is on: it asks it to stop, gives it up, or takes it up
+-- the effect of an operation on its job execution: it asks it to stop, abandons it, or takes it up
 pub record Effect : Type 0 where
   pub asks : Bool
   pub gives_up : Bool
   pub takes : Bool
 
--- what a call with this reply does to job execution x
+-- the effect of a call with this reply on job execution x
 abbrev pub effect_on : ℕ → Call → Reply → Effect
 effect_on x call reply = record { asks = is_at x (stop_request call); gives_up = is_at x (abandonment call); takes = is_at x (taken_up call reply) }
 
--- the row after an operation on its job execution, `value` being that of the walk after it
+-- the row after an operation on its job execution; `value` is that of the walk after it
 abbrev pub refreshed : Effect → Value → ℕ → ExecutionRow → ExecutionRow
 refreshed effect value at row =
     renewed (row.stop || effect.asks) (row.abandoned || effect.gives_up) (first_moment row.start effect.takes at) value at row
 
--- the same, `works` being the work items after it
+-- the row after an operation on its job execution; `works` are the work items after it
 abbrev pub refreshed_by : List JobTree → List WorkRow → ℕ → Call → Reply → ExecutionRow → ExecutionRow
 refreshed_by catalogue works at call reply row =
     refreshed (effect_on row.execution call reply) (walk_value catalogue works row.execution row.job row.plan) at row
 
--- the job executions with the one that an operation is on, if it is on one, as it is after it
+-- the job executions with the changed row of the operation's job execution, if it is on one
 abbrev pub refreshed_at : List JobTree → List WorkRow → ℕ → Call → Reply → Option ℕ → List ExecutionRow → List ExecutionRow
 refreshed_at catalogue works at call reply None rows = rows
 refreshed_at catalogue works at call reply (Some x) rows = change_first (is_execution x) (refreshed_by catalogue works at call reply) rows
 
--- the job executions after an operation, `works` being the work items after it
+-- the job executions after an operation; `works` are the work items after it
 abbrev pub executions_after : Rows → List WorkRow → ℕ → Call → Reply → List ExecutionRow
 executions_after r works at (Start job parameters) reply =
     r.executions ++ fresh_row (r.last.execution + 1) (r.last.instance + 1) at job parameters (first_plan (job_named r.catalogue job)) ∷ []
@@ -190,7 +191,7 @@ last_after (Finish w outcome exit step) reply last = last
 last_after (Lose w) reply last = last
 last_after (Purge i) reply last = last
 
--- the rows after an operation, but for what it removes
+-- the rows after an operation, before it removes any
 abbrev pub rows_with : Rows → Entry → Rows
 rows_with r e =
     let works = works_after (r.count + 1) e.who e.at e.call e.reply r.works in
@@ -204,7 +205,7 @@ rows_with r e =
       checkpoint = λ p. checkpoint_after (λ w. is_same_step p (place_in r w)) e.call (r.checkpoint p);
     }
 
--- the rows without a job instance that is removed
+-- the rows without a removed job instance
 abbrev pub without : Option ℕ → Rows → Rows
 without None r = r
 without (Some i) r = existing (λ j. j == i) r

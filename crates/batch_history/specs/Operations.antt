@@ -1,5 +1,5 @@
--- What an operation does, a row for each call, and for a claim a row for each reply. All that the other definitions ask of a
--- call or a reply they read here.
+-- The effects of operations: an entry for each call, and for a claim an entry for each reply. The other
+-- definitions read all that they need of a call or a reply here.
 use Rattle.std.specs.Prelude.{ℕ, ◌==◌, Bool, true, false, List, Option, Some, None, is_some, if◌then◌else◌}
 use Rattle.batch_ids.specs.Parameters.{Pair}
 use Rattle.batch_ids.specs.declared.metric_step.MetricStep.{MetricStep}
@@ -12,27 +12,27 @@ use Rattle.batch_history.specs.declared.call.WorkItem.{WorkItem}
 use Rattle.batch_history.specs.declared.call.Reply.{Reply}
 use Rattle.batch_history.specs.declared.call.Reply.TheVariants.{Execution, Work, Closed, Nothing, Done, Go, StopAsked}
 
--- a job execution that is made: the first one of a new job instance of this job, or one more of the job instance of an
--- earlier job execution; with these parameters
+-- the making of a job execution, with its parameters: the first one of a new job instance of this job, or one
+-- more of an earlier job execution's job instance
 pub data Making : Type 0 where
   begins : List ℕ → List Pair → Making
   restarts : ℕ → List Pair → Making
 
--- how a work item is ended
+-- the end of a work item
 pub record Ending : Type 0 where
   pub outcome : WorkOutcome
   pub exit : Option (List ℕ)
 
--- what is reported of a work item: counts for its metrics, its checkpoint, its end
+-- a report of a work item: a metric step, its checkpoint, its end
 pub record Report : Type 0 where
   pub work : ℕ
   pub counts : MetricStep
   pub mark : Option (List ℕ)
   pub end : Option Ending
 
--- what a call does when it is accepted: the job execution that it makes, the one whose stop it requests, the one that it
--- abandons, what it reports of a work item, the job instance that it removes, and whether it claims, so that its reply says
--- what it hands out
+-- the effects of an accepted call: the job execution that it makes, the one whose stop it requests, the one
+-- that it abandons, its report of a work item, the job instance that it removes, and whether it claims, so
+-- that its reply hands out a work item
 pub record Effects : Type 0 where
   pub makes : Option Making
   pub stops : Option ℕ
@@ -41,7 +41,7 @@ pub record Effects : Type 0 where
   pub purges : Option ℕ
   pub claims : Bool
 
--- nothing of it
+-- no effects
 abbrev no_effects : Effects
 no_effects = record { makes = None; stops = None; abandons = None; reports = None; purges = None; claims = false }
 
@@ -60,13 +60,13 @@ effects (Lose w) =
     record no_effects { reports = Some record { work = w; counts = zero_step; mark = None; end = Some record { outcome = Failed; exit = None } } }
 effects (Purge i) = record no_effects { purges = Some i }
 
--- what a claim does by its reply: the job execution that it takes up (that of the work item, or the closed one), and the
--- work item that it hands out
+-- the effects of a claim by its reply: the job execution that it takes up (that of the work item, or the
+-- closed one), and the work item that it hands out
 pub record ClaimEffects : Type 0 where
   pub takes_up : Option ℕ
   pub hands_out : Option WorkItem
 
--- nothing of it
+-- no effects of a claim
 abbrev no_claim : ClaimEffects
 no_claim = record { takes_up = None; hands_out = None }
 
@@ -127,11 +127,11 @@ is_end_of w (Some r) = if is_some r.end then r.work == w else false
 abbrev pub ends_work : ℕ → Call → Bool
 ends_work w call = is_end_of w (effects call).reports
 
--- the counts that a report has for this work item
+-- the metric step that a report has for this work item
 abbrev pub counts_for : ℕ → Option Report → Option MetricStep
 counts_for w None = None
 counts_for w (Some r) = if r.work == w then Some r.counts else None
 
--- the counts that a call reports of this work item
+-- the metric step that a call reports of this work item
 abbrev pub counts_reported : ℕ → Call → Option MetricStep
 counts_reported w call = counts_for w (effects call).reports

@@ -1,5 +1,5 @@
--- Purges (this service's own): a job instance exists until a Purge names it, and with it its job executions, their work items
--- and the checkpoints of its steps.
+-- Purges (this service's own). A job instance exists until a Purge names it. So do its job executions, their
+-- work items and the checkpoints of its steps.
 use Rattle.std.specs.List.{list_any}
 use Rattle.std.specs.Prelude.{ℕ, Bool, List}
 use Rattle.batch_history.specs.Lists.{is_at}

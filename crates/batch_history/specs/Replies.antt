@@ -1,4 +1,4 @@
--- What calls are answered after a history.
+-- The replies to calls after a history.
 use Rattle.std.specs.List.{list_any}
 use Rattle.std.specs.Option.{option_map}
 use Rattle.std.specs.Prelude.{Bool, true, false, ℕ, ◌+◌, ◌==◌, ◌&&◌, nat_lt, Option, Some, None, is_some, Result, Ok, Err, List, [], ◌∷◌, find, filter, if◌then◌else◌}
@@ -49,21 +49,22 @@ is_nothing Done = false
 is_nothing Go = false
 is_nothing StopAsked = false
 
--- the first work key that may be run now: in written order, the least partition of its step
+-- the first work key that may be run now, in written order and by rising partition
 abbrev pub first_ready : Value → Option WorkKey
 first_ready (Open (key ∷ ready) busy) = Some key
 first_ready (Open [] busy) = None
 first_ready (IsDone exit) = None
 first_ready (Ended status exit point) = None
 
--- the status of a job execution: ABANDONED once it was abandoned
+-- the batch status of a job execution: ABANDONED after an abandonment
 abbrev pub row_status : ExecutionRow → BatchStatus
 row_status row = if row.abandoned then Abandoned else row.bare
 
 abbrev pub walk_in_rows : Rows → ExecutionRow → Value
 walk_in_rows r row = walk_value r.catalogue r.works row.execution row.job row.plan
 
--- whether there is something to do, by status and walk: it is STARTING, or STARTED with a ready element
+-- whether a job execution of this status and walk has something to do: it is STARTING, or STARTED with a
+-- ready element
 abbrev pub has_something_by : BatchStatus → Value → Bool
 has_something_by Starting value = true
 has_something_by Started value = is_some (first_ready value)
@@ -76,37 +77,37 @@ has_something_by Abandoned value = false
 abbrev pub has_something : Rows → ExecutionRow → Bool
 has_something r row = has_something_by (row_status row) (walk_in_rows r row)
 
--- a reply that is entered, or the refusal where the history is full
+-- a reply that makes an entry, or `RepositoryFull` if the history is full
 abbrev pub accepted : ℕ → ℕ → Reply → Result Reply Refusal
 accepted limit count reply = if nat_lt count limit then Ok reply else Err RepositoryFull
 
--- the refusal, or else the reply
+-- the refusal if there is one, else the reply
 abbrev pub unless : Option Refusal → Result Reply Refusal → Result Reply Refusal
 unless None reply = reply
 unless (Some refusal) reply = Err refusal
 
--- what a worker is to run, a chunk from this checkpoint on
+-- the task for a worker, with a chunk's checkpoint
 abbrev pub work_task : Option (List ℕ) → Option Runnable → WorkTask
 work_task mark (Some (RunsStep (Batchlet artifact))) = BatchletTask artifact
 work_task mark (Some (RunsStep (Chunk reader processor writer count))) = ChunkTask reader processor writer count mark
 work_task mark (Some (RunsDecision artifact)) = DecisionTask artifact
 work_task mark None = DecisionTask []
 
--- what is run for a work key of a job
+-- the task or artifact of a job's work key
 abbrev pub runnable_of_job : Option JobTree → WorkKey → Option Runnable
 runnable_of_job None key = None
 runnable_of_job (Some job) key = runnable_with (all_leaves job.elements) key
 
--- in how many partitions, where it is of a partitioned step
+-- the number of partitions of a work key's step, if it is partitioned
 abbrev pub partitions_of_job : Option JobTree → WorkKey → Option ℕ
 partitions_of_job None key = None
 partitions_of_job (Some job) key = partitions_with (all_leaves job.elements) key
 
--- the number that a work item of a partitioned step names: that of its partition
+-- the partition number that a work item has: `p`, if its step is partitioned
 abbrev pub partition_named : ℕ → Option ℕ → Option ℕ
 partition_named p partitions = option_map (λ n. p) partitions
 
--- the work item of a work key of a job execution
+-- the next work item, of this work key of a job execution
 abbrev pub next_work_item : Rows → ExecutionRow → WorkKey → WorkItem
 next_work_item r row key =
     record {
@@ -119,7 +120,7 @@ next_work_item r row key =
           (runnable_of_job (job_named r.catalogue row.job) key);
     }
 
--- a claim of a job execution hands out its first ready element, or closes it where it has none
+-- a claim of a job execution hands out its first ready element, or closes it if it has none
 abbrev pub claim_reply : Rows → ExecutionRow → Option WorkKey → Reply
 claim_reply r row (Some key) = Work (next_work_item r row key)
 claim_reply r row None = Closed row.execution
@@ -130,7 +131,7 @@ reply_to_claim limit r (Some row) = accepted limit r.count (claim_reply r row (f
 
 -- ---- Restarts (Jakarta Batch 2.1, "JobOperator", restart)
 
--- whether a job execution is a later one of the job instance of another
+-- whether `other` is a later job execution of the job instance of `row`
 abbrev pub is_later_than : ExecutionRow → ExecutionRow → Bool
 is_later_than row other = other.instance == row.instance && nat_lt row.execution other.execution
 
@@ -139,8 +140,8 @@ abbrev pub is_restartable : Option JobTree → Bool
 is_restartable None = false
 is_restartable (Some job) = job.restartable
 
--- why a job execution of this status may not be restarted: a COMPLETED one is at its end, and only a STOPPED or FAILED one
--- of a restartable job goes on
+-- the refusal to restart a job execution of this status. A COMPLETED one is at its end. Only a STOPPED or
+-- FAILED one of a restartable job goes on
 abbrev pub refusal_by_status : Bool → BatchStatus → Option Refusal
 refusal_by_status restartable IsCompleted = Some JobExecutionAlreadyCompleteException
 refusal_by_status restartable IsStopped = if restartable then None else Some JobRestartException
@@ -150,7 +151,7 @@ refusal_by_status restartable Started = Some JobRestartException
 refusal_by_status restartable Stopping = Some JobRestartException
 refusal_by_status restartable Abandoned = Some JobRestartException
 
--- why a job execution may not be restarted: it must be the most recent of its job instance
+-- the refusal to restart a job execution: it must be the most recent of its job instance
 abbrev pub restart_refusal : Rows → ExecutionRow → Option Refusal
 restart_refusal r row =
     if list_any (is_later_than row) r.executions then Some JobExecutionNotMostRecentException
@@ -181,7 +182,7 @@ reply_to_stop limit count (Some row) =
 abbrev pub is_running_in : ℕ → ExecutionRow → Bool
 is_running_in i row = row.instance == i && is_unfinished (row_status row)
 
--- an abandonment is accepted once no job execution of the job instance is unfinished
+-- an abandonment is accepted if no job execution of the job instance is unfinished
 abbrev pub reply_to_abandon : ℕ → Rows → Option ExecutionRow → Result Reply Refusal
 reply_to_abandon limit r None = Err NoSuchJobExecutionException
 reply_to_abandon limit r (Some row) =
@@ -195,12 +196,12 @@ is_stop_requested (Some row) = row.stop
 abbrev pub stop_requested_of : Rows → ℕ → Bool
 stop_requested_of r x = is_stop_requested (find (is_execution x) r.executions)
 
--- why a session may not report of a work item: it must be busy, and the session's own
+-- the refusal of a session's report of a work item: it must be busy, and the session's own
 abbrev pub report_refusal : ℕ → ℕ → WorkState → Option Refusal
 report_refusal who claimer (Over outcome exit) = Some WorkNotRunning
 report_refusal who claimer Busy = if claimer == who then None else Some NotClaimer
 
--- a checkpoint of a chunk is kept, and its worker is told whether a stop was asked for
+-- a checkpoint of a chunk is saved, and the reply says whether a stop was asked for
 abbrev pub go_or_stop : Bool → Reply
 go_or_stop true = StopAsked
 go_or_stop false = Go
@@ -215,7 +216,7 @@ reply_to_checkpoint limit r who None = Err NoSuchWork
 reply_to_checkpoint limit r who (Some row) =
     unless (report_refusal who row.claimer row.state) (reply_to_kept_checkpoint limit r.count (stop_requested_of r row.execution) row.kind)
 
--- a step is STOPPED where a stop of its job execution was accepted
+-- a step may be STOPPED only if a stop of its job execution was accepted
 abbrev pub reply_to_stopped_step : ℕ → ℕ → Bool → Result Reply Refusal
 reply_to_stopped_step limit count true = accepted limit count Done
 reply_to_stopped_step limit count false = Err NotStopping
@@ -237,7 +238,7 @@ reply_to_finish limit r who outcome None = Err NoSuchWork
 reply_to_finish limit r who outcome (Some row) =
     unless (report_refusal who row.claimer row.state) (reply_to_end limit r.count (stop_requested_of r row.execution) row.kind outcome)
 
--- whoever says so, a busy work item is lost
+-- any session may report that a busy work item is lost
 abbrev pub loss_refusal : WorkState → Option Refusal
 loss_refusal Busy = None
 loss_refusal (Over outcome exit) = Some WorkNotRunning
@@ -246,18 +247,18 @@ abbrev pub reply_to_loss : ℕ → ℕ → Option WorkRow → Result Reply Refus
 reply_to_loss limit count None = Err NoSuchWork
 reply_to_loss limit count (Some row) = unless (loss_refusal row.state) (accepted limit count Done)
 
--- whether there is a job instance of this number
+-- whether the job instance of this number exists
 abbrev pub is_instance_there : ℕ → Rows → Bool
 is_instance_there i r = list_any (λ row. row.instance == i) r.instances
 
--- a purge is accepted once no job execution of the job instance is unfinished
+-- a purge is accepted if no job execution of the job instance is unfinished
 abbrev pub reply_to_purge : ℕ → Rows → ℕ → Result Reply Refusal
 reply_to_purge limit r i =
     if is_instance_there i r
     then (if list_any (is_running_in i) r.executions then Err JobExecutionIsRunningException else accepted limit r.count Done)
     else Err NoSuchJobInstanceException
 
--- what a call is answered by these rows
+-- the reply to a call by these rows
 abbrev pub reply_by : ℕ → Rows → ℕ → Call → Result Reply Refusal
 reply_by limit r who (Start job parameters) =
     if is_some (job_named r.catalogue job) then accepted limit r.count (IsExecution (r.last.execution + 1)) else Err JobStartException
@@ -271,6 +272,6 @@ reply_by limit r who (Finish w outcome exit step) = reply_to_finish limit r who 
 reply_by limit r who (Lose w) = reply_to_loss limit r.count (find (is_work w) r.works)
 reply_by limit r who (Purge i) = reply_to_purge limit r i
 
--- THE REPLY: what a call is answered after a history
+-- THE REPLY: the reply to a call after a history
 abbrev pub reply : ℕ → History → ℕ → Call → Result Reply Refusal
 reply limit h who call = reply_by limit (rows h) who call

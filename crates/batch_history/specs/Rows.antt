@@ -1,4 +1,5 @@
--- What a history says: a row for each job instance, job execution and work item that exists, and the checkpoint of each step.
+-- The rows of a history: one for each job instance, job execution and work item that exists, and the
+-- checkpoint of each step.
 use Rattle.std.specs.Option.{option_map}
 use Rattle.std.specs.Prelude.{◌≡◌, ℕ, ◌+◌, ◌==◌, not, Bool, false, Option, Some, None, List, [], ◌∷◌, length, find, filter, reverse, zero, suc, filter_map, if◌then◌else◌}
 use Rattle.batch_history.specs.Checkpoints.{InstanceStep, checkpoint_of}
@@ -17,7 +18,7 @@ use Rattle.walk_rules.specs.declared.facts.Value.{Value}
 use Rattle.job_walk.specs.declared.plan.Plan.{Plan}
 use Rattle.jsl_model.specs.Jobs.{JobTree}
 
--- a history: a catalogue, and the operations that were accepted over it, in the order of their acceptance
+-- a history: a catalogue, and the operations accepted over it, in the order of their acceptance
 pub record History : Type 0 where
   pub catalogue : List JobTree
   pub log : List Entry
@@ -26,8 +27,9 @@ pub record History : Type 0 where
 abbrev pub history : List JobTree → List Entry → History
 history catalogue log = record { catalogue = catalogue; log = log }
 
--- what a history says: its catalogue, how many operations were accepted, the last numbers that were given, a row for each job
--- instance, job execution and work item, by rising number, and the checkpoint of each step of a job instance
+-- the rows of a history: its catalogue, the number of accepted operations, the last numbers given, a row for
+-- each job instance, job execution and work item, by rising number, and the checkpoint of each step of a job
+-- instance
 pub record Rows : Type 0 where
   pub catalogue : List JobTree
   pub count : ℕ
@@ -37,7 +39,7 @@ pub record Rows : Type 0 where
   pub works : List WorkRow
   pub checkpoint : InstanceStep → Option (List ℕ)
 
--- the row of a job execution, with its plan, what is kept of its stop, abandonment and moments, and the value of its walk
+-- the row of a job execution, with its plan, its stop, abandonment and moments, and the value of its walk
 abbrev pub execution_row_with : Made → Plan → Bool → Bool → Option ℕ → Value → Option ℕ → ℕ → ExecutionRow
 execution_row_with m plan stop abandoned start value end updated =
     record {
@@ -56,21 +58,21 @@ execution_row_with m plan stop abandoned start value end updated =
       updated = updated;
     }
 
--- a job execution as it was, but for whether it is abandoned and when an operation was last on it
+-- a job execution as before, except whether it is abandoned and when the last operation was on it
 abbrev pub IsAsBefore : ExecutionRow → ExecutionRow → Type 0
 IsAsBefore before after = after ≡ record before { abandoned = after.abandoned; updated = after.updated }
 
--- the row of job execution x, by where it comes from
+-- the row of job execution x, by its origin
 abbrev pub row_of_origin : List JobTree → List Entry → ℕ → Origin → ExecutionRow
 row_of_origin catalogue past x o =
     execution_row_with (made_as x o) (plan_of catalogue past x) (stop_requested past x) (is_abandoned past x) (start_moment past x)
     (walk_of_execution catalogue past x) (end_moment catalogue past x) (updated_moment past x)
 
--- the row of job execution x, if there is one
+-- the row of job execution x, if it exists
 abbrev pub job_execution : List JobTree → List Entry → ℕ → Option ExecutionRow
 job_execution catalogue past x = option_map (row_of_origin catalogue past x) (origin_of past x)
 
--- so many numbers, from this one on
+-- n numbers, from this one on
 abbrev pub numbers_from : ℕ → ℕ → List ℕ
 numbers_from x zero = []
 numbers_from x (suc n) = x ∷ numbers_from (x + 1) n
@@ -79,7 +81,7 @@ numbers_from x (suc n) = x ∷ numbers_from (x + 1) n
 abbrev pub job_executions : List JobTree → List Entry → List ExecutionRow
 job_executions catalogue past = filter_map (job_execution catalogue past) (numbers_from 1 (job_execution_count past))
 
--- the last numbers that were given: numbers are never given again
+-- the last numbers given: no number is given again
 abbrev pub last_numbers : List Entry → LastNumbers
 last_numbers past =
     record { instance = job_instance_count past; execution = job_execution_count past; work = work_item_count past }
@@ -97,7 +99,7 @@ all_rows catalogue past =
       checkpoint = checkpoint_of past;
     }
 
--- ---- What exists
+-- ---- Existing rows
 
 -- whether it is the job execution of this number
 abbrev pub is_execution : ℕ → ExecutionRow → Bool
@@ -107,7 +109,7 @@ is_execution x row = row.execution == x
 abbrev pub instance_in : List ExecutionRow → ℕ → Option ℕ
 instance_in rows x = option_map (λ row. row.instance) (find (is_execution x) rows)
 
--- whether it is a job instance that is gone
+-- whether it is the number of a job instance that is gone
 abbrev pub is_gone : (ℕ → Bool) → Option ℕ → Bool
 is_gone gone None = false
 is_gone gone (Some i) = gone i

@@ -1,5 +1,6 @@
--- Step executions (Jakarta Batch 2.1, "StepExecution"): a step that is not partitioned has one for each work item; a
--- partitioned one has one in each job execution with work of it, which shows its partitions together.
+-- Step executions (Jakarta Batch 2.1, "StepExecution"). A step that is not partitioned has one for each work
+-- item. A partitioned step has one in each job execution with work of it, which shows its partitions
+-- together.
 use Rattle.std.specs.List.{list_any, list_all}
 use Rattle.std.specs.Option.{option_map, option_and_then}
 use Rattle.std.specs.Prelude.{ℕ, ◌==◌, ◌||◌, ◌&&◌, nat_le, not, Bool, true, false, Option, Some, None, List, [], ◌∷◌, map, find, filter, filter_map, if◌then◌else◌}
@@ -29,7 +30,7 @@ use Rattle.batch_history.specs.declared.rows.WorkState.TheVariants.{Busy, Over}
 
 -- ---- Of one work item
 
--- STARTED until it is over, and then its outcome
+-- the batch status of a work item: STARTED until it is over, and then its outcome
 abbrev pub state_status : WorkState → BatchStatus
 state_status Busy = Started
 state_status (Over outcome exit) = outcome_status outcome
@@ -38,7 +39,7 @@ abbrev pub state_exit : WorkState → Option (List ℕ)
 state_exit Busy = None
 state_exit (Over outcome exit) = Some exit
 
--- the step execution that is one work item
+-- the step execution of one work item
 abbrev pub shown_step : WorkRow → StepExecution
 shown_step row =
     record {
@@ -59,7 +60,7 @@ abbrev pub is_busy : WorkState → Bool
 is_busy Busy = true
 is_busy (Over outcome exit) = false
 
--- whether it came to FAILED
+-- whether a work item is FAILED
 abbrev pub is_failed_outcome : WorkOutcome → Bool
 is_failed_outcome CameFailed = true
 is_failed_outcome CameCompleted = false
@@ -69,7 +70,7 @@ abbrev pub is_failed : WorkState → Bool
 is_failed Busy = false
 is_failed (Over outcome exit) = is_failed_outcome outcome
 
--- whether it came to STOPPED
+-- whether a work item is STOPPED
 abbrev pub is_stopped_outcome : WorkOutcome → Bool
 is_stopped_outcome CameStopped = true
 is_stopped_outcome CameCompleted = false
@@ -79,24 +80,25 @@ abbrev pub is_stopped : WorkState → Bool
 is_stopped Busy = false
 is_stopped (Over outcome exit) = is_stopped_outcome outcome
 
--- a partition of a step is left while it is neither kept by the plan nor handed out
+-- a partition of a step is left if it is neither kept by the plan nor handed out
 abbrev pub is_left : Plan → List ℕ → List WorkRow → ℕ → Bool
 is_left plan step items p = not (is_kept plan (key_of step p)) && not (list_any (λ row. is_at p row.partition) items)
 
--- whether some partition is left of so many
+-- whether a partition of so many is left
 abbrev pub any_left : Plan → List ℕ → List WorkRow → Option ℕ → Bool
 any_left plan step items None = false
 any_left plan step items (Some n) = list_any (is_left plan step items) (numbers_to n)
 
--- the status: STARTED while a partition is busy, or one is left and the job execution is unfinished; then FAILED if a partition
--- is FAILED, else STOPPED if one is STOPPED or left, else COMPLETED
+-- the batch status of a partitioned step: STARTED while a partition is busy, or one is left and the job
+-- execution is unfinished; then FAILED if a partition is FAILED, else STOPPED if one is STOPPED or left, else
+-- COMPLETED
 abbrev pub status_of_partitions : Bool → Bool → List WorkRow → BatchStatus
 status_of_partitions unfinished left items =
     if list_any (λ row. is_busy row.state) items || (left && unfinished) then Started
     else (if list_any (λ row. is_failed row.state) items then Failed
     else (if left || list_any (λ row. is_stopped row.state) items then Stopped else Completed))
 
--- what a step execution has once it is not STARTED: nothing before
+-- a value of a step execution that is there only when it is not STARTED
 abbrev pub once_over : {X : Type 0} → BatchStatus → Option X → Option X
 once_over Started shown = None
 once_over Starting shown = shown
@@ -106,7 +108,7 @@ once_over Failed shown = shown
 once_over Completed shown = shown
 once_over Abandoned shown = shown
 
--- whether one operation is no later than another: work items that did not end come before all others
+-- whether one operation is no later than another: work items that did not end are before all others
 abbrev pub ended_by : Option ℕ → Option ℕ → Bool
 ended_by None later = true
 ended_by (Some m) None = false
@@ -120,9 +122,9 @@ last_ended items = find (λ row. list_all (λ other. ended_by other.ended row.en
 abbrev pub end_of_partitions : Bool → List WorkRow → Option ℕ → Option ℕ
 end_of_partitions left items end = if left then end else option_and_then (λ row. row.end) (last_ended items)
 
--- the step execution of these work items of a partitioned step: it has this status, and once it is not STARTED this end, and the
--- status's name as the exit status, whatever exit status a partition was given; it has the number and the start of the first
--- work item, and the sums of all metrics
+-- the step execution of a partitioned step's work items. It has this status. When it is not STARTED, it has
+-- this end, and the status's name as the exit status, whatever exit status a partition was given. It has the
+-- number and the start of the first work item, and the sums of all metrics
 abbrev pub step_of_partitions : BatchStatus → Option ℕ → List WorkRow → WorkRow → StepExecution
 step_of_partitions status end items first =
     record {
@@ -136,7 +138,8 @@ step_of_partitions status end items first =
       metrics = sum_of_metrics (map (λ row. row.metrics) items);
     }
 
--- the same in a job execution, where a partition is left or none is
+-- the step execution of a partitioned step's work items in a job execution; `left` says whether a partition
+-- is left
 abbrev pub shown_partitions : ExecutionRow → Bool → List WorkRow → WorkRow → StepExecution
 shown_partitions owner left items first =
     step_of_partitions (status_of_partitions (is_unfinished (row_status owner)) left items) (end_of_partitions left items owner.end) items first
@@ -152,21 +155,21 @@ abbrev pub is_first : List WorkRow → WorkRow → Bool
 is_first [] row = false
 is_first (first ∷ rest) row = first.work == row.work
 
--- the step execution of the partitions of a step, with the first of them
+-- the step execution of a step's partitions, at the first of their work items
 abbrev pub partitions_shown : ExecutionRow → Option ℕ → List WorkRow → WorkRow → Option StepExecution
 partitions_shown owner partitions items row =
     if is_first items row
     then Some (shown_partitions owner (any_left owner.plan row.element items partitions) items row)
     else None
 
--- a decision is no step
+-- the step execution, unless the work is a decision
 abbrev pub if_step : WorkKind → Option StepExecution → Option StepExecution
 if_step Batchlet step = step
 if_step Chunk step = step
 if_step Decision step = None
 
--- the step execution that begins with a work item of a job execution of this job, by all its work items: each one of a step
--- that is not partitioned begins one, and the first one of a partitioned step
+-- the step execution that begins with a work item of a job execution of this job. Each work item of a step
+-- that is not partitioned begins one, and so does the first one of a partitioned step
 abbrev pub step_by_partition : Option JobTree → ExecutionRow → List WorkRow → WorkRow → Option ℕ → Option StepExecution
 step_by_partition job owner works row None = Some (shown_step row)
 step_by_partition job owner works row (Some p) =
@@ -179,7 +182,7 @@ step_execution job owner works row = if_step row.kind (step_by_partition job own
 abbrev pub works_of : Rows → ℕ → List WorkRow
 works_of r x = filter (λ row. row.execution == x) r.works
 
--- the step executions of a job execution, in order of their first work items
+-- the step executions of a job execution, in the order of their first work items
 abbrev pub step_executions : Rows → ExecutionRow → List StepExecution
 step_executions r owner =
     filter_map (step_execution (job_named r.catalogue owner.job) owner (works_of r owner.execution)) (works_of r owner.execution)

@@ -1,4 +1,4 @@
--- What is known of the steps and decisions of a job execution, and what its walk comes to (Jakarta Batch 2.1, "Job
+-- The facts of a job execution's steps and decisions, and the value of its walk (Jakarta Batch 2.1, "Job
 -- Specification Language").
 use Rattle.std.specs.Option.{option_map}
 use Rattle.std.specs.Prelude.{ℕ, ◌==◌, ◌&&◌, Bool, true, false, Option, Some, None, List, [], ◌∷◌, find, if◌then◌else◌}
@@ -23,38 +23,38 @@ use Rattle.job_walk.specs.declared.runnable.Runnable.TheVariants.{Step as RunsSt
 use Rattle.jsl_model.specs.Jobs.{JobTree}
 use Rattle.jsl_model.specs.declared.element.Element.{Element}
 
--- the fact about an element whose work item is so far
+-- the fact of an element whose work item has this state
 abbrev pub fact_of_state : WorkState → Fact
 fact_of_state Busy = FactBusy
 fact_of_state (Over outcome exit) = FactOver outcome exit
 
--- whether a work item is that of this work key in job execution x
+-- whether a work item is of this work key in job execution x
 abbrev pub is_work_of : ℕ → WorkKey → WorkRow → Bool
 is_work_of x key row = row.execution == x && is_same_key (work_key row) key
 
--- what is known of a work key by its work item: nothing without one
+-- the fact of a work key by its work item, if there is one
 abbrev pub fact_by_work : Option WorkRow → Fact
 fact_by_work None = FactNothing
 fact_by_work (Some row) = fact_of_state row.state
 
--- what is known of each work key of job execution x by its work items
+-- the fact of each work key of job execution x by its work items
 abbrev pub facts_by_work : ℕ → List WorkRow → WorkKey → Fact
 facts_by_work x works key = fact_by_work (find (is_work_of x key) works)
 
--- what is known of the work keys of job execution x, in the order of its work items
+-- the facts of job execution x's work keys, in the order of its work items
 abbrev pub known_elements : ℕ → List WorkRow → List Known
 known_elements x [] = []
 known_elements x (row ∷ rest) =
     if row.execution == x then record { key = work_key row; fact = fact_of_state row.state } ∷ known_elements x rest else known_elements x rest
 
--- what is known of a work key of what is run, in so many partitions, by the plan and by its work item; a decision is taken anew
--- in each job execution
+-- the fact of a work key of a step in so many partitions, or of a decision, by the plan and by its work item.
+-- A decision is taken anew in each job execution
 abbrev pub runnable_fact : Plan → Option ℕ → WorkKey → Fact → Option Runnable → Fact
 runnable_fact plan partitions key worked (Some (RunsStep task)) = planned_fact plan partitions key worked
 runnable_fact plan partitions key worked (Some (RunsDecision artifact)) = worked
 runnable_fact plan partitions key worked None = FactNothing
 
--- what is known of each work key of a job
+-- the fact of each work key of a job
 abbrev pub planned_facts : Plan → List Leaf → (WorkKey → Fact) → WorkKey → Fact
 planned_facts plan leaves worked key = runnable_fact plan (partitions_with leaves key) key (worked key) (runnable_with leaves key)
 
@@ -72,11 +72,11 @@ first_of_job (Some job) = first_element job.elements
 abbrev pub job_named : List JobTree → List ℕ → Option JobTree
 job_named catalogue name = find (λ job. bytes_eq job.id name) catalogue
 
--- what a job comes to by a plan, and by what its work items tell of its work keys
+-- the value of a job by a plan and by the facts from its work items
 abbrev pub walk_of : Plan → (WorkKey → Fact) → Option JobTree → Value
 walk_of plan worked None = IsDone []
 walk_of plan worked (Some job) = value_of (planned_facts plan (all_leaves job.elements) worked) job.elements plan.from
 
--- what the walk of a job execution of this job comes to by its plan, after this work
+-- the value of the walk of a job execution of this job, by its plan and these work items
 abbrev pub walk_value : List JobTree → List WorkRow → ℕ → List ℕ → Plan → Value
 walk_value catalogue works x job plan = walk_of plan (facts_by_work x works) (job_named catalogue job)

@@ -1,5 +1,5 @@
--- Work items, of which step executions are made (Jakarta Batch 2.1, "StepExecution"): work item w is what the w-th reply of
--- work hands out, and it is busy until a Finish or a Lose names it.
+-- Work items, which make up step executions (Jakarta Batch 2.1, "StepExecution"). The w-th reply of work
+-- hands out work item w. It is busy until a Finish or a Lose names it.
 use Rattle.std.specs.Option.{option_map}
 use Rattle.std.specs.Prelude.{ℕ, ◌≡◌, ◌≢◌, ◌+◌, ◌==◌, Bool, Option, Some, None, unwrap_or, List, [], ◌∷◌, ◌++◌, length, find, map, count_by, if◌then◌else◌}
 use Rattle.batch_history.specs.Lists.{Each}
@@ -23,19 +23,20 @@ use Rattle.batch_ids.specs.declared.metrics.Metrics.{Metrics}
 use Rattle.batch_ids.specs.declared.status.WorkOutcome.{WorkOutcome}
 use Rattle.batch_ids.specs.declared.status.WorkOutcome.TheVariants.{Completed, Failed, Stopped}
 
--- what names a work item inside its job execution: the step or decision, and the partition, 0 where it is not partitioned
+-- the work key of a work item, its name inside its job execution: the step or decision, and the partition, 0
+-- if it is not partitioned
 abbrev pub work_key : WorkRow → WorkKey
 work_key row = record { element = row.element; partition = unwrap_or row.partition 0 }
 
--- the same of a work item as it is handed out
+-- the work key of a work item as it is handed out
 abbrev pub item_key : WorkItem → WorkKey
 item_key item = record { element = item.element; partition = unwrap_or item.partition 0 }
 
--- two work items of one job execution have two work keys
+-- two work items of one job execution have different work keys
 abbrev pub Apart : WorkRow → WorkRow → Type 0
 Apart r s = s.execution ≡ r.execution → work_key s ≢ work_key r
 
--- no work key of a job execution has two of these work items
+-- no two of these work items have one work key of one job execution
 abbrev pub AllApart : List WorkRow → Type 0
 AllApart [] = Unit {0}
 AllApart (r ∷ rs) = Each (Apart r) rs × AllApart rs
@@ -44,7 +45,7 @@ AllApart (r ∷ rs) = Each (Apart r) rs × AllApart rs
 abbrev pub is_work : ℕ → WorkRow → Bool
 is_work w row = row.work == w
 
--- what kind of work a task is
+-- the kind of a task
 abbrev pub work_kind : WorkTask → WorkKind
 work_kind (BatchletTask artifact) = Batchlet
 work_kind (ChunkTask reader processor writer count checkpoint) = Chunk
@@ -67,7 +68,7 @@ busy_work who at item =
       metrics = zero_metrics;
     }
 
--- how many work items there are
+-- the number of work items
 abbrev pub work_item_count : List Entry → ℕ
 work_item_count past = count_by (λ e. hands_out_work e.reply) past
 
@@ -85,15 +86,15 @@ abbrev pub items_handed_out : List Entry → List WorkRow
 items_handed_out [] = []
 items_handed_out (e ∷ older) = items_handed_out older ++ item_handed_out (work_item_count older + 1) e.who e.at e.reply
 
--- the exit status is the outcome's name where none is given
+-- the given exit status, or else the outcome's name
 abbrev pub exit_or_name : WorkOutcome → Option (List ℕ) → List ℕ
 exit_or_name outcome exit = unwrap_or exit (outcome_name outcome)
 
--- the entry that finishes a work item, if there is one
+-- the entry that ends a work item, if there is one
 abbrev pub ending_entry : List Entry → ℕ → Option Entry
 ending_entry past w = find (λ e. ends_work w e.call) past
 
--- the number of the operation that finishes a work item, if there is one
+-- the number of the operation that ends a work item, if there is one
 abbrev pub ending_operation : List Entry → ℕ → Option ℕ
 ending_operation [] w = None
 ending_operation (e ∷ older) w = if ends_work w e.call then Some (length older + 1) else ending_operation older w
@@ -108,43 +109,43 @@ abbrev pub completed_exit : WorkState → Option (List ℕ)
 completed_exit Busy = None
 completed_exit (Over outcome exit) = exit_if_completed outcome exit
 
--- how far a work item is by its end
+-- the state of a work item by its end
 abbrev pub state_ended : Option Ending → WorkState
 state_ended None = Busy
 state_ended (Some end) = Over end.outcome (exit_or_name end.outcome end.exit)
 
--- how far a work item is by a report of it
+-- the state of a work item by a report of it
 abbrev pub state_reported : Option Report → WorkState
 state_reported None = Busy
 state_reported (Some r) = state_ended r.end
 
--- how far a work item is by the call that finishes it
+-- the state of a work item by the call that ends it
 abbrev pub state_by_call : Call → WorkState
 state_by_call call = state_reported (effects call).reports
 
--- how far a work item is by the entry that finishes it: without one it is busy
+-- the state of a work item by the entry that ends it: without one it is busy
 abbrev pub state_by_entry : Option Entry → WorkState
 state_by_entry None = Busy
 state_by_entry (Some e) = state_by_call e.call
 
--- the metrics with what is reported, if something is
+-- the metrics with this metric step added, if there is one
 abbrev pub with_counts : Option MetricStep → Metrics → Metrics
 with_counts None metrics = metrics
 with_counts (Some step) metrics = added metrics step
 
--- the metrics of work item w: the sums over all that is reported of it
+-- the metrics of work item w: the sums of all that is reported of it
 abbrev pub metrics_of : List Entry → ℕ → Metrics
 metrics_of [] w = zero_metrics
 metrics_of (e ∷ older) w = with_counts (counts_reported w e.call) (metrics_of older w)
 
--- what a history says of a work item after it was handed out
+-- the progress of a work item after it was handed out
 pub record Progress : Type 0 where
   pub state : WorkState
   pub end : Option ℕ
   pub ended : Option ℕ
   pub metrics : Metrics
 
--- the progress of a work item by the entry that finishes it and its number, if there is one, and its metrics
+-- the progress of a work item by the entry that ends it, that entry's number, and its metrics
 abbrev pub progress_by : Option Entry → Option ℕ → Metrics → Progress
 progress_by finish number metrics =
     record { state = state_by_entry finish; end = option_map (λ e. e.at) finish; ended = number; metrics = metrics }
@@ -171,17 +172,17 @@ work_items past = map (with_progress_of (progress_of past)) (items_handed_out pa
 abbrev pub execution_of_work : List WorkRow → ℕ → Option ℕ
 execution_of_work works w = option_map (λ row. row.execution) (find (is_work w) works)
 
--- this job execution, or else the other
+-- this job execution if there is one, else the other
 abbrev pub or_else : Option ℕ → Option ℕ → Option ℕ
 or_else None other = other
 or_else (Some x) other = Some x
 
--- the job execution of the work item that is reported of, or else the other
+-- the job execution of the reported work item, or else the other
 abbrev pub reported_or : List WorkRow → Option Report → Option ℕ → Option ℕ
 reported_or works None other = other
 reported_or works (Some r) other = execution_of_work works r.work
 
--- the job execution that an operation is on, beside the one that it makes
+-- the job execution that an operation is on, besides the one that it makes
 abbrev pub execution_of_operation : List WorkRow → Call → Reply → Option ℕ
 execution_of_operation works call reply =
     or_else (effects call).stops (or_else (effects call).abandons (reported_or works (effects call).reports (taken_up call reply)))

@@ -8,8 +8,8 @@ use batch_ids::{
 };
 use job_walk::WorkKey;
 
-/// An operation on the job repository (Jakarta Batch 2.1, "JobOperator"; claim, checkpoint, finish
-/// and lose are this service's own, for its workers, and so is purge).
+/// An operation on the job repository (Jakarta Batch 2.1, "JobOperator"). Claim, checkpoint, finish
+/// and lose are this service's own, for its workers. So is purge.
 #[derive(PartialEq, Eq, Debug, Drop)]
 pub enum Call {
     /// Makes a job instance of this job, and its first job execution.
@@ -31,48 +31,48 @@ pub enum Call {
         /// The job execution.
         execution: ExecutionId,
     },
-    /// Gives a finished job execution up, so that it is ABANDONED.
+    /// Abandons a finished job execution: it becomes ABANDONED.
     Abandon {
         /// The job execution.
         execution: ExecutionId,
     },
     /// Asks for a work item.
     Claim,
-    /// Reports how far the chunk of a work item is.
+    /// Reports the progress of a work item's chunk.
     Checkpoint {
         /// The work item.
         work: WorkId,
-        /// Where its reader goes on after a restart.
+        /// The position from which its reader goes on after a restart.
         mark: Text<65536>,
-        /// What is added to its metrics.
+        /// The metric step that is added to its metrics.
         step: MetricStep,
     },
     /// Ends a work item.
     Finish {
         /// The work item.
         work: WorkId,
-        /// How it ended.
+        /// Its outcome.
         outcome: WorkOutcome,
-        /// The exit status of the step or decision; without one it is the outcome's name.
+        /// The exit status of the step or decision. Without one it is the outcome's name.
         exit: Option<T256>,
-        /// What is added to its metrics.
+        /// The metric step that is added to its metrics.
         step: MetricStep,
     },
-    /// Gives a busy work item up whose worker is gone: it is FAILED, with the exit status `FAILED`.
-    /// Any session may say so.
+    /// Gives up a busy work item whose worker is gone: it is FAILED, with the exit status `FAILED`.
+    /// Any session may do so.
     Lose {
         /// The work item.
         work: WorkId,
     },
-    /// Removes a job instance, none of whose job executions is unfinished, with its job executions,
-    /// their work items and its checkpoints. Their numbers are not given again.
+    /// Removes a job instance with its job executions, their work items and its checkpoints. None
+    /// of the job executions may be unfinished. Their numbers are not given again.
     Purge {
         /// The job instance.
         instance: InstanceId,
     },
 }
 
-/// What a worker runs for a work item.
+/// The task that a worker runs for a work item.
 #[derive(PartialEq, Eq, Debug, Drop)]
 pub enum WorkTask {
     /// The batchlet of a step.
@@ -88,7 +88,7 @@ pub enum WorkTask {
         processor: Option<T256>,
         /// The name of the artifact that writes a group of items.
         writer: T256,
-        /// How many items a group has, from 1.
+        /// The number of items of a group, from 1.
         item_count: u32,
         /// The checkpoint at which the reader begins, if there is one.
         checkpoint: Option<Text<65536>>,
@@ -100,7 +100,7 @@ pub enum WorkTask {
     },
 }
 
-/// What kind of work a work item is.
+/// The kind of a work item.
 #[derive(Clone, Copy, PartialEq, Eq, Debug)]
 pub enum WorkKind {
     /// The batchlet of a step.
@@ -114,36 +114,36 @@ pub enum WorkKind {
 /// One run of a step, of a partition of a step, or of a decision.
 #[derive(PartialEq, Eq, Debug, Drop)]
 pub struct WorkItem {
-    /// Its number, which is the step execution's id where it is a step's; where the step is
-    /// partitioned, that of its first work item in the job execution is.
+    /// Its number. It is the step execution's id if the work item is of a step. The id of a
+    /// partitioned step's step execution is the number of its first work item in the job execution.
     pub work: WorkId,
     /// The job execution that it belongs to.
     pub execution: ExecutionId,
     /// The id of the step or decision.
     pub element: T256,
-    /// Which partition of the step it is, from 0, where the step is partitioned (Jakarta Batch 2.1,
-    /// "Step Partitioning").
+    /// The number of its partition, from 0, if the step is partitioned (Jakarta Batch 2.1, "Step
+    /// Partitioning").
     pub partition: Option<u32>,
-    /// What is to be run.
+    /// The task to run.
     pub task: WorkTask,
 }
 
-/// What an operation is answered.
+/// The reply to an operation.
 #[derive(PartialEq, Eq, Debug, Drop)]
 pub enum Reply {
-    /// The job execution that was made.
+    /// The new job execution.
     Execution(ExecutionId),
     /// A work item to run.
     Work(WorkItem),
-    /// A job execution that was taken up and had nothing to run.
+    /// A job execution that was taken up and has nothing to run.
     Closed(ExecutionId),
-    /// There is nothing to run. This reply makes no entry.
+    /// There is nothing to run. Only this reply makes no entry.
     Nothing,
-    /// It is done.
+    /// The operation is done.
     Done,
-    /// The checkpoint is kept, and the chunk goes on.
+    /// The checkpoint is saved, and the chunk goes on.
     Go,
-    /// The checkpoint is kept, and the job execution was asked to stop.
+    /// The checkpoint is saved, and the job execution was asked to stop.
     StopAsked,
 }
 
@@ -154,18 +154,18 @@ pub struct Entry {
     pub who: u64,
     /// The call.
     pub call: Call,
-    /// The moment that was handed in with it.
+    /// The moment that the caller gave with it.
     pub at: Moment,
-    /// What it was answered.
+    /// The reply to it.
     pub reply: Reply,
 }
 
 impl Call {
-    /// An equal call.
+    /// Returns an equal call.
     ///
     /// # Errors
     ///
-    /// `OutOfMemory` where memory is refused.
+    /// Returns `OutOfMemory` if memory is refused.
     pub fn try_clone(&self) -> Result<Call, OutOfMemory>
         ensures { IfOk result (λ copy. copy ≡ self.now) }
     {
@@ -237,7 +237,7 @@ fn finish_copy(
 }
 
 impl WorkTask {
-    /// What kind of work it is.
+    /// Returns the kind of the task.
     pub fn kind(&self) -> WorkKind
         ensures { result ≡ work_kind self.now }
     {
@@ -248,11 +248,11 @@ impl WorkTask {
         }
     }
 
-    /// An equal task.
+    /// Returns an equal task.
     ///
     /// # Errors
     ///
-    /// `OutOfMemory` where memory is refused.
+    /// Returns `OutOfMemory` if memory is refused.
     pub fn try_clone(&self) -> Result<WorkTask, OutOfMemory>
         ensures { IfOk result (λ copy. copy ≡ self.now) }
     {
@@ -287,11 +287,11 @@ impl WorkTask {
 }
 
 impl WorkItem {
-    /// What names it inside its job execution.
+    /// Returns the work key: the work item's name inside its job execution.
     ///
     /// # Errors
     ///
-    /// `OutOfMemory` where memory is refused.
+    /// Returns `OutOfMemory` if memory is refused.
     pub fn key(&self) -> Result<WorkKey, OutOfMemory>
         ensures { IfOk result (λ key. key ≡ item_key self.now) }
     {
@@ -301,11 +301,11 @@ impl WorkItem {
         })
     }
 
-    /// An equal work item.
+    /// Returns an equal work item.
     ///
     /// # Errors
     ///
-    /// `OutOfMemory` where memory is refused.
+    /// Returns `OutOfMemory` if memory is refused.
     pub fn try_clone(&self) -> Result<WorkItem, OutOfMemory>
         ensures { IfOk result (λ copy. copy ≡ self.now) }
     {
@@ -322,11 +322,11 @@ impl WorkItem {
 }
 
 impl Reply {
-    /// An equal reply.
+    /// Returns an equal reply.
     ///
     /// # Errors
     ///
-    /// `OutOfMemory` where memory is refused.
+    /// Returns `OutOfMemory` if memory is refused.
     pub fn try_clone(&self) -> Result<Reply, OutOfMemory>
         ensures { IfOk result (λ copy. copy ≡ self.now) }
     {
@@ -341,7 +341,7 @@ impl Reply {
         }
     }
 
-    /// Whether it is Nothing, the one reply that makes no entry.
+    /// Checks whether the reply is `Nothing`, the only one that makes no entry.
     pub fn is_nothing(&self) -> bool
         ensures { result ≡ is_nothing self.now }
     {

@@ -1,5 +1,5 @@
-//! Calls, replies, queries and answers of the job repository, and what a history of accepted
-//! operations says of its job instances, job executions and work items.
+//! Calls, replies, queries and answers of the job repository, and the rows of a history of accepted
+//! operations: job instances, job executions and work items.
 #![tactic(auto)]
 
 mod call;

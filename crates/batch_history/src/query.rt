@@ -6,13 +6,13 @@ use batch_ids::{
     BatchStatus, ExecutionId, InstanceId, Listed, Metrics, Moment, Parameters, T256, WorkId,
 };
 
-/// A question to the job repository (Jakarta Batch 2.1, "JobOperator"; the counts of job executions
-/// are this service's own).
+/// A query of the job repository (Jakarta Batch 2.1, "JobOperator"). The counts of job executions
+/// are this service's own.
 #[derive(PartialEq, Eq, Debug, Drop)]
 pub enum Query {
-    /// The names of the jobs that have a job instance, by the least number of one.
+    /// The names of the jobs that have a job instance, by the least job instance number of each.
     JobNames,
-    /// How many job instances a job has.
+    /// The number of a job's job instances.
     JobInstanceCount {
         /// The job's id.
         job: T256,
@@ -21,9 +21,9 @@ pub enum Query {
     JobInstances {
         /// The job's id.
         job: T256,
-        /// How many of the newest are left out.
+        /// The number of the newest ones to leave out.
         start: u64,
-        /// How many there are at most.
+        /// The most job instances to return.
         count: u64,
     },
     /// The unfinished job executions of a job.
@@ -56,7 +56,7 @@ pub enum Query {
         /// The job execution's number.
         execution: ExecutionId,
     },
-    /// How many job executions have each batch status.
+    /// The number of job executions with each batch status.
     StatusCounts,
 }
 
@@ -75,7 +75,7 @@ pub struct JobExecution {
     pub create: Moment,
     /// The moment of the claim that took it up, if one did.
     pub start: Option<Moment>,
-    /// The moment of the first operation after which it was finished, if it is.
+    /// The moment of the first operation after which it was finished, if it is finished.
     pub end: Option<Moment>,
     /// Its exit status, if it is finished.
     pub exit: Option<T256>,
@@ -86,8 +86,7 @@ pub struct JobExecution {
 /// The record of a step execution (Jakarta Batch 2.1, "StepExecution").
 #[derive(PartialEq, Eq, Debug, Drop)]
 pub struct StepExecution {
-    /// Its number, which is that of its work item, or of the first one where the step is
-    /// partitioned.
+    /// Its number: that of its work item, or of the first work item if the step is partitioned.
     pub work: WorkId,
     /// The job execution that it belongs to.
     pub execution: ExecutionId,
@@ -101,35 +100,35 @@ pub struct StepExecution {
     pub end: Option<Moment>,
     /// Its exit status, if it is over.
     pub exit: Option<T256>,
-    /// The sums of all that was reported of it.
+    /// The sums of all metric steps reported of it.
     pub metrics: Metrics,
 }
 
-/// How many job executions have each batch status.
+/// The number of job executions with each batch status.
 #[derive(Clone, Copy, PartialEq, Eq, Debug)]
 pub struct CountsByStatus {
-    /// Those that are STARTING.
+    /// The number of STARTING job executions.
     pub starting: u64,
-    /// Those that are STARTED.
+    /// The number of STARTED job executions.
     pub started: u64,
-    /// Those that are STOPPING.
+    /// The number of STOPPING job executions.
     pub stopping: u64,
-    /// Those that are STOPPED.
+    /// The number of STOPPED job executions.
     pub stopped: u64,
-    /// Those that are FAILED.
+    /// The number of FAILED job executions.
     pub failed: u64,
-    /// Those that are COMPLETED.
+    /// The number of COMPLETED job executions.
     pub completed: u64,
-    /// Those that are ABANDONED.
+    /// The number of ABANDONED job executions.
     pub abandoned: u64,
 }
 
-/// What a question is answered.
+/// The answer to a query.
 #[derive(Debug, Drop)]
 pub enum Answer {
-    /// Names of jobs, by the least number of a job instance of each.
+    /// The names of jobs, by the least job instance number of each.
     JobNames(Listed<T256>),
-    /// A number of job instances.
+    /// The number of job instances.
     JobInstanceCount(u64),
     /// Job instances, the newest first.
     JobInstances(Listed<JobInstance>),
@@ -145,12 +144,12 @@ pub enum Answer {
     JobExecution(JobExecution),
     /// The records of step executions, by rising number.
     StepExecutions(Listed<StepExecution>),
-    /// How many job executions have each batch status.
+    /// The number of job executions with each batch status.
     StatusCounts(CountsByStatus),
 }
 
 impl CountsByStatus {
-    /// No job execution has any status.
+    /// Returns the counts of no job executions.
     pub fn zero() -> CountsByStatus
         ensures { result ≡ no_counts }
     {
@@ -165,7 +164,7 @@ impl CountsByStatus {
         }
     }
 
-    /// Counts a job execution of this status. The caller sees to it that fewer than 2^64 - 1 are
+    /// Counts a job execution of this status. The caller ensures that fewer than 2^64 - 1 are
     /// counted.
     pub fn add(&mut self, status: BatchStatus)
         requires { total self.old + 1 < 2 ^ 64 }
@@ -182,7 +181,8 @@ impl CountsByStatus {
         }
     }
 
-    /// Counts a job execution of this status, which is counted, no more.
+    /// Removes one job execution of this status from the count. The caller ensures that one is
+    /// counted.
     pub fn remove(&mut self, status: BatchStatus)
         requires { 1 ≤ counted status self.old }
         ensures { self.old ≡ with_one_more status self.new }

@@ -21,19 +21,19 @@ pub struct JobInstance {
     pub job: T256,
 }
 
-/// The last number that was given to a job instance, a job execution and a work item, 0 where none
-/// was. A number is given once, also where a purge has removed what had it.
+/// The last numbers given to a job instance, a job execution and a work item, 0 if none was given.
+/// A number is given once, even after a purge has removed its row.
 #[derive(Clone, Copy, PartialEq, Eq, Debug)]
 pub struct LastNumbers {
-    /// That of a job instance.
+    /// The last number of a job instance.
     pub instance: u64,
-    /// That of a job execution.
+    /// The last number of a job execution.
     pub execution: u64,
-    /// That of a work item.
+    /// The last number of a work item.
     pub work: u64,
 }
 
-/// What a repository keeps of a job execution.
+/// A repository's row of a job execution.
 #[derive(Debug, Drop)]
 pub struct ExecutionRow {
     /// Its number.
@@ -42,22 +42,22 @@ pub struct ExecutionRow {
     pub instance: InstanceId,
     /// The job's id.
     pub job: T256,
-    /// The parameters that it was started or restarted with.
+    /// The parameters of its start or restart.
     pub parameters: Parameters,
-    /// Where it begins, and what it takes over from earlier job executions (Jakarta Batch 2.1, "Job
-    /// Restart Processing").
+    /// The element at which it begins, and the state that it takes over from earlier job executions
+    /// (Jakarta Batch 2.1, "Job Restart Processing").
     pub plan: Shared<Plan>,
     /// Whether it was asked to stop.
     pub stop: bool,
     /// Whether it was abandoned.
     pub abandoned: bool,
-    /// Its batch status, abandonment aside.
+    /// Its batch status, apart from abandonment.
     pub bare: BatchStatus,
     /// The moment of the start or restart that made it.
     pub create: Moment,
     /// The moment of the claim that took it up, if one did.
     pub start: Option<Moment>,
-    /// The moment of the first operation after which it was finished, if it is.
+    /// The moment of the first operation after which it was finished, if it is finished.
     pub end: Option<Moment>,
     /// Its exit status, if it is finished.
     pub exit: Option<T256>,
@@ -65,7 +65,7 @@ pub struct ExecutionRow {
     pub updated: Moment,
 }
 
-/// How far a work item is.
+/// The state of a work item.
 #[derive(PartialEq, Eq, Debug, Drop)]
 pub enum WorkState {
     /// It is being run.
@@ -74,7 +74,7 @@ pub enum WorkState {
     Over(WorkOutcome, T256),
 }
 
-/// What a repository keeps of a work item.
+/// A repository's row of a work item.
 #[derive(PartialEq, Eq, Debug, Drop)]
 pub struct WorkRow {
     /// Its number.
@@ -83,42 +83,41 @@ pub struct WorkRow {
     pub execution: ExecutionId,
     /// The id of the step or decision.
     pub element: T256,
-    /// Which partition of the step it is, from 0, where the step is partitioned.
+    /// The number of its partition, from 0, if the step is partitioned.
     pub partition: Option<u32>,
-    /// What kind of work it is.
+    /// The kind of the work item.
     pub kind: WorkKind,
     /// The number of the session that claimed it.
     pub claimer: u64,
-    /// How far it is.
+    /// Its state.
     pub state: WorkState,
-    /// The moment of the claim that was answered with it.
+    /// The moment of the claim that handed it out.
     pub start: Moment,
-    /// The moment of the finish or of the loss that ended it, if it is over.
+    /// The moment of the finish or loss that ended it, if it is over.
     pub end: Option<Moment>,
-    /// Which operation of the history ended it, counted from 1, if it is over.
+    /// The number, from 1, of the operation of the history that ended it, if it is over.
     pub ended: Option<u64>,
-    /// What was reported of it so far.
+    /// The metrics reported of it so far.
     pub metrics: Metrics,
 }
 
-/// What a repository keeps of a step of a job instance, or of a partition of it, that has a
-/// checkpoint.
+/// A repository's row of the checkpoint of a job instance's step, or of a partition of it.
 #[derive(PartialEq, Eq, Debug, Drop)]
 pub struct CheckpointRow {
     /// The job instance.
     pub instance: InstanceId,
     /// The step, or the partition of it.
     pub step: WorkKey,
-    /// Where its reader goes on.
+    /// The position from which its reader goes on.
     pub mark: Text<65536>,
 }
 
 impl JobInstance {
-    /// An equal job instance.
+    /// Returns an equal job instance.
     ///
     /// # Errors
     ///
-    /// `OutOfMemory` where memory is refused.
+    /// Returns `OutOfMemory` if memory is refused.
     pub fn try_clone(&self) -> Result<JobInstance, OutOfMemory>
         ensures { IfOk result (λ copy. copy ≡ self.now) }
     {
@@ -130,7 +129,7 @@ impl JobInstance {
 }
 
 impl ExecutionRow {
-    /// Its batch status: ABANDONED once it was abandoned.
+    /// Returns the batch status, which is ABANDONED after an abandonment.
     pub fn status(&self) -> BatchStatus
         ensures { result ≡ row_status self.now }
     {
@@ -141,11 +140,11 @@ impl ExecutionRow {
         }
     }
 
-    /// The record of it that is shown.
+    /// Returns the record that is shown of the job execution.
     ///
     /// # Errors
     ///
-    /// `OutOfMemory` where memory is refused.
+    /// Returns `OutOfMemory` if memory is refused.
     pub fn record(&self) -> Result<JobExecution, OutOfMemory>
         ensures { IfOk result (λ shown. shown ≡ record_of self.now) }
     {
@@ -166,11 +165,11 @@ impl ExecutionRow {
 }
 
 impl WorkRow {
-    /// The step execution that it is, where its step is not partitioned.
+    /// Returns the step execution of this work item, whose step is not partitioned.
     ///
     /// # Errors
     ///
-    /// `OutOfMemory` where memory is refused.
+    /// Returns `OutOfMemory` if memory is refused.
     pub fn step_execution(&self) -> Result<StepExecution, OutOfMemory>
         ensures { IfOk result (λ shown. shown ≡ shown_step self.now) }
     {
@@ -193,11 +192,11 @@ impl WorkRow {
 }
 
 impl WorkRow {
-    /// What names it inside its job execution.
+    /// Returns the work key: the work item's name inside its job execution.
     ///
     /// # Errors
     ///
-    /// `OutOfMemory` where memory is refused.
+    /// Returns `OutOfMemory` if memory is refused.
     pub fn key(&self) -> Result<WorkKey, OutOfMemory>
         ensures { IfOk result (λ key. key ≡ work_key self.now) }
     {
@@ -209,7 +208,8 @@ impl WorkRow {
 }
 
 impl WorkState {
-    /// The batch status of a step execution whose work item is so far: STARTED until it is over.
+    /// Returns the batch status of a step execution whose work item has this state: STARTED until
+    /// it is over.
     pub fn status(&self) -> BatchStatus
         ensures { result ≡ state_status self.now }
     {

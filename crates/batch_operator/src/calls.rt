@@ -11,15 +11,20 @@ use sessions::Session;
 use std::sync::Wait;
 
 impl<N: Site> Operator<N> {
-    /// Starts a job: makes a job instance and its first job execution (Jakarta Batch 2.1,
-    /// "JobOperator", start). The reply is `Reply::Execution`.
+    /// Starts a job: creates a job instance and its first job execution. The reply is
+    /// `Reply::Execution`. See Jakarta Batch 2.1, "JobOperator", start.
     ///
-    /// It takes time as the catalogue has jobs and the job has elements.
+    /// Costs time proportional to the number of the catalogue's jobs and of the job's elements.
     ///
     /// # Errors
     ///
-    /// `JobStartException` where the catalogue has no such job, then `RepositoryFull`; `OutOfMemory` in
-    /// place of any answer where memory is refused. A refused call changes nothing.
+    /// Returns the first of these that applies:
+    ///
+    /// - `JobStartException` if the catalogue has no such job
+    /// - `RepositoryFull`
+    ///
+    /// Returns `OutOfMemory` instead of any reply if memory is refused. A refused call changes
+    /// nothing.
     pub fn start(
         &self,
         rt: &impl Wait,
@@ -33,19 +38,25 @@ impl<N: Site> Operator<N> {
         self.act(rt, session, Call::Start { job, parameters }, at)
     }
 
-    /// Makes a further job execution of a job instance (Jakarta Batch 2.1, "JobOperator", restart). The
-    /// reply is `Reply::Execution`.
+    /// Restarts a job execution: creates another job execution of its job instance. The reply is
+    /// `Reply::Execution`. See Jakarta Batch 2.1, "JobOperator", restart.
     ///
-    /// It takes time as the job has steps and, for each partition of one, as there are job
-    /// executions with work of it; at the first restart of a job instance, as that has work items.
+    /// Costs time proportional to the number of the job's steps and, for each partition of a step,
+    /// to the number of job executions with work of it. The first restart of a job instance also
+    /// costs time proportional to the number of its work items.
     ///
     /// # Errors
     ///
-    /// In this order: `NoSuchJobExecutionException`; `JobExecutionNotMostRecentException` where it is
-    /// not its instance's most recent one; `JobExecutionAlreadyCompleteException` where it is
-    /// COMPLETED; `JobRestartException` where it is unfinished or ABANDONED, or its job not
-    /// restartable; `RepositoryFull`. `OutOfMemory` in place of any answer where memory is refused. A
-    /// refused call changes nothing.
+    /// Returns the first of these that applies:
+    ///
+    /// - `NoSuchJobExecutionException`
+    /// - `JobExecutionNotMostRecentException` if it isn't the most recent one of its job instance
+    /// - `JobExecutionAlreadyCompleteException` if it is COMPLETED
+    /// - `JobRestartException` if it is unfinished or ABANDONED, or if its job isn't restartable
+    /// - `RepositoryFull`
+    ///
+    /// Returns `OutOfMemory` instead of any reply if memory is refused. A refused call changes
+    /// nothing.
     pub fn restart(
         &self,
         rt: &impl Wait,
@@ -67,16 +78,21 @@ impl<N: Site> Operator<N> {
         )
     }
 
-    /// Asks a job execution to stop (Jakarta Batch 2.1, "JobOperator", stop), and tells all sessions so.
-    /// The reply is `Reply::Done`.
+    /// Asks a job execution to stop, and signals that to all sessions. The reply is `Reply::Done`.
+    /// See Jakarta Batch 2.1, "JobOperator", stop.
     ///
-    /// It takes the time to find its row.
+    /// Costs the time to find the row of the job execution.
     ///
     /// # Errors
     ///
-    /// In this order: `NoSuchJobExecutionException`; `JobExecutionNotRunningException` where it is
-    /// finished; `RepositoryFull`. `OutOfMemory` in place of any answer where memory is refused. A
-    /// refused call changes nothing.
+    /// Returns the first of these that applies:
+    ///
+    /// - `NoSuchJobExecutionException`
+    /// - `JobExecutionNotRunningException` if the job execution is finished
+    /// - `RepositoryFull`
+    ///
+    /// Returns `OutOfMemory` instead of any reply if memory is refused. A refused call changes
+    /// nothing.
     pub fn stop(
         &self,
         rt: &impl Wait,
@@ -89,16 +105,21 @@ impl<N: Site> Operator<N> {
         self.act_on_stop(rt, session, execution, at)
     }
 
-    /// Gives a finished job execution up, so that it is ABANDONED (Jakarta Batch 2.1, "JobOperator",
-    /// abandon). The reply is `Reply::Done`.
+    /// Abandons a finished job execution, so that it is ABANDONED. The reply is `Reply::Done`. See
+    /// Jakarta Batch 2.1, "JobOperator", abandon.
     ///
-    /// It takes the time to find its row.
+    /// Costs the time to find the row of the job execution.
     ///
     /// # Errors
     ///
-    /// In this order: `NoSuchJobExecutionException`; `JobExecutionIsRunningException` where a job
-    /// execution of its instance is unfinished; `RepositoryFull`. `OutOfMemory` in place of any answer
-    /// where memory is refused. A refused call changes nothing.
+    /// Returns the first of these that applies:
+    ///
+    /// - `NoSuchJobExecutionException`
+    /// - `JobExecutionIsRunningException` if a job execution of its job instance is unfinished
+    /// - `RepositoryFull`
+    ///
+    /// Returns `OutOfMemory` instead of any reply if memory is refused. A refused call changes
+    /// nothing.
     pub fn abandon(
         &self,
         rt: &impl Wait,
@@ -111,17 +132,20 @@ impl<N: Site> Operator<N> {
         self.act(rt, session, Call::Abandon { execution }, at)
     }
 
-    /// Asks for work, for a worker to run: the first ready step or decision of the least job execution
-    /// that has something to do. The reply is `Reply::Work`, `Reply::Closed` where a job execution was
-    /// taken up that had nothing to run, or `Reply::Nothing`, which is no operation.
+    /// Claims work for a worker: the first ready step or decision of the lowest-numbered job
+    /// execution that has something to do.
     ///
-    /// It takes the time of `finish`, and time as the catalogue has jobs; where it takes a job
-    /// execution up, as that one's job has elements and partitions.
+    /// The reply is `Reply::Work`, or `Reply::Closed` if the call took up a job execution that had
+    /// nothing to run. It is `Reply::Nothing` if there is no work, and then the call isn't an
+    /// operation.
+    ///
+    /// Costs the time of `finish`, plus time proportional to the number of the catalogue's jobs. If
+    /// it takes up a job execution, the job's elements and partitions add to that.
     ///
     /// # Errors
     ///
-    /// `RepositoryFull`; `OutOfMemory` in place of any answer where memory is refused. A refused call
-    /// changes nothing.
+    /// Returns `RepositoryFull`, or `OutOfMemory` instead of any reply if memory is refused. A
+    /// refused call changes nothing.
     pub fn claim(
         &self,
         rt: &impl Wait,
@@ -133,16 +157,23 @@ impl<N: Site> Operator<N> {
         self.act(rt, session, Call::Claim, at)
     }
 
-    /// Reports how far the chunk of a work item is (Jakarta Batch 2.1, "Checkpoint"). The reply is
-    /// `Reply::Go`, or `Reply::StopAsked` where its job execution was asked to stop.
+    /// Reports the progress of a work item's chunk. The reply is `Reply::Go`, or `Reply::StopAsked`
+    /// if its job execution was asked to stop. See Jakarta Batch 2.1, "Checkpoint".
     ///
-    /// It takes time as its job instance has checkpoints.
+    /// Costs time proportional to the number of checkpoints of the job instance.
     ///
     /// # Errors
     ///
-    /// In this order: `NoSuchWork`; `WorkNotRunning`; `NotClaimer` where another session claimed it;
-    /// `WrongOutcome` where it is no chunk; `RepositoryFull`. `OutOfMemory` in place of any answer where
-    /// memory is refused. A refused call changes nothing.
+    /// Returns the first of these that applies:
+    ///
+    /// - `NoSuchWork`
+    /// - `WorkNotRunning`
+    /// - `NotClaimer` if another session claimed the work item
+    /// - `WrongOutcome` if it isn't a chunk
+    /// - `RepositoryFull`
+    ///
+    /// Returns `OutOfMemory` instead of any reply if memory is refused. A refused call changes
+    /// nothing.
     pub fn checkpoint(
         &self,
         rt: &impl Wait,
@@ -157,20 +188,31 @@ impl<N: Site> Operator<N> {
         self.act(rt, session, Call::Checkpoint { work, mark, step }, at)
     }
 
-    /// Ends a work item with this outcome and exit status; without one it is the outcome's name. The
-    /// reply is `Reply::Done`.
+    /// Ends a work item with this outcome and exit status. Without an exit status, the outcome's
+    /// name is used. The reply is `Reply::Done`.
     ///
-    /// It takes time as there are lists from its element to the job's own, flows of the splits
-    /// among them, and elements that the walk newly passes; if a step is COMPLETED, as its job instance
-    /// has checkpoints; and if the job execution ends, as the number of its job's unfinished job executions
-    /// has binary digits.
+    /// Costs time proportional to the number of these together:
+    ///
+    /// - lists of elements from the work item's own up to the job's
+    /// - flows of the splits among them
+    /// - elements that the walk newly passes
+    ///
+    /// If a step becomes COMPLETED, the job instance's checkpoints add to that. If the job
+    /// execution ends, the binary digits of the number of its job's unfinished job executions do.
     ///
     /// # Errors
     ///
-    /// In this order: `NoSuchWork`; `WorkNotRunning`; `NotClaimer` where another session claimed it;
-    /// `WrongOutcome` where a decision is to be STOPPED; `NotStopping` where a step is to be STOPPED and
-    /// no stop of its job execution was accepted; `RepositoryFull`. `OutOfMemory` in place of any answer
-    /// where memory is refused. A refused call changes nothing.
+    /// Returns the first of these that applies:
+    ///
+    /// - `NoSuchWork`
+    /// - `WorkNotRunning`
+    /// - `NotClaimer` if another session claimed the work item
+    /// - `WrongOutcome` if a decision is to be STOPPED
+    /// - `NotStopping` if a step is to be STOPPED and no stop of its job execution was accepted
+    /// - `RepositoryFull`
+    ///
+    /// Returns `OutOfMemory` instead of any reply if memory is refused. A refused call changes
+    /// nothing.
     pub fn finish(
         &self,
         rt: &impl Wait,
@@ -196,15 +238,21 @@ impl<N: Site> Operator<N> {
         )
     }
 
-    /// Gives a busy work item up whose worker is gone: it is FAILED. Any session may say so. The reply is
-    /// `Reply::Done`.
+    /// Ends a running work item whose worker is gone: it is FAILED. Any session may call this. The
+    /// reply is `Reply::Done`.
     ///
-    /// It takes the time of `finish`.
+    /// Costs the time of `finish`.
     ///
     /// # Errors
     ///
-    /// In this order: `NoSuchWork`; `WorkNotRunning`; `RepositoryFull`. `OutOfMemory` in place of any
-    /// answer where memory is refused. A refused call changes nothing.
+    /// Returns the first of these that applies:
+    ///
+    /// - `NoSuchWork`
+    /// - `WorkNotRunning`
+    /// - `RepositoryFull`
+    ///
+    /// Returns `OutOfMemory` instead of any reply if memory is refused. A refused call changes
+    /// nothing.
     pub fn lose(
         &self,
         rt: &impl Wait,
@@ -218,20 +266,26 @@ impl<N: Site> Operator<N> {
     }
 
     /// Removes a job instance whose job executions are all finished, with its job executions, their
-    /// work items and its checkpoints: from then on no call and no query finds them. Their numbers are
-    /// not given again, and the operations on them stay in the log. Any session may say so. The reply
-    /// is `Reply::Done`. The call is this service's own: Jakarta Batch 2.1 leaves to a job repository
-    /// when it forgets ("JobRepository"), and its `JobOperator` has no such method.
+    /// work items and its checkpoints. From then on, no call and no query finds them. Their numbers
+    /// aren't used again, and the operations on them stay in the log. Any session may call this.
+    /// The reply is `Reply::Done`.
     ///
-    /// It takes time as the job instance has job executions, work items and checkpoints, and as its
-    /// job has job instances.
+    /// The call is this service's own. Jakarta Batch 2.1 leaves it to a job repository when to
+    /// forget a job instance ("JobRepository"), and its `JobOperator` has no such method.
+    ///
+    /// Costs time proportional to the number of the job instance's job executions, work items and
+    /// checkpoints, and of its job's job instances.
     ///
     /// # Errors
     ///
-    /// In this order: `NoSuchJobInstanceException` where there is no such job instance, or none any
-    /// more; `JobExecutionIsRunningException` where a job execution of it is unfinished;
-    /// `RepositoryFull`. `OutOfMemory` in place of any answer where memory is refused. A refused call
-    /// changes nothing.
+    /// Returns the first of these that applies:
+    ///
+    /// - `NoSuchJobInstanceException` if there is no such job instance, or no longer
+    /// - `JobExecutionIsRunningException` if a job execution of it is unfinished
+    /// - `RepositoryFull`
+    ///
+    /// Returns `OutOfMemory` instead of any reply if memory is refused. A refused call changes
+    /// nothing.
     pub fn purge(
         &self,
         rt: &impl Wait,

@@ -1,6 +1,6 @@
 ghost use Rattle.std.specs.Prelude.{◌≡◌, ◌<◌, ◌≤◌, ◌⊎◌, IfSome, IfNone};
 
-/// How many read copies an operator keeps of each kind: 1 to 8.
+/// The number of read copies of each kind that an operator has: 1 to 8.
 #[derive(Clone, Copy, PartialEq, Eq, Debug)]
 pub struct CopyCount {
     count: u64,
@@ -9,7 +9,7 @@ pub struct CopyCount {
 }
 
 impl CopyCount {
-    /// The count, if it is one from 1 to 8.
+    /// Returns this count, or `None` if it isn't between 1 and 8.
     pub fn new(count: u64) -> Option<CopyCount>
         ensures some { IfSome result (λ made. made.count ≡ count) }
         ensures none { IfNone result ((count ≡ 0) ⊎ (8 < count)) }
@@ -20,7 +20,7 @@ impl CopyCount {
         Some(CopyCount { count })
     }
 
-    /// The number, from 1 to 8.
+    /// Returns the number, from 1 to 8.
     pub fn value(self) -> u64
         ensures count { result ≡ self.count }
         ensures some { 0 < result }

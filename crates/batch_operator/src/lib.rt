@@ -1,6 +1,6 @@
-//! The operator of a batch service: many threads start, stop, restart, abandon and inspect jobs,
+//! The operator of a batch service. Many threads start, stop, restart, abandon and inspect jobs,
 //! and claim, report and finish work, over one job repository. Each reply is the one that a
-//! repository of one thread gives after the first operations of one growing history.
+//! single-threaded repository gives after the first operations of one growing history.
 #![tactic(auto)]
 
 mod calls;

@@ -15,26 +15,28 @@ use std::alloc::Global;
 use std::sync::{Mutex, Wait};
 use stop_signals::{look, stop};
 
-/// What the lock keeps: a desk that hosts no read copy.
+/// A desk that hosts no read copy, as the operator's lock guards it.
 #[derive(Drop)]
 pub(crate) struct Kept<N: Site> {
     pub(crate) desk: Desk<N, 1_000_000>,
     ghost alone: { desk.hosted ≡ [] },
 }
 
-/// A job repository that many threads use at once, each by a session of its own. It is lent to
-/// threads by reference, and keeps at most 1,000,000 operations.
+/// A job repository that many threads use at once, each by a session of its own. Threads borrow it,
+/// and it stores at most 1,000,000 operations.
 ///
-/// Each mutation waits for the lock of the book. A query waits for the lock of a read copy, and for the
-/// book's only where that copy is behind what its session has seen. `operations_at_least` and
-/// `stop_seen` wait for nobody.
+/// Each mutation waits for the lock of the book. A query waits for the lock of a read copy. If its
+/// session has seen more than that copy has absorbed, it waits for the book's lock, too.
+/// `operations_at_least` and `stop_seen` take no lock.
 ///
-/// What is kept grows by doubling: for that an operation takes constant time on average, and at worst
-/// as much as the log or the rows are long. A row is looked for first at the place that its number says,
-/// and found by halving if a purge has moved it. The walk of a job
-/// execution is kept from its first operation to its end; where none is kept, since memory for it was
-/// refused, a call makes it, in time as the job has elements and partitions, times what the plan of the
-/// job execution names and its work items. Beside that, each call takes what its own comment says.
+/// The storage grows by doubling. For that, an operation costs constant time on average, and at
+/// worst time proportional to the length of the log or of the rows. A row is looked for first at
+/// the position that its number suggests. If a purge has moved it, a binary search finds it.
+///
+/// The walk of a job execution is stored from its first operation to its end. If memory for it was
+/// refused, a call rebuilds it. That costs time proportional to the number of the job's elements
+/// and partitions, multiplied by the number of the plan's entries and the work items of the job
+/// execution. Each call's own comment states its further costs.
 #[derive(Drop)]
 pub struct Operator<N: Site> {
     pub(crate) desk: Mutex<Kept<N>>,
@@ -47,11 +49,12 @@ pub struct Operator<N: Site> {
 }
 
 impl<N: Site> Operator<N> {
-    /// An operator with an empty history over this catalogue, on the new table that `N` names.
+    /// Returns an operator with an empty history over this catalogue, on the new table that `N`
+    /// names.
     ///
     /// # Errors
     ///
-    /// `OutOfMemory` where memory is refused.
+    /// Returns `OutOfMemory` if memory is refused.
     pub fn new(
         alloc: Global,
         table: SeatTable,
@@ -81,20 +84,20 @@ impl<N: Site> Operator<N> {
         }
     }
 
-    /// Gives up the operator, and the memory that its history and its read copies take. A program that lets it
-    /// run out of scope does the same, and takes longer to be proved.
+    /// Drops the operator, and frees the memory of its history and its read copies. Letting it go
+    /// out of scope does the same, but takes longer to prove.
     pub fn close(self) {
         drop(self);
     }
 
-    /// The table that all its sessions belong to, as `sessions::meet` takes it.
+    /// Returns the table of all its sessions, for `sessions::meet`.
     pub fn table(&self) -> &SeatTable
         ensures { result.now ≡ N.place }
     {
         &self.table
     }
 
-    /// How many read copies it has of each kind.
+    /// Returns the number of read copies of each kind.
     pub fn copies(&self) -> usize
         ensures count { result ≡ self.now.repositories }
         ensures some { 0 < result }
@@ -102,16 +105,17 @@ impl<N: Site> Operator<N> {
         self.repositories.len()
     }
 
-    /// Brings read copy `j` of each kind to the history so far, so that the queries of sessions whose
-    /// number leaves `j` when it is divided by `copies` are answered by it.
+    /// Brings read copy `j` of each kind up to date with the history. These copies answer the
+    /// queries of the sessions whose number modulo `copies` is `j`.
     ///
-    /// It takes the time to enter each operation that the copies lack. It waits for the lock of the book, and
-    /// holds it while it waits for the locks of the copies: a query that reads copy `j` then keeps every
-    /// call waiting until it is answered.
+    /// Costs the time to enter each operation that the copies lack. It waits for the lock of the
+    /// book, and holds that while it waits for the locks of the copies. So a query that reads copy
+    /// `j` delays every call until it is answered.
     ///
     /// # Errors
     ///
-    /// `OutOfMemory` where memory is refused; the copies keep what they have absorbed until then.
+    /// Returns `OutOfMemory` if memory is refused. The copies then have the operations that they
+    /// absorbed before.
     pub fn publish(&self, rt: &impl Wait, j: usize) -> Result<(), OutOfMemory>
         requires { j < self.now.repositories }
     {
@@ -121,12 +125,12 @@ impl<N: Site> Operator<N> {
         self.counts.publish(rt, j, &mut kept.desk, &self.table)
     }
 
-    /// A session that has made no call, and has seen the history so far. It is all that a thread needs,
-    /// beside the operator. It takes no memory.
+    /// Opens a session that has called nothing, and has seen the history so far. A thread needs
+    /// nothing else beside the operator. Allocates nothing.
     ///
     /// # Errors
     ///
-    /// `RepositoryFull` where all session numbers of a `u64` are used.
+    /// Returns `RepositoryFull` if all session numbers of a `u64` are used.
     pub fn open_session(&self, rt: &impl Wait) -> Result<Session<N>, Refusal>
         ensures opened { IfOk result (λ s. (s ≡ new_session s.number s.seen) × IsLegalLog N.place.catalogue s.seen) }
         ensures refused { IfErr result (λ refusal. refusal ≡ Refusal.RepositoryFull) }
@@ -185,7 +189,7 @@ impl<N: Site> Operator<N> {
         self.desk.lock(rt).desk.ask(session, query, &self.table)
     }
 
-    /// The read copy that a session reads: its number, divided by how many copies there are, leaves it.
+    /// Returns the index of the read copy for a session: its number modulo the number of copies.
     pub(crate) fn copy_for(&self, session: &Session<N>) -> usize
         ensures number { result ≡ session.now.number % self.now.repositories }
         ensures within { result < self.now.repositories }
@@ -193,8 +197,9 @@ impl<N: Site> Operator<N> {
         (session.number() % self.repositories.len() as u64) as usize
     }
 
-    /// A count of accepted operations: all that were accepted before the session looks, at least as many
-    /// as it has seen, and as it was shown before. It takes no memory and waits for nobody.
+    /// Returns the number of operations that were accepted so far. It is at least the number that
+    /// the session has seen, and at least any count that it was shown. Allocates nothing, and takes
+    /// no lock.
     pub fn operations_at_least(&self, session: &mut Session<N>) -> u64
         ensures shown { session.new ≡ glanced_at result session.old }
         ensures least { session.old.least ≤ result }
@@ -203,9 +208,9 @@ impl<N: Site> Operator<N> {
         session.operations_at_least(&self.table)
     }
 
-    /// Whether the session finds that a job execution was asked to stop. Where it is true, an accepted
-    /// stop stands in the history, and each later call of this session is answered after it; a false
-    /// says nothing. It takes no memory and waits for nobody.
+    /// Checks whether a job execution was asked to stop, as far as the session can see. If this
+    /// returns true, the history has an accepted stop, and every later call of this session sees
+    /// it. False proves nothing. Allocates nothing, and takes no lock.
     pub fn stop_seen(&self, session: &mut Session<N>, execution: ExecutionId) -> bool
         ensures found { IsTrue result → (rest : _) × (session.new.stops ≡ execution ∷ rest) }
         ensures kept { (rest : _) × (session.new.stops ≡ rest ++ session.old.stops) }

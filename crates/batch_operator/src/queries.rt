@@ -7,31 +7,33 @@ use seat_rules::Site;
 use sessions::Session;
 use std::sync::Wait;
 
-/// Each query is answered after what its session has seen then: what a read copy has absorbed, where
-/// that is at least what the session had seen and was shown, and else the whole history.
+/// A query is answered from a read copy, if that has absorbed at least the operations that the
+/// session has seen or was shown. Otherwise, the whole history answers it. The session has then
+/// seen the operations that the answer takes into account.
 impl<N: Site> Operator<N> {
-    /// The names of the jobs that have a job instance, in the order of the least one of each (Jakarta
-    /// Batch 2.1, "JobOperator", getJobNames).
+    /// Returns the names of the jobs that have a job instance, in the order of each job's
+    /// lowest-numbered one. See Jakarta Batch 2.1, "JobOperator", getJobNames.
     ///
-    /// It takes time as there are job instances, at worst.
+    /// Costs time proportional to the number of job instances at worst.
     ///
     /// # Errors
     ///
-    /// None but `OutOfMemory`, where memory is refused.
+    /// Returns only `OutOfMemory`, if memory is refused.
     pub fn get_job_names(&self, rt: &impl Wait, session: &mut Session<N>) -> Result<Answer, Refusal>
         ensures { IsAnswered N.place.catalogue session.old session.new Query.JobNames result }
     {
         self.ask(rt, session, &Query::JobNames)
     }
 
-    /// How many job instances a job has (Jakarta Batch 2.1, "JobOperator", getJobInstanceCount).
+    /// Returns the number of job instances of a job. See Jakarta Batch 2.1, "JobOperator",
+    /// getJobInstanceCount.
     ///
-    /// It takes the time to find the name.
+    /// Costs the time to find the name.
     ///
     /// # Errors
     ///
-    /// `NoSuchJobException` where the job has no job instance; `OutOfMemory` in place of any answer where memory
-    /// is refused.
+    /// Returns `NoSuchJobException` if the job has no job instance, or `OutOfMemory` instead of any
+    /// answer if memory is refused.
     pub fn get_job_instance_count(
         &self,
         rt: &impl Wait,
@@ -43,15 +45,15 @@ impl<N: Site> Operator<N> {
         self.ask(rt, session, &Query::JobInstanceCount { job })
     }
 
-    /// The job instances of a job, the newest first: at most `count` of them, without the `start` newest
-    /// (Jakarta Batch 2.1, "JobOperator", getJobInstances).
+    /// Returns the job instances of a job, the newest first: at most `count` of them, without the
+    /// `start` newest. See Jakarta Batch 2.1, "JobOperator", getJobInstances.
     ///
-    /// It takes time as there are job instances in the answer.
+    /// Costs time proportional to the number of job instances in the answer.
     ///
     /// # Errors
     ///
-    /// `NoSuchJobException` where the job has no job instance; `OutOfMemory` in place of any answer where memory
-    /// is refused.
+    /// Returns `NoSuchJobException` if the job has no job instance, or `OutOfMemory` instead of any
+    /// answer if memory is refused.
     pub fn get_job_instances(
         &self,
         rt: &impl Wait,
@@ -65,15 +67,15 @@ impl<N: Site> Operator<N> {
         self.ask(rt, session, &Query::JobInstances { job, start, count })
     }
 
-    /// The numbers of the unfinished job executions of a job, rising (Jakarta Batch 2.1, "JobOperator",
-    /// getRunningExecutions).
+    /// Returns the numbers of the unfinished job executions of a job, in ascending order. See
+    /// Jakarta Batch 2.1, "JobOperator", getRunningExecutions.
     ///
-    /// It takes time as there are numbers in the answer.
+    /// Costs time proportional to the number of job executions in the answer.
     ///
     /// # Errors
     ///
-    /// `NoSuchJobException` where the job has no job instance; `OutOfMemory` in place of any answer where memory
-    /// is refused.
+    /// Returns `NoSuchJobException` if the job has no job instance, or `OutOfMemory` instead of any
+    /// answer if memory is refused.
     pub fn get_running_executions(
         &self,
         rt: &impl Wait,
@@ -85,15 +87,15 @@ impl<N: Site> Operator<N> {
         self.ask(rt, session, &Query::RunningExecutions { job })
     }
 
-    /// The parameters that were given to the start or restart of a job execution (Jakarta Batch 2.1,
-    /// "JobOperator", getParameters).
+    /// Returns the parameters that were given to the start or restart of a job execution. See
+    /// Jakarta Batch 2.1, "JobOperator", getParameters.
     ///
-    /// It takes the time to find the row; the answer shares the parameters.
+    /// Costs the time to find the row. The answer shares the parameters.
     ///
     /// # Errors
     ///
-    /// `NoSuchJobExecutionException`; `OutOfMemory` in place of any answer where memory
-    /// is refused.
+    /// Returns `NoSuchJobExecutionException`, or `OutOfMemory` instead of any answer if memory is
+    /// refused.
     pub fn get_parameters(
         &self,
         rt: &impl Wait,
@@ -105,14 +107,15 @@ impl<N: Site> Operator<N> {
         self.ask(rt, session, &Query::Parameters { execution })
     }
 
-    /// The job instance of a job execution (Jakarta Batch 2.1, "JobOperator", getJobInstance).
+    /// Returns the job instance of a job execution. See Jakarta Batch 2.1, "JobOperator",
+    /// getJobInstance.
     ///
-    /// It takes the time to find two rows.
+    /// Costs the time to find two rows.
     ///
     /// # Errors
     ///
-    /// `NoSuchJobExecutionException`; `OutOfMemory` in place of any answer where memory
-    /// is refused.
+    /// Returns `NoSuchJobExecutionException`, or `OutOfMemory` instead of any answer if memory is
+    /// refused.
     pub fn get_job_instance(
         &self,
         rt: &impl Wait,
@@ -124,15 +127,15 @@ impl<N: Site> Operator<N> {
         self.ask(rt, session, &Query::JobInstance { execution })
     }
 
-    /// The records of the job executions of a job instance, the newest first (Jakarta Batch 2.1,
-    /// "JobOperator", getJobExecutions).
+    /// Returns the records of the job executions of a job instance, the newest first. See Jakarta
+    /// Batch 2.1, "JobOperator", getJobExecutions.
     ///
-    /// It takes time as there are job executions in the answer.
+    /// Costs time proportional to the number of job executions in the answer.
     ///
     /// # Errors
     ///
-    /// `NoSuchJobInstanceException`; `OutOfMemory` in place of any answer where memory
-    /// is refused.
+    /// Returns `NoSuchJobInstanceException`, or `OutOfMemory` instead of any answer if memory is
+    /// refused.
     pub fn get_job_executions(
         &self,
         rt: &impl Wait,
@@ -144,14 +147,15 @@ impl<N: Site> Operator<N> {
         self.ask(rt, session, &Query::JobExecutions { instance })
     }
 
-    /// The record of a job execution (Jakarta Batch 2.1, "JobOperator", getJobExecution).
+    /// Returns the record of a job execution. See Jakarta Batch 2.1, "JobOperator",
+    /// getJobExecution.
     ///
-    /// It takes the time to find the row.
+    /// Costs the time to find the row.
     ///
     /// # Errors
     ///
-    /// `NoSuchJobExecutionException`; `OutOfMemory` in place of any answer where memory
-    /// is refused.
+    /// Returns `NoSuchJobExecutionException`, or `OutOfMemory` instead of any answer if memory is
+    /// refused.
     pub fn get_job_execution(
         &self,
         rt: &impl Wait,
@@ -163,16 +167,16 @@ impl<N: Site> Operator<N> {
         self.ask(rt, session, &Query::JobExecution { execution })
     }
 
-    /// The records of the step executions of a job execution, by rising number (Jakarta Batch 2.1,
-    /// "JobOperator", getStepExecutions).
+    /// Returns the records of the step executions of a job execution, in ascending order of their
+    /// numbers. See Jakarta Batch 2.1, "JobOperator", getStepExecutions.
     ///
-    /// It takes time as the job execution has work items, and for each of a partitioned step as
-    /// often again.
+    /// Costs time proportional to the number of the job execution's work items. Each work item of a
+    /// partitioned step costs that much again.
     ///
     /// # Errors
     ///
-    /// `NoSuchJobExecutionException`; `OutOfMemory` in place of any answer where memory
-    /// is refused.
+    /// Returns `NoSuchJobExecutionException`, or `OutOfMemory` instead of any answer if memory is
+    /// refused.
     pub fn get_step_executions(
         &self,
         rt: &impl Wait,
@@ -184,13 +188,13 @@ impl<N: Site> Operator<N> {
         self.ask(rt, session, &Query::StepExecutions { execution })
     }
 
-    /// How many job executions have each batch status.
+    /// Returns the number of job executions with each batch status.
     ///
-    /// It takes constant time.
+    /// Costs constant time.
     ///
     /// # Errors
     ///
-    /// None but `OutOfMemory`, where memory is refused.
+    /// Returns only `OutOfMemory`, if memory is refused.
     pub fn status_counts(&self, rt: &impl Wait, session: &mut Session<N>) -> Result<Answer, Refusal>
         ensures { IsAnswered N.place.catalogue session.old session.new Query.StatusCounts result }
     {

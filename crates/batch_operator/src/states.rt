@@ -11,7 +11,7 @@ use seat_rules::{SeatTable, Site};
 use sessions::Desk;
 use std::alloc::Global;
 
-/// So many repositories over the catalogue, each without an operation.
+/// Returns `copies` repositories over the catalogue, each without operations.
 pub fn repositories_of_nothing(
     alloc: Global,
     catalogue: &Catalogue,
@@ -27,7 +27,7 @@ pub fn repositories_of_nothing(
     Ok(states)
 }
 
-/// So many counts over the catalogue, each of no operation.
+/// Returns `copies` counts over the catalogue, each without operations.
 pub fn counts_of_nothing(
     alloc: Global,
     catalogue: &Catalogue,
@@ -50,7 +50,7 @@ pub struct ReadCopies<N: Site> {
     pub counts: Copies<StatusCounts, N>,
 }
 
-/// Read copies of these states, each with a seat at the desk's table.
+/// Returns read copies of these states, each with a seat at the desk's table.
 pub fn seated<N: Site>(
     alloc: Global,
     repositories: Vec<Repository<1_000_000>>,

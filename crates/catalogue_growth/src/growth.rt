@@ -4,10 +4,10 @@ ghost use Rattle.catalogue_growth.specs.Growth.{IsGrown, IsFirstOther};
 use crate::sameness::is_same_job;
 use jsl_model::{Catalogue, Job};
 
-/// The number of the first job of `kept` that `given` does not have in the same place, counted from
-/// 0. `None` if `given` begins with all jobs of `kept`, each equal.
+/// Returns the number, from 0, of the first job of `kept` that `given` does not have in the same
+/// place. Returns `None` if `given` begins with all jobs of `kept`, each equal.
 ///
-/// It costs time as the jobs of `kept` have elements, and no memory.
+/// The time is proportional to the elements of the jobs of `kept`. It takes no memory.
 pub fn first_other_job(kept: &Catalogue, given: &Catalogue) -> Option<usize>
     ensures grown { IsNone result → IsGrown kept.now given.now }
     ensures other { IfSome result (λ number. IsFirstOther kept.now given.now number) }

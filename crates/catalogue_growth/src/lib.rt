@@ -1,4 +1,4 @@
-//! Whether a catalogue begins with all jobs of another one, each equal.
+//! A check of whether a catalogue begins with all jobs of another one, each equal.
 #![tactic(auto)]
 
 mod growth;

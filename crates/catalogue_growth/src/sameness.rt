@@ -2,9 +2,10 @@ ghost use Rattle.std.specs.Prelude.{◌≡◌, ◌↔◌, IsTrue};
 
 use jsl_model::{Body, Element, Job, SplitFlow, Step, Transition};
 
-/// Whether two jobs are equal: id, restartable, and all elements at all depths.
+/// Checks whether two jobs are equal: their ids, whether they are restartable, and all their
+/// elements at all depths.
 ///
-/// It costs time as the first job has elements, and no memory.
+/// The time is proportional to the elements of the first job. It takes no memory.
 pub fn is_same_job(job: &Job, other: &Job) -> bool
     ensures { IsTrue result ↔ (job.now ≡ other.now) }
 {

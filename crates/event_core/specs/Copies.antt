@@ -5,15 +5,15 @@ use Rattle.seq_repository.specs.Kept.{Kept, StandsFor}
 use Rattle.event_core.specs.Worlds.{State, first}
 use Rattle.event_core.specs.declared.sessions.Seen.{Seen}
 
--- a copy stands for the first operations of a history, as many as it has
+-- a copy represents the first operations of a history, as many as it has
 abbrev pub IsCopy : History → Kept → Type 0
 IsCopy h kept = StandsFor kept (first kept.count h)
 
--- how many operations each copy has
+-- the number of operations that each copy has
 abbrev pub lengths : List Kept → List ℕ
 lengths copies = map (λ kept. kept.count) copies
 
--- each is a copy
+-- each of them is a copy
 abbrev pub AreCopies : History → List Kept → Type 0
 AreCopies h copies = All (IsCopy h) copies
 

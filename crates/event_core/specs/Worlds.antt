@@ -1,4 +1,4 @@
--- The state of a world, and what each event does to it.
+-- The state of a world, and the effect of each event on it.
 use Rattle.std.specs.Prelude.{ℕ, ◌≡◌, ◌≤◌, ◌==◌, min, max, Option, None, Some, Result, List, [], ◌∷◌, All, length, replicate, take, slice_get, slice_set, if◌then◌else◌}
 use Rattle.batch_ids.specs.declared.refusal.Refusal.{Refusal}
 use Rattle.jsl_model.specs.Jobs.{JobTree}
@@ -19,7 +19,8 @@ use Rattle.event_core.specs.declared.sessions.Seen.{Seen}
 
 -- ---- States
 
--- a world: its history, what each session has seen, and how many operations of the history each copy has
+-- a world: its history, the part of it that each session has seen, and the number of operations that each
+-- copy has
 pub record State : Type 0 where
   pub history : History
   pub sessions : List Seen
@@ -34,17 +35,17 @@ empty_world catalogue sessions copies =
       copies = replicate copies 0;
     }
 
--- how many operations a history has
+-- the number of operations in a history
 abbrev pub operations : History → ℕ
 operations h = length h.log
 
--- a history as it was after its first k operations
+-- a history after its first k operations
 abbrev pub first : ℕ → History → History
 first k h = beginning h (take k h.log)
 
--- ---- Steps
+-- ---- Events
 
--- what an event is answered, and the world after it
+-- the outcome of an event, and the world after it
 pub record Step : Type 0 where
   pub outcome : Outcome
   pub after : State
@@ -53,16 +54,16 @@ pub record Step : Type 0 where
 abbrev pub skipped : State → Step
 skipped s = record { outcome = Skipped; after = s }
 
--- the step of an event whose session or copy is there, and else none
+-- the effect of an event whose session or copy exists; otherwise, the event is skipped
 abbrev pub if_there : {A : Type 0} → State → Option A → (A → Step) → Step
 if_there s None step = skipped s
 if_there s (Some there) step = step there
 
--- the world where a session has seen this
+-- the world after a session has seen this
 abbrev pub after_seeing : State → ℕ → Seen → State
 after_seeing s who seen = record s { sessions = with_seen s.sessions who seen }
 
--- a call that was answered this: its session has then seen the whole history
+-- a call with this reply: its session has then seen the whole history
 abbrev pub replied : State → ℕ → Call → ℕ → Seen → Result Reply Refusal → Step
 replied s who call at seen given =
     record {
@@ -71,11 +72,11 @@ replied s who call at seen given =
           (record seen { front = operations (history_after s.history who call at given) });
     }
 
--- how many operations a copy of n has once it took in what it lacks of this many, where there are as many
+-- the number of operations of a copy of n, after it has taken in those that it lacks up to `upto`, or all
 abbrev pub published : History → ℕ → ℕ → ℕ
 published h upto n = max n (min upto (operations h))
 
--- the world where a copy has so many operations
+-- the world after a copy has n operations
 abbrev pub with_copy : State → ℕ → ℕ → State
 with_copy s copy n = record s { copies = slice_set s.copies copy n }
 
@@ -87,7 +88,7 @@ answered_after s who query seen k =
       after = after_seeing s who (record seen { front = k });
     }
 
--- after how many operations a read is answered: those of a copy of n, or all of them where its session has seen more than n
+-- the number of operations that answer a read: the copy's n, or all of them if its session has seen more
 abbrev pub read_after : History → Seen → ℕ → ℕ
 read_after h seen n = if has_seen_no_more seen n then n else operations h
 
@@ -96,7 +97,7 @@ abbrev pub met : State → ℕ → ℕ → Seen → Seen → Step
 met s one other a b =
     record { outcome = Met; after = after_seeing (after_seeing s one (joined a b)) other (joined a b) }
 
--- a session that is shown how many operations there are
+-- a session that is shown the number of operations
 abbrev pub glanced : State → ℕ → Seen → Step
 glanced s who seen =
     record {
@@ -104,7 +105,7 @@ glanced s who seen =
       after = after_seeing s who (record seen { least = operations s.history });
     }
 
--- THE STEP: what an event is answered, and the world after it
+-- THE EFFECT OF AN EVENT: its outcome, and the world after it
 abbrev pub step : State → Event → Step
 step s (Calls who call at) =
     if_there s (seen_by s.sessions who) (λ seen. replied s who call at seen (reply most_operations s.history who call))
@@ -126,21 +127,22 @@ abbrev pub state_after : State → List Event → State
 state_after s [] = s
 state_after s (e ∷ events) = state_after (step s e).after events
 
--- what each of a list of events is answered
+-- the outcomes of a list of events
 abbrev pub outcomes : State → List Event → List Outcome
 outcomes s [] = []
 outcomes s (e ∷ events) = (step s e).outcome ∷ outcomes (step s e).after events
 
--- ---- What is kept
+-- ---- Invariant
 
--- a world's history is legal, and no session has seen more than there is, nor has a copy more
+-- the history of a world is legal, and no session has seen more than there is, nor has a copy more
 pub record IsSound (s : State) : Type 0 where
   pub legal : IsLegal most_operations s.history
   pub fronts : All (λ seen. seen.front ≤ operations s.history) s.sessions
   pub leasts : All (λ seen. seen.least ≤ operations s.history) s.sessions
   pub lengths : All (λ n. n ≤ operations s.history) s.copies
 
--- a Publish that was refused memory: its copy keeps what it took in until then, and all else is as it was
+-- a Publish that was refused memory: its copy has the operations that were entered before, and all else is
+-- unchanged
 pub record IsPublishedInPart (s : State) (copy upto : ℕ) (after : State) : Type 0 where
   pub before : ℕ
   pub there : slice_get s.copies copy ≡ Some before
@@ -149,7 +151,8 @@ pub record IsPublishedInPart (s : State) (copy upto : ℕ) (after : State) : Typ
   pub to : length ≤ published s.history upto before
   pub same : after ≡ with_copy s copy length
 
--- what an event leaves that was refused memory: all is as it was, but for what the copy of a Publish took in until then
+-- the world after an event that was refused memory: unchanged, except for the operations that the copy of a
+-- Publish took in before
 abbrev pub IsCutShort : State → Event → State → Type 0
 IsCutShort s (Calls who call at) after = after ≡ s
 IsCutShort s (Publish copy upto) after = IsPublishedInPart s copy upto after

@@ -8,10 +8,10 @@ use jsl_model::Catalogue;
 use op_log::{Book, Repository};
 use std::alloc::Global;
 
-/// How many operations a history has at most.
+/// The maximum number of operations in a history.
 pub(crate) const LIMIT: u64 = 1_000_000;
 
-/// So many copies of a repository with no operation yet.
+/// Returns `count` copies of a repository without operations.
 pub(crate) fn empty_copies(
     alloc: Global,
     catalogue: &Catalogue,
@@ -28,18 +28,19 @@ pub(crate) fn empty_copies(
     Ok(copies)
 }
 
-/// The copy of this number, if there is one.
+/// Returns the copy with this number, if there is one.
 pub(crate) fn copy_at(copies: &[Repository<LIMIT>], copy: u64) -> Option<&Repository<LIMIT>>
     ensures { option_copied result ≡ slice_get copies.now copy }
 {
     copies.get(copy as usize)
 }
 
-/// Lets a copy take in the operations of the book that it lacks, up to so many.
+/// Enters the book's operations into a copy that lacks them, until it has `upto` or all of them.
 ///
 /// # Errors
 ///
-/// `OutOfMemory`, and then the copy keeps what it took in until then.
+/// Returns `OutOfMemory` if memory is refused. The copy then has the operations that were entered
+/// before.
 pub(crate) fn take_in(
     copy: &mut Repository<LIMIT>,
     book: &Book<LIMIT>,

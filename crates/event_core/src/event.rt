@@ -1,7 +1,7 @@
 use batch_ids::{Moment, Refusal};
 use seq_repository::{Answer, Call, Query, Reply};
 
-/// Something that happens in a world. Sessions are numbered from 1, copies from 0.
+/// An event in a world. Sessions are numbered from 1, copies from 0.
 #[derive(PartialEq, Eq, Debug, Drop)]
 pub enum Event {
     /// A session makes a call.
@@ -10,63 +10,63 @@ pub enum Event {
         who: u64,
         /// The call.
         call: Call,
-        /// The moment that is handed in with it.
+        /// The moment of the call, as its caller gives it.
         at: Moment,
     },
-    /// A copy takes in the operations that it lacks.
+    /// A copy takes in operations that it lacks.
     Publish {
         /// The copy's number.
         copy: u64,
-        /// How many operations it has in the end, where there are as many.
+        /// The number of operations that the copy has afterwards, if the history has as many.
         upto: u64,
     },
-    /// A session asks a copy. Where the copy is behind what the session has seen, the book answers.
+    /// A session queries a copy. If the session has seen more than the copy has, the book answers.
     Read {
         /// The session's number.
         who: u64,
         /// The copy's number.
         copy: u64,
-        /// The question.
+        /// The query.
         query: Query,
     },
-    /// A session asks the book.
+    /// A session queries the book.
     Ask {
         /// The session's number.
         who: u64,
-        /// The question.
+        /// The query.
         query: Query,
     },
-    /// Two sessions tell each other what they have seen.
+    /// Two sessions exchange the operations that they have seen.
     Meet {
-        /// The number of the one.
+        /// The number of one session.
         one: u64,
-        /// The number of the other.
+        /// The number of the other session.
         other: u64,
     },
-    /// A session looks how many operations there are.
+    /// A session reads the number of operations.
     Glance {
         /// The session's number.
         who: u64,
     },
 }
 
-/// What an event is answered.
+/// The outcome of an event.
 #[derive(Debug, Drop)]
 pub enum Outcome {
-    /// The reply or the refusal of a call.
+    /// The reply to a call, or its refusal.
     Replied(Result<Reply, Refusal>),
-    /// The answer or the refusal of a query.
+    /// The answer to a query, or its refusal.
     Answered(Result<Answer, Refusal>),
-    /// A copy took in what it lacked.
+    /// A copy took in operations that it lacked.
     Published {
-        /// How many operations it has now.
+        /// The number of operations that the copy has now.
         length: u64,
     },
     /// Two sessions met.
     Met,
-    /// A session looked.
+    /// A session read the number of operations.
     Count {
-        /// How many operations there are.
+        /// The number of operations.
         n: u64,
     },
     /// The event names a session or a copy that doesn't exist, or a session meets itself. Nothing

@@ -1,6 +1,6 @@
-//! The core of a job repository that several sessions share: what each of a list of events is
-//! answered, with no threads and no locks. Sessions call and ask, copies lag behind the history, and
-//! sessions tell each other what they have seen.
+//! The core of a job repository that several sessions share, without threads or locks: it computes
+//! the outcomes of a list of events. Sessions make calls and queries, copies lag behind the
+//! history, and sessions exchange the operations that they have seen.
 #![tactic(auto)]
 
 mod copies;

@@ -5,17 +5,19 @@ use batch_ids::OutOfMemory;
 use std::alloc::Global;
 use std::marker::Model;
 
-/// What a session has seen of the history.
+/// The part of the history that a session has seen.
 #[derive(Clone, Copy, PartialEq, Eq, Debug)]
 pub struct Seen {
-    /// Of how many operations its last reply or answer told, or that of a session that it met.
+    /// The number of operations up to the session's last reply or answer, or up to that of a
+    /// session that it met.
     pub front: u64,
-    /// The greatest count of operations that it was shown, by its own glances or by a meeting.
+    /// The greatest count of operations that the session was shown, by its own glances or by a
+    /// meeting.
     pub least: u64,
 }
 
 impl Seen {
-    /// What two sessions have seen that met: all that either had.
+    /// Returns the part that either of two sessions has seen, which both have seen after a meeting.
     pub(crate) fn joined(self, other: Seen) -> Seen
         ensures { result ≡ joined self other }
     {
@@ -25,7 +27,7 @@ impl Seen {
         }
     }
 
-    /// Whether the session has seen no more than so many operations.
+    /// Checks whether the session has seen and was shown at most `n` operations.
     pub(crate) fn has_seen_no_more(self, n: u64) -> bool
         ensures { result ≡ has_seen_no_more self n }
     {
@@ -33,7 +35,7 @@ impl Seen {
     }
 }
 
-/// What each session has seen. Contracts see the list, session 1 first.
+/// The part of the history that each session has seen. Contracts see the list, from session 1 on.
 #[derive(Debug, Drop)]
 pub(crate) struct Sessions {
     seen: Vec<Seen>,
@@ -49,7 +51,7 @@ impl Model for Sessions {
 }
 
 impl Sessions {
-    /// So many sessions that have seen nothing.
+    /// Returns `count` sessions that have seen nothing.
     pub(crate) fn new(alloc: Global, count: u64) -> Result<Sessions, OutOfMemory>
         ensures { IfOk result (λ made. made ≡ replicate count nothing_seen) }
     {
@@ -58,7 +60,7 @@ impl Sessions {
         Ok(Sessions { seen })
     }
 
-    /// What the session of this number has seen, if there is one.
+    /// Returns the part that the session with this number has seen, if there is such a session.
     pub(crate) fn seen_by(&self, who: u64) -> Option<Seen>
         ensures { result ≡ seen_by self.now who }
     {
@@ -68,7 +70,7 @@ impl Sessions {
         self.seen.get((who - 1) as usize).copied()
     }
 
-    /// Puts down what a session has seen now.
+    /// Sets the part that a session has seen.
     pub(crate) fn set(&mut self, who: u64, seen: Seen)
         requires { IsSome (seen_by self.old who) }
         ensures { self.new ≡ with_seen self.old who seen }

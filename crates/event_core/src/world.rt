@@ -14,12 +14,12 @@ use op_log::{Answer, Book, Call, Query, Reply, Repository};
 use std::alloc::{AllocError, Global};
 use std::marker::Model;
 
-/// A job repository of at most 1,000,000 operations, with sessions that call and ask, and copies
-/// that lag behind it. Contracts see its history, what each session has seen, and how many
-/// operations each copy has.
+/// A job repository of at most 1,000,000 operations, with sessions that make calls and queries, and
+/// copies that lag behind it. Contracts see its history, the part that each session has seen, and
+/// the number of operations that each copy has.
 ///
-/// It keeps by its type that the history is legal, that no session has seen more of it than there
-/// is, and that each copy stands for the first operations of it, as many as the copy has.
+/// Its invariant says that the history is legal, and that no session has seen more operations than
+/// there are. Each copy represents the first operations of the history, as many as the copy has.
 #[derive(Debug, Drop)]
 pub struct World {
     book: Book<LIMIT>,
@@ -43,15 +43,15 @@ impl Model for World {
 }
 
 impl World {
-    /// A world before the first event: an empty history over this catalogue, so many sessions that
-    /// have seen nothing, and so many copies that have no operation.
+    /// Returns a world before the first event. It has an empty history over this catalogue,
+    /// `sessions` sessions that have seen nothing, and `copies` copies without operations.
     ///
-    /// It copies the catalogue once for each copy. All memory that the world takes later comes from
+    /// The catalogue is copied once for each copy. The world allocates all later memory from
     /// `alloc`.
     ///
     /// # Errors
     ///
-    /// `OutOfMemory` alone.
+    /// Returns only `OutOfMemory`, if memory is refused.
     pub fn new(
         alloc: Global,
         catalogue: Catalogue,
@@ -69,17 +69,17 @@ impl World {
         })
     }
 
-    /// Lets an event happen, and tells what it is answered.
+    /// Lets an event happen, and returns its outcome.
     ///
-    /// A call or a query costs what it costs the book or the copy that answers it. A Publish enters
-    /// each operation that its copy lacks, one after the other. A meeting and a glance cost the same
-    /// however many operations there are.
+    /// A call costs as much as it costs the book. A query costs as much as it costs the book or
+    /// copy that answers it. A Publish enters each operation that its copy lacks. A meeting and a
+    /// glance cost the same for any number of operations.
     ///
     /// # Errors
     ///
-    /// `OutOfMemory` alone, in place of any outcome. The history, the sessions and the copies are
-    /// then as they were, but for a Publish, whose copy keeps the operations that it took in until
-    /// then.
+    /// Returns only `OutOfMemory`, instead of any outcome, if memory is refused. The history, the
+    /// sessions and the copies are then unchanged. There is one exception: the copy of a Publish
+    /// has the operations that were entered before.
     pub fn step(&mut self, event: &Event) -> Result<Outcome, OutOfMemory>
         ensures step { IfOk result (λ outcome. step self.old event.now
             ≡ record { outcome = outcome; after = self.new }) }
@@ -95,7 +95,7 @@ impl World {
         }
     }
 
-    /// A session makes a call.
+    /// Lets a session make a call.
     fn call(&mut self, who: u64, call: &Call, at: Moment) -> Result<Outcome, OutOfMemory>
         ensures step { IfOk result (λ outcome. step self.old (Event.Call who call.now at)
             ≡ record { outcome = outcome; after = self.new }) }
@@ -110,7 +110,7 @@ impl World {
         Ok(Outcome::Replied(replied))
     }
 
-    /// A copy takes in what it lacks.
+    /// Lets a copy take in operations that it lacks.
     fn publish(&mut self, copy: u64, upto: u64) -> Result<Outcome, OutOfMemory>
         ensures step { IfOk result (λ outcome. step self.old (Event.Publish copy upto)
             ≡ record { outcome = outcome; after = self.new }) }
@@ -126,7 +126,7 @@ impl World {
         })
     }
 
-    /// A session asks a copy, or the book where the copy is behind what the session has seen.
+    /// Lets a session query a copy, or the book if the session has seen more than the copy has.
     fn read(&mut self, who: u64, copy: u64, query: &Query) -> Result<Outcome, OutOfMemory>
         ensures step { IfOk result (λ outcome. step self.old (Event.Read who copy query.now)
             ≡ record { outcome = outcome; after = self.new }) }
@@ -147,7 +147,7 @@ impl World {
         Ok(Outcome::Answered(answered))
     }
 
-    /// A session asks the book.
+    /// Lets a session query the book.
     fn ask(&mut self, who: u64, query: &Query) -> Result<Outcome, OutOfMemory>
         ensures step { IfOk result (λ outcome. step self.old (Event.Ask who query.now)
             ≡ record { outcome = outcome; after = self.new }) }
@@ -162,7 +162,7 @@ impl World {
         Ok(Outcome::Answered(answered))
     }
 
-    /// Two sessions tell each other what they have seen.
+    /// Lets two sessions exchange the operations that they have seen.
     fn meet(&mut self, one: u64, other: u64) -> Outcome
         ensures { step self.old (Event.Meet one other) ≡ record { outcome = result; after = self.new } }
     {
@@ -181,7 +181,7 @@ impl World {
         Outcome::Met
     }
 
-    /// A session looks how many operations there are.
+    /// Lets a session read the number of operations.
     fn glance(&mut self, who: u64) -> Outcome
         ensures { step self.old (Event.Glance who) ≡ record { outcome = result; after = self.new } }
     {
@@ -194,7 +194,9 @@ impl World {
     }
 }
 
-/// What the book answers a call, where memory is not refused.
+/// Returns the book's reply to a call, or its refusal.
+///
+/// Returns `OutOfMemory` as an error of its own if memory is refused.
 fn act(
     book: &mut Book<LIMIT>,
     who: u64,
@@ -209,7 +211,7 @@ fn act(
     told(book.act(who, call.try_clone()?, at))
 }
 
-/// What was told, where memory was not refused.
+/// Separates the refusal `OutOfMemory`, as an error of its own, from all other results.
 fn told<R>(given: Result<R, Refusal>) -> Result<Result<R, Refusal>, OutOfMemory>
     ensures due { (due : Result R Refusal) → IsDue given due → IfOk result (λ told. told ≡ due) }
     ensures given { IfOk result (λ told. told ≡ given) }
@@ -222,16 +224,18 @@ fn told<R>(given: Result<R, Refusal>) -> Result<Result<R, Refusal>, OutOfMemory>
     }
 }
 
-/// What each of these events is answered, from a world before the first event: an empty history
-/// over this catalogue, so many sessions (numbered from 1) and so many copies (numbered from 0).
+/// Returns the outcomes of these events, from a world before the first event. It has an empty
+/// history over this catalogue, `sessions` sessions (numbered from 1) and `copies` copies (numbered
+/// from 0).
 ///
-/// The outcomes follow one growing history: each reply is that of the whole history so far, each
-/// answer that of some first operations of it, no fewer than the session had seen, and each session's
-/// accepted calls stand in it in order. It costs what the events cost one after the other.
+/// The outcomes follow one growing history. Each reply follows from the whole history so far. Each
+/// answer follows from some first operations of it, at least as many as the session had seen. Each
+/// session's accepted calls are in the history in their order. The cost is the sum of the events'
+/// costs.
 ///
 /// # Errors
 ///
-/// `OutOfMemory` alone, in place of all outcomes.
+/// Returns only `OutOfMemory`, instead of all outcomes, if memory is refused.
 #[tactic(auto, using(crate::proofs::Following::follow_one_history))]
 pub fn run(
     alloc: Global,
@@ -250,7 +254,7 @@ pub fn run(
     outcomes
 }
 
-/// What each of these events is answered, from this world on.
+/// Returns the outcomes of these events in this world.
 fn outcomes_of(
     alloc: Global,
     world: &mut World,

@@ -1,4 +1,4 @@
--- What every legal history keeps, in the words of its subject.
+-- The laws of every legal history.
 use Rattle.std.specs.Prelude.{ℕ, ◌≡◌, ◌⊎◌, ◌≤◌, ◌+◌, ◌==◌, ◌<◌, Bool, true, false, Option, None, Some, is_some, not, List, [], ◌∷◌, ◌++◌, filter, find, map, reverse, if◌then◌else◌}
 use Rattle.batch_ids.specs.Parameters.{Pair}
 use Rattle.batch_ids.specs.Statuses.{is_unfinished}
@@ -32,13 +32,13 @@ use Rattle.batch_history.specs.Statuses.{is_finished}
 use Rattle.batch_history.specs.Walks.{job_named, walk_value}
 use Rattle.batch_history.specs.Works.{item_key, is_work, work_key, work_items, work_item_count}
 
--- the history as it was after its first operations
+-- the history of only its first operations
 abbrev pub beginning : History → List Entry → History
 beginning h before = history h.catalogue before
 
--- ---- What stands in the log
+-- ---- Rows of the log
 
--- the record of a job execution, if it was made
+-- the row of a job execution, if it was made
 abbrev pub row_in : History → ℕ → Option ExecutionRow
 row_in h x = job_execution h.catalogue (reverse h.log) x
 
@@ -50,7 +50,7 @@ works_in h = work_items (reverse h.log)
 abbrev pub work_in : History → ℕ → Option WorkRow
 work_in h w = find (is_work w) (works_in h)
 
--- what the walk of a job execution comes to, by its plan and the work items
+-- the value of a job execution's walk, by its plan and the work items
 abbrev pub walk_in : History → ExecutionRow → Value
 walk_in h row = walk_value h.catalogue (works_in h) row.execution row.job row.plan
 
@@ -58,16 +58,16 @@ walk_in h row = walk_value h.catalogue (works_in h) row.execution row.job row.pl
 abbrev pub has_something_in : History → ExecutionRow → Bool
 has_something_in h row = has_something_by (row_status row) (walk_in h row)
 
--- ---- A job execution that is over
+-- ---- Finished job executions
 
--- it is over, and as it was
+-- a job execution is finished, and its row is as before
 pub record StaysFinished (h : History) (x : ℕ) (before : ExecutionRow) : Type 0 where
   pub after : ExecutionRow
   pub found : row_in h x ≡ Some after
   pub finished : is_finished (row_status after) ≡ true
   pub same : IsAsBefore before after
 
--- it came to its end by an operation at this moment, and was not over before
+-- an operation at this moment finished the job execution, which was unfinished before
 pub record EndedAt (h : History) (x t : ℕ) : Type 0 where
   pub before : List Entry
   pub entry : Entry
@@ -81,16 +81,16 @@ pub record EndedAt (h : History) (x t : ℕ) : Type 0 where
 
 -- ---- Work
 
--- what is run for a work key of the job of a job execution
+-- the task or artifact of a work key, in the job of a job execution
 abbrev pub run_for : History → ExecutionRow → WorkKey → Option Runnable
 run_for h row key = runnable_of_job (job_named h.catalogue row.job) key
 
--- in how many partitions, where it is of a partitioned step
+-- the number of partitions of a work key's step, if it is partitioned
 abbrev pub partitions_for : History → ExecutionRow → WorkKey → Option ℕ
 partitions_for h row key = partitions_of_job (job_named h.catalogue row.job) key
 
--- the job execution of a work item: it was taken up, and goes on while the work item is busy; the work item is of a step or a
--- decision of its job, and names a partition exactly where that step is partitioned
+-- the job execution of a work item was taken up, and is unfinished while the work item is busy. The work item
+-- is of a step or a decision of its job, and names a partition exactly if that step is partitioned
 pub record BelongsTo (h : History) (work : WorkRow) : Type 0 where
   pub owner : ExecutionRow
   pub found : row_in h work.execution ≡ Some owner
@@ -103,9 +103,9 @@ pub record BelongsTo (h : History) (work : WorkRow) : Type 0 where
 abbrev pub checkpoint_in : History → ExecutionRow → WorkKey → Option (List ℕ)
 checkpoint_in h row key = checkpoint_of (reverse h.log) record { instance = row.instance; step = key }
 
--- a work item is the first ready work key of the job execution with the least number that has something to do, of a step or
--- a decision of its job; the walk goes by the plan of the job execution, a chunk goes on from the checkpoint of its step or
--- partition, and a partition is named exactly where the step is partitioned
+-- a work item is the first ready work key of the least job execution that has something to do, and is of a
+-- step or a decision of its job. The walk follows the plan of the job execution, and a chunk goes on from the
+-- checkpoint of its step or partition. A partition is named exactly if the step is partitioned
 pub record WasReady (h : History) (item : WorkItem) : Type 0 where
   pub owner : ExecutionRow
   pub found : row_in h item.execution ≡ Some owner
@@ -125,7 +125,7 @@ pub record IsOpen (plan : Plan) (key : WorkKey) : Type 0 where
   pub unkept : is_kept plan key ≡ false
   pub unbarred : is_among plan.barred key.element ≡ false
 
--- where a work item is of a step, its job execution neither carries nor bars that, nor keeps its partition
+-- if a work item is of a step, its job execution neither carries nor bars that step, nor keeps its partition
 pub record IsOfOpenStep (h : History) (item : WorkItem) : Type 0 where
   pub owner : ExecutionRow
   pub found : row_in h item.execution ≡ Some owner
@@ -165,15 +165,15 @@ HasOneUnfinishedEach h =
 abbrev pub works_of_instance_in : History → ℕ → List WorkRow
 works_of_instance_in h i = filter (λ work. is_at i (instance_of_execution (reverse h.log) work.execution)) (works_in h)
 
--- the plan that a restart of a job execution gives: it begins at the restart point, and what is carried, kept and barred
--- follows from the work items of the job instance
+-- the plan of a restart of a job execution. It begins at the restart point. Its carried steps, kept
+-- partitions and barred steps follow from the work items of the job instance
 abbrev pub plan_again_in : History → ExecutionRow → Plan
 plan_again_in h row =
     plan_by (restart_point (is_some row.start) (walk_in h row) row.plan.from) (works_of_instance_in h row.instance)
     (job_named h.catalogue row.job)
 
--- what a restart makes: a job execution of the job instance and the job of the one that it names, with the plan of a
--- restart of that one
+-- a restart makes a job execution of the job instance and the job of the one that it names, with the plan of
+-- a restart of that one
 pub record FollowsFrom (h : History) (e : Entry) (y x : ℕ) : Type 0 where
   pub named : ExecutionRow
   pub found : row_in h y ≡ Some named
@@ -183,7 +183,7 @@ pub record FollowsFrom (h : History) (e : Entry) (y x : ℕ) : Type 0 where
   pub job : row.job ≡ named.job
   pub plan : row.plan ≡ plan_again_in h named
 
--- a job execution goes by the plan that it had
+-- a job execution has its earlier plan
 pub record KeepsPlan (h : History) (x : ℕ) (before : ExecutionRow) : Type 0 where
   pub after : ExecutionRow
   pub found : row_in h x ≡ Some after
@@ -191,7 +191,7 @@ pub record KeepsPlan (h : History) (x : ℕ) (before : ExecutionRow) : Type 0 wh
 
 -- ---- Job instances and names
 
--- the job instance of a job execution, and it is of the same job
+-- the job instance of a job execution is of the same job
 pub record HasInstance (h : History) (row : ExecutionRow) : Type 0 where
   pub instance : JobInstance
   pub found : find (λ i. i.instance == row.instance) (job_instances (reverse h.log)) ≡ Some instance
@@ -201,7 +201,7 @@ pub record HasInstance (h : History) (row : ExecutionRow) : Type 0 where
 abbrev pub instances_in : History → List JobInstance
 instances_in h = instances_there (is_purged (reverse h.log)) (job_instances (reverse h.log))
 
--- their names, each once, in the order of the first ones
+-- the names of their jobs, each once, in the order of their first job instances
 abbrev pub names_of : List JobInstance → List (List ℕ)
 names_of instances = distinct (map (λ i. i.job) instances)
 
@@ -209,11 +209,11 @@ names_of instances = distinct (map (λ i. i.job) instances)
 abbrev pub names_in : History → List (List ℕ)
 names_in h = names_of (instances_in h)
 
--- the job instances but for this one
+-- the job instances except this one
 abbrev pub instances_but : ℕ → List JobInstance → List JobInstance
 instances_but i instances = filter (λ row. not (row.instance == i)) instances
 
--- the names with that of a job whose job instance is begun: a job that has none comes last
+-- the names after a job instance is begun: the name of a job that had none is added at the end
 abbrev pub with_begun : List (List ℕ) → Option Making → List (List ℕ)
 with_begun names None = names
 with_begun names (Some (begins job parameters)) = if is_among names job then names else names ++ job ∷ []

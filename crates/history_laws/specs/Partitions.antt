@@ -1,5 +1,5 @@
--- Partitioned steps (Jakarta Batch 2.1, "Step Partitioning") by the numbers of job executions: which of them are done with such a
--- step, and which of its partitions each one keeps.
+-- Partitioned steps (Jakarta Batch 2.1, "Step Partitioning") by the numbers of job executions: the job
+-- executions that are done with such a step, and the partitions that each one keeps.
 use Rattle.std.specs.List.{list_any, flat_map}
 use Rattle.std.specs.Prelude.{ℕ, ◌≡◌, ◌⊎◌, ◌≤◌, ◌<◌, ◌==◌, Bool, true, false, Option, None, Some, List, [], map, filter}
 use Rattle.jsl_model.specs.Jobs.{JobTree}
@@ -16,7 +16,8 @@ use Rattle.history_laws.specs.Laws.{works_of_instance_in}
 abbrev pub works_of_step_in : History → ℕ → List ℕ → List WorkRow
 works_of_step_in h i step = works_of_step step (works_of_instance_in h i)
 
--- whether job execution x keeps this partition of a step of n partitions that has these work items in its job instance
+-- whether job execution x keeps this partition of a step of n partitions, which has these work items in its
+-- job instance
 abbrev pub is_kept_in : ℕ → List WorkRow → ℕ → ℕ → Bool
 is_kept_in n works x p = is_kept_after (done_executions n (works_before x works)) (works_before x works) p
 
@@ -24,8 +25,8 @@ is_kept_in n works x p = is_kept_after (done_executions n (works_before x works)
 abbrev pub is_done_in : ℕ → List WorkRow → ℕ → Bool
 is_done_in n works y = list_any (λ d. d == y) (done_executions n works)
 
--- the newest work item of the partition in job executions before x is COMPLETED, and from its job execution on none before x is
--- done with the step
+-- the newest work item of the partition in job executions before x is COMPLETED, and no job execution from
+-- its own up to x is done with the step
 pub record IsKept (n : ℕ) (works : List WorkRow) (x p : ℕ) : Type 0 where
   pub newest : WorkRow
   pub found : newest_of_partition (works_before x works) p ≡ Some newest
@@ -37,14 +38,15 @@ pub record IsDone (n : ℕ) (works : List WorkRow) (y : ℕ) : Type 0 where
   pub worked : list_any (λ row. row.execution == y) works ≡ true
   pub each : (p : ℕ) → p < n → (is_kept_in n works y p ≡ true) ⊎ (completes_in works y p ≡ true)
 
--- ---- By the plan of a job execution
+-- ---- Kept partitions of a plan
 
--- the partitions of a step that job execution x keeps, by rising number; a step that is not partitioned has none
+-- the partitions of a step that job execution x keeps, by rising number: a step that is not partitioned has
+-- none
 abbrev pub partitions_kept_in : Option ℕ → List WorkRow → ℕ → List ℕ
 partitions_kept_in None works x = []
 partitions_kept_in (Some n) works x = filter (is_kept_in n works x) (numbers_to n)
 
--- the work keys of them, among the work items of the job instance
+-- the work keys of a step's kept partitions, among the work items of the job instance
 abbrev pub keys_kept_in : List WorkRow → ℕ → JobStep → List WorkKey
 keys_kept_in works x s = map (key_of s.id) (partitions_kept_in s.step.partitions (works_of_step s.id works) x)
 

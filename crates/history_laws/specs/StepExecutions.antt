@@ -1,5 +1,5 @@
--- Step executions of partitioned steps (Jakarta Batch 2.1, "StepExecution" and "Step Partitioning"): when they end, and what they
--- come to.
+-- Step executions of partitioned steps (Jakarta Batch 2.1, "StepExecution" and "Step Partitioning"): their
+-- ends and their outcomes.
 use Rattle.std.specs.Option.{option_and_then}
 use Rattle.std.specs.Prelude.{ℕ, ◌≡◌, ◌≢◌, ◌⊎◌, true, false, Option, None, Some, List, ◌∷◌, [], ◌++◌, find, reverse}
 use Rattle.std.specs.Str.{bytes_eq}
@@ -31,7 +31,7 @@ use Rattle.history_laws.specs.Laws.{beginning, partitions_for, row_in, run_for, 
 abbrev pub steps_in : History → ExecutionRow → List StepExecution
 steps_in h row = step_executions (all_rows h.catalogue (reverse h.log)) row
 
--- that of this step among them
+-- the step execution of this step among these
 abbrev pub step_among : List ℕ → List StepExecution → Option StepExecution
 step_among step steps = find (λ s. bytes_eq s.step step) steps
 
@@ -39,7 +39,7 @@ step_among step steps = find (λ s. bytes_eq s.step step) steps
 abbrev pub step_in : History → ℕ → List ℕ → Option StepExecution
 step_in h x step = option_and_then (λ row. step_among step (steps_in h row)) (row_in h x)
 
--- a step of the job of job execution x, in n partitions
+-- a step, in n partitions, of the job of job execution x
 pub record IsPartitioned (h : History) (x : ℕ) (step : List ℕ) (n : ℕ) : Type 0 where
   pub owner : ExecutionRow
   pub found : row_in h x ≡ Some owner
@@ -74,17 +74,17 @@ pub record IsOverIn (h : History) (x : ℕ) (key : WorkKey) : Type 0 where
 abbrev pub IsThrough : History → ExecutionRow → List ℕ → ℕ → Type 0
 IsThrough h owner step p = (is_kept owner.plan (key_of step p) ≡ true) ⊎ IsOverIn h owner.execution (key_of step p)
 
--- what is known of each work key of a job by its plan, after what its work items tell
+-- the fact of each work key of a job, by its plan and by the facts from its work items
 abbrev pub facts_of_job : Plan → (WorkKey → Fact) → Option JobTree → WorkKey → Fact
 facts_of_job plan worked None = worked
 facts_of_job plan worked (Some job) = planned_facts plan (all_leaves job.elements) worked
 
--- what the walk of a job execution says of a step in n partitions
+-- the own result of a step in n partitions, in the walk of a job execution
 abbrev pub result_in : History → ExecutionRow → List ℕ → ℕ → ElementResult
 result_in h owner step n =
     step_result (facts_of_job owner.plan (facts_by_work owner.execution (works_in h)) (job_named h.catalogue owner.job)) step (Some n)
 
--- the step execution has the outcome that the walk gives the step, and its name as the exit status
+-- the step execution has the outcome that the walk gives the step, and the outcome's name as the exit status
 pub record HasResult (h : History) (owner : ExecutionRow) (step : List ℕ) (n : ℕ) (shown : StepExecution) : Type 0 where
   pub outcome : WorkOutcome
   pub result : result_in h owner step n ≡ Outcome outcome (outcome_name outcome)

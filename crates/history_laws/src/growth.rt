@@ -4,10 +4,10 @@ ghost use Rattle.batch_history.specs.Legal.{IsLegal};
 ghost use Rattle.batch_history.specs.Rows.{history, rows};
 ghost use Rattle.jsl_model.specs.Jobs.{JobTree};
 
-/// A legal history over a catalogue is legal over one that has more jobs behind these, and all its rows
-/// are the same. So a log may go on over a catalogue to which jobs were added.
+/// A legal history over a catalogue is also legal over that catalogue with more jobs after its own,
+/// with equal rows. So a log may go on over a catalogue to which jobs were added.
 ///
-/// It does nothing: its contract is the law, of every legal history.
+/// The function does nothing: its contract is the law, of every legal history.
 pub fn legal_histories_stay_legal_over_more_jobs()
     ensures legal { (limit : ℕ) (catalogue more : List JobTree) (log : List Entry) → IsLegal limit (history catalogue log)
         → IsLegal limit (history (catalogue ++ more) log) }

@@ -21,11 +21,12 @@ ghost use Rattle.batch_history.specs.Rows.{History};
 ghost use Rattle.batch_history.specs.Statuses.{is_finished};
 ghost use Rattle.history_laws.specs.Laws.{beginning, row_in, work_in, instances_in, instances_but, names_of, names_in, StaysFinished, EndedAt, BelongsTo, WasReady, IsOfOpenStep, GoesOnFrom, RestartsFollow, HasOneUnfinishedEach, FollowsFrom, KeepsPlan, HasInstance, with_name};
 
-/// A job execution that is over stays so: whatever is accepted later, all of it stays as it was, its
-/// exit status, start and end among it, but for whether it is abandoned and the moment of the last
-/// operation on it.
+/// A finished job execution stays finished. Whatever is accepted later, its row stays as it was,
+/// with its exit status, start and end. Only whether it is abandoned and the moment of the last
+/// operation on it may change.
 ///
-/// It does nothing: its contract is the law, of every legal history and each of its beginnings.
+/// The function does nothing: its contract is the law, of every legal history and each of its
+/// beginnings.
 #[tactic(auto, using(crate::proofs::Laws::finished_stays))]
 pub fn finished_job_executions_stay_finished()
     ensures { (limit : ℕ) (h : History) → IsLegal limit h → (before after : List Entry)
@@ -34,10 +35,10 @@ pub fn finished_job_executions_stay_finished()
         → StaysFinished h x row }
 {}
 
-/// A job execution has an end exactly where it is over, and the end is the moment of the operation
-/// after which it was over for the first time.
+/// A job execution has an end exactly if it is finished. The end is the moment of the operation
+/// after which it was finished for the first time.
 ///
-/// It only cites the law that it rests on: its contract is the law.
+/// The function only cites the law that it rests on: its contract is the law.
 pub fn ends_are_moments_of_operations()
     ensures there { (limit : ℕ) (h : History) → IsLegal limit h → (x : ℕ) (row : ExecutionRow)
         → row_in h x ≡ Some row → is_some row.end ≡ is_finished row.bare }
@@ -47,12 +48,14 @@ pub fn ends_are_moments_of_operations()
     finished_job_executions_stay_finished();
 }
 
-/// Each work item belongs to a job execution that was taken up, and that is unfinished while the work
-/// item is busy; it is of a step or a decision of its job, and names a partition exactly where that
-/// step is partitioned. No work key of a job execution has two work items: no decision and no step
-/// that is not partitioned has two, and no partition of a step.
+/// Each work item belongs to a job execution that was taken up, and that is unfinished while the
+/// work item is busy. The work item is of a step or a decision of its job. It names a partition
+/// exactly if that step is partitioned.
 ///
-/// It does nothing: its contract is the law, of every legal history.
+/// No work key of a job execution has two work items. So no decision has two, no step that is not
+/// partitioned, and no partition of a step.
+///
+/// The function does nothing: its contract is the law, of every legal history.
 #[tactic(auto, using(crate::proofs::Laws::belongs, crate::proofs::Laws::once_each))]
 pub fn work_belongs_to_unfinished_job_executions()
     ensures belongs { (limit : ℕ) (h : History) → IsLegal limit h → (w : ℕ) (work : WorkRow)
@@ -62,12 +65,12 @@ pub fn work_belongs_to_unfinished_job_executions()
         → one.execution ≡ other.execution → work_key one ≢ work_key other }
 {}
 
-/// What is handed out was ready: a reply of work names the first ready work key of the least job
-/// execution with something to do, by the operations before it, and the next number. The walk
-/// begins where the job execution begins, a chunk goes on from the checkpoint of its step or
-/// partition, and a partition is named exactly where the step is partitioned.
+/// A work item that is handed out was ready. The reply has the next number, and the first ready
+/// work key of the least job execution with something to do, by the operations before it. The walk
+/// begins at the element at which the job execution begins. A chunk goes on from the checkpoint of
+/// its step or partition. A partition is named exactly if the step is partitioned.
 ///
-/// It does nothing: its contract is the law, of every entry of a legal history.
+/// The function does nothing: its contract is the law, of every entry of a legal history.
 #[tactic(auto, using(crate::proofs::Handing::handed_ready))]
 pub fn what_is_handed_out_was_ready()
     ensures { (limit : ℕ) (h : History) → IsLegal limit h
@@ -76,10 +79,10 @@ pub fn what_is_handed_out_was_ready()
 {}
 
 /// No work is handed out of a step that the job execution carries from an earlier one, or that has
-/// reached its start limit, nor of a partition that it keeps from an earlier one (Jakarta Batch 2.1,
-/// "Job Restart Processing").
+/// reached its start limit. Nor is work handed out of a partition kept from an earlier job
+/// execution (Jakarta Batch 2.1, "Job Restart Processing").
 ///
-/// It does nothing: its contract is the law, of every entry of a legal history.
+/// The function does nothing: its contract is the law, of every entry of a legal history.
 #[tactic(auto, using(crate::proofs::Handing::handed_open))]
 pub fn no_work_is_of_a_carried_or_barred_step()
     ensures { (limit : ℕ) (h : History) → IsLegal limit h
@@ -87,10 +90,10 @@ pub fn no_work_is_of_a_carried_or_barred_step()
         → (item : WorkItem) → e.reply ≡ Work item → IsOfOpenStep (beginning h before) item }
 {}
 
-/// Each chunk goes on from the checkpoint of its step, or of its partition: the one that the
+/// Each chunk goes on from the checkpoint of its step or partition. It is the one that the
 /// operations before it left in the job instance (Jakarta Batch 2.1, "Checkpoint Algorithm").
 ///
-/// It does nothing: its contract is the law, of every entry of a legal history.
+/// The function does nothing: its contract is the law, of every entry of a legal history.
 #[tactic(auto, using(crate::proofs::Handing::handed_from))]
 pub fn chunks_go_on_from_their_checkpoints()
     ensures { (limit : ℕ) (h : History) → IsLegal limit h
@@ -104,7 +107,7 @@ pub fn chunks_go_on_from_their_checkpoints()
 /// Each restart follows the most recent job execution of its job instance, which is STOPPED or
 /// FAILED (Jakarta Batch 2.1, "JobOperator", restart).
 ///
-/// It does nothing: its contract is the law, of every entry of a legal history.
+/// The function does nothing: its contract is the law, of every entry of a legal history.
 #[tactic(auto, using(crate::proofs::Restarts::restart_follows))]
 pub fn restarts_follow_the_most_recent_job_execution()
     ensures { (limit : ℕ) (h : History) → IsLegal limit h → RestartsFollow h }
@@ -112,18 +115,20 @@ pub fn restarts_follow_the_most_recent_job_execution()
 
 /// At every moment a job instance has at most one unfinished job execution.
 ///
-/// It does nothing: its contract is the law, of every legal history and each of its beginnings.
+/// The function does nothing: its contract is the law, of every legal history and each of its
+/// beginnings.
 #[tactic(auto, using(crate::proofs::Restarts::one_unfinished))]
 pub fn job_instances_have_at_most_one_unfinished_job_execution()
     ensures { (limit : ℕ) (h : History) → IsLegal limit h → HasOneUnfinishedEach h }
 {}
 
-/// A job execution goes by the plan that its restart gave it, which comes from the job execution
-/// that the restart names and from the work of its job instance so far. Whatever is accepted later,
-/// the element at which it begins, its carried steps, its kept partitions and its barred steps stay
-/// the same.
+/// A job execution follows the plan that its restart gave it. The plan comes from the job execution
+/// that the restart names, and from the work of its job instance so far. Whatever is accepted
+/// later, the element at which it begins, its carried steps, its kept partitions and its barred
+/// steps stay.
 ///
-/// It does nothing: its contract is the law, of every legal history and each of its beginnings.
+/// The function does nothing: its contract is the law, of every legal history and each of its
+/// beginnings.
 #[tactic(auto, using(crate::proofs::Restarts::restart_gives, crate::proofs::Restarts::plan_stays))]
 pub fn job_executions_go_by_the_plan_of_their_restart()
     ensures given { (limit : ℕ) (h : History) → IsLegal limit h
@@ -135,9 +140,9 @@ pub fn job_executions_go_by_the_plan_of_their_restart()
         → row_in (beginning h before) x ≡ Some row → KeepsPlan h x row }
 {}
 
-/// What a purge removes is over: each job execution of a job instance that was purged is finished.
+/// Each job execution of a purged job instance is finished.
 ///
-/// It does nothing: its contract is the law, of every legal history.
+/// The function does nothing: its contract is the law, of every legal history.
 pub fn purged_job_executions_are_finished()
     ensures { (limit : ℕ) (h : History) → IsLegal limit h → (x : ℕ) (row : ExecutionRow)
         → row_in h x ≡ Some row → is_purged (reverse h.log) row.instance ≡ true
@@ -146,7 +151,7 @@ pub fn purged_job_executions_are_finished()
 
 /// Each job execution is of a job instance that was begun, and of its job.
 ///
-/// It does nothing: its contract is the law, of every legal history.
+/// The function does nothing: its contract is the law, of every legal history.
 #[tactic(auto, using(crate::proofs::Laws::has_instance))]
 pub fn job_executions_have_job_instances()
     ensures { (limit : ℕ) (h : History) → IsLegal limit h → (x : ℕ) (row : ExecutionRow)
@@ -155,18 +160,19 @@ pub fn job_executions_have_job_instances()
 
 /// The job of each job execution is in the catalogue, so that its walk is that of its job.
 ///
-/// It does nothing: its contract is the law, of every legal history.
+/// The function does nothing: its contract is the law, of every legal history.
 pub fn jobs_of_job_executions_are_in_the_catalogue()
     ensures { (limit : ℕ) (h : History) → IsLegal limit h → (x : ℕ) (row : ExecutionRow)
         → row_in h x ≡ Some row → is_some (job_named h.catalogue row.job) ≡ true }
 {}
 
-/// The job names stand once each, in the order of the least job instance of each: a start of a job
-/// that is not among them appends it, a purge leaves the names of the other job instances, in their
-/// order, and nothing else changes them. They are what the query is answered.
+/// The list of job names has each name once, in the order of the least job instance of each. A
+/// start of a job that is not in the list appends its name. A purge leaves the names of the other
+/// job instances, in their order. Nothing else changes the list. It is the answer of the query of
+/// job names.
 ///
-/// It does nothing: its contract is the law, of every legal history, and of every history what needs
-/// no more.
+/// The function does nothing. Its contract is the law, of every legal history. Two of its parts
+/// hold for every history.
 #[tactic(auto, using(crate::proofs::Names::names_once))]
 pub fn job_names_stand_once_in_order_of_least_job_instance()
     ensures once { (h : History) → has_twice (names_in h) ≡ false }

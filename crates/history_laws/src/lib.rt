@@ -1,6 +1,6 @@
 #![tactic(auto)]
-//! What every legal history keeps, in the words of its subject: laws above the definitions of
-//! rows, replies and answers. Each function does nothing; its contract is a law.
+//! Laws of every legal history, above the definitions of rows, replies and answers. Each function
+//! does nothing: its contract is a law.
 
 mod growth;
 mod law;

@@ -13,14 +13,18 @@ ghost use Rattle.history_laws.specs.Laws.{row_in, works_of_instance_in};
 ghost use Rattle.history_laws.specs.Partitions.{works_of_step_in, is_kept_in, is_done_in, all_kept_in, IsKept, IsDone};
 ghost use Rattle.history_laws.specs.StepExecutions.{step_in, IsPartitioned, StepEnds, AreStepsOf, IsThrough, HasResult};
 
-/// A job execution keeps a partition of a step exactly where the newest work item of the partition in
-/// earlier job executions of its job instance is COMPLETED, and no job execution from that of the
-/// work item up to this one is done with the step. A job execution is done with a step exactly where
-/// it has a work item of the step, and keeps each partition or has a COMPLETED work item of it
-/// (Jakarta Batch 2.1, "Step Partitioning" and "Job Restart Processing"). Its plan keeps just these
-/// partitions.
+/// A job execution keeps a partition of a step exactly under two conditions (Jakarta Batch 2.1,
+/// "Step Partitioning" and "Job Restart Processing"):
 ///
-/// It does nothing: its contract is the law, of every legal history.
+/// - The newest work item of the partition in earlier job executions of its job instance is
+///   COMPLETED.
+/// - No job execution from that of the work item up to this one is done with the step.
+///
+/// A job execution is done with a step exactly if it has a work item of the step, and each
+/// partition is kept by it or has a COMPLETED work item in it. The plan of a job execution has
+/// exactly these kept partitions.
+///
+/// The function does nothing: its contract is the law, of every legal history.
 pub fn partitions_are_kept_until_a_job_execution_is_done()
     ensures kept { (limit : ℕ) (h : History) → IsLegal limit h → (i n x p : ℕ) (step : List ℕ)
         → (is_kept_in n (works_of_step_in h i step) x p ≡ true)
@@ -33,11 +37,12 @@ pub fn partitions_are_kept_until_a_job_execution_is_done()
         ≡ all_kept_in (works_of_instance_in h row.instance) x (job_named h.catalogue row.job) }
 {}
 
-/// The step execution of a partitioned step has no end while it is STARTED. Its end is the moment of
-/// the first operation after which it is not STARTED (Jakarta Batch 2.1, "StepExecution"). These step
-/// executions are what the query is answered.
+/// The step execution of a partitioned step has no end while it is STARTED. Its end is the moment
+/// of the first operation after which it is not STARTED (Jakarta Batch 2.1, "StepExecution"). These
+/// step executions are the answer of the query.
 ///
-/// It does nothing: its contract is the law, of every legal history over the jobs of a catalogue.
+/// The function does nothing: its contract is the law, of every legal history over the jobs of a
+/// catalogue.
 pub fn partitioned_steps_end_once_they_are_not_started()
     ensures started { (limit : ℕ) (h : History) → IsLegal limit h → AreJobs h.catalogue
         → (x n : ℕ) (step : List ℕ) → IsPartitioned h x step n → (shown : StepExecution)
@@ -50,11 +55,12 @@ pub fn partitioned_steps_end_once_they_are_not_started()
         → answer h (StepExecutions x) ≡ Ok (AreStepExecutions steps) → AreStepsOf h x steps }
 {}
 
-/// A partitioned step each of whose partitions is kept or over has the outcome that the walk of the
-/// job execution gives the step: its step execution has the outcome's status, and the outcome's name
+/// If each partition of a partitioned step is kept or over, the step has the outcome that the job
+/// execution's walk gives it. Its step execution has the outcome's status, and the outcome's name
 /// as the exit status (Jakarta Batch 2.1, "Step Partitioning").
 ///
-/// It does nothing: its contract is the law, of every legal history over the jobs of a catalogue.
+/// The function does nothing: its contract is the law, of every legal history over the jobs of a
+/// catalogue.
 pub fn partitioned_steps_have_the_outcome_of_the_walk()
     ensures { (limit : ℕ) (h : History) → IsLegal limit h → AreJobs h.catalogue
         → (x n : ℕ) (step : List ℕ) → (of : IsPartitioned h x step n) → (shown : StepExecution)

@@ -15,7 +15,7 @@ use Rattle.walk_rules.specs.declared.work_key.WorkKey.{WorkKey}
 use Rattle.walk_rules.specs.Keys.{has_key}
 use Rattle.job_walk.specs.Lists.{has_element}
 use Rattle.job_walk.specs.Runnables.{all_leaves, all_keys}
-use Rattle.job_walk.specs.KeptLists.{IsKept, ChangesList, ComesTo, facts_after, first_shows, kept_of, put_all}
+use Rattle.job_walk.specs.KeptLists.{IsCursorWith, ChangesList, ComesTo, facts_after, first_shows, kept_of, put_all}
 use Rattle.job_walk.specs.Preparing.{kept_in}
 use Rattle.walk_rules.specs.Walk.{fact_of, value_of}
 use Rattle.job_walk.proofs.Beginning.{first-keys}
@@ -43,14 +43,14 @@ pub still-known : (known new : List Known) (key other : WorkKey) (fact : Fact) �
 still-known known new key other fact is among = ap (λ keys. has_key keys other) (ap known_keys is ∙ put-keys known key fact) ∙ among
 
 -- what is kept of the job's lists stands at hand
-pub at-hand : (cursor : CursorState) (old lists : List KeptList) (elements : List Element) (known : List Known) → IsKept old cursor → lists ≡ old → elements ≡ cursor.job.elements
+pub at-hand : (cursor : CursorState) (old lists : List KeptList) (elements : List Element) (known : List Known) → IsCursorWith old cursor → lists ≡ old → elements ≡ cursor.job.elements
     → known ≡ cursor.facts → lists ≡ kept_of (fact_of known) elements cursor.from ++ []
 at-hand cursor old lists elements known kept these those same =
     these ∙ (kept.same ∙ (ap (λ es. kept_of (fact_of cursor.facts) es cursor.from) (sym those)
     ∙ (ap (λ ks. kept_of (fact_of ks) elements cursor.from) (sym same) ∙ sym (no-more (kept_of (fact_of known) elements cursor.from)))))
 
 -- the job's own list shows what the walk shows
-pub shown-first : (cursor : CursorState) (old lists : List KeptList) (key : WorkKey) → IsKept old cursor → lists ≡ old → is_shown (value_in cursor) key ≡ true → first_shows key lists ≡ true
+pub shown-first : (cursor : CursorState) (old lists : List KeptList) (key : WorkKey) → IsCursorWith old cursor → lists ≡ old → is_shown (value_in cursor) key ≡ true → first_shows key lists ≡ true
 shown-first cursor old lists key kept these shown =
     let facts = fact_of cursor.facts in
     let es = cursor.job.elements in
@@ -58,7 +58,7 @@ shown-first cursor old lists key kept these shown =
     ∙ (ap (λ v. is_shown v key) (value_is_kept facts es cursor.from (kept_of facts es cursor.from) (head_in facts es cursor.from) refl).0 ∙ shown)
 
 -- the changes make of what is kept what is kept then
-pub learnt-lists : (cursor : CursorState) (old lists : List KeptList) (key : WorkKey) (fact : Fact) (others changes : List ListChange) (elements : List Element) (known : List Known) → IsKept old cursor
+pub learnt-lists : (cursor : CursorState) (old lists : List KeptList) (key : WorkKey) (fact : Fact) (others changes : List ListChange) (elements : List Element) (known : List Known) → IsCursorWith old cursor
     → lists ≡ old → elements ≡ cursor.job.elements → known ≡ cursor.facts → others ≡ []
     → ChangesList others changes 0 lists (fact_of known) (facts_after known key fact) elements
     → put_all changes (kept_in cursor) ≡ kept_in (with_fact cursor key fact)
@@ -71,7 +71,7 @@ learnt-lists cursor old lists key fact others changes elements known kept these 
     ∙ ap (λ es. kept_of (fact_of (put_fact cursor.facts key fact)) es cursor.from) those))))
 
 -- and the job comes to what its own list comes to
-pub learnt-value : (cursor : CursorState) (old lists : List KeptList) (key : WorkKey) (fact : Fact) (elements : List Element) (known : List Known) (value : Value) → IsKept old cursor
+pub learnt-value : (cursor : CursorState) (old lists : List KeptList) (key : WorkKey) (fact : Fact) (elements : List Element) (known : List Known) (value : Value) → IsCursorWith old cursor
     → lists ≡ old → elements ≡ cursor.job.elements → known ≡ cursor.facts → ComesTo value lists (fact_of known) (facts_after known key fact) elements
     → value ≡ value_in (with_fact cursor key fact)
 learnt-value cursor old lists key fact elements known value kept these those same comes =
@@ -82,10 +82,10 @@ learnt-value cursor old lists key fact elements known value kept these those sam
     ∙ ap (λ es. value_of (fact_of (put_fact cursor.facts key fact)) es cursor.from) those))
 
 -- with what is learnt put into what is kept, it is a walk as before
-pub still-kept : (cursor : CursorState) (old new : List KeptList) (key : WorkKey) (fact : Fact) (changes : List ListChange) (now : List Known) → IsKept old cursor
+pub still-kept : (cursor : CursorState) (old new : List KeptList) (key : WorkKey) (fact : Fact) (changes : List ListChange) (now : List Known) → IsCursorWith old cursor
     → put_all changes (kept_in cursor) ≡ kept_in (with_fact cursor key fact)
     → now ≡ put_fact cursor.facts key fact → new ≡ put_all changes old
-    → IsKept new record { job = cursor.job; from = cursor.from; facts = now }
+    → IsCursorWith new record { job = cursor.job; from = cursor.from; facts = now }
 still-kept cursor old new key fact changes now kept changed learnt put = record {
   same = put ∙ (ap (put_all changes) kept.same ∙ (changed ∙ ap (λ ks. kept_of (fact_of ks) cursor.job.elements cursor.from) (sym learnt)));
   state = record { begins = kept.state.begins; each = (ap known_keys learnt ∙ put-keys cursor.facts key fact) ∙ kept.state.each };
@@ -100,7 +100,7 @@ begins-walk plan told job from known others these made begins =
 
 -- what is kept of it at first
 pub kept-first : (job : JobTree) (from : List ℕ) (known shared : List Known) (elements : List Element) (before lists : List KeptList) → IsCursor record { job = job; from = from; facts = known }
-    → shared ≡ known → elements ≡ job.elements → before ≡ [] → lists ≡ before ++ kept_of (fact_of shared) elements from → IsKept lists record { job = job; from = from; facts = known }
+    → shared ≡ known → elements ≡ job.elements → before ≡ [] → lists ≡ before ++ kept_of (fact_of shared) elements from → IsCursorWith lists record { job = job; from = from; facts = known }
 kept-first job from known shared elements before lists state same those none made = record {
   same =
       made ∙ (ap (λ xs. xs ++ kept_of (fact_of shared) elements from) none ∙ (ap (λ ks. kept_of (fact_of ks) elements from) same ∙ ap (λ es. kept_of (fact_of known) es from) those));

@@ -188,6 +188,6 @@ abbrev pub DifferAt : List ℕ → (WorkKey → Fact) → (WorkKey → Fact) →
 DifferAt id facts later = (key : WorkKey) → key.element ≢ id → later key ≡ facts key
 
 -- a walk with these stored lists
-pub record IsKept (lists : List KeptList) (cursor : CursorState) : Type 0 where
+pub record IsCursorWith (lists : List KeptList) (cursor : CursorState) : Type 0 where
   pub same : lists ≡ kept_of (fact_of cursor.facts) cursor.job.elements cursor.from
   pub state : IsCursor cursor

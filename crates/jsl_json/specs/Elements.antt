@@ -1,4 +1,5 @@
--- The elements of a job as a tree, each one's own members ahead of what is inside it. They are counted as they are written, from 0 in each job, flows of splits too.
+-- The elements of a job as a tree, each one's own members before those inside it. They are counted from 0 in
+-- each job, in written order, and flows of splits are counted too.
 use Rattle.std.specs.Prelude.{ℕ, ◌+◌, ◌-◌, ◌^◌, min, List, [], ◌∷◌, bytes_eq, codes, Option, Some, None, Result, Ok, Err, if◌then◌else◌}
 use Rattle.serde_json.specs.Data.{Data, array, object, Items, no_items, item, Members, no_members, member}
 use Rattle.jsl_model.specs.declared.element.Element.{Element}
@@ -10,16 +11,16 @@ use Rattle.jsl_json.specs.declared.fault.ReadFault.TheVariants.{BadElement}
 use Rattle.jsl_json.specs.Members.{Kind, step, flow, split, decision, OwnMembers, OwnFlowMembers, own_of, own_flow_of}
 
 infixl 10 ◌>>=◌
--- what comes of what was read, or the fault
+-- the next reading after this one, or the fault
 abbrev pub ◌>>=◌ : {A B : Type 0} → Result A ReadFault → (A → Result B ReadFault) → Result B ReadFault
 (Ok found) >>= f = f found
 (Err fault) >>= f = Err fault
 
--- the number after this one; numbers end at 2^64 - 1, and no line has so many elements
+-- the number after this one: numbers end at 2^64 - 1, and no line has so many elements
 abbrev pub next_number : ℕ → ℕ
 next_number n = min (n + 1) (2 ^ 64 - 1)
 
--- what was read, and the number of the next element
+-- a result of reading, and the number of the next element
 abbrev pub Read : Type 0 → Type 0
 Read A = Result (A × ℕ) ReadFault
 
@@ -27,7 +28,8 @@ Read A = Result (A × ℕ) ReadFault
 abbrev pub bad : {A : Type 0} → ℕ → ℕ → Read A
 bad job n = Err (BadElement job (Some n))
 
--- what an element has beside its id, what is inside it being read: a split has no transition elements, and a decision no `next`
+-- an element's content besides its id, after the values inside it are read: a split has no transition
+-- elements, and a decision no `next`
 abbrev pub content_with : Kind → ℕ → Read (List Element) → Read (List SplitFlow) → Read Content
 content_with (step next transitions s) n elements flows = Ok (record { next = next; transitions = transitions; body = Step s }, n)
 content_with (flow next transitions ds) n elements flows =
@@ -48,13 +50,14 @@ abbrev pub flow_with : ℕ → ℕ → Option OwnFlowMembers → Read (List Elem
 flow_with job n None elements = bad job n
 flow_with job n (Some own) elements = elements >>= λ x. Ok (roll-SplitFlow record { id = own.id; elements = x.0 }, x.1)
 
--- what was read ahead of what comes behind it
+-- the first result before the rest of the list
 abbrev pub followed : {A : Type 0} → Read A → (ℕ → Read (List A)) → Read (List A)
 followed first rest = first >>= λ x. rest x.1 >>= λ y. Ok (x.0 ∷ y.0, y.1)
 
--- By recursion on the value, with the job's number and the number of the first element. What is inside an object is looked for among its members.
+-- By recursion on the value, with the job's number and the number of the first element. The values inside an
+-- object are looked up among its members.
 unfoldable mutual
-  -- the element that a value is
+  -- the element in a value
   pub element_at : ℕ → Data → ℕ → Read Element
   element_at job (object ms) n = element_with job n (own_of (object ms)) (elements_in job ms (next_number n)) (flows_in job ms (next_number n))
   element_at job d n = bad job n
@@ -70,7 +73,7 @@ unfoldable mutual
   elements_at job no_items n = Ok ([], n)
   elements_at job (item d ds) n = followed (element_at job d n) (λ k. elements_at job ds k)
 
-  -- the flow of a split that a value is
+  -- the flow of a split in a value
   pub flow_at : ℕ → Data → ℕ → Read SplitFlow
   flow_at job (object ms) n = flow_with job n (own_flow_of (object ms)) (elements_in job ms (next_number n))
   flow_at job d n = bad job n
@@ -86,7 +89,7 @@ unfoldable mutual
   flows_at job no_items n = Ok ([], n)
   flows_at job (item d ds) n = followed (flow_at job d n) (λ k. flows_at job ds k)
 
--- what an element of this kind has beside its id, the values inside it being read, counted from n on
+-- the content, besides its id, of an element of this kind, with the values inside it counted from n on
 abbrev pub content_at : ℕ → Kind → ℕ → Read Content
 content_at job (step next transitions s) n = Ok (record { next = next; transitions = transitions; body = Step s }, n)
 content_at job (flow next transitions ds) n =

@@ -1,4 +1,5 @@
--- The own members of elements, of the flows of splits, and of jobs: all that they have beside the elements inside. An object has the members that are listed, and no others.
+-- The own members of elements, of the flows of splits, and of jobs: all that they have besides the elements
+-- inside. An object has the members that are listed, and no others.
 use Rattle.std.specs.Prelude.{ℕ, ◌≡◌, ◌&&◌, List, [], ◌∷◌, Bool, true, false, codes, Option, Some, None, if◌then◌else◌}
 use Rattle.serde_json.specs.Data.{Data, Items}
 use Rattle.json_members.specs.Members.{has_only, is_text, text_at, optional_text, list_at}
@@ -8,9 +9,10 @@ use Rattle.json_members.specs.Chains.{◌>>=◌}
 use Rattle.jsl_json.specs.Tasks.{truth_or, count_or, partitions_at, task_at}
 use Rattle.jsl_json.specs.Transitions.{transitions_at}
 
--- What an element is, what is inside it being values still
+-- The kind of an element, before the values inside it are read
 
--- a step, a flow with the values of its elements, a split with those of its flows, or a decision with its artifact; each with the `next` and the transition elements that its kind may have
+-- a step, a flow with the values of its elements, a split with the values of its flows, or a decision with
+-- its artifact. Each has the `next` and the transition elements that its kind may have
 pub data Kind : Type 0 where
   step : Option (List ℕ) → List Transition → StepRecord → Kind
   flow : Option (List ℕ) → List Transition → Items → Kind
@@ -38,8 +40,8 @@ split_names = codes "kind" ∷ codes "id" ∷ codes "next" ∷ codes "flows" ∷
 abbrev pub decision_names : List (List ℕ)
 decision_names = codes "kind" ∷ codes "id" ∷ codes "ref" ∷ codes "transitions" ∷ []
 
--- the step that an object is; where it says nothing else it has no start limit, is not started again once it is COMPLETED,
--- and is not partitioned
+-- the step in an object: by default it has no start limit, is not started again after it is COMPLETED, and is
+-- not partitioned
 unfoldable pub step_of_data : Data → Option Kind
 step_of_data d =
     if has_only step_names d
@@ -58,7 +60,7 @@ step_of_data d =
       })))
     else None
 
--- the flow that an object is
+-- the flow in an object
 unfoldable pub flow_of_data : Data → Option Kind
 flow_of_data d =
     if has_only flow_names d
@@ -69,7 +71,7 @@ flow_of_data d =
       Some (flow next transitions elements))
     else None
 
--- the split that an object is
+-- the split in an object
 unfoldable pub split_of_data : Data → Option Kind
 split_of_data d =
     if has_only split_names d
@@ -79,7 +81,7 @@ split_of_data d =
       Some (split next flows))
     else None
 
--- the decision that an object is
+-- the decision in an object
 unfoldable pub decision_of_data : Data → Option Kind
 decision_of_data d =
     if has_only decision_names d
@@ -89,7 +91,7 @@ decision_of_data d =
       Some (decision transitions artifact))
     else None
 
--- what an element is, by its kind
+-- the kind of an element, by its member `kind`
 unfoldable pub element_kind : Data → Option Kind
 element_kind d =
     if is_text (codes "kind") (codes "step") d then step_of_data d
@@ -104,7 +106,7 @@ IsInside (flow next transitions ds) d = list_at (codes "elements") d ≡ Some ds
 IsInside (split next ds) d = list_at (codes "flows") d ≡ Some ds
 IsInside (decision transitions artifact) d = Unit {0}
 
--- an element's own members, where none is wrong
+-- an element's own members, if none is wrong
 unfoldable pub own_of : Data → Option OwnMembers
 own_of d = do
   kind ← element_kind d
@@ -120,7 +122,7 @@ pub record OwnFlowMembers : Type 0 where
 abbrev pub split_flow_names : List (List ℕ)
 split_flow_names = codes "kind" ∷ codes "id" ∷ codes "elements" ∷ []
 
--- the own members of a flow of a split, where none is wrong
+-- the own members of a flow of a split, if none is wrong
 unfoldable pub own_flow_of : Data → Option OwnFlowMembers
 own_flow_of d =
     if has_only split_flow_names d && is_text (codes "kind") (codes "flow") d
@@ -140,7 +142,7 @@ pub record OwnJobMembers : Type 0 where
 abbrev pub job_names : List (List ℕ)
 job_names = codes "id" ∷ codes "restartable" ∷ codes "elements" ∷ []
 
--- the own members of a job, where none is wrong; it may be restarted where it says nothing else
+-- the own members of a job, if none is wrong: by default it may be restarted
 unfoldable pub own_job_of : Data → Option OwnJobMembers
 own_job_of d =
     if has_only job_names d

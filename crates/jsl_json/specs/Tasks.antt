@@ -1,4 +1,4 @@
--- What a step runs, and the numbers of a step. An object has the members that are listed, and no others.
+-- The task of a step, and its numbers. An object has the members that are listed, and no others.
 use Rattle.std.specs.Prelude.{ℕ, ◌^◌, List, [], ◌∷◌, Bool, ◌&&◌, nat_lt, nat_le, nat_eq, codes, Option, Some, None, option_map, unwrap_or, if◌then◌else◌}
 use Rattle.serde_json.specs.Data.{Data}
 use Rattle.json_members.specs.Members.{has_only, text_at, optional_number, optional_truth, object_at, optional_object}
@@ -8,7 +8,7 @@ use Rattle.json_members.specs.Chains.{◌>>=◌}
 
 -- Members of one kind
 
--- a truth value that may be left out, and is this one then
+-- the truth value of a member, or `left_out` if the member is left out
 abbrev pub truth_or : List ℕ → Bool → Data → Option Bool
 truth_or name left_out d = option_map (λ found. unwrap_or found left_out) (optional_truth name d)
 
@@ -16,7 +16,7 @@ truth_or name left_out d = option_map (λ found. unwrap_or found left_out) (opti
 abbrev pub within_32 : ℕ → Option ℕ
 within_32 n = if nat_lt n (2 ^ 32) then Some n else None
 
--- a number of 32 bits that may be left out, and is this one then
+-- the 32-bit number of a member, or `left_out` if the member is left out
 unfoldable pub count_or : List ℕ → ℕ → Data → Option ℕ
 count_or name left_out d = do
   found ← optional_number name d
@@ -26,7 +26,7 @@ count_or name left_out d = do
 abbrev pub from_1 : ℕ → Option ℕ
 from_1 n = if nat_eq n 0 then None else Some n
 
--- the items of a group: 1 to 4,294,967,295, and 10 where the number is left out
+-- the items of a group: 1 to 4,294,967,295, and 10 if the number is left out
 abbrev pub item_count_at : Data → Option ℕ
 item_count_at d = do
   n ← count_or (codes "item-count") 10 d
@@ -60,7 +60,7 @@ abbrev pub artifact_if : Option Data → Option (Option (List ℕ))
 artifact_if None = Some None
 artifact_if (Some d) = option_map Some (artifact_of d)
 
--- the artifact that a member names which may be left out
+-- the artifact that a member names, if the member is not left out
 unfoldable pub optional_artifact : List ℕ → Data → Option (Option (List ℕ))
 optional_artifact name d = do
   found ← optional_object name d
@@ -72,7 +72,7 @@ optional_artifact name d = do
 abbrev pub chunk_names : List (List ℕ)
 chunk_names = codes "item-count" ∷ codes "reader" ∷ codes "processor" ∷ codes "writer" ∷ []
 
--- the chunk that an object is
+-- the chunk in an object
 unfoldable pub chunk_of : Data → Option Task
 chunk_of d =
     if has_only chunk_names d
@@ -84,7 +84,7 @@ chunk_of d =
       Some (Chunk reader processor writer item_count))
     else None
 
--- the task of a step that has one of a batchlet and a chunk, and not both
+-- the task of a step that has exactly one of a batchlet and a chunk
 abbrev pub one_task : Option Data → Option Data → Option Task
 one_task None None = None
 one_task (Some batchlet) None = option_map Batchlet (artifact_of batchlet)

@@ -19,7 +19,7 @@ end_names = codes "kind" ∷ codes "on" ∷ codes "exit-status" ∷ []
 abbrev pub stop_names : List (List ℕ)
 stop_names = codes "kind" ∷ codes "on" ∷ codes "exit-status" ∷ codes "restart" ∷ []
 
--- on to the element that `to` names
+-- the transition to the element that `to` names
 abbrev pub then_next : Data → Option Then
 then_next d = if has_only next_names d then option_map Next (text_at (codes "to") d) else None
 
@@ -37,7 +37,7 @@ then_stop d =
       Some (Stop exit_status restart))
     else None
 
--- where a transition element leads, by its kind
+-- the transition of a transition element, by its kind
 unfoldable pub then_of_data : Data → Option Then
 then_of_data d =
     if is_text (codes "kind") (codes "next") d then then_next d
@@ -45,7 +45,7 @@ then_of_data d =
     else (if is_text (codes "kind") (codes "fail") d then option_map Fail (exit_status_of d)
     else (if is_text (codes "kind") (codes "stop") d then then_stop d else None)))
 
--- the transition element that a value is
+-- the transition element in a value
 unfoldable pub transition_of_data : Data → Option Transition
 transition_of_data d = do
   on ← text_at (codes "on") d
@@ -60,7 +60,7 @@ transitions_of (item d ds) = do
   rest ← transitions_of ds
   Some (first ∷ rest)
 
--- the transition elements of a list, none where it is left out
+-- the transition elements of a list, none if it is left out
 abbrev pub transitions_if : Option Items → Option (List Transition)
 transitions_if None = Some []
 transitions_if (Some ds) = transitions_of ds

@@ -12,17 +12,17 @@ use json_members::{has_only, list_at, read_value};
 use serde_json::Value;
 use std::alloc::Global;
 
-/// The catalogue that a JSON text is (Jakarta Batch 2.1, "Job Specification Language").
+/// Reads a catalogue from a JSON text (Jakarta Batch 2.1, "Job Specification Language").
 ///
-/// Each object has the members that are listed here and no others; those with `?` may be left out,
-/// and null stands for none of them. Of a member that comes twice the last counts.
+/// Each object has the members listed here and no others. Those with `?` may be left out, and null
+/// is not a value of any of them. If a member comes twice, the last one counts.
 ///
 /// ```text
 /// catalogue    {"jobs": [job, ..]}
 /// job          id, restartable? (a truth value, true), elements: [element, ..]
 /// step         kind: "step", id, next?, start-limit? (0 to 4,294,967,295, 0),
 ///              allow-start-if-complete? (a truth value, false), partitions? (1 to 64; left out:
-///              not partitioned), transitions?, just one of batchlet: artifact and chunk
+///              not partitioned), transitions?, exactly one of batchlet: artifact and chunk
 /// chunk        item-count? (1 to 4,294,967,295, 10), reader: artifact, processor?: artifact,
 ///              writer: artifact
 /// artifact     ref
@@ -30,30 +30,33 @@ use std::alloc::Global;
 /// split        kind: "split", id, next?, flows: [split flow, ..]
 /// split flow   kind: "flow", id, elements: [element, ..]
 /// decision     kind: "decision", id, ref, transitions?
-/// transitions  [transition, ..], where left out none
+/// transitions  [transition, ..]; left out: none
 /// transition   kind: "next", on, to
 ///              kind: "end" or "fail", on, exit-status?
 ///              kind: "stop", on, exit-status?, restart?
 /// ```
 ///
-/// A member for which nothing else is said is a text.
+/// The other members are texts.
 ///
-/// The elements of a job are counted from 0 as they are written, an element ahead of those inside
-/// it, and the flows of splits are counted too.
+/// The elements of a job are counted from 0 in written order, an element before those inside it.
+/// The flows of splits are counted too.
 ///
-/// It costs time and memory as the text has bytes, and as the catalogue has jobs for each job.
+/// The time and memory are proportional to the bytes of the text. Each job also costs time and
+/// memory proportional to the jobs of the catalogue.
 ///
 /// # Errors
 ///
-/// The first in this order:
-/// - `NotJson`: the bytes are not UTF-8 or not one JSON value;
-/// - `NotACatalogue`: the value is no object of just `jobs`, a list;
-/// - then for each job in turn, counted from 0: `BadElement` without an element, for the job's own
-///   members; `BadElement` with the number of the first element whose own members are wrong, with
-///   its artifacts and transition elements; `InJob` with the faults of `Job::check`; `InJob` with
-///   those of `Catalogue::add`.
+/// Returns the first fault in this order:
+/// - `NotJson`: the bytes are not UTF-8 or not one JSON value.
+/// - `NotACatalogue`: the value is no object with just `jobs`, a list.
+/// - Then, for each job in turn, counted from 0:
+///   - `BadElement` without an element, for the job's own members.
+///   - `BadElement` with the number of the first element whose own members are wrong, with its
+///     artifacts and transition elements.
+///   - `InJob` with the faults of `Job::check`.
+///   - `InJob` with the faults of `Catalogue::add`.
 ///
-/// `OutOfMemory` may stand in place of any answer.
+/// Returns `OutOfMemory` instead of any result if memory is refused.
 #[tactic(auto, unfolding(crate::specs::Catalogues::catalogue_of))]
 pub fn read_catalogue(alloc: Global, bytes: &[u8]) -> Result<Catalogue, ReadFault>
     ensures read { IfOk result (λ catalogue. catalogue_of bytes.now ≡ Ok catalogue) }
@@ -101,7 +104,7 @@ fn catalogue_of_jobs(alloc: Global, jobs: &[Value]) -> Result<Catalogue, ReadFau
     Ok(catalogue)
 }
 
-/// Adds the job that a value is; its number is that of the jobs before it.
+/// Adds the job of a value. Its number is the number of jobs before it.
 #[tactic(auto, unfolding(crate::specs::Catalogues::with_job))]
 fn add_job(alloc: Global, catalogue: &mut Catalogue, value: &Value) -> Result<(), ReadFault>
     ensures added { OnOk result (with_job catalogue.old (view value.now) ≡ Ok catalogue.new) }
@@ -120,7 +123,7 @@ fn add_job(alloc: Global, catalogue: &mut Catalogue, value: &Value) -> Result<()
     }
 }
 
-/// The parts of the job of this number.
+/// Reads the parts of the job of this number.
 #[tactic(auto, unfolding(crate::specs::Catalogues::job_at))]
 fn job_at(alloc: Global, job: u64, value: &Value) -> Result<JobParts, ReadFault>
     ensures read { IfOk result (λ parts. job_at job (view value.now) ≡ Ok (tree_of parts)) }
@@ -149,7 +152,7 @@ fn add_to(catalogue: &mut Catalogue, job: Job) -> Result<(), JobFault>
     catalogue.add(job)
 }
 
-/// A fault of the job of this number.
+/// Makes the fault of the job of this number.
 fn in_job(job: u64, fault: JobFault) -> ReadFault
     ensures memory { is_out_of_memory result ≡ is_memory fault }
     ensures same { is_memory fault ≡ false → result ≡ ReadFault.InJob job fault }

@@ -13,13 +13,13 @@ use jsl_model::{BodyParts, ElementParts, SplitFlowParts};
 use serde_json::Value;
 use std::alloc::Global;
 
-/// The elements of a list and what is inside them, and the number after the last one. The first of
-/// them has this number in its job.
+/// Reads the elements of a list with all elements inside them. Returns also the number after the
+/// last one. `number` is that of the first element in its job.
 ///
 /// # Errors
 ///
-/// The first as they are written: `BadElement` for an element with wrong members of its own, ahead of
-/// those inside it. `OutOfMemory` may stand in place of any answer.
+/// Returns the first fault in written order: `BadElement` for an element whose own members are
+/// wrong, before those inside it. Returns `OutOfMemory` instead of any result if memory is refused.
 #[cycle(elements)]
 pub fn elements_at(
     alloc: Global,
@@ -150,7 +150,7 @@ fn flow_at(
     Ok((SplitFlowParts { id, elements }, next))
 }
 
-/// What stands for wrong members of the element of this number.
+/// Makes the fault of the element of this number, whose own members are wrong.
 fn in_element(job: u64, number: u64, fault: MemberFault) -> ReadFault
     ensures wrong { fault ≡ MemberFault.Wrong → result ≡ ReadFault.BadElement job (Some number) }
     ensures memory { fault ≡ MemberFault.OutOfMemory → result ≡ ReadFault.OutOfMemory }

@@ -6,14 +6,14 @@ use jsl_model::JobFault;
 use std::alloc::{AllocError, AllocFailed};
 use thiserror::Error;
 
-/// What keeps a line from being a catalogue. Jobs, and the elements of a job, are counted from 0.
-/// It prints as its name.
+/// The reason why a line is no catalogue. Jobs, and the elements of a job, are counted from 0. It
+/// prints as its name.
 #[derive(Clone, Copy, Debug, PartialEq, Eq, Error)]
 pub enum ReadFault {
     /// The line is not UTF-8, or not one JSON value.
     #[error("{}", self.name())]
     NotJson,
-    /// It is no object of just `jobs`, a list.
+    /// It is no object with just `jobs`, a list.
     #[error("{}", self.name())]
     NotACatalogue,
     /// The members of a job or of an element are wrong: one is missing, not listed, or of another
@@ -22,10 +22,10 @@ pub enum ReadFault {
     BadElement {
         /// The number of the job.
         job: u64,
-        /// The number of the element; none where the job's own members are wrong.
+        /// The number of the element, or `None` if the job's own members are wrong.
         element: Option<u64>,
     },
-    /// A job breaks a rule of the Job Specification Language, or the catalogue cannot take it. Its
+    /// A job breaks a rule of the Job Specification Language, or the catalogue can't take it. Its
     /// name is that of the job's fault.
     #[error("{}", self.name())]
     InJob {
@@ -40,7 +40,7 @@ pub enum ReadFault {
 }
 
 impl ReadFault {
-    /// The name that is printed.
+    /// Returns the name that is printed.
     pub fn name(self) -> &'static str
         ensures { result.now ≡ read_fault_name self }
     {
@@ -53,7 +53,7 @@ impl ReadFault {
         }
     }
 
-    /// Whether memory was refused, which says nothing of the line.
+    /// Checks whether memory was refused, which says nothing of the line.
     pub fn is_out_of_memory(self) -> bool
         ensures { result ≡ is_out_of_memory self }
     {

@@ -1,9 +1,9 @@
 use std::alloc::{AllocError, AllocFailed};
 
-/// Why the members of an object were not read.
+/// The reason why the members of an object were not read.
 #[derive(Clone, Copy, Debug, PartialEq, Eq)]
 pub enum MemberFault {
-    /// One is missing, not listed, or of another kind.
+    /// A member is missing, not listed, or of another kind.
     Wrong,
     /// Memory was refused.
     OutOfMemory,

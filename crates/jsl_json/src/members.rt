@@ -14,7 +14,8 @@ use json_members::{has_only, is_text, list_at, text_at};
 use serde_json::Value;
 use std::alloc::Global;
 
-/// What an element is, with what its kind may have. What is inside it is not read yet.
+/// An element's kind, with the members that this kind may have. The values inside the element are
+/// not read yet.
 #[derive(Drop)]
 pub enum ElementKind<'v> {
     Step(StepParts),
@@ -55,7 +56,7 @@ pub struct JobMembers<'v> {
     pub elements: &'v [Value],
 }
 
-/// The own members of an element.
+/// Reads the own members of an element.
 #[tactic(auto, unfolding(crate::specs::Members::own_of))]
 pub fn own_of(alloc: Global, value: &Value) -> Result<ElementMembers<'_>, MemberFault>
     ensures read { IfOk result (λ own. own_of (view value.now) ≡ Some (own_in own)) }
@@ -176,7 +177,7 @@ fn decision_of(alloc: Global, value: &Value) -> Result<ElementKind<'_>, MemberFa
     })
 }
 
-/// The own members of a flow of a split.
+/// Reads the own members of a flow of a split.
 #[tactic(auto, unfolding(crate::specs::Members::own_flow_of))]
 pub fn own_flow_of(value: &Value) -> Option<FlowMembers<'_>>
     ensures own { option_map own_flow_in result ≡ own_flow_of (view value.now) }
@@ -191,7 +192,7 @@ pub fn own_flow_of(value: &Value) -> Option<FlowMembers<'_>>
     Some(FlowMembers { id, elements })
 }
 
-/// The own members of a job.
+/// Reads the own members of a job.
 #[tactic(auto, unfolding(crate::specs::Members::own_job_of))]
 pub fn own_job_of(value: &Value) -> Option<JobMembers<'_>>
     ensures { option_map own_job_in result ≡ own_job_of (view value.now) }

@@ -13,14 +13,14 @@ use json_members::{
 use serde_json::Value;
 use std::alloc::Global;
 
-/// The truth value that a member is, and the one given where it is left out.
+/// Reads a member's truth value, or returns `left_out` if the member is left out.
 pub fn truth_or(value: &Value, name: &str, left_out: bool) -> Option<bool>
     ensures { result ≡ truth_or name.now left_out (view value.now) }
 {
     Some(optional_truth(value, name)?.unwrap_or(left_out))
 }
 
-/// The number below 2^32 that a member is, and the one given where it is left out.
+/// Reads a member's number, below 2^32, or returns `left_out` if the member is left out.
 #[tactic(auto, unfolding(crate::specs::Tasks::count_or))]
 pub fn count_or(value: &Value, name: &str, left_out: u32) -> Option<u32>
     ensures { result ≡ count_or name.now left_out (view value.now) }
@@ -42,7 +42,7 @@ fn item_count_at(value: &Value) -> Option<u32>
     }
 }
 
-/// The number of partitions that a step has, from 1 to 64, where it names one.
+/// Reads the number of a step's partitions, from 1 to 64, if the step has one.
 #[tactic(auto, unfolding(crate::specs::Tasks::partitions_at))]
 pub fn partitions_at(value: &Value) -> Option<Option<u32>>
     ensures { result ≡ partitions_at (view value.now) }
@@ -118,7 +118,7 @@ fn chunk_of(alloc: Global, value: &Value) -> Result<TaskParts, MemberFault>
     })
 }
 
-/// The task of a step: its batchlet or its chunk, just one of them.
+/// Reads the task of a step: exactly one of a batchlet and a chunk.
 #[tactic(auto, unfolding(crate::specs::Tasks::task_at))]
 pub fn task_at(alloc: Global, value: &Value) -> Result<TaskParts, MemberFault>
     ensures read { IfOk result (λ task. task_at (view value.now) ≡ Some (task_of task)) }

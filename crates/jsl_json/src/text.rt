@@ -9,7 +9,7 @@ use json_members::{optional_text, text_at};
 use serde_json::Value;
 use std::alloc::Global;
 
-/// A copy of a text that may be left out.
+/// Copies a text that may be left out.
 pub fn copy_of(alloc: Global, text: Option<&str>) -> Result<Option<String>, OutOfMemory>
     ensures { IfOk result (λ copy. bytes_of_option copy
         ≡ option_map (λ text. text.now) text.entry) }
@@ -20,7 +20,7 @@ pub fn copy_of(alloc: Global, text: Option<&str>) -> Result<Option<String>, OutO
     }
 }
 
-/// The text that a member is.
+/// Reads a copy of a member's text.
 pub fn text_of(alloc: Global, value: &Value, name: &str) -> Result<String, MemberFault>
     ensures read { IfOk result (λ text. text_at name.now (view value.now)
         ≡ Some (string_bytes text)) }
@@ -32,7 +32,7 @@ pub fn text_of(alloc: Global, value: &Value, name: &str) -> Result<String, Membe
     }
 }
 
-/// The text that a member is which may be left out.
+/// Reads a copy of the text of a member that may be left out.
 pub fn optional_text_of(
     alloc: Global,
     value: &Value,

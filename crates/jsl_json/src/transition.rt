@@ -11,7 +11,7 @@ use json_members::{has_only, is_text, optional_list};
 use serde_json::Value;
 use std::alloc::Global;
 
-/// The transition elements of an element, none where they are left out.
+/// Reads the transition elements of an element, none if they are left out.
 #[tactic(auto, unfolding(crate::specs::Transitions::transitions_at))]
 pub fn transitions_at(alloc: Global, value: &Value) -> Result<Listed<TransitionParts>, MemberFault>
     ensures read { IfOk result (λ transitions. transitions_at (view value.now)
@@ -78,7 +78,7 @@ fn then_next(alloc: Global, value: &Value) -> Result<ThenParts, MemberFault>
     Ok(ThenParts::Next { to })
 }
 
-/// The exit status of an `end` or a `fail`.
+/// Reads the exit status of an `end` or a `fail`.
 fn exit_status_of(alloc: Global, value: &Value) -> Result<Option<String>, MemberFault>
     ensures read { IfOk result (λ status. exit_status_of (view value.now)
         ≡ Some (bytes_of_option status)) }

@@ -1,5 +1,5 @@
-//! Exact readers of the members of a JSON object: each says of a value what its contract says of
-//! the data that the value stands for.
+//! Exact readers of the members of a JSON object. Their contracts name the data of the value, so
+//! that each result is exact.
 #![tactic(auto)]
 
 mod member;

@@ -4,30 +4,32 @@ ghost use Rattle.json_members.specs.Members.{text_at, number_at, truth_at, list_
 
 use serde_json::Value;
 
-/// The text that the member of this name is; `None` where there is no such member, or it is no text.
+/// Returns the text of the member of this name. Returns `None` if there is no such member, or if it
+/// is no text.
 pub fn text_at<'v>(value: &'v Value, name: &str) -> Option<&'v str>
     ensures { option_map (λ text. text.now) result ≡ text_at name.now (view value.now) }
 {
     value.get(name).and_then(Value::as_str)
 }
 
-/// The number that the member of this name is, 0 to 2^64 - 1; `None` where there is no such
-/// member, or it is no such number. `-0`, `1.0` and `1e3` are none.
+/// Returns the number of the member of this name, 0 to 2^64 - 1. Returns `None` if there is no such
+/// member, or if it is no such number. `-0`, `1.0` and `1e3` are no such numbers.
 pub fn number_at(value: &Value, name: &str) -> Option<u64>
     ensures { result ≡ number_at name.now (view value.now) }
 {
     value.get(name).and_then(Value::as_u64)
 }
 
-/// The truth value that the member of this name is; `None` where there is no such member, or it
-/// is no truth value.
+/// Returns the truth value of the member of this name. Returns `None` if there is no such member,
+/// or if it is no truth value.
 pub fn truth_at(value: &Value, name: &str) -> Option<bool>
     ensures { result ≡ truth_at name.now (view value.now) }
 {
     value.get(name).and_then(Value::as_bool)
 }
 
-/// The list that the member of this name is; `None` where there is no such member, or it is no list.
+/// Returns the list of the member of this name. Returns `None` if there is no such member, or if it
+/// is no list.
 pub fn list_at<'v>(value: &'v Value, name: &str) -> Option<&'v [Value]>
     ensures { option_map (λ list. items_view list.now) result ≡ list_at name.now (view value.now) }
 {
@@ -37,15 +39,15 @@ pub fn list_at<'v>(value: &'v Value, name: &str) -> Option<&'v [Value]>
     }
 }
 
-/// The object that the member of this name is; `None` where there is no such member, or it is no
-/// object.
+/// Returns the object of the member of this name. Returns `None` if there is no such member, or if
+/// it is no object.
 pub fn object_at<'v>(value: &'v Value, name: &str) -> Option<&'v Value>
     ensures { option_map (λ found. view found.now) result ≡ object_at name.now (view value.now) }
 {
     value.get(name).and_then(as_object_value)
 }
 
-/// Whether the member of this name is this text.
+/// Checks whether the member of this name is this text.
 pub fn is_text(value: &Value, name: &str, text: &str) -> bool
     ensures { result ≡ is_text name.now text.now (view value.now) }
 {
@@ -55,7 +57,7 @@ pub fn is_text(value: &Value, name: &str, text: &str) -> bool
     }
 }
 
-/// The value itself, where it is an object.
+/// Returns the value itself if it is an object.
 pub(crate) fn as_object_value(value: &Value) -> Option<&Value>
     ensures { option_map (λ found. view found.now) result ≡ as_object_value (view value.now) }
 {

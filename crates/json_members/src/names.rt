@@ -6,9 +6,10 @@ ghost use Rattle.json_members.specs.Members.{has_only};
 
 use serde_json::{Map, Value};
 
-/// Whether a value is an object without a member but these. It may lack some of them.
+/// Checks whether a value is an object that has no other members than these. It may lack some of
+/// them.
 ///
-/// It costs as many comparisons as it has members, times the number of the names.
+/// The number of comparisons is at most the number of members times the number of names.
 pub fn has_only(value: &Value, names: &[&str]) -> bool
     ensures { result ≡ has_only (map (λ name. name.now) names.now) (view value.now) }
 {

@@ -7,14 +7,14 @@ use batch_ids::OutOfMemory;
 use serde_json::Value;
 use std::alloc::{AllocError, Global};
 
-/// The value that the bytes stand for, or `None` where they are not UTF-8 or not one JSON value.
+/// Reads the bytes as a JSON value. Returns `None` if they are not UTF-8 or not one JSON value.
 ///
-/// Lists and objects may nest 127 deep. Of a member that comes twice the last value is kept. A
-/// number that no `f64` comes near is not read.
+/// Lists and objects may nest 127 deep. If a member comes twice, its last value counts. A number
+/// that no `f64` comes near is not read.
 ///
 /// # Errors
 ///
-/// `OutOfMemory` alone: memory was refused.
+/// Returns only `OutOfMemory`, if memory is refused.
 pub fn read_value(alloc: Global, bytes: &[u8]) -> Result<Option<Value>, OutOfMemory>
     ensures { IfOk result (λ found. option_map view found ≡ data_of bytes.now) }
 {
@@ -25,11 +25,12 @@ pub fn read_value(alloc: Global, bytes: &[u8]) -> Result<Option<Value>, OutOfMem
     }
 }
 
-/// The value that a text is, or `None` if it is not one JSON value. It is read as by [`read_value`].
+/// Reads a text as a JSON value, by the rules of [`read_value`]. Returns `None` if it is not one
+/// JSON value.
 ///
 /// # Errors
 ///
-/// `OutOfMemory` alone: memory was refused.
+/// Returns only `OutOfMemory`, if memory is refused.
 pub fn read_text(alloc: Global, text: &str) -> Result<Option<Value>, OutOfMemory>
     ensures { IfOk result (λ found. option_map view found ≡ read text.now) }
 {

@@ -15,32 +15,32 @@ abbrev pub last_named : {A : Type 0} → List ℕ → List (Bor (List ℕ) × A)
 last_named name [] = None
 last_named name (m ∷ ms) = option_or (last_named name ms) (if bytes_eq m.0.now name then Some m.1 else None)
 
--- members put into an object one after another, so that the last value of a name stays
+-- members put into an object one after another, so that the last value of a name counts
 abbrev pub put_all : {A : Type 0} → (A → Data) → List (Bor (List ℕ) × A) → Members → Members
 put_all value [] found = found
 put_all value (m ∷ ms) found = put_all value ms (put m.0.now (value m.1) found)
 
--- the value that a scalar is
+-- the value of a scalar
 abbrev pub scalar_data : Scalar → Data
 scalar_data Null = null
 scalar_data (Truth b) = boolean b
 scalar_data (Count n) = number (unsigned n)
 scalar_data (Text text) = string text.now
 
--- the object that these scalars are
+-- the object of these scalars
 abbrev pub scalars_data : List (Bor (List ℕ) × Scalar) → Data
 scalars_data ms = object (put_all scalar_data ms no_members)
 
--- the value that a member is
+-- the value of a member
 abbrev pub member_data : Member → Data
 member_data (members.Scalar s) = scalar_data s
 member_data (members.Counts ms) = scalars_data ms.members.items
 member_data (members.Texts ms) = scalars_data ms.members.items
 
--- the object that these members are
+-- the object of these members
 abbrev pub flat_data : List (Bor (List ℕ) × Member) → Data
 flat_data ms = object (put_all member_data ms no_members)
 
--- the whole number that a number's text writes, 0 to 2^64 - 1
+-- the whole number in a number's text, 0 to 2^64 - 1
 unfoldable pub count_in : List ℕ → Option ℕ
 count_in text = option_and_then as_u64 (number_of text)

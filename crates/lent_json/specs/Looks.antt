@@ -1,4 +1,4 @@
--- What is looked into.
+-- The value that a look shows.
 use Rattle.std.specs.Prelude.{Bool, true, false}
 use Rattle.serde_json.specs.Data.{Data}
 use Rattle.serde_json.specs.View.{view}
@@ -6,7 +6,7 @@ use Rattle.lent_json.specs.Flat.{flat_data, scalars_data, scalar_data}
 use Rattle.lent_json.specs.declared.look.Look.{Look}
 use Rattle.lent_json.specs.declared.look.Look.TheVariants.{Own, Flat, Counts, Texts, Scalar}
 
--- whether it stands inside an object that was read in one pass, or has memory of its own
+-- whether it is inside an object that was read in one pass, or has memory of its own
 abbrev pub is_inside : Look → Bool
 is_inside (Own value) = true
 is_inside (Flat o) = false

@@ -1,4 +1,4 @@
--- What is read of the tokens of a text.
+-- The values that the tokens of a text are read as.
 use Rattle.std.specs.Prelude.{ℕ, List, Option, None, Some, option_map}
 use Rattle.json.specs.Token.{Token}
 use Rattle.json.specs.Json.{members, value}
@@ -6,15 +6,16 @@ use Rattle.serde_json.specs.Data.{Data, null, boolean, number, unsigned, string,
 use Rattle.serde_json.specs.Read.{of_json, of_members, converted}
 use Rattle.lent_json.specs.Flat.{count_in}
 
--- the value that tokens begin with, nested so deep at most; and the tokens behind it
+-- the value at the beginning of tokens, nested so deep at most, and the tokens after it
 abbrev pub value_read : ℕ → List Token → Option (Data × List Token)
 value_read depth ts = converted of_json (value depth ts)
 
--- the members that tokens are, nested so deep at most, put into those that were found; and the tokens behind them
+-- the members at the beginning of tokens, nested so deep at most, put into those already found, and the
+-- tokens after them
 abbrev pub members_read : ℕ → ℕ → Members → List Token → Option (Members × List Token)
 members_read depth turns found ts = converted (λ js. of_members js found) (members (value depth) turns ts)
 
--- the scalar that a token is, if it is one
+-- the scalar of a token, if it is one
 abbrev pub scalar_of : Token → Option Data
 scalar_of Token.begin_object = None
 scalar_of Token.end_object = None

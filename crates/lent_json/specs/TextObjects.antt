@@ -17,7 +17,7 @@ are_texts (member name d ms) = is_some (as_str d) && are_texts ms
 abbrev pub has_texts : Data → Bool
 has_texts d = unwrap_or (option_map are_texts (as_object d)) false
 
--- the value itself, where it is an object of texts
+-- the value itself if it is an object of texts
 abbrev pub as_texts_value : Data → Option Data
 as_texts_value d = if has_texts d then Some d else None
 
@@ -25,7 +25,7 @@ as_texts_value d = if has_texts d then Some d else None
 abbrev pub optional_texts : List ℕ → Data → Option (Option Data)
 optional_texts name d = if_there as_texts_value (get name d)
 
--- the object of texts that is lent
+-- the value of an object of texts
 abbrev pub texts_data : Texts → Data
 texts_data (Own map) = object (members_view map.now.entries)
 texts_data (Lent ms) = scalars_data ms.now.members.items

@@ -3,7 +3,7 @@ ghost use Rattle.std.specs.List.{list_all, list_any};
 ghost use Rattle.lent_json.specs.Flat.{last_named};
 ghost use Rattle.lent_json.specs.Kinds.{text_of, is_text, is_count, all_texts, are_counts};
 
-/// A JSON value that is no list and no object, and a whole number if it is a number. A text is lent.
+/// A JSON value that is no list and no object. A number is a whole number. A text is borrowed.
 #[derive(Clone, Copy, Debug, Drop)]
 pub enum Scalar<'t> {
     /// Null.
@@ -12,12 +12,12 @@ pub enum Scalar<'t> {
     Truth(bool),
     /// A whole number, 0 to 2^64 - 1, written without sign, point and exponent.
     Count(u64),
-    /// A text, its escapes read.
+    /// A text, with its escapes read.
     Text(&'t str),
 }
 
 impl<'t> Scalar<'t> {
-    /// The text; the empty one if it is no text.
+    /// Returns the text, or the empty one if it is no text.
     pub fn text(&self) -> &'t str
         ensures { result.now ≡ text_of self.now }
     {
@@ -40,7 +40,7 @@ impl<'t> Scalar<'t> {
     }
 }
 
-/// Whether each of these is a text.
+/// Checks whether each of these is a text.
 pub(crate) fn all_texts(members: &[(&str, Scalar<'_>)]) -> bool
     ensures { result ≡ all_texts members.now }
 {
@@ -53,14 +53,14 @@ fn all_counts(members: &[(&str, Scalar<'_>)]) -> bool
     members.iter().all(|member| member.1.is_count())
 }
 
-/// Whether these are whole numbers, one at least.
+/// Checks whether these are whole numbers, at least one.
 pub(crate) fn are_counts(members: &[(&str, Scalar<'_>)]) -> bool
     ensures { result ≡ are_counts members.now }
 {
     !members.is_empty() && all_counts(members)
 }
 
-/// The last member of this name.
+/// Returns the last member of this name.
 pub(crate) fn last_named<'v, T>(members: &'v [(&str, T)], name: &str) -> Option<&'v T>
     ensures { option_map (λ value. value.now) result ≡ last_named name.now members.now }
 {
@@ -75,7 +75,7 @@ pub(crate) fn last_named<'v, T>(members: &'v [(&str, T)], name: &str) -> Option<
     None
 }
 
-/// Whether the name of each member is among these.
+/// Checks whether the name of each member is among these.
 pub(crate) fn keys_among<T>(members: &[(&str, T)], names: &[&str]) -> bool
     ensures { result ≡ list_all
         (λ member. list_any (λ listed. bytes_eq member.0.now listed.now) names.now) members.now }
@@ -89,7 +89,8 @@ fn is_listed(name: &str, names: &[&str]) -> bool
     names.iter().any(|listed| is_name(name, *listed))
 }
 
-/// Whether two names are the same. Most that differ do so in their length or their first byte.
+/// Checks whether two names are equal. Most unequal names differ in their length or their first
+/// byte.
 #[inline]
 fn is_name(name: &str, wanted: &str) -> bool
     ensures { result ≡ bytes_eq name.now wanted.now }

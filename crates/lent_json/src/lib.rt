@@ -1,5 +1,5 @@
-//! JSON objects that are read in one pass: an object whose members are scalars, or objects of scalars, is read with little memory,
-//! and shows what the same text shows to `serde_json`.
+//! A reader of flat JSON objects, in one pass and with little memory: the members are scalars, or
+//! objects of scalars. The data are those that `serde_json` reads from the same text.
 #![tactic(auto)]
 
 mod flat;

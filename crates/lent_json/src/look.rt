@@ -13,10 +13,10 @@ use crate::member::{CountMembers, FlatObject, Member, TextMembers};
 use crate::texts::Texts;
 use serde_json::Map;
 
-/// A JSON value that is looked into.
+/// A JSON value whose members are looked up.
 #[derive(Clone, Copy)]
 pub enum Look<'v, 't> {
-    /// One with memory of its own.
+    /// A value with memory of its own.
     Own(&'v serde_json::Value),
     /// An object that was read in one pass.
     Flat(&'v FlatObject<'t>),
@@ -88,23 +88,24 @@ impl<'v, 't> Look<'v, 't> {
         }
     }
 
-    /// The text that the member of this name is; `None` if there is no such member, or it is no text.
+    /// Returns the text of the member of this name. Returns `None` if there is no such member, or
+    /// if it is no text.
     pub fn text_at(self, name: &str) -> Option<&'v str>
         ensures { option_map (λ text. text.now) result ≡ text_at name.now (shown self.entry) }
     {
         self.get(name)?.as_str()
     }
 
-    /// The number that the member of this name is, 0 to 2^64 - 1; `None` if there is no such
-    /// member, or it is no such number.
+    /// Returns the number of the member of this name, 0 to 2^64 - 1. Returns `None` if there is no
+    /// such member, or if it is no such number.
     pub fn number_at(self, name: &str) -> Option<u64>
         ensures { result ≡ number_at name.now (shown self.entry) }
     {
         self.get(name)?.as_count()
     }
 
-    /// The text of a member that may be left out: `Some(None)` if it is left out, `None` if it
-    /// is there and no text.
+    /// Returns the text of a member that may be left out. Returns `Some(None)` if it is left out,
+    /// and `None` if it is there and no text.
     pub fn optional_text(self, name: &str) -> Option<Option<&'v str>>
         ensures { option_map (option_map (λ text. text.now)) result
             ≡ optional_text name.now (shown self.entry) }
@@ -115,8 +116,8 @@ impl<'v, 't> Look<'v, 't> {
         }
     }
 
-    /// The number, 0 to 2^64 - 1, of a member that may be left out: `Some(None)` if it is left out,
-    /// `None` if it is there and no such number.
+    /// Returns the number, 0 to 2^64 - 1, of a member that may be left out. Returns `Some(None)` if
+    /// it is left out, and `None` if it is there and no such number.
     pub fn optional_number(self, name: &str) -> Option<Option<u64>>
         ensures { result ≡ optional_number name.now (shown self.entry) }
     {
@@ -126,8 +127,8 @@ impl<'v, 't> Look<'v, 't> {
         }
     }
 
-    /// The object of a member that may be left out: `Some(None)` if it is left out, `None` if it
-    /// is there and no object.
+    /// Returns the object of a member that may be left out. Returns `Some(None)` if it is left out,
+    /// and `None` if it is there and no object.
     pub fn optional_object(self, name: &str) -> Option<Option<Look<'v, 't>>>
         ensures { option_map (option_map shown) result ≡ optional_object name.now (shown self.entry) }
     {
@@ -137,8 +138,8 @@ impl<'v, 't> Look<'v, 't> {
         }
     }
 
-    /// The object of texts of a member that may be left out: `Some(None)` if it is left out, `None` if
-    /// it is there and no object of texts.
+    /// Returns the object of texts of a member that may be left out. Returns `Some(None)` if it is
+    /// left out, and `None` if it is there and no object of texts.
     pub fn optional_texts(self, name: &str) -> Option<Option<Texts<'v, 't>>>
         ensures { option_map (option_map texts_data) result
             ≡ optional_texts name.now (shown self.entry) }
@@ -149,9 +150,10 @@ impl<'v, 't> Look<'v, 't> {
         }
     }
 
-    /// Whether it is an object without a member but these. It may lack some of them.
+    /// Checks whether it is an object that has no other members than these. It may lack some of
+    /// them.
     ///
-    /// It costs as many comparisons as it has members, times the number of the names.
+    /// The number of comparisons is at most the number of members times the number of names.
     pub fn has_only(self, names: &[&str]) -> bool
         ensures { result ≡ has_only (map (λ name. name.now) names.now) (shown self.entry) }
     {

@@ -3,8 +3,8 @@ ghost use Rattle.lent_json.specs.Flat.{count_in};
 
 use fast_float::Numeral;
 
-/// The whole number that the text of a JSON number writes, 0 to 2^64 - 1, without sign, point and
-/// exponent; `None` where it is another number.
+/// Returns the whole number in the text of a JSON number, 0 to 2^64 - 1, written without sign,
+/// point and exponent. Returns `None` if it is another number.
 pub(crate) fn count_in(text: &str) -> Option<u64>
     ensures { result ≡ count_in text.now }
 {

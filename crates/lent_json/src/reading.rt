@@ -13,10 +13,10 @@ use crate::numbers::count_in;
 use json::{Invalid, Reader, Scratch, Token};
 use std::alloc::{AllocError, Global};
 
-/// Why a text is not read in one pass.
+/// The reason why a text isn't read in one pass.
 #[derive(Clone, Copy, Debug, PartialEq, Eq, Drop)]
 pub enum Unread {
-    /// Nothing is said of the text: a value, if it is one, has to be read from it anew.
+    /// The text may still be a JSON value. It has to be read anew by a full reader.
     Other,
     /// The text is no JSON value.
     NoJson,
@@ -40,14 +40,14 @@ impl From<AllocError> for Unread {
     }
 }
 
-/// How many members an object has room for before it takes more memory.
+/// The number of members for which an object has room before it takes more memory.
 const ROOM: usize = 8;
 
-/// The most members that an object may have, names that come twice counted twice: a job execution has
-/// no more parameters. So the memory of a read has a bound.
+/// The most members of an object, with names that come twice counted twice. A job execution has no
+/// more parameters. So the memory of a read has a bound.
 const MAX_MEMBERS: usize = 64;
 
-/// The scalar that a token is.
+/// Returns the scalar of a token.
 fn scalar_of<'t>(token: Token<'t>) -> Result<Scalar<'t>, Unread>
     ensures read { IfOk result (λ scalar. Some (scalar_data scalar) ≡ scalar_of (token_of token.entry)) }
     ensures no_json { result ≡ Err NoJson → token_of token.entry ≡ bad }
@@ -65,7 +65,7 @@ fn scalar_of<'t>(token: Token<'t>) -> Result<Scalar<'t>, Unread>
     }
 }
 
-/// The scalar that comes next.
+/// Reads the next scalar.
 fn next_scalar<'t>(reader: &mut Reader<'t>) -> Result<Scalar<'t>, Unread>
     ensures read { IfOk result (λ scalar. (depth : ℕ)
         → value_read depth reader.old ≡ Some (scalar_data scalar, reader.new)) }
@@ -79,7 +79,7 @@ fn next_scalar<'t>(reader: &mut Reader<'t>) -> Result<Scalar<'t>, Unread>
     }
 }
 
-/// The scalars of an object whose brace was read, up to the brace that closes it.
+/// Reads the scalars of an object after its opening brace, up to the closing brace.
 fn read_scalars<'t>(
     alloc: Global,
     reader: &mut Reader<'t>,
@@ -103,7 +103,7 @@ fn read_scalars<'t>(
     Ok(found)
 }
 
-/// The object of these members, if they are all whole numbers, or all texts.
+/// Makes the object of these members, if they are all whole numbers or all texts.
 fn object_of<'t>(members: Vec<(&'t str, Scalar<'t>)>) -> Result<Member<'t>, Unread>
     ensures read { IfOk result (λ member. member_data member ≡ scalars_data members.entry.items) }
     ensures no_json { result ≢ Err NoJson }
@@ -117,7 +117,7 @@ fn object_of<'t>(members: Vec<(&'t str, Scalar<'t>)>) -> Result<Member<'t>, Unre
     Err(Unread::Other)
 }
 
-/// The value of a member that comes next.
+/// Reads the next member's value.
 fn next_member<'t>(alloc: Global, reader: &mut Reader<'t>) -> Result<Member<'t>, Unread>
     ensures read { IfOk result (λ member. (depth : ℕ) → 0 < depth
         → value_read depth reader.old ≡ Some (member_data member, reader.new)) }
@@ -135,10 +135,10 @@ fn next_member<'t>(alloc: Global, reader: &mut Reader<'t>) -> Result<Member<'t>,
     }
 }
 
-/// How deep lists and objects may nest inside the members of an object.
+/// The most levels of lists and objects inside the members of an object.
 const DEPTH_INSIDE: usize = 126;
 
-/// The members of an object whose brace was read, up to the brace that closes it.
+/// Reads the members of an object after its opening brace, up to the closing brace.
 fn read_members<'t>(
     alloc: Global,
     reader: &mut Reader<'t>,
@@ -161,16 +161,16 @@ fn read_members<'t>(
     Ok(found)
 }
 
-/// The object that a text is, if it is flat: its members are null, truth values, texts, whole numbers,
-/// or objects of texts or of whole numbers, and it and each of these has 64 members at most. The memory
-/// of `scratch` serves one read after another.
+/// Reads a flat object from a text. Its members are null, truth values, texts, whole numbers, or
+/// objects of texts or of whole numbers. It and each of these objects has 64 members at most. The
+/// memory of `scratch` serves one read after another.
 ///
-/// It reads no further than to the first token that shows that the object is not flat.
+/// It reads only as far as the first token that shows that the object isn't flat.
 ///
 /// # Errors
 ///
 /// - `NoJson` if the text is not one JSON value whose lists and objects nest 127 deep at most.
-/// - `Other` says nothing of it.
+/// - `Other` if the text isn't read in one pass. It may or may not be a JSON value.
 /// - `OutOfMemory` if memory is refused.
 pub fn read_flat<'t>(
     alloc: Global,

@@ -1,11 +1,11 @@
--- What a copy keeps.
+-- The invariant of a read copy.
 use Rattle.std.specs.Prelude.{ℕ, ◌≡◌, List, [], ◌∷◌, length}
 use Rattle.batch_history.specs.declared.call.Entry.{Entry}
 use Rattle.jsl_model.specs.Jobs.{JobTree}
 use Rattle.seat_rules.specs.Places.{IsLegalLog}
 use Rattle.seat_rules.specs.Views.{list_of}
 
--- a copy is of one seat, and its state stands for what that has absorbed, a legal log
+-- a copy has one seat, and its state represents the operations that this has absorbed, a legal log
 pub record IsCopied (stands : List JobTree → List Entry → Type 0) (catalogue : List JobTree) (entries : ℕ) (seat : List (List Entry)) : Type 0 where
   pub one : seat ≡ list_of seat ∷ []
   pub entries_is : entries ≡ length (list_of seat)

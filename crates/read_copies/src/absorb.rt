@@ -1,7 +1,7 @@
 use batch_ids::{OutOfMemory, Refusal};
 use op_log::Entry;
 
-/// A state that stands for the first operations of a log, and answers questions about them.
+/// The state after the first operations of a log, which answers questions about them.
 pub trait Absorb: Drop {
     ghost use Rattle.std.specs.Prelude.{◌≡◌, ◌∷◌, ◌++◌, [], List, Result, OnErr, OnOk};
     ghost use Rattle.batch_history.specs.Due.{IsDue};
@@ -10,23 +10,23 @@ pub trait Absorb: Drop {
     ghost use Rattle.jsl_model.specs.Jobs.{JobTree};
     ghost use Rattle.seat_rules.specs.Places.{IsLegalLog};
 
-    /// What it is asked.
+    /// The type of a question.
     type Ask;
 
-    /// What it says.
+    /// The type of an answer.
     type Said;
 
-    /// It stands for a log over a catalogue.
+    /// Relates a state to the catalogue and the log that it represents.
     ghost stands: { Self → List JobTree → List Entry → Type 0 };
 
-    /// What a question is answered after a log over a catalogue.
+    /// The answer to a question after a log over a catalogue.
     ghost answer: { List JobTree → List Entry → Self.Ask → Result Self.Said Refusal };
 
-    /// Takes the next operation in.
+    /// Absorbs the next operation.
     ///
     /// # Errors
     ///
-    /// `OutOfMemory` alone, and then nothing has changed.
+    /// Returns only `OutOfMemory`, with nothing changed, if memory is refused.
     fn absorb(&mut self, entry: &Entry) -> Result<(), OutOfMemory>
         requires next { (catalogue : List JobTree) × (log : List Entry) × stands self.old catalogue log × IsLegalLog catalogue (log ++ entry.now ∷ []) }
         ensures absorbed { (catalogue : List JobTree) (log : List Entry) → stands self.old catalogue log → IsLegalLog catalogue (log ++ entry.now ∷ []) → OnOk result (stands self.new catalogue (log ++ entry.now ∷ [])) }
@@ -36,7 +36,8 @@ pub trait Absorb: Drop {
     ///
     /// # Errors
     ///
-    /// The question's refusal where it stands, or `OutOfMemory` in place of any answer.
+    /// Returns the question's refusal if it applies, or `OutOfMemory` instead of any answer if
+    /// memory is refused.
     fn tell(&self, ask: &Self::Ask) -> Result<Self::Said, Refusal>
         requires some { (catalogue : List JobTree) × (log : List Entry) × stands self.now catalogue log × IsLegalLog catalogue log }
         ensures { (catalogue : List JobTree) (log : List Entry) → stands self.now catalogue log → IsLegalLog catalogue log → IsDue result (answer catalogue log ask.now) };

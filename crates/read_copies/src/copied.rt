@@ -11,8 +11,8 @@ use seat_rules::{CopySeat, SeatTable, Site};
 use sessions::{Desk, Session};
 use std::marker::Model;
 
-/// What the lock of a read copy keeps. Contracts see the operations that it has absorbed: a beginning
-/// of the log, for which its state stands.
+/// A read copy, which a lock guards. Contracts see the operations that it has absorbed: a prefix of
+/// the log, which its state represents.
 #[derive(Drop)]
 pub struct Copied<S: Absorb, N: Site> {
     state: S,
@@ -34,7 +34,8 @@ impl<S: Absorb, N: Site> Model for Copied<S, N> {
 }
 
 impl<S: Absorb, N: Site> Copied<S, N> {
-    /// A copy that has absorbed nothing: its state stands for the empty log. It takes no memory.
+    /// Returns a copy that has absorbed nothing, and whose state represents the empty log.
+    /// Allocates nothing.
     pub fn new<const LIMIT: u64>(
         state: S,
         desk: &mut Desk<N, LIMIT>,
@@ -53,20 +54,23 @@ impl<S: Absorb, N: Site> Copied<S, N> {
         }
     }
 
-    /// How many operations it has absorbed.
+    /// Returns the number of operations that the copy has absorbed.
     pub fn len(&self) -> u64
         ensures { result ≡ length self.now }
     {
         self.entries
     }
 
-    /// Answers a question after the operations that the copy has absorbed, which the session then has
-    /// seen. None where that is fewer than the session has seen or was shown, and then nothing has
-    /// changed.
+    /// Answers a question after the operations that the copy has absorbed. The session has seen
+    /// these then.
+    ///
+    /// Returns `None`, with nothing changed, if the copy has absorbed fewer operations than the
+    /// session has seen or was shown.
     ///
     /// # Errors
     ///
-    /// The question's refusal where it stands, or `OutOfMemory` in place of any answer.
+    /// Returns the question's refusal if it applies, or `OutOfMemory` instead of any answer if
+    /// memory is refused.
     pub fn read(
         &mut self,
         session: &mut Session<N>,
@@ -96,7 +100,8 @@ impl<S: Absorb, N: Site> Copied<S, N> {
     ///
     /// # Errors
     ///
-    /// `OutOfMemory`, and then the copy keeps what it has absorbed until then.
+    /// Returns `OutOfMemory` if memory is refused. The copy then has the operations that it
+    /// absorbed before.
     pub fn bring<const LIMIT: u64>(
         &mut self,
         desk: &mut Desk<N, LIMIT>,

@@ -15,7 +15,7 @@ use std::alloc::Global;
 use std::marker::Model;
 use std::sync::{Mutex, Wait};
 
-/// Read copies of one kind, each behind a lock of its own. Contracts see how many they are.
+/// Read copies of one kind, each with a lock of its own. Contracts see their number.
 #[derive(Drop)]
 pub struct Copies<S: Absorb, N: Site> {
     copies: Vec<Mutex<Copied<S, N>>>,
@@ -30,11 +30,11 @@ impl<S: Absorb, N: Site> Model for Copies<S, N> {
 }
 
 impl<S: Absorb, N: Site> Copies<S, N> {
-    /// A copy of each state, which all stand for the empty log.
+    /// Returns a copy for each state. Each state must represent the empty log.
     ///
     /// # Errors
     ///
-    /// `OutOfMemory` where memory is refused.
+    /// Returns `OutOfMemory` if memory is refused.
     pub fn new<const LIMIT: u64>(
         alloc: Global,
         states: Vec<S>,
@@ -58,19 +58,23 @@ impl<S: Absorb, N: Site> Copies<S, N> {
         Ok(Copies { copies })
     }
 
-    /// How many they are.
+    /// Returns the number of copies.
     pub fn len(&self) -> usize
         ensures { result ≡ self.now }
     {
         self.copies.len()
     }
 
-    /// Answers a question after the operations that copy `j` has absorbed, which the session then has
-    /// seen. None where the copy is shorter than what the session has seen or was shown.
+    /// Answers a question after the operations that copy `j` has absorbed. The session has seen
+    /// these then.
+    ///
+    /// Returns `None`, with the session unchanged, if the copy has absorbed fewer operations than
+    /// the session has seen or was shown.
     ///
     /// # Errors
     ///
-    /// The question's refusal where it stands, or `OutOfMemory` in place of any answer.
+    /// Returns the question's refusal if it applies, or `OutOfMemory` instead of any answer if
+    /// memory is refused.
     pub fn read(
         &self,
         rt: &impl Wait,
@@ -93,11 +97,12 @@ impl<S: Absorb, N: Site> Copies<S, N> {
         self.copies[j].lock(rt).read(session, ask, table)
     }
 
-    /// Brings copy `j` to the desk's log.
+    /// Lets copy `j` absorb the rest of the desk's log.
     ///
     /// # Errors
     ///
-    /// `OutOfMemory`, and then the copy keeps what it has absorbed until then.
+    /// Returns `OutOfMemory` if memory is refused. The copy then has the operations that it
+    /// absorbed before.
     pub fn publish<const LIMIT: u64>(
         &self,
         rt: &impl Wait,

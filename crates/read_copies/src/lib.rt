@@ -1,6 +1,6 @@
-//! Read copies: what the log comes to up to some operation, each copy behind a lock of its own, so
-//! that readers do not wait for writers. A copy is read only by sessions that have seen no more than
-//! it has.
+//! Read copies: the state of the log up to some operation. Each copy has a lock of its own, so that
+//! readers don't wait for writers. A session reads a copy only if the copy has absorbed all that
+//! the session has seen.
 #![tactic(auto)]
 
 mod absorb;

@@ -8,8 +8,8 @@ use op_log::{CountsByStatus, Entry, Repository};
 use std::alloc::Global;
 use std::marker::Model;
 
-/// How many job executions have each batch status, kept beside a repository of its own: whoever asks
-/// waits for no other query.
+/// The number of job executions with each batch status, beside a repository of its own. Thus a
+/// reader waits for no other query.
 #[derive(Drop)]
 pub struct StatusCounts {
     repository: Repository<1_000_000>,
@@ -29,11 +29,11 @@ impl Model for StatusCounts {
 }
 
 impl StatusCounts {
-    /// The counts of an empty log over this catalogue.
+    /// Returns the counts for an empty log over this catalogue.
     ///
     /// # Errors
     ///
-    /// `OutOfMemory` where memory is refused.
+    /// Returns `OutOfMemory` if memory is refused.
     pub fn new(alloc: Global, catalogue: Catalogue) -> Result<StatusCounts, OutOfMemory>
         ensures { IfOk result (λ state. StandsForCounts state catalogue []) }
     {

@@ -1,4 +1,4 @@
--- Where a repository stands, and which of its job executions are unfinished.
+-- The rows of a repository's state, and which of its job executions are unfinished.
 use Rattle.std.specs.Prelude.{ℕ, Bool}
 use Rattle.batch_ids.specs.Statuses.{is_unfinished}
 use Rattle.batch_history.specs.Replies.{row_status}
@@ -7,7 +7,7 @@ use Rattle.batch_history.specs.declared.rows.ExecutionRow.{ExecutionRow}
 use Rattle.restart_rules.specs.Restarting.{rows_over}
 use Rattle.reply_rules.specs.declared.standing.Standing.{Standing}
 
--- what it says
+-- the rows of a state
 abbrev pub rows_at : {limit : ℕ} → Standing limit → Rows
 rows_at s = rows_over s.catalogue.now s.count s.last s.records.now
 

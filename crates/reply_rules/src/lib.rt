@@ -1,5 +1,5 @@
-//! What a call is answered by the rows of a repository (Jakarta Batch 2.1, "JobOperator" and
-//! "JobRepository"), and what a job execution is by its walk: its statuses, and whether there is
+//! The replies to calls, from the rows of a repository (Jakarta Batch 2.1, "JobOperator" and
+//! "JobRepository"). Also the statuses of a job execution, from its walk, and whether there is
 //! something to do for it.
 #![tactic(auto)]
 

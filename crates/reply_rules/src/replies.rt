@@ -1,4 +1,4 @@
-//! The replies to calls, by where a repository stands.
+//! The replies to calls, from the state of a repository.
 ghost use Rattle.std.specs.Prelude.{◌≡◌, ◌≤◌, [], find, IfOk};
 ghost use Rattle.std.specs.Option.{option_copied};
 ghost use Rattle.batch_history.specs.Due.{IsDue};
@@ -17,11 +17,11 @@ use jsl_model::Task;
 use restart_rules::may_restart;
 use std::alloc::Global;
 
-/// The reply to a call that is accepted after so many operations.
+/// Returns the reply to a call that is accepted after `count` operations.
 ///
 /// # Errors
 ///
-/// `RepositoryFull` where `LIMIT` operations were accepted.
+/// `RepositoryFull` if `LIMIT` operations were accepted.
 pub fn accept<const LIMIT: u64>(count: u64, reply: Reply) -> Result<Reply, Refusal>
     ensures { result ≡ accepted LIMIT count reply }
 {
@@ -32,7 +32,7 @@ pub fn accept<const LIMIT: u64>(count: u64, reply: Reply) -> Result<Reply, Refus
     }
 }
 
-/// What a worker is to run, a chunk from this checkpoint on.
+/// Returns the task that a worker is to run. A chunk starts from this checkpoint.
 fn task_of(
     alloc: Global,
     mark: Option<&Text<65536>>,
@@ -69,7 +69,7 @@ fn task_of(
     }
 }
 
-/// Which partition a work item names, where its step is run in partitions.
+/// Returns the partition that a work item names, if its step is partitioned.
 fn partition_named(partition: u32, partitions: Option<u32>) -> Option<u32>
     ensures { result ≡ partition_named partition partitions }
 {
@@ -79,7 +79,7 @@ fn partition_named(partition: u32, partitions: Option<u32>) -> Option<u32>
     }
 }
 
-/// Why a session may not report of a work item.
+/// Returns the refusal if a session may not report on a work item.
 fn report_refusal(who: u64, claimer: u64, state: &WorkState) -> Option<Refusal>
     ensures { result ≡ report_refusal who claimer state.now }
 {
@@ -93,7 +93,7 @@ fn report_refusal(who: u64, claimer: u64, state: &WorkState) -> Option<Refusal>
     }
 }
 
-/// What the checkpoint of a work item of this kind is answered.
+/// Returns the reply to a checkpoint of a work item of this kind.
 fn checkpoint_reply<const LIMIT: u64>(
     count: u64,
     stop: bool,
@@ -136,7 +136,7 @@ fn stopped_work_reply<const LIMIT: u64>(
     }
 }
 
-/// What the end of a work item of this kind is answered.
+/// Returns the reply to the end of a work item of this kind.
 fn finish_reply<const LIMIT: u64>(
     count: u64,
     stop: bool,
@@ -153,12 +153,12 @@ fn finish_reply<const LIMIT: u64>(
 }
 
 impl<const LIMIT: u64> Standing<'_, LIMIT> {
-    /// What a start of this job is answered: the number of the next job execution (Jakarta Batch
-    /// 2.1, "JobOperator", start).
+    /// Returns the reply to a start of this job: the number of the next job execution (Jakarta
+    /// Batch 2.1, "JobOperator", start).
     ///
     /// # Errors
     ///
-    /// The first that stands:
+    /// The first of these that applies:
     /// - `JobStartException`: the catalogue has no such job;
     /// - `RepositoryFull`: `LIMIT` operations were accepted.
     pub fn reply_to_start(&self, job: &T256) -> Result<Reply, Refusal>
@@ -172,13 +172,14 @@ impl<const LIMIT: u64> Standing<'_, LIMIT> {
         accept::<LIMIT>(self.count, Reply::Execution(x))
     }
 
-    /// What a restart of this job execution is answered: the number of the next one (Jakarta Batch
-    /// 2.1, "JobOperator", restart).
+    /// Returns the reply to a restart of this job execution: the number of the next one (Jakarta
+    /// Batch 2.1, "JobOperator", restart).
     ///
     /// # Errors
     ///
-    /// The first refusal of `may_restart` that stands, then `RepositoryFull` where `LIMIT`
-    /// operations were accepted. `OutOfMemory` may stand in place of any answer.
+    /// The first refusal of `may_restart` that applies, then `RepositoryFull` if `LIMIT` operations
+    /// were accepted. It may return `OutOfMemory` instead of any of these results, if memory is
+    /// refused.
     pub fn reply_to_restart(&self, x: ExecutionId) -> Result<Reply, Refusal>
         requires placed { IsPlaced self.now.catalogue.now self.now.records.now.executions x }
         requires room { self.now.last.execution ≤ 1000000 }
@@ -191,11 +192,11 @@ impl<const LIMIT: u64> Standing<'_, LIMIT> {
         accept::<LIMIT>(self.count, Reply::Execution(next))
     }
 
-    /// What a stop of this job execution is answered (Jakarta Batch 2.1, "JobOperator", stop).
+    /// Returns the reply to a stop of this job execution (Jakarta Batch 2.1, "JobOperator", stop).
     ///
     /// # Errors
     ///
-    /// The first that stands:
+    /// The first of these that applies:
     /// - `NoSuchJobExecutionException`: there is no such job execution;
     /// - `JobExecutionNotRunningException`: it is finished;
     /// - `RepositoryFull`: `LIMIT` operations were accepted.
@@ -213,14 +214,14 @@ impl<const LIMIT: u64> Standing<'_, LIMIT> {
         }
     }
 
-    /// What an abandonment of this job execution is answered (Jakarta Batch 2.1, "JobOperator",
+    /// Returns the reply to an abandonment of this job execution (Jakarta Batch 2.1, "JobOperator",
     /// abandon).
     ///
     /// # Errors
     ///
-    /// The first that stands:
+    /// The first of these that applies:
     /// - `NoSuchJobExecutionException`: there is no such job execution;
-    /// - `JobExecutionIsRunningException`: one of its job instance is unfinished;
+    /// - `JobExecutionIsRunningException`: a job execution of its job instance is unfinished;
     /// - `RepositoryFull`: `LIMIT` operations were accepted.
     pub fn reply_to_abandon(&self, x: ExecutionId) -> Result<Reply, Refusal>
         ensures { result ≡ reply_to_abandon LIMIT (rows_at self.now) (find
@@ -236,8 +237,8 @@ impl<const LIMIT: u64> Standing<'_, LIMIT> {
         }
     }
 
-    /// What is run for a work key of this job, a chunk from this checkpoint on, and which partition a
-    /// work item of it names, where its step is partitioned.
+    /// Returns the task for a work key of this job, a chunk from this checkpoint on. If its step is
+    /// partitioned, it also returns the partition that a work item of it names.
     fn task_in(
         &self,
         mark: Option<&Text<65536>>,
@@ -261,7 +262,7 @@ impl<const LIMIT: u64> Standing<'_, LIMIT> {
         }
     }
 
-    /// The next work item, of this work key of a job execution.
+    /// Returns the next work item, with this work key of a job execution.
     fn item_of(&self, row: &ExecutionRow, key: &WorkKey) -> Result<WorkItem, OutOfMemory>
         requires { self.now.last.work ≤ 1000000 }
         ensures { IfOk result (λ item. item ≡ next_work_item (rows_at self.now) row.now key.now) }
@@ -279,12 +280,13 @@ impl<const LIMIT: u64> Standing<'_, LIMIT> {
         })
     }
 
-    /// What a claim of a job execution is answered, by the first work key that may be run now: the
-    /// next work item, or that it is closed where there is no such key.
+    /// Returns the reply to a claim of a job execution, whose first work key that may be run now is
+    /// `key`. The reply is the next work item, or that the job execution is closed if there is no
+    /// such key.
     ///
     /// # Errors
     ///
-    /// `OutOfMemory` where memory is refused.
+    /// `OutOfMemory` if memory is refused.
     pub fn claim_reply(
         &self,
         row: &ExecutionRow,
@@ -299,7 +301,7 @@ impl<const LIMIT: u64> Standing<'_, LIMIT> {
         }
     }
 
-    /// Whether a job execution was asked to stop.
+    /// Checks whether a job execution was asked to stop.
     fn stop_requested(&self, x: ExecutionId) -> bool
         ensures { result ≡ stop_requested_of (rows_at self.now) x }
     {
@@ -309,12 +311,12 @@ impl<const LIMIT: u64> Standing<'_, LIMIT> {
         }
     }
 
-    /// What a checkpoint of this work item is answered, from the session `who`: whether its job
-    /// execution was asked to stop.
+    /// Returns the reply to a checkpoint of this work item, from the session `who`. The reply says
+    /// whether the job execution was asked to stop.
     ///
     /// # Errors
     ///
-    /// The first that stands:
+    /// The first of these that applies:
     /// - `NoSuchWork`: there is no such work item;
     /// - `WorkNotRunning`: it is over;
     /// - `NotClaimer`: another session claimed it;
@@ -337,16 +339,16 @@ impl<const LIMIT: u64> Standing<'_, LIMIT> {
         }
     }
 
-    /// What the end of this work item with this outcome is answered, from the session `who`.
+    /// Returns the reply to the end of this work item with this outcome, from the session `who`.
     ///
     /// # Errors
     ///
-    /// The first that stands:
+    /// The first of these that applies:
     /// - `NoSuchWork`: there is no such work item;
     /// - `WorkNotRunning`: it is over;
     /// - `NotClaimer`: another session claimed it;
-    /// - `WrongOutcome`: a decision is STOPPED;
-    /// - `NotStopping`: it is STOPPED, and no stop of its job execution was asked for;
+    /// - `WrongOutcome`: it is a decision, and the outcome is STOPPED;
+    /// - `NotStopping`: the outcome is STOPPED, and no stop of its job execution was asked for;
     /// - `RepositoryFull`: `LIMIT` operations were accepted.
     pub fn reply_to_finish(
         &self,
@@ -369,11 +371,11 @@ impl<const LIMIT: u64> Standing<'_, LIMIT> {
         }
     }
 
-    /// What the loss of this work item is answered.
+    /// Returns the reply to the loss of this work item.
     ///
     /// # Errors
     ///
-    /// The first that stands:
+    /// The first of these that applies:
     /// - `NoSuchWork`: there is no such work item;
     /// - `WorkNotRunning`: it is over;
     /// - `RepositoryFull`: `LIMIT` operations were accepted.
@@ -390,11 +392,11 @@ impl<const LIMIT: u64> Standing<'_, LIMIT> {
         }
     }
 
-    /// What a purge of this job instance is answered.
+    /// Returns the reply to a purge of this job instance.
     ///
     /// # Errors
     ///
-    /// The first that stands:
+    /// The first of these that applies:
     /// - `NoSuchJobInstanceException`: there is no such job instance;
     /// - `JobExecutionIsRunningException`: a job execution of it is unfinished;
     /// - `RepositoryFull`: `LIMIT` operations were accepted.

@@ -1,17 +1,19 @@
-//! Where a repository stands.
+//! The state of a repository.
 use batch_history::LastNumbers;
 use jsl_model::Catalogue;
 use records::Records;
 use std::alloc::Global;
 
-/// What a repository of at most `LIMIT` accepted operations answers its calls by: its catalogue,
-/// its rows, how many operations it accepted and the last numbers that these gave.
+/// The state from which a repository of at most `LIMIT` accepted operations replies to its calls.
+/// It is its catalogue, its rows, how many operations it accepted, and the last numbers that these
+/// gave.
 ///
-/// The replies that give a number want the last one to be at most 1,000,000, and that to a restart
-/// wants the walk of its job execution to begin in its job: a repository keeps to both.
+/// A reply that gives a number requires the last one to be at most 1,000,000. The reply to a
+/// restart requires that the walk of its job execution begins in its job. A repository ensures
+/// both.
 #[derive(Clone, Copy, Debug)]
 pub struct Standing<'r, const LIMIT: u64> {
-    /// Where replies take their memory.
+    /// The allocator for the replies.
     pub alloc: Global,
     /// The jobs that may be started.
     pub catalogue: &'r Catalogue,

@@ -1,4 +1,4 @@
-//! What a job execution is by its walk.
+//! The statuses of a job execution, from its walk.
 ghost use Rattle.std.specs.Prelude.{◌≡◌, IfOk, is_some};
 ghost use Rattle.std.specs.Option.{option_copied};
 ghost use Rattle.batch_history.specs.Moments.{first_moment};
@@ -11,11 +11,11 @@ use batch_ids::{BatchStatus, Moment, OutOfMemory, T256, WorkOutcome};
 use job_walk::{Value, WorkKey, WorkKeys};
 use std::alloc::Global;
 
-/// The exit status of a work item: the one that was given, else its outcome's name.
+/// Returns the exit status of a work item: the one that was given, or else its outcome's name.
 ///
 /// # Errors
 ///
-/// `OutOfMemory` where memory is refused.
+/// `OutOfMemory` if memory is refused.
 pub fn exit_or_name(
     alloc: Global,
     outcome: WorkOutcome,
@@ -29,7 +29,7 @@ pub fn exit_or_name(
     }
 }
 
-/// The first work key of a walk that may be run now.
+/// Returns the first work key of a walk that may be run now.
 pub fn first_ready(value: &Value) -> Option<&WorkKey>
     ensures { option_copied result ≡ first_ready value.now }
 {
@@ -40,8 +40,8 @@ pub fn first_ready(value: &Value) -> Option<&WorkKey>
     }
 }
 
-/// Whether there is something to do for a job execution of this status, `ready` telling whether its
-/// walk has a work key that may be run now.
+/// Checks whether there is something to do for a job execution of this status. `ready` says whether
+/// its walk has a work key that may be run now.
 pub fn has_something(status: BatchStatus, ready: bool) -> bool
     ensures { (value : Walk) → ready ≡ is_some (first_ready value)
         → result ≡ has_something_by status value }
@@ -57,14 +57,14 @@ pub fn has_something(status: BatchStatus, ready: bool) -> bool
     }
 }
 
-/// Whether a job execution of this status is over.
+/// Checks whether a job execution of this status is over.
 pub fn is_finished(status: BatchStatus) -> bool
     ensures { result ≡ is_finished status }
 {
     if status.is_unfinished() { false } else { true }
 }
 
-/// The earlier moment where there is one, else this one if it counts.
+/// Returns the earlier moment if there is one, or else this moment if it counts.
 pub fn earliest(earlier: Option<Moment>, counts: bool, at: Moment) -> Option<Moment>
     ensures { result ≡ first_moment earlier counts at }
 {
@@ -74,7 +74,8 @@ pub fn earliest(earlier: Option<Moment>, counts: bool, at: Moment) -> Option<Mom
     }
 }
 
-/// The status of a job execution that was asked to stop, by what is being run.
+/// Returns the batch status of a job execution that was asked to stop, from the work keys that are
+/// being run.
 fn stop_status(busy: &WorkKeys) -> BatchStatus
     ensures { result ≡ stopping_status busy.now }
 {
@@ -98,8 +99,8 @@ fn status_of_walk(stop: bool, value: &Value) -> BatchStatus
     }
 }
 
-/// The status of a job execution, abandonment aside: by whether it was asked to stop, its start and
-/// its walk.
+/// Returns the batch status of a job execution, unless it is ABANDONED. It depends on whether it
+/// was asked to stop, its start and its walk.
 pub fn batch_status(stop: bool, start: Option<Moment>, value: &Value) -> BatchStatus
     ensures { result ≡ batch_status stop start value.now }
 {
@@ -113,7 +114,7 @@ pub fn batch_status(stop: bool, start: Option<Moment>, value: &Value) -> BatchSt
     }
 }
 
-/// The exit status of a job execution that a stop ended.
+/// Returns the exit status of a job execution that a stop ended.
 fn stopped_exit(alloc: Global) -> Result<Option<T256>, OutOfMemory>
     ensures { IfOk result (λ exit. exit ≡ stopped_exit) }
 {
@@ -143,12 +144,12 @@ fn exit_of_walk(alloc: Global, stop: bool, value: &Value) -> Result<Option<T256>
     }
 }
 
-/// The exit status of a job execution, abandonment aside, by the same. There is none while it is
-/// unfinished.
+/// Returns the exit status of a job execution, unless it is ABANDONED. It depends on whether it was
+/// asked to stop, its start and its walk. There is none while the job execution is unfinished.
 ///
 /// # Errors
 ///
-/// `OutOfMemory` where memory is refused.
+/// `OutOfMemory` if memory is refused.
 pub fn exit_status(
     alloc: Global,
     stop: bool,

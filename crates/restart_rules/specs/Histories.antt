@@ -12,6 +12,6 @@ use Rattle.batch_history.specs.declared.call.Reply.TheVariants.{Execution as IsE
 abbrev pub plan_in : History → ℕ → Plan
 plan_in h x = plan_of h.catalogue (reverse h.log) x
 
--- a history and one restart more, of job execution x, which made job execution y
+-- a history, and one more restart, of job execution x, which made job execution y
 abbrev pub restarted : History → ℕ → ℕ → ℕ → List Pair → ℕ → History
 restarted h who at x parameters y = grown h record { who = who; call = Restart x parameters; at = at; reply = IsExecution y }

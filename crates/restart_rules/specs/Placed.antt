@@ -1,4 +1,4 @@
--- Where the walks of job executions begin.
+-- The elements at which the walks of job executions begin.
 use Rattle.std.specs.Prelude.{ℕ, ◌≡◌, Bool, true, false, Option, Some, None, IfSome, List, [], ◌∷◌, find}
 use Rattle.jsl_model.specs.Jobs.{JobTree}
 use Rattle.job_walk.specs.Cursors.{begins_in}
@@ -7,7 +7,7 @@ use Rattle.batch_history.specs.Replies.{is_execution}
 use Rattle.batch_history.specs.Walks.{job_named}
 use Rattle.batch_history.specs.declared.rows.ExecutionRow.{ExecutionRow}
 
--- whether a walk by this plan begins at an element of the own list of this job, which is there
+-- whether there is a job, and a walk by this plan begins at an element of the job's own list
 abbrev pub begins_in_job : Plan → Option JobTree → Bool
 begins_in_job plan None = false
 begins_in_job plan (Some job) = begins_in plan job
@@ -16,11 +16,12 @@ begins_in_job plan (Some job) = begins_in plan job
 abbrev pub is_placed : List JobTree → ExecutionRow → Bool
 is_placed catalogue row = begins_in_job row.plan (job_named catalogue row.job)
 
--- job execution x, if it is there, has a job in the catalogue, and begins at an element of its own list
+-- job execution x, if it exists, has its job in the catalogue, and its walk begins at an element of the job's
+-- own list
 abbrev pub IsPlaced : List JobTree → List ExecutionRow → ℕ → Type 0
 IsPlaced catalogue executions x = IfSome (find (is_execution x) executions) (λ row. is_placed catalogue row ≡ true)
 
--- so have all job executions
+-- each job execution has its job in the catalogue, and its walk begins at an element of the job's own list
 abbrev pub ArePlaced : List JobTree → List ExecutionRow → Type 0
 ArePlaced catalogue [] = Unit {0}
 ArePlaced catalogue (row ∷ rest) = (is_placed catalogue row ≡ true) × ArePlaced catalogue rest

@@ -1,4 +1,4 @@
--- What a restart is due.
+-- The result of a restart.
 use Rattle.std.specs.Prelude.{ℕ, Option, Some, None, Result, Ok, Err, List, find}
 use Rattle.batch_ids.specs.declared.refusal.Refusal.{Refusal}
 use Rattle.batch_ids.specs.declared.refusal.Refusal.TheVariants.{NoSuchJobExecutionException}
@@ -16,7 +16,7 @@ use Rattle.records.specs.Maps.{Maps, mark_at}
 use Rattle.restart_rules.specs.declared.plan.Earlier.{Earlier}
 use Rattle.restart_rules.specs.declared.steps.StepOf.{StepOf}
 
--- what these rows say, over a catalogue, after so many operations, which gave these numbers last
+-- the rows in these maps over a catalogue, after `count` operations, with the last numbers that these gave
 abbrev pub rows_over : List JobTree → ℕ → LastNumbers → Maps → Rows
 rows_over catalogue count last maps =
     record {
@@ -29,7 +29,7 @@ rows_over catalogue count last maps =
       checkpoint = mark_at maps.checkpoints;
     }
 
--- the refusal, or else the plan
+-- the refusal if there is one, or else the plan
 abbrev pub plan_unless : Option Refusal → Plan → Result Plan Refusal
 plan_unless None plan = Ok plan
 plan_unless (Some refusal) plan = Err refusal
@@ -39,11 +39,11 @@ abbrev pub plan_due_for : Rows → Option ExecutionRow → Result Plan Refusal
 plan_due_for r None = Err NoSuchJobExecutionException
 plan_due_for r (Some row) = plan_unless (restart_refusal r row) (restart_plan r row)
 
--- the same of job execution x
+-- the refusal of a restart of job execution x, or else the plan of the next one
 abbrev pub plan_due : Rows → ℕ → Result Plan Refusal
 plan_due r x = plan_due_for r (find (is_execution x) r.executions)
 
--- a step as it stands in its job
+-- a step of a job, with its id
 abbrev pub job_step : StepOf → JobStep
 job_step s = record { id = s.id.now; step = s.step.now }
 
@@ -51,6 +51,6 @@ job_step s = record { id = s.id.now; step = s.step.now }
 abbrev pub earlier_works : Earlier → List WorkRow
 earlier_works e = works_of_instance e.instance e.records.now.executions e.records.now.works
 
--- the lists are those of their steps
+-- each list of `steps` has the work items of its step
 abbrev pub AreLookedUp : Earlier → Type 0
 AreLookedUp e = AreStepsOf e.instance e.records.now (numbers_named e.steps.now)

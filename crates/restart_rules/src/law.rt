@@ -1,4 +1,4 @@
-//! What the rules of restarts say of the rows of a legal history.
+//! The law of the restart rules, over the rows of a legal history.
 ghost use Rattle.std.specs.Prelude.{ℕ, ◌≡◌, ◌+◌, List, Ok, Err};
 ghost use Rattle.batch_ids.specs.Parameters.{Pair};
 ghost use Rattle.batch_ids.specs.declared.refusal.Refusal.{Refusal as Refused};
@@ -13,16 +13,19 @@ ghost use Rattle.restart_rules.specs.Histories.{plan_in, restarted};
 ghost use Rattle.restart_rules.specs.Placed.{ArePlaced, IsPlaced};
 ghost use Rattle.restart_rules.specs.Restarting.{plan_due};
 
-/// Over the rows of a legal history `may_restart` says what the history says (Jakarta Batch 2.1, "Job
+/// Over the rows of a legal history, `may_restart` agrees with the history (Jakarta Batch 2.1, "Job
 /// Restart Processing").
 ///
 /// - `placed`, `each`: the job of each job execution is in the catalogue, and its walk begins at an
-///   element of the job's own list. So `may_restart` may be asked about every number.
-/// - `refused`: its refusal is the reply to the restart.
-/// - `accepted`: where it gives a plan, the restart is accepted, unless the history is full.
-/// - `plan`: the job execution that a restart made goes by the plan that was given before it.
+///   element of the job's own list. So `may_restart` may be called for every number.
+/// - `refused`: if `may_restart` refuses, the reply to the restart is the same refusal.
+/// - `accepted`: if `may_restart` returns a plan, the restart is accepted, unless the history is
+///   full.
+/// - `plan`: a job execution that a restart made has the plan that `may_restart` returned before
+///   it.
 ///
-/// It does nothing: its contract is the law, of every legal history over a catalogue of checked jobs.
+/// The function does nothing. Its contract is the law, which holds of every legal history over a
+/// catalogue of checked jobs.
 pub fn restarts_are_due_what_the_history_says()
     ensures placed { (limit : ℕ) (h : History) → AreJobs h.catalogue → IsLegal limit h
         → ArePlaced h.catalogue (rows h).executions }

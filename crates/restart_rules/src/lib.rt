@@ -1,5 +1,5 @@
 //! Restarts of job executions (Jakarta Batch 2.1, "Job Restart Processing"): which of them may be
-//! restarted, and what the next job execution goes by.
+//! restarted, and the plan of the next job execution.
 #![tactic(auto)]
 
 mod law;

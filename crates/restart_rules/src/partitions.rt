@@ -1,5 +1,6 @@
-//! Partitioned steps (Jakarta Batch 2.1, "Step Partitioning"): which job executions are done with
-//! one, and which of its partitions a restart keeps. The work items here are of one step.
+//! Partitioned steps (Jakarta Batch 2.1, "Step Partitioning"): which job executions are done with a
+//! step, and which of its partitions a restart keeps. All work items in this module are of one
+//! step.
 ghost use Rattle.std.specs.Prelude.{◌≡◌, ◌==◌, ◌∷◌, not, nat_le, Some, map, filter, IfOk, OnOk};
 ghost use Rattle.std.specs.List.{list_any};
 ghost use Rattle.std.specs.Option.{option_copied};
@@ -10,7 +11,7 @@ use batch_history::{WorkRow, WorkState};
 use batch_ids::{ExecutionId, OutOfMemory, T256, WorkOutcome};
 use std::alloc::Global;
 
-/// The exit status of a work item that is COMPLETED.
+/// Returns the exit status of a work item, if it is COMPLETED.
 pub(crate) fn completed_exit(state: &WorkState) -> Option<&T256>
     ensures { option_copied result ≡ completed_exit state.now }
 {
@@ -34,7 +35,7 @@ fn is_of_partition(partition: u32, row: &WorkRow) -> bool
     row.partition == Some(partition)
 }
 
-/// Puts a job execution first, and leaves it out behind.
+/// Puts a job execution at the front, and removes it from its other places.
 fn move_to_front(executions: &mut Vec<ExecutionId>, x: ExecutionId) -> Result<(), OutOfMemory>
     ensures { OnOk result (executions.new.items
         ≡ x ∷ filter (λ y. not (y == x)) executions.old.items) }
@@ -44,7 +45,7 @@ fn move_to_front(executions: &mut Vec<ExecutionId>, x: ExecutionId) -> Result<()
     Ok(())
 }
 
-/// The job executions with one of these work items, the newest first.
+/// Returns the job executions that have one of these work items, the newest first.
 #[tactic(auto, using(crate::proofs::Keeping::executions_more))]
 pub(crate) fn executions_with(
     alloc: Global,
@@ -60,7 +61,7 @@ pub(crate) fn executions_with(
     Ok(executions)
 }
 
-/// Whether a partition has a COMPLETED work item in a job execution.
+/// Checks whether a partition has a COMPLETED work item in a job execution.
 fn completes_in(works: &[&WorkRow], y: ExecutionId, partition: u32) -> bool
     ensures { result ≡ completes_in (map (λ row. row.now) works.now) y partition }
 {
@@ -72,7 +73,7 @@ fn completes_in(works: &[&WorkRow], y: ExecutionId, partition: u32) -> bool
     false
 }
 
-/// The newest work item of a partition.
+/// Returns the newest work item of a partition.
 fn newest_of_partition<'a>(works: &[&'a WorkRow], partition: u32) -> Option<&'a WorkRow>
     ensures { option_copied result
         ≡ newest_of_partition (map (λ row. row.now) works.now) partition }
@@ -86,7 +87,7 @@ fn newest_of_partition<'a>(works: &[&'a WorkRow], partition: u32) -> Option<&'a 
     newest
 }
 
-/// The work items of job executions before this one.
+/// Returns the work items of job executions before this one.
 fn works_before<'a>(
     alloc: Global,
     y: ExecutionId,
@@ -104,7 +105,7 @@ fn works_before<'a>(
     Ok(before)
 }
 
-/// Whether one of these job executions is this one or a later one.
+/// Checks whether one of these job executions is this one or a later one.
 fn has_from(executions: &[ExecutionId], x: ExecutionId) -> bool
     ensures { result ≡ list_any (λ y. nat_le x y) executions.now }
 {
@@ -116,7 +117,7 @@ fn has_from(executions: &[ExecutionId], x: ExecutionId) -> bool
     false
 }
 
-/// Whether this is one of these job executions.
+/// Checks whether a list contains this job execution.
 fn is_among(executions: &[ExecutionId], x: ExecutionId) -> bool
     ensures { result ≡ list_any (λ y. y == x) executions.now }
 {
@@ -128,8 +129,8 @@ fn is_among(executions: &[ExecutionId], x: ExecutionId) -> bool
     false
 }
 
-/// Whether a newest work item is COMPLETED, and none of these job executions is its own or a later
-/// one.
+/// Checks whether a newest work item is COMPLETED, and no job execution in `done` is its own or a
+/// later one.
 fn is_completed_after(done: &[ExecutionId], newest: Option<&WorkRow>) -> bool
     ensures { result ≡ is_completed_after done.now (option_copied newest.entry) }
 {
@@ -139,15 +140,16 @@ fn is_completed_after(done: &[ExecutionId], newest: Option<&WorkRow>) -> bool
     }
 }
 
-/// Whether a partition is kept after this work, where these job executions were done with the step.
+/// Checks whether a partition is kept after this work, if the job executions in `done` were done
+/// with the step.
 fn is_kept_after(done: &[ExecutionId], works: &[&WorkRow], partition: u32) -> bool
     ensures { result ≡ is_kept_after done.now (map (λ row. row.now) works.now) partition }
 {
     is_completed_after(done, newest_of_partition(works, partition))
 }
 
-/// Whether a job execution is done with a step of so many partitions, where these of the older ones
-/// were.
+/// Checks whether a job execution is done with a step of `count` partitions, if the older job
+/// executions in `done` were.
 #[tactic(auto, using(crate::proofs::Keeping::numbers_ahead))]
 fn is_done_after(
     alloc: Global,
@@ -169,7 +171,7 @@ fn is_done_after(
     Ok(true)
 }
 
-/// Those of these job executions, the newest first, that are done with a step of so many
+/// Returns those of these job executions, the newest first, that are done with a step of `count`
 /// partitions.
 #[tactic(auto, using(crate::proofs::Keeping::done_at))]
 fn done_among(
@@ -193,7 +195,7 @@ fn done_among(
     Ok(done)
 }
 
-/// The job executions that are done with a step of so many partitions, the newest first.
+/// Returns the job executions that are done with a step of `count` partitions, the newest first.
 fn done_executions(
     alloc: Global,
     count: u32,
@@ -206,7 +208,7 @@ fn done_executions(
     done_among(alloc, count, works, executions.as_slice())
 }
 
-/// Whether the first of these job executions, if there is one, is among those that are done.
+/// Checks whether the first of these job executions, if there is one, is in `done`.
 fn is_first_done(done: &[ExecutionId], executions: &[ExecutionId]) -> bool
     ensures { result ≡ is_first_done done.now executions.now }
 {
@@ -216,7 +218,8 @@ fn is_first_done(done: &[ExecutionId], executions: &[ExecutionId]) -> bool
     }
 }
 
-/// Whether the newest job execution with work of a step of so many partitions is done with it.
+/// Checks whether the newest job execution with work of a step of `count` partitions is done with
+/// it.
 pub(crate) fn is_done(alloc: Global, count: u32, works: &[&WorkRow]) -> Result<bool, OutOfMemory>
     ensures { IfOk result (λ is. is
         ≡ is_first_done (done_executions count (map (λ row. row.now) works.now))
@@ -227,7 +230,8 @@ pub(crate) fn is_done(alloc: Global, count: u32, works: &[&WorkRow]) -> Result<b
     Ok(is_first_done(done.as_slice(), executions.as_slice()))
 }
 
-/// The partitions that are kept after this work of a step of so many partitions, by rising number.
+/// Returns the partitions that are kept after this work of a step of `count` partitions, by rising
+/// number.
 #[tactic(auto, using(crate::proofs::Keeping::passing_ahead, crate::proofs::Keeping::failing_ahead))]
 pub(crate) fn partitions_kept(
     alloc: Global,

@@ -1,5 +1,5 @@
-//! What a job execution goes by: where it begins, its carried steps, its kept partitions and its
-//! barred steps.
+//! The plan of a job execution: the element at which it begins, its carried steps, its kept
+//! partitions and its barred steps.
 ghost use Rattle.std.specs.Prelude.{◌≡◌, ◌++◌, ◌∷◌, [], true, Some, map, filter, length, IfOk, OnOk};
 ghost use Rattle.std.specs.List.{filter_map, flat_map};
 ghost use Rattle.std.specs.Option.{option_copied, option_map};
@@ -20,12 +20,12 @@ use jsl_model::{Element, Job};
 use records::{NameLists, Records};
 use std::alloc::Global;
 
-/// The plan of a job's first job execution: it begins at the job's first element, with nothing
-/// carried, kept or barred.
+/// Returns the plan of a job's first job execution. It begins at the job's first element, with
+/// nothing carried, kept or barred.
 ///
 /// # Errors
 ///
-/// `OutOfMemory` where memory is refused.
+/// `OutOfMemory` if memory is refused.
 #[tactic(auto, using(crate::proofs::Beginning::first_begins))]
 pub fn first_plan(alloc: Global, job: &Job) -> Result<Plan, OutOfMemory>
     ensures plan { IfOk result (λ plan. plan ≡ first_plan (Some job.now)) }
@@ -37,7 +37,7 @@ pub fn first_plan(alloc: Global, job: &Job) -> Result<Plan, OutOfMemory>
     Ok(plan_from(alloc, first.id.try_clone()?))
 }
 
-/// The plan that begins at this element, with nothing carried, kept or barred.
+/// Returns the plan that begins at this element, with nothing carried, kept or barred.
 fn plan_from(alloc: Global, from: T256) -> Plan
     ensures { result ≡ record { from = from; carried = []; kept = []; barred = [] } }
 {
@@ -49,7 +49,7 @@ fn plan_from(alloc: Global, from: T256) -> Plan
     }
 }
 
-/// The work items of a job instance, which are looked up by their step.
+/// The work items of a job instance, with lists for looking them up by their step.
 #[derive(Clone, Copy)]
 pub(crate) struct Earlier<'a> {
     alloc: Global,
@@ -58,7 +58,7 @@ pub(crate) struct Earlier<'a> {
     steps: &'a NameLists,
 }
 
-/// The work items of a step among these.
+/// Returns those of the work items that are of a step.
 fn works_of_step<'a>(earlier: &Earlier<'a>, id: &T256) -> Result<Vec<&'a WorkRow>, OutOfMemory>
     requires { AreLookedUp earlier.now }
     ensures { IfOk result (λ works. map (λ row. row.now) works.items
@@ -67,7 +67,7 @@ fn works_of_step<'a>(earlier: &Earlier<'a>, id: &T256) -> Result<Vec<&'a WorkRow
     earlier.records.works_of_step(earlier.steps, id.as_str())
 }
 
-/// The exit status with which a step is carried that is not partitioned.
+/// Returns the exit status with which a step that isn't partitioned is carried.
 fn exit_of_newest(earlier: &Earlier<'_>, id: &T256) -> Result<Option<T256>, OutOfMemory>
     requires { AreLookedUp earlier.now }
     ensures { IfOk result (λ exit. exit
@@ -82,7 +82,7 @@ fn exit_of_newest(earlier: &Earlier<'_>, id: &T256) -> Result<Option<T256>, OutO
     }
 }
 
-/// The exit status with which a step of so many partitions is carried.
+/// Returns the exit status with which a step of `count` partitions is carried.
 fn exit_if_done(alloc: Global, count: u32, works: &[&WorkRow]) -> Result<Option<T256>, OutOfMemory>
     ensures { IfOk result (λ exit. exit ≡ exit_if_done count (map (λ row. row.now) works.now)) }
 {
@@ -93,7 +93,7 @@ fn exit_if_done(alloc: Global, count: u32, works: &[&WorkRow]) -> Result<Option<
     }
 }
 
-/// The exit status with which a step is carried, by its work items.
+/// Returns the exit status with which a step is carried, from its work items.
 fn exit_carried(earlier: &Earlier<'_>, one: &StepOf<'_>) -> Result<Option<T256>, OutOfMemory>
     requires { AreLookedUp earlier.now }
     ensures { IfOk result (λ exit. exit ≡ exit_carried one.now.step.now.partitions
@@ -108,7 +108,7 @@ fn exit_carried(earlier: &Earlier<'_>, one: &StepOf<'_>) -> Result<Option<T256>,
     }
 }
 
-/// How often a step was started, by its work items.
+/// Returns how often a step was started, from its work items.
 fn starts_of(earlier: &Earlier<'_>, one: &StepOf<'_>) -> Result<usize, OutOfMemory>
     requires { AreLookedUp earlier.now }
     ensures { IfOk result (λ starts. starts ≡ starts_of one.now.step.now.partitions
@@ -127,7 +127,7 @@ fn starts_of(earlier: &Earlier<'_>, one: &StepOf<'_>) -> Result<usize, OutOfMemo
     }
 }
 
-/// A step that is carried, with its exit status.
+/// Returns a step with its exit status, if it is carried.
 fn carried_step(
     earlier: &Earlier<'_>,
     one: &StepOf<'_>,
@@ -145,7 +145,7 @@ fn carried_step(
     }
 }
 
-/// Whether a step has reached its start limit.
+/// Checks whether a step has reached its start limit.
 fn is_barred(earlier: &Earlier<'_>, one: &StepOf<'_>) -> Result<bool, OutOfMemory>
     requires { AreLookedUp earlier.now }
     ensures { IfOk result (λ is. is ≡ is_barred (earlier_works earlier.now) (job_step one.now)) }
@@ -155,7 +155,7 @@ fn is_barred(earlier: &Earlier<'_>, one: &StepOf<'_>) -> Result<bool, OutOfMemor
     Ok(0 < limit && limit <= starts as u64)
 }
 
-/// The partitions of a step that are kept, by rising number.
+/// Returns the kept partitions of a step, by rising number.
 fn kept_of_step(earlier: &Earlier<'_>, one: &StepOf<'_>) -> Result<Vec<u32>, OutOfMemory>
     requires { AreLookedUp earlier.now }
     ensures { IfOk result (λ kept. kept.items ≡ partitions_kept one.now.step.now.partitions
@@ -183,7 +183,7 @@ fn add_keys(kept: &mut Listed<WorkKey>, id: &T256, numbers: &[u32]) -> Result<()
     Ok(())
 }
 
-/// Adds the partitions of a step that are kept.
+/// Adds the kept partitions of a step.
 fn add_kept(
     kept: &mut Listed<WorkKey>,
     earlier: &Earlier<'_>,
@@ -197,7 +197,7 @@ fn add_kept(
     add_keys(kept, one.id, numbers.as_slice())
 }
 
-/// Adds the steps that are carried.
+/// Adds the carried steps.
 fn add_carried_steps(
     carried: &mut Listed<(T256, T256)>,
     earlier: &Earlier<'_>,
@@ -215,7 +215,7 @@ fn add_carried_steps(
     Ok(())
 }
 
-/// Adds the partitions that are kept.
+/// Adds the kept partitions.
 fn add_kept_partitions(
     kept: &mut Listed<WorkKey>,
     earlier: &Earlier<'_>,
@@ -231,7 +231,7 @@ fn add_kept_partitions(
     Ok(())
 }
 
-/// Adds the steps that are barred.
+/// Adds the barred steps.
 fn add_barred_steps(
     barred: &mut Listed<T256>,
     earlier: &Earlier<'_>,
@@ -249,7 +249,7 @@ fn add_barred_steps(
     Ok(())
 }
 
-/// Adds to a plan what it takes over of these steps.
+/// Adds the carried steps, the kept partitions and the barred steps among these steps to a plan.
 fn take_over_steps(
     plan: &mut Plan,
     earlier: &Earlier<'_>,
@@ -271,7 +271,7 @@ fn take_over_steps(
     add_barred_steps(&mut plan.barred, earlier, steps)
 }
 
-/// Adds to a plan what it takes over of these elements, by the work items of the earlier job
+/// Adds to a plan what it takes over for these elements, from the work items of the earlier job
 /// executions of its job instance.
 fn take_over(
     plan: &mut Plan,
@@ -288,7 +288,7 @@ fn take_over(
     take_over_steps(plan, earlier, steps.as_slice())
 }
 
-/// The same where the work items are not looked up by their step yet.
+/// Like `take_over`, but first makes the lists for looking up the work items by their step.
 fn take_over_unsorted(
     plan: &mut Plan,
     alloc: Global,
@@ -311,7 +311,7 @@ fn take_over_unsorted(
     take_over(plan, &earlier, elements)
 }
 
-/// The same by the rows of the job instance.
+/// Like `take_over`, from the rows of the job instance.
 fn take_over_by_rows(
     plan: &mut Plan,
     alloc: Global,
@@ -338,8 +338,8 @@ fn take_over_by_rows(
     }
 }
 
-/// The plan of a job execution that begins at this element, of a job with these elements, by the
-/// work items of the earlier job executions of its job instance.
+/// Returns the plan of a job execution that begins at this element. Its job has these elements. The
+/// plan takes over from the work items of the earlier job executions of its job instance.
 pub(crate) fn plan_after(
     alloc: Global,
     records: &Records,

@@ -1,4 +1,4 @@
-//! Which job executions may be restarted.
+//! The rules for which job executions may be restarted.
 ghost use Rattle.std.specs.Prelude.{ℕ, ◌≡◌, Bool, true, is_some, Some, find, IfOk, IfSome};
 ghost use Rattle.std.specs.List.{list_any};
 ghost use Rattle.std.specs.Option.{option_copied};
@@ -19,7 +19,7 @@ use jsl_model::Catalogue;
 use records::Records;
 use std::alloc::Global;
 
-/// Whether the job instance of a job execution has a later one.
+/// Checks whether the job instance of a job execution has a later job execution.
 #[tactic(auto, using(crate::proofs::Reading::later_read))]
 fn has_later(records: &Records, row: &ExecutionRow) -> bool
     ensures { result ≡ list_any (is_later_than row.now) records.now.executions }
@@ -27,7 +27,7 @@ fn has_later(records: &Records, row: &ExecutionRow) -> bool
     records.has_execution_above(row.instance, row.execution)
 }
 
-/// Why a job execution of this status may not be restarted.
+/// Returns the refusal to restart a job execution of this status, if it may not be restarted.
 fn refusal_by_status(restartable: bool, status: BatchStatus) -> Option<Refusal>
     ensures { result ≡ refusal_by_status restartable status }
 {
@@ -45,7 +45,7 @@ fn refusal_by_status(restartable: bool, status: BatchStatus) -> Option<Refusal>
     }
 }
 
-/// The element at which a restart begins.
+/// Returns the element at which a restart begins.
 fn restart_point<'a>(taken_up: bool, value: &'a Value, from: &'a T256) -> &'a T256
     ensures { result.now ≡ restart_point taken_up value.now from.now }
 {
@@ -59,7 +59,7 @@ fn restart_point<'a>(taken_up: bool, value: &'a Value, from: &'a T256) -> &'a T2
     }
 }
 
-/// The element at which the restart of a job execution begins.
+/// Returns the element at which the restart of a job execution begins.
 fn point_of_restart(
     alloc: Global,
     records: &Records,
@@ -77,12 +77,13 @@ fn point_of_restart(
     point
 }
 
-/// The plan of the restart of a job execution: where it begins, and what it takes over from all job
-/// executions of its job instance (Jakarta Batch 2.1, "Job Restart Processing").
+/// Returns the plan of the restart of a job execution: the element at which it begins, and what it
+/// takes over from all job executions of its job instance. See Jakarta Batch 2.1, "Job Restart
+/// Processing".
 ///
 /// # Errors
 ///
-/// `OutOfMemory` where memory is refused.
+/// `OutOfMemory` if memory is refused.
 pub fn restart_plan(
     alloc: Global,
     records: &Records,
@@ -100,18 +101,18 @@ pub fn restart_plan(
     plan_after(alloc, records, row.instance, from, job.elements())
 }
 
-/// What the next job execution of a job instance goes by, where this one may be restarted (Jakarta
-/// Batch 2.1, "JobOperator", restart).
+/// Returns the plan of the next job execution of a job instance, if this one may be restarted
+/// (Jakarta Batch 2.1, "JobOperator", restart).
 ///
 /// # Errors
 ///
-/// The first that stands:
+/// The first of these that applies:
 /// - `NoSuchJobExecutionException`: there is no such job execution;
-/// - `JobExecutionNotMostRecentException`: its job instance has a later one;
+/// - `JobExecutionNotMostRecentException`: its job instance has a later job execution;
 /// - `JobExecutionAlreadyCompleteException`: it is COMPLETED;
 /// - `JobRestartException`: it is unfinished or ABANDONED, or its job is not restartable.
 ///
-/// `OutOfMemory` may stand in place of any answer.
+/// It may return `OutOfMemory` instead of any of these results, if memory is refused.
 pub fn may_restart(
     alloc: Global,
     records: &Records,

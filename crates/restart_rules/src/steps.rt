@@ -59,7 +59,7 @@ fn add_all<'a>(steps: &mut Vec<StepOf<'a>>, elements: &'a [Element]) -> Result<(
     Ok(())
 }
 
-/// The steps of these elements, at any depth, in written order.
+/// Returns the steps of these elements, at any depth, in written order.
 pub(crate) fn steps_in<'a>(
     alloc: Global,
     elements: &'a [Element],

@@ -1,4 +1,4 @@
-//! The walks of job executions, by their plans and by what their work items tell.
+//! The walks of job executions, from their plans and their work items.
 ghost use Rattle.std.specs.Prelude.{◌≡◌, ◌++◌, List, true, Some, IfOk, OnOk};
 ghost use Rattle.batch_history.specs.Walks.{fact_of_state, job_named, walk_value, known_elements};
 ghost use Rattle.batch_history.specs.Works.{work_key};
@@ -13,11 +13,11 @@ use jsl_model::{Catalogue, Job};
 use records::Records;
 use std::alloc::Global;
 
-/// What a work item that is so far tells of its work key.
+/// Returns the fact about a work key whose work item has this state.
 ///
 /// # Errors
 ///
-/// `OutOfMemory` where memory is refused.
+/// `OutOfMemory` if memory is refused.
 pub fn state_fact(state: &WorkState) -> Result<Fact, OutOfMemory>
     ensures { IfOk result (λ fact. fact ≡ fact_of_state state.now) }
 {
@@ -27,7 +27,7 @@ pub fn state_fact(state: &WorkState) -> Result<Fact, OutOfMemory>
     }
 }
 
-/// What names a work item inside its job execution.
+/// Returns the work key of a work item.
 fn work_key(row: &WorkRow) -> Result<WorkKey, OutOfMemory>
     ensures { IfOk result (λ key. key ≡ work_key row.now) }
 {
@@ -37,7 +37,7 @@ fn work_key(row: &WorkRow) -> Result<WorkKey, OutOfMemory>
     })
 }
 
-/// What a work item tells of its work key.
+/// Returns the work key of a work item, with the fact about it.
 fn known_by(row: &WorkRow) -> Result<Known, OutOfMemory>
     ensures { IfOk result (λ known. known
         ≡ record { key = work_key row.now; fact = fact_of_state row.now.state }) }
@@ -52,7 +52,7 @@ fn known_by(row: &WorkRow) -> Result<Known, OutOfMemory>
     }
 }
 
-/// Adds what the work items of a job execution tell of its work keys.
+/// Adds the facts about the work keys of a job execution, from its work items.
 #[tactic(auto, using(crate::proofs::Reading::known_read))]
 fn add_known(known: &mut Vec<Known>, records: &Records, x: ExecutionId) -> Result<(), OutOfMemory>
     ensures { OnOk result (known.new.items
@@ -64,11 +64,11 @@ fn add_known(known: &mut Vec<Known>, records: &Records, x: ExecutionId) -> Resul
     Ok(())
 }
 
-/// What the work items of a job execution tell of its work keys.
+/// Returns the facts about the work keys of a job execution, from its work items.
 ///
 /// # Errors
 ///
-/// `OutOfMemory` where memory is refused.
+/// `OutOfMemory` if memory is refused.
 pub fn known_of(alloc: Global, records: &Records, x: ExecutionId) -> Result<Vec<Known>, OutOfMemory>
     ensures { IfOk result (λ known. known.items ≡ known_elements x records.now.works) }
 {
@@ -82,7 +82,7 @@ pub fn known_of(alloc: Global, records: &Records, x: ExecutionId) -> Result<Vec<
     }
 }
 
-/// The job of a job execution, in whose own list its walk begins.
+/// Returns the job of a job execution. The walk of the job execution begins in the job's own list.
 pub(crate) fn job_of<'a>(catalogue: &'a Catalogue, row: &ExecutionRow) -> &'a Job
     requires { is_placed catalogue.now row.now ≡ true }
     ensures named { job_named catalogue.now row.now.job ≡ Some result.now }
@@ -94,11 +94,11 @@ pub(crate) fn job_of<'a>(catalogue: &'a Catalogue, row: &ExecutionRow) -> &'a Jo
     }
 }
 
-/// What the walk of a job execution comes to, where its work items tell this of its work keys.
+/// Returns the value of the walk of a job execution, from the facts about its work keys.
 ///
 /// # Errors
 ///
-/// `OutOfMemory` where memory is refused.
+/// `OutOfMemory` if memory is refused.
 pub fn walk_of(
     alloc: Global,
     catalogue: &Catalogue,
@@ -114,11 +114,11 @@ pub fn walk_of(
     Ok(value_at_first(alloc, job, row.plan.get(), known)?)
 }
 
-/// What the walk of a job execution comes to.
+/// Returns the value of the walk of a job execution.
 ///
 /// # Errors
 ///
-/// `OutOfMemory` where memory is refused.
+/// `OutOfMemory` if memory is refused.
 pub fn walk_value(
     alloc: Global,
     catalogue: &Catalogue,

@@ -8,7 +8,7 @@ use Rattle.atomic_table.proofs.Lists.{at_set, set_again}
 use Rattle.batch_history.specs.declared.call.Entry.{Entry}
 use Rattle.jsl_model.specs.Jobs.{JobTree}
 use Rattle.seat_rules.specs.Places.{Known}
-use Rattle.seat_rules.specs.Rule.{IsBookOf, IsKept, IsSessionOf, IsShown, Kept}
+use Rattle.seat_rules.specs.Rule.{IsBookOf, RuleHolds, IsSessionOf, IsShown, Kept}
 use Rattle.seat_rules.specs.Steps.{Found, Looked, hosting}
 use Rattle.seat_rules.specs.Views.{Each, book_view, desk_view, nobody, view_of}
 use Rattle.seat_rules.specs.declared.view.SeatView.{SeatView}
@@ -24,7 +24,7 @@ looks catalogue slots id me st k len at small = (
   (
     k.0,
     k.1,
-    subst (λ (p : List ℕ × List SeatView). IsKept catalogue k.0 k.1 p.0 p.1) (λ i. (sym (same_words st.words) i, sym (set_again st.views id me.0 at) i)) k.2,
+    subst (λ (p : List ℕ × List SeatView). RuleHolds catalogue k.0 k.1 p.0 p.1) (λ i. (sym (same_words st.words) i, sym (set_again st.views id me.0 at) i)) k.2,
   ),
   (refl, (k.0, k.1, k.2.counted, k.2.shown id me.0 at, once k.0 k.1 catalogue st.words st.views id me.0 k.2 at)),
 )

@@ -8,7 +8,7 @@ use Rattle.atomic_table.specs.Table.{Step, step}
 use Rattle.atomic_table.proofs.Lists.{at_set, at_snoc}
 use Rattle.batch_history.specs.declared.call.Entry.{Entry}
 use Rattle.jsl_model.specs.Jobs.{JobTree}
-use Rattle.seat_rules.specs.Rule.{IsKept, IsShown}
+use Rattle.seat_rules.specs.Rule.{RuleHolds, IsShown}
 use Rattle.seat_rules.specs.Views.{HasStop, first_view, times, total}
 use Rattle.batch_history.proofs.Legal.{legal-nothing}
 use Rattle.batch_history.specs.Legal.{most_operations}
@@ -49,7 +49,7 @@ zeros_at (zero ∷ ws) h zero = refl
 zeros_at (zero ∷ ws) h (suc k) = zeros_at ws h k
 zeros_at (suc n ∷ ws) h k = absurd cc
 
-pub begins : (catalogue : List JobTree) (ws : List ℕ) → 0 < length ws → all_zero ws ≡ true → IsKept catalogue [] 0 ws (first_view ∷ [])
+pub begins : (catalogue : List JobTree) (ws : List ℕ) → 0 < length ws → all_zero ws ≡ true → RuleHolds catalogue [] 0 ws (first_view ∷ [])
 begins catalogue ws some_word zeros = record {
   some_word = some_word;
   stop_words = λ k pos. inl (zeros_at ws zeros k);
@@ -85,14 +85,14 @@ others_same (w ∷ ws) zero x h = absurd (omega arith)
 others_same (w ∷ ws) (suc k) x h = refl
 
 -- each number sits on a seat once at most
-pub once : (log : List Entry) (last : ℕ) (catalogue : List JobTree) (ws : List ℕ) (views : List SeatView) (id : ℕ) (v : SeatView) → IsKept catalogue log last ws views → get_elem? views id ≡ some v → (m : ℕ) → times m v.sessions ≤ 1
+pub once : (log : List Entry) (last : ℕ) (catalogue : List JobTree) (ws : List ℕ) (views : List SeatView) (id : ℕ) (v : SeatView) → RuleHolds catalogue log last ws views → get_elem? views id ≡ some v → (m : ℕ) → times m v.sessions ≤ 1
 once log last catalogue ws views id v r at m =
     let a = sum_at (seats_in m) views id v at in
     let o = r.apart m in
     omega arith
 
 -- the book's seat is the only one
-pub others_have_none : (catalogue : List JobTree) (log : List Entry) (last : ℕ) (ws : List ℕ) (views : List SeatView) (id j : ℕ) (v u : SeatView) → IsKept catalogue log last ws views → get_elem? views id ≡ some v → length v.books ≡ 1 → get_elem? views j ≡ some u → j ≢ id → length u.books ≡ 0
+pub others_have_none : (catalogue : List JobTree) (log : List Entry) (last : ℕ) (ws : List ℕ) (views : List SeatView) (id j : ℕ) (v u : SeatView) → RuleHolds catalogue log last ws views → get_elem? views id ≡ some v → length v.books ≡ 1 → get_elem? views j ≡ some u → j ≢ id → length u.books ≡ 0
 others_have_none catalogue log last ws views id j v u r at one there apart =
     let t = sum_two books_in views id j v u at there apart in
     let o = r.one_book in

@@ -39,7 +39,7 @@ pub record IsShown (log : List Entry) (last : ℕ) (v : SeatView) : Type 0 where
 -- the invariant of the table. Word 0 is the length of the log, which is legal. Each further word is 0 or a
 -- job execution whose stop is in the log. Each operation is of a session that was opened. One seat at most
 -- has the log, and each session number is on one seat at most
-pub record IsKept (catalogue : List JobTree) (log : List Entry) (last : ℕ) (words : List ℕ) (views : List SeatView) : Type 0 where
+pub record RuleHolds (catalogue : List JobTree) (log : List Entry) (last : ℕ) (words : List ℕ) (views : List SeatView) : Type 0 where
   pub some_word : 0 < length words
   pub stop_words : (k : ℕ) → 0 < k → (slice_index words k ≡ 0) ⊎ HasStop log (length log) (slice_index words k)
   pub counted : slice_index words 0 ≡ length log
@@ -51,4 +51,4 @@ pub record IsKept (catalogue : List JobTree) (log : List Entry) (last : ℕ) (wo
 
 -- the table's invariant is true of some log
 abbrev pub Kept : List JobTree → State ℕ SeatView → Type 0
-Kept catalogue s = (log : List Entry) × (last : ℕ) × IsKept catalogue log last s.words s.views
+Kept catalogue s = (log : List Entry) × (last : ℕ) × RuleHolds catalogue log last s.words s.views

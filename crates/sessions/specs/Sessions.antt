@@ -1,4 +1,4 @@
--- What a session and a desk keep.
+-- The invariants of a session and of a desk.
 use Rattle.std.specs.Prelude.{ℕ, ◌≡◌, ◌≤◌, ◌⊎◌, max, List, [], ◌∷◌, length}
 use mathlib.Core.List.{IsPrefix}
 use Rattle.batch_history.specs.Rows.{History}
@@ -10,12 +10,12 @@ use Rattle.seat_rules.specs.declared.view.SessionView.{SessionView}
 
 -- ---- A session
 
--- the session on a seat of one
+-- the session of a seat that has one
 abbrev pub one_of : List SessionView → SessionView
 one_of [] = new_session 0 []
 one_of (s ∷ rest) = s
 
--- one session sits on its seat, its counts are those of what it knows, and what it has seen is legal
+-- the seat has one session, whose number and counts are these, and which has seen a legal log
 pub record IsSession (catalogue : List JobTree) (number front least accepted : ℕ) (seat : List SessionView) : Type 0 where
   pub one : seat ≡ one_of seat ∷ []
   pub number_is : number ≡ (one_of seat).number
@@ -24,8 +24,8 @@ pub record IsSession (catalogue : List JobTree) (number front least accepted : �
   pub accepted_is : accepted ≡ length (one_of seat).mine
   pub legal : IsLegalLog catalogue (one_of seat).seen
 
--- a session after it has met another: it keeps its number, its operations and the stops that it found, and has seen what
--- either had, of which one was a beginning of the other
+-- a session after it has met another. Its number, operations and found stops are unchanged. It has seen the
+-- longer of both lists, of which the other is a prefix
 pub record Meets (before other after : SessionView) : Type 0 where
   pub number : after.number ≡ before.number
   pub mine : after.mine ≡ before.mine
@@ -36,7 +36,7 @@ pub record Meets (before other after : SessionView) : Type 0 where
 
 -- ---- A desk
 
--- the log, the last session number, and the read copy that it hosts, if any
+-- the log, the last session number, and the read copy that the desk hosts, if any
 pub record DeskState : Type 0 where
   pub log : List Entry
   pub last : ℕ
@@ -45,7 +45,7 @@ pub record DeskState : Type 0 where
 abbrev pub desk_state : List Entry → ℕ → List (List Entry) → DeskState
 desk_state log last hosted = record { log = log; last = last; hosted = hosted }
 
--- the book's log is the log that the seat knows
+-- the book's log is the log of the seat
 pub record IsDesk (limit : ℕ) (catalogue : List JobTree) (book : History) (seat : Known) (last : ℕ) : Type 0 where
   pub few : limit ≤ 1000000
   pub catalogue_is : book.catalogue ≡ catalogue

@@ -5,7 +5,7 @@ ghost use Rattle.seat_rules.specs.Views.{with_entry};
 use op_log::Book;
 use seat_rules::{DeskSeat, SeatTable, Site};
 
-/// Appends the book's last entry to the log that the seat knows. It takes no memory.
+/// Appends the book's last entry to the seat's log. Allocates nothing.
 pub fn append_last<N: Site, const LIMIT: u64>(
     seat: &mut DeskSeat<N>,
     book: &Book<LIMIT>,
@@ -22,7 +22,7 @@ pub fn append_last<N: Site, const LIMIT: u64>(
     }
 }
 
-/// How many operations the book has accepted. It takes no memory.
+/// Returns the number of operations that the book has accepted. Allocates nothing.
 pub fn length_of<const LIMIT: u64>(book: &Book<LIMIT>) -> u64
     requires { LIMIT ≤ 1000000 }
     ensures length { result ≡ length book.now.log }

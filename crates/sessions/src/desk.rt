@@ -20,11 +20,11 @@ use seat_rules::{BookSeat, CopySeat, DeskSeat, SeatTable, Site};
 use std::alloc::Global;
 use std::marker::Model;
 
-/// The book of at most `LIMIT` operations with the seat that knows its log: what a lock keeps, and what
-/// each call is made on.
+/// The book of at most `LIMIT` operations, with the seat of its log. A lock guards it, and each
+/// call is made on it.
 ///
-/// Contracts see the log, the number of the session that was opened last, and the read copy that the
-/// desk hosts, if any. The book's log is the log that the table's rule speaks of.
+/// Contracts see the log, the number of the session that was opened last, and the read copy that
+/// the desk hosts, if any. The book's log is the log of the table's rule.
 #[derive(Drop)]
 pub struct Desk<N: Site, const LIMIT: u64> {
     book: Book<LIMIT>,
@@ -43,13 +43,13 @@ impl<N: Site, const LIMIT: u64> Model for Desk<N, LIMIT> {
 }
 
 impl<N: Site, const LIMIT: u64> Desk<N, LIMIT> {
-    /// A desk with an empty log, over the first seat of the table that `N` names.
+    /// Returns a desk with an empty log, over the first seat of the table that `N` names.
     ///
-    /// `LIMIT` is at most 1,000,000. All memory that the desk takes later comes from `alloc`.
+    /// `LIMIT` is at most 1,000,000. The desk allocates all later memory from `alloc`.
     ///
     /// # Errors
     ///
-    /// `OutOfMemory` where memory is refused.
+    /// Returns `OutOfMemory` if memory is refused.
     pub fn new(
         alloc: Global,
         seat: BookSeat,
@@ -68,7 +68,7 @@ impl<N: Site, const LIMIT: u64> Desk<N, LIMIT> {
         })
     }
 
-    /// How many operations were accepted. It takes no memory.
+    /// Returns the number of accepted operations. Allocates nothing.
     pub fn len(&self) -> usize
         ensures length { result ≡ length self.now.log }
         ensures legal { IsLegalLog N.place.catalogue self.now.log }
@@ -76,7 +76,7 @@ impl<N: Site, const LIMIT: u64> Desk<N, LIMIT> {
         length_of(&self.book) as usize
     }
 
-    /// The entry with this number, counted from 1, if there is one. It takes no memory.
+    /// Returns the entry with this number, counted from 1, if there is one. Allocates nothing.
     pub fn entry(&self, k: usize) -> Option<&Entry>
         ensures none { k ≡ 0 → option_copied result ≡ None }
         ensures some { 0 < k → option_copied result ≡ slice_get self.now.log (k - 1) }
@@ -84,12 +84,12 @@ impl<N: Site, const LIMIT: u64> Desk<N, LIMIT> {
         self.book.entry(k)
     }
 
-    /// Opens a session: its number is one above the last, it has made no call, and it has seen the
-    /// whole log. It takes no memory.
+    /// Opens a session. Its number is one above the last, it has called nothing, and it has seen
+    /// the whole log. Allocates nothing.
     ///
     /// # Errors
     ///
-    /// `RepositoryFull` where all numbers of a `u64` are used.
+    /// Returns `RepositoryFull`, with nothing changed, if all numbers of a `u64` are used.
     pub fn open(&mut self, table: &SeatTable) -> Result<Session<N>, Refusal>
         requires table { table.now ≡ N.place }
         requires alone { self.old.hosted ≡ [] }
@@ -112,14 +112,14 @@ impl<N: Site, const LIMIT: u64> Desk<N, LIMIT> {
         })
     }
 
-    /// Answers a call of a session at this moment, as one thread's book does at the end of the log, and
-    /// enters it where it is accepted. The session then has seen the whole log.
+    /// Replies to a session's call at this moment, as a single-threaded book does at the end of the
+    /// log. Enters the call if it is accepted. The session then has seen the whole log.
     ///
     /// # Errors
     ///
-    /// The first refusal of the call that stands, `RepositoryFull` after the call's own refusals where
-    /// the log has `LIMIT` entries, or `OutOfMemory` in place of any answer. A refused call enters
-    /// nothing.
+    /// Returns the call's first refusal that applies, then `RepositoryFull` if the log has `LIMIT`
+    /// entries. Returns `OutOfMemory` instead of any reply if memory is refused. A refused call
+    /// enters nothing.
     pub fn act(
         &mut self,
         session: &mut Session<N>,
@@ -162,12 +162,13 @@ impl<N: Site, const LIMIT: u64> Desk<N, LIMIT> {
         result
     }
 
-    /// Answers a query of a session, as one thread's book does at the end of the log. The session then
-    /// has seen the whole log.
+    /// Answers a session's query, as a single-threaded book does at the end of the log. The session
+    /// then has seen the whole log.
     ///
     /// # Errors
     ///
-    /// The query's refusal where it stands, or `OutOfMemory` in place of any answer.
+    /// Returns the query's refusal if it applies, or `OutOfMemory` instead of any answer if memory
+    /// is refused.
     pub fn ask(
         &mut self,
         session: &mut Session<N>,
@@ -191,8 +192,8 @@ impl<N: Site, const LIMIT: u64> Desk<N, LIMIT> {
         self.book.ask(query)
     }
 
-    /// Stores a job execution in its stop word, for sessions to find. A stop of it has to stand in the
-    /// log. It takes no memory.
+    /// Stores a job execution's number in its stop word, for sessions to find. The log must have a
+    /// stop of this job execution. Allocates nothing.
     pub fn raise(&mut self, execution: ExecutionId, table: &SeatTable)
         requires table { table.now ≡ N.place }
         requires stopped { HasStop self.old.log (length self.old.log) execution }
@@ -203,7 +204,7 @@ impl<N: Site, const LIMIT: u64> Desk<N, LIMIT> {
 }
 
 impl<N: Site, const LIMIT: u64> Desk<N, LIMIT> {
-    /// The seat of a read copy that has absorbed nothing. It takes no memory.
+    /// Returns the seat of a read copy that has absorbed nothing. Allocates nothing.
     pub fn copy_seat(&mut self, table: &SeatTable) -> CopySeat<N>
         requires table { table.now ≡ N.place }
         requires alone { self.old.hosted ≡ [] }
@@ -213,7 +214,8 @@ impl<N: Site, const LIMIT: u64> Desk<N, LIMIT> {
         self.seat.copy_seat(table)
     }
 
-    /// Takes a read copy in: what it has absorbed is a beginning of the log. It takes no memory.
+    /// Hosts a read copy. Ensures that the operations that it has absorbed are a prefix of the log.
+    /// Allocates nothing.
     pub fn host_copy(&mut self, copy: CopySeat<N>, table: &SeatTable)
         requires table { table.now ≡ N.place }
         requires alone { self.old.hosted ≡ [] }
@@ -224,8 +226,8 @@ impl<N: Site, const LIMIT: u64> Desk<N, LIMIT> {
         self.seat.host_copy(copy, table);
     }
 
-    /// Lets the read copy go that it hosts, with as many operations as it has absorbed. It takes no
-    /// memory.
+    /// Returns the seat of the hosted read copy, as having absorbed this many operations. Allocates
+    /// nothing.
     pub fn part_copy(&mut self, absorbed: u64, table: &SeatTable) -> CopySeat<N>
         requires table { table.now ≡ N.place }
         requires long { (l : _) × (self.old.hosted ≡ l ∷ []) × (length l ≤ absorbed) }

@@ -1,5 +1,5 @@
-//! Sessions, which threads hold, and the desk, which a lock keeps: what a session has seen is always
-//! a beginning of the desk's log.
+//! Sessions, which threads own, and the desk, which a lock guards. The operations that a session
+//! has seen are always a prefix of the desk's log.
 #![tactic(auto)]
 
 mod book;

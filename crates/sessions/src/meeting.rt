@@ -5,8 +5,8 @@ ghost use Rattle.sessions.specs.Sessions.{Meets};
 use crate::session::Session;
 use seat_rules::{SeatTable, Site};
 
-/// Two sessions tell each other what they have seen: after it both have seen what either had, and
-/// both were shown the greater count. It takes no memory and waits for nobody.
+/// Lets two sessions exchange the operations that they have seen. Afterwards, both have seen all
+/// that either had, and both were shown the greater count. Allocates nothing, and takes no lock.
 pub fn meet<N: Site>(one: &mut Session<N>, other: &mut Session<N>, table: &SeatTable)
     requires { table.now ≡ N.place }
     ensures one { Meets one.old other.old one.new }

@@ -8,12 +8,12 @@ use batch_ids::ExecutionId;
 use seat_rules::{CopySeat, SeatTable, SessionSeat, Site};
 use std::marker::Model;
 
-/// A session of one caller or worker. It goes from thread to thread with its owner, and makes one
+/// A session of one caller or worker. It moves from thread to thread with its owner, and makes one
 /// call at a time.
 ///
-/// Contracts see what it knows: its number, the operations that it has seen (a beginning of the log,
-/// and legal), those of them that are its own accepted ones, the greatest count that it was shown, and
-/// the job executions whose stop it has found. No call here takes memory or waits for anybody.
+/// Contracts see its number and the operations that it has seen, which are a legal prefix of the
+/// log. They also see its own accepted operations, the greatest count that it was shown, and the
+/// job executions whose stop it has found. None of the functions here allocates memory or waits.
 #[derive(Drop)]
 pub struct Session<N: Site> {
     pub(crate) number: u64,
@@ -35,14 +35,15 @@ impl<N: Site> Model for Session<N> {
 }
 
 impl<N: Site> Session<N> {
-    /// Its number: sessions are numbered from 1 in the order in which they are opened.
+    /// Returns the session's number. Sessions are numbered from 1, in the order in which they are
+    /// opened.
     pub fn number(&self) -> u64
         ensures { result ≡ self.now.number }
     {
         self.number
     }
 
-    /// How many operations it has seen.
+    /// Returns the number of operations that the session has seen.
     pub fn front(&self) -> u64
         ensures front { result ≡ length self.now.seen }
         ensures legal { IsLegalLog N.place.catalogue self.now.seen }
@@ -50,23 +51,23 @@ impl<N: Site> Session<N> {
         self.front
     }
 
-    /// The greatest count of operations that it was shown.
+    /// Returns the greatest count of operations that the session was shown.
     pub fn least(&self) -> u64
         ensures { result ≡ self.now.least }
     {
         self.least
     }
 
-    /// How many of its calls were accepted. A refused call and a claim that is answered Nothing are
-    /// none.
+    /// Returns the number of this session's accepted calls. A refused call and a claim with the
+    /// reply Nothing don't count.
     pub fn accepted(&self) -> u64
         ensures { result ≡ length self.now.mine }
     {
         self.accepted
     }
 
-    /// Reads the count of accepted operations: at least as many as it has seen and as it was shown
-    /// before.
+    /// Returns the number of accepted operations. It is at least the number that the session has
+    /// seen, and at least any count that it was shown.
     pub fn operations_at_least(&mut self, table: &SeatTable) -> u64
         requires { table.now ≡ N.place }
         ensures shown { self.new ≡ glanced_at result self.old }
@@ -77,7 +78,8 @@ impl<N: Site> Session<N> {
         self.least
     }
 
-    /// Reads the stop word of a job execution: 0, or a job execution whose stop was accepted.
+    /// Returns the stop word of a job execution: 0, or the number of a job execution whose stop was
+    /// accepted.
     pub fn read_stop(&mut self, execution: ExecutionId, table: &SeatTable) -> u64
         requires { table.now ≡ N.place }
         ensures { self.new ≡ stopped_at result self.old }
@@ -85,8 +87,9 @@ impl<N: Site> Session<N> {
         self.seat.read_stop(execution, table)
     }
 
-    /// Takes what a read copy of so many operations has absorbed. The copy has to be no shorter than
-    /// what the session has seen and was shown.
+    /// Takes over the operations that a read copy has absorbed, of which there are `entries`. That
+    /// must be at least the number that the session has seen, and at least any count that it was
+    /// shown.
     pub fn read(&mut self, copy: &mut CopySeat<N>, entries: u64, table: &SeatTable)
         requires table { table.now ≡ N.place }
         requires copy { (l : _) × (copy.old ≡ l ∷ []) × (entries ≡ length l) × IsLegalLog N.place.catalogue l }

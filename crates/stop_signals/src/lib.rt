@@ -1,5 +1,4 @@
-//! Stop signals: a session learns that a job execution was asked to stop without waiting for
-//! anybody.
+//! Stop signals: a session finds out, without waiting, that a job execution was asked to stop.
 #![tactic(auto)]
 
 ghost use Rattle.std.specs.Prelude.{◌≡◌, ◌≤◌, [], ◌∷◌, ◌++◌, IsTrue, length};
@@ -17,13 +16,14 @@ use op_log::{Call, Reply};
 use seat_rules::{SeatTable, Site};
 use sessions::{Desk, Session};
 
-/// Answers a stop of a session at this moment, as `Desk::act` does, and tells all sessions of it
-/// where it is accepted: not before it stands in the log (Jakarta Batch 2.1, "JobOperator", stop).
+/// Replies to a session's stop at this moment, as `Desk::act` does. If the stop is accepted, it is
+/// signalled to all sessions after it is in the log. See Jakarta Batch 2.1, "JobOperator", stop.
 ///
 /// # Errors
 ///
-/// The first refusal of the stop that stands, `RepositoryFull` after them where the log has `LIMIT`
-/// entries, or `OutOfMemory` in place of any answer. A refused stop enters nothing and tells nobody.
+/// Returns the stop's first refusal that applies, then `RepositoryFull` if the log has `LIMIT`
+/// entries. Returns `OutOfMemory` instead of any reply if memory is refused. A refused stop enters
+/// nothing and signals nothing.
 pub fn stop<N: Site, const LIMIT: u64>(
     desk: &mut Desk<N, LIMIT>,
     session: &mut Session<N>,
@@ -49,9 +49,9 @@ pub fn stop<N: Site, const LIMIT: u64>(
     Ok(reply)
 }
 
-/// Tells all sessions that a job execution was asked to stop. An accepted stop of it has to stand in
-/// the log. 64 words serve all job executions, so that a later stop may cover this one. It takes no
-/// memory.
+/// Signals to all sessions that a job execution was asked to stop. The log must have an accepted
+/// stop of it. All job executions share 64 words, so a later stop may overwrite this one. Allocates
+/// nothing.
 pub fn raise<N: Site, const LIMIT: u64>(
     desk: &mut Desk<N, LIMIT>,
     execution: ExecutionId,
@@ -64,12 +64,12 @@ pub fn raise<N: Site, const LIMIT: u64>(
     desk.raise(execution, table);
 }
 
-/// Whether the session finds that a job execution was asked to stop (Jakarta Batch 2.1,
-/// "JobOperator", stop).
+/// Checks whether a job execution was asked to stop, as far as the session can see. See Jakarta
+/// Batch 2.1, "JobOperator", stop.
 ///
-/// Where it is true, an accepted stop of the job execution stands in the log, and each later call of
-/// this session is answered after it. A false says nothing: the stop may not have arrived, or a stop
-/// of another job execution may cover it. It takes no memory and waits for nobody.
+/// If this returns true, the log has an accepted stop of the job execution, and every later call of
+/// this session sees it. False proves nothing: the stop may not have arrived, or a stop of another
+/// job execution may have overwritten it. Allocates nothing, and takes no lock.
 pub fn look<N: Site>(session: &mut Session<N>, execution: ExecutionId, table: &SeatTable) -> bool
     requires { table.now ≡ N.place }
     ensures found { IsTrue result → (rest : _) × (session.new.stops ≡ execution ∷ rest) }

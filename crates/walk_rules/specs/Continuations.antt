@@ -1,4 +1,4 @@
--- Where a list goes after an element's outcome.
+-- How a list goes on after an element's outcome.
 use Rattle.std.specs.Prelude.{ℕ, Option, Some, None, unwrap_or, List}
 use Rattle.batch_ids.specs.Statuses.{status_name}
 use Rattle.batch_ids.specs.declared.status.BatchStatus.TheVariants.{Completed, Failed, Stopped}
@@ -11,14 +11,15 @@ use Rattle.walk_rules.specs.declared.continuation.Continuation.{Continuation}
 use Rattle.walk_rules.specs.declared.continuation.Continuation.TheVariants.{AtElement, WithValue}
 use Rattle.walk_rules.specs.declared.facts.Value.TheVariants.{Done, Ended}
 
--- by a transition element
+-- how a list goes on by a transition element
 abbrev pub continuation_by : Then → Continuation
 continuation_by (Next to) = AtElement to
 continuation_by (End exit) = WithValue (Ended Completed (unwrap_or exit (status_name Completed)) None)
 continuation_by (Fail exit) = WithValue (Ended Failed (unwrap_or exit (status_name Failed)) None)
 continuation_by (Stop exit point) = WithValue (Ended Stopped (unwrap_or exit (status_name Stopped)) point)
 
--- by its transition element, if one matches its exit status, and else by `next`
+-- how a list goes on after an outcome: by the transition element if one matches the exit status, and else by
+-- `next`
 abbrev pub continuation_of : Option (List ℕ) → Option Transition → WorkOutcome → List ℕ → Continuation
 continuation_of next transition CameStopped exit = WithValue (Ended Stopped (status_name Stopped) None)
 continuation_of next (Some transition) CameCompleted exit = continuation_by transition.then

@@ -1,4 +1,4 @@
--- How often an id stands among elements.
+-- How many elements have an id.
 use Rattle.std.specs.Prelude.{ℕ, ◌+◌, Bool, true, false, List, [], ◌∷◌, map}
 use Rattle.std.specs.Str.{bytes_eq}
 use Rattle.jsl_model.specs.declared.element.Element.{Element, Element-F, fold-Element}
@@ -35,6 +35,6 @@ count_in_body id = fold-Body ℕ ℕ ℕ body_count (element_count id) (flow_cou
 abbrev pub count_in_flow : List ℕ → SplitFlow → ℕ
 count_in_flow id = fold-SplitFlow ℕ ℕ ℕ body_count (element_count id) (flow_count id)
 
--- how often an id stands among elements, at all depths
+-- how many elements have an id, at all depths
 abbrev pub count_of : List ℕ → List Element → ℕ
 count_of id elements = total (map (count_in id) elements)

@@ -1,4 +1,4 @@
--- What a value shows: the work keys that may be run now, and those that are being run.
+-- The work keys that a value shows: those that may be run now, and those that are being run.
 use Rattle.std.specs.Prelude.{◌||◌, Bool, List, []}
 use Rattle.walk_rules.specs.declared.facts.Value.{Value}
 use Rattle.walk_rules.specs.declared.facts.Value.TheVariants.{Open, Done, Ended}
@@ -11,7 +11,7 @@ ready_of (Open ready busy) = ready
 ready_of (Done exit) = []
 ready_of (Ended status exit point) = []
 
--- those that are being run, in the same order
+-- the work keys that are being run, in the same order
 abbrev pub busy_of : Value → List WorkKey
 busy_of (Open ready busy) = busy
 busy_of (Done exit) = []

@@ -1,4 +1,4 @@
--- Where the walk of a list stands: at an element that halts or ends it, and how many elements it may still go over.
+-- The element at which the walk of a list halts or ends, and how many elements the walk may still go over.
 use Rattle.std.specs.Prelude.{ℕ, zero, suc, Option, Some, None, List, [], ◌∷◌, find}
 use Rattle.std.specs.List.{position}
 use Rattle.std.specs.Str.{bytes_eq}
@@ -32,16 +32,16 @@ abbrev pub stands : ℕ → List WalkedElement → List ℕ → Stand
 stands zero rows id = record { id = id; left = 0 }
 stands (suc n) rows id = stand_at record { id = id; left = suc n } (stands n rows) (find (λ row. bytes_eq row.id id) rows)
 
--- the place of the element with this id
+-- the index of the element with this id
 abbrev pub row_place : List WalkedElement → List ℕ → Option ℕ
 row_place rows id = position (λ row. bytes_eq row.id id) rows
 
--- what a walk over these rows has come to, from an id on
+-- the progress of a walk over these rows, from the element with this id
 abbrev pub progress : ℕ → List WalkedElement → List ℕ → Progress
 progress n rows id =
     record { value = follow n rows id; place = row_place rows (stands n rows id).id; left = (stands n rows id).left }
 
--- the rows of elements that came to these by themselves
+-- the rows of elements with these own results
 abbrev pub rows_by : List Element → List ElementResult → List WalkedElement
 rows_by [] results = []
 rows_by (e ∷ es) [] = []

@@ -1,4 +1,4 @@
--- The walk of a job: what its lists come to, by what is known of each step and decision.
+-- The walk of a job: the values of its lists, from the facts about each step and decision.
 use Rattle.std.specs.Prelude.{ℕ, zero, suc, Bool, true, false, Option, Some, None, unwrap_or, List, [], ◌∷◌, ◌++◌, length, map, find, ◌||◌, if◌then◌else◌}
 use Rattle.std.specs.List.{list_any, filter}
 use Rattle.std.specs.Str.{bytes_eq}
@@ -30,27 +30,28 @@ use Rattle.walk_rules.specs.declared.element_result.ElementResult.TheVariants.{L
 
 -- ---- Facts
 
--- what is known of this work key: the first that names it counts
+-- the fact about a work key, from the first entry that names it; without one, it is `Nothing`
 abbrev pub fact_of : List Known → WorkKey → Fact
 fact_of [] key = Nothing
 fact_of (known ∷ rest) key = if is_same_key known.key key then known.fact else fact_of rest key
 
--- what is known of each of these work keys
+-- each of these work keys, with the fact about it
 abbrev pub known_of : (WorkKey → Fact) → List WorkKey → List Known
 known_of facts keys = map (λ key. record { key = key; fact = facts key }) keys
 
 -- ---- Decisions, and steps that are not partitioned
 
--- what may be run now
+-- the result of a step or decision that may be run now
 abbrev pub ready_result : WorkKey → ElementResult
 ready_result key = ListValue (Open (key ∷ []) [])
 
--- what is being run
+-- the result of a step or decision that is being run
 abbrev pub busy_result : WorkKey → ElementResult
 busy_result key = ListValue (Open [] (key ∷ []))
 
--- a step or a decision: a carried one came to COMPLETED with its earlier exit status, one with a work item is busy or has
--- its outcome, one at its start limit fails the job, and any other is ready; decisions are neither carried nor barred
+-- the own result of a step or a decision. A carried one is COMPLETED with its earlier exit status. One with a
+-- work item is busy or has its outcome. One at its start limit fails the job. Any other is ready. A decision
+-- is neither carried nor barred.
 abbrev pub runnable_result : WorkKey → Fact → ElementResult
 runnable_result key (Carried exit) = Outcome CameCompleted exit
 runnable_result key Busy = busy_result key
@@ -60,7 +61,7 @@ runnable_result key Nothing = ready_result key
 
 -- ---- Partitioned steps
 
--- whether a partition is without a work item, and nothing stands in its way
+-- whether a partition has no work item, and nothing prevents one
 abbrev pub is_left : Fact → Bool
 is_left Nothing = true
 is_left Barred = false
@@ -84,25 +85,26 @@ is_barred Busy = false
 is_barred (Carried exit) = false
 is_barred (Over outcome exit) = false
 
--- whether a partition is over, FAILED
+-- whether a partition is over and FAILED
 abbrev pub is_failed : Fact → Bool
 is_failed (Over CameFailed exit) = true
 is_failed _ = false
 
--- whether a partition is over, STOPPED
+-- whether a partition is over and STOPPED
 abbrev pub is_stopped : Fact → Bool
 is_stopped (Over CameStopped exit) = true
 is_stopped _ = false
 
--- whether this is so of a partition
+-- whether the fact about some partition passes a test
 abbrev pub has_fact : (Fact → Bool) → List Known → Bool
 has_fact test partitions = list_any (λ one. test one.fact) partitions
 
--- the work keys of the partitions of which this is so
+-- the work keys of the partitions whose fact passes a test
 abbrev pub keys_with : (Fact → Bool) → List Known → List WorkKey
 keys_with test partitions = map (λ one. one.key) (filter (λ one. test one.fact) partitions)
 
--- what partitions that are over came to: FAILED if one is, else STOPPED if one is, else COMPLETED
+-- the outcome of partitions that are over: FAILED if one FAILED, else STOPPED if one is STOPPED, else
+-- COMPLETED
 abbrev pub strongest_outcome : List Known → WorkOutcome
 strongest_outcome partitions =
     if has_fact is_failed partitions then CameFailed else if has_fact is_stopped partitions then CameStopped else CameCompleted
@@ -111,43 +113,43 @@ strongest_outcome partitions =
 abbrev pub named_outcome : WorkOutcome → ElementResult
 named_outcome outcome = Outcome outcome (outcome_name outcome)
 
--- partitions that are not barred: they are open while one is without a work item or busy, and then come to their strongest
--- outcome
+-- the own result of a step without a barred partition: open while a partition has no work item or is busy,
+-- and then their strongest outcome
 abbrev pub open_or_over : List Known → ElementResult
 open_or_over partitions =
     if has_fact is_left partitions || has_fact is_busy partitions
     then ListValue (Open (keys_with is_left partitions) (keys_with is_busy partitions))
     else named_outcome (strongest_outcome partitions)
 
--- a partitioned step, by what is known of each partition: one that is barred fails the job, since no partition of a step at its
--- start limit was handed out
+-- the own result of a partitioned step, from its partitions' facts. A barred partition fails the job: no
+-- partition of a step at its start limit was handed out.
 abbrev pub partitioned_result : List Known → ElementResult
 partitioned_result partitions =
     if has_fact is_barred partitions then ListValue (Ended Failed (status_name Failed) None) else open_or_over partitions
 
--- a step, by what is known of each of its work keys
+-- the own result of a step, from the facts about its work keys
 abbrev pub step_result : (WorkKey → Fact) → List ℕ → Option ℕ → ElementResult
 step_result facts id None = runnable_result (key_of id 0) (facts (key_of id 0))
 step_result facts id (Some count) = partitioned_result (known_of facts (keys_of_step id (Some count)))
 
 -- ---- Lists
 
--- one element of a list, with what it comes to by itself
+-- an element of a list, with its own result
 pub record WalkedElement : Type 0 where
   pub id : List ℕ
   pub next : Option (List ℕ)
   pub transitions : List Transition
   pub own_result : ElementResult
 
--- what a transition element does: `on` is the list's value from each of its elements
+-- the list's value by a transition element: `on` is the list's value from each of its elements
 abbrev pub value_by_transition : (List ℕ → Value) → Then → Value
 value_by_transition on (Next to) = on to
 value_by_transition on (End exit) = Ended Completed (unwrap_or exit (status_name Completed)) None
 value_by_transition on (Fail exit) = Ended Failed (unwrap_or exit (status_name Failed)) None
 value_by_transition on (Stop exit point) = Ended Stopped (unwrap_or exit (status_name Stopped)) point
 
--- after an outcome: STOPPED ends the job; else the first transition element that matches the exit status decides;
--- without one FAILED ends the job, and COMPLETED follows `next` or ends the list
+-- the list's value after an outcome. STOPPED ends the job. Else the first transition element that matches the
+-- exit status decides. Without one, FAILED ends the job, and COMPLETED follows `next` or ends the list.
 abbrev pub value_after_outcome : (List ℕ → Value) → Option (List ℕ) → Option Transition → WorkOutcome → List ℕ → Value
 value_after_outcome on next transition CameStopped exit = Ended Stopped (status_name Stopped) None
 value_after_outcome on next (Some transition) CameCompleted exit = value_by_transition on transition.then
@@ -156,7 +158,7 @@ value_after_outcome on next None CameFailed exit = Ended Failed (status_name Fai
 value_after_outcome on (Some to) None CameCompleted exit = on to
 value_after_outcome on None None CameCompleted exit = Done exit
 
--- the list's value at an element that has come so far
+-- the list's value at an element with this own result
 abbrev pub value_by_result : (List ℕ → Value) → WalkedElement → ElementResult → Value
 value_by_result on element (ListValue value) = value
 value_by_result on element (Outcome outcome exit) = value_after_outcome on element.next (matching_transition element.transitions exit) outcome exit
@@ -166,12 +168,13 @@ abbrev pub value_at : (List ℕ → Value) → Option WalkedElement → Value
 value_at on None = Done []
 value_at on (Some element) = value_by_result on element element.own_result
 
--- the list's value from the element with this id, over at most so many elements
+-- the list's value from the element with this id, over at most `n` elements
 abbrev pub follow : ℕ → List WalkedElement → List ℕ → Value
 follow zero elements id = Done []
 follow (suc n) elements id = value_at (follow n elements) (find (λ element. bytes_eq element.id id) elements)
 
--- the list's value from the element with this id: no element comes twice, so as many as the list has are enough
+-- the list's value from the element with this id; no element is visited twice, so the number of elements is a
+-- sufficient bound
 abbrev pub list_value : List WalkedElement → List ℕ → Value
 list_value elements from = follow (length elements) elements from
 
@@ -184,27 +187,28 @@ first_id (element ∷ elements) = element.id
 abbrev pub whole_value : List WalkedElement → Value
 whole_value elements = list_value elements (first_id elements)
 
--- where the list goes, as a value: `on` is the list's value from each of its elements
+-- the list's value after a continuation: `on` is the list's value from each of its elements
 abbrev pub value_of_continuation : (List ℕ → Value) → Continuation → Value
 value_of_continuation on (AtElement id) = on id
 value_of_continuation on (WithValue value) = value
 
 -- ---- Flows and splits
 
--- a flow: where its list ends, it is COMPLETED with the exit status of the list's last element
+-- a flow's own result: at the end of its list, it is COMPLETED with the exit status of the list's last
+-- element
 abbrev pub flow_result : Value → ElementResult
 flow_result (Open ready busy) = ListValue (Open ready busy)
 flow_result (Ended status exit point) = ListValue (Ended status exit point)
 flow_result (Done exit) = Outcome CameCompleted exit
 
--- the ready elements of all flows of a split, in written order
+-- the ready work keys of all flows of a split, in written order
 abbrev pub all_ready : List Value → List WorkKey
 all_ready [] = []
 all_ready (Open ready busy ∷ rest) = ready ++ all_ready rest
 all_ready (Done exit ∷ rest) = all_ready rest
 all_ready (Ended status exit point ∷ rest) = all_ready rest
 
--- the busy elements of all flows of a split, in written order
+-- the busy work keys of all flows of a split, in written order
 abbrev pub all_busy : List Value → List WorkKey
 all_busy [] = []
 all_busy (Open ready busy ∷ rest) = busy ++ all_busy rest
@@ -222,22 +226,22 @@ abbrev pub any_open : List Value → Bool
 any_open [] = false
 any_open (value ∷ rest) = is_open value || any_open rest
 
--- whether a flow ended the job FAILED, STOPPED or COMPLETED
+-- whether a flow ended the job with this status: FAILED, STOPPED or COMPLETED
 abbrev pub ended_as : BatchStatus → Value → Bool
 ended_as Failed (Ended Failed exit point) = true
 ended_as Stopped (Ended Stopped exit point) = true
 ended_as Completed (Ended Completed exit point) = true
 ended_as _ _ = false
 
--- the strongest end is FAILED, then STOPPED, then COMPLETED; without one the split is COMPLETED
+-- the strongest end is FAILED, then STOPPED, then COMPLETED; without an end, the split is COMPLETED
 abbrev pub strongest_end : Option Value → Option Value → Option Value → ElementResult
 strongest_end (Some failed) stopped completed = ListValue failed
 strongest_end None (Some stopped) completed = ListValue stopped
 strongest_end None None (Some completed) = ListValue completed
 strongest_end None None None = Outcome CameCompleted (status_name Completed)
 
--- a split: while a flow is under way, all flows' ready and busy elements; then the strongest end of a flow, the first
--- written one among equals
+-- a split's own result. While a flow is under way, it is the ready and busy work keys of all flows. Then it
+-- is the strongest end of a flow: the first in written order, among equals.
 abbrev pub split_result : List Value → ElementResult
 split_result flows =
     if any_open flows
@@ -246,8 +250,8 @@ split_result flows =
 
 -- ---- Elements
 
--- what the body of an element comes to, where the elements inside it have come to their values: a step or a decision
--- comes to what is known of it
+-- the result of an element's body, given the values of the lists inside it; a step or a decision has its
+-- result from the facts
 pub data BodyResult : Type 0 where
   IsStep : StepRecord → BodyResult
   IsDecision : BodyResult
@@ -259,7 +263,7 @@ body_result (Decision artifact) = IsDecision
 body_result (Flow elements) = HasResult (flow_result (whole_value elements))
 body_result (Split flows) = HasResult (split_result flows)
 
--- what an element comes to by itself: a step or a decision by what is known of its work keys
+-- an element's own result; that of a step or a decision is from the facts about its work keys
 abbrev pub element_result : (WorkKey → Fact) → List ℕ → BodyResult → ElementResult
 element_result facts id (IsStep step) = step_result facts id step.partitions
 element_result facts id IsDecision = runnable_result (key_of id 0) (facts (key_of id 0))
@@ -272,17 +276,17 @@ element_with_result facts x =
 abbrev pub flow_value : SplitFlow-F BodyResult WalkedElement Value → Value
 flow_value x = whole_value x.elements
 
--- an element with what it comes to by itself
+-- an element with its own result
 abbrev pub walked_element : (WorkKey → Fact) → Element → WalkedElement
 walked_element facts = fold-Element BodyResult WalkedElement Value body_result (element_with_result facts) flow_value
 
 abbrev pub walked_body : (WorkKey → Fact) → Body → BodyResult
 walked_body facts = fold-Body BodyResult WalkedElement Value body_result (element_with_result facts) flow_value
 
--- what a flow of a split comes to
+-- the value of a flow of a split
 abbrev pub value_of_flow : (WorkKey → Fact) → SplitFlow → Value
 value_of_flow facts = fold-SplitFlow BodyResult WalkedElement Value body_result (element_with_result facts) flow_value
 
--- THE WALK: what a list of elements comes to from the element with this id
+-- THE WALK: the value of a list of elements, from the element with this id
 abbrev pub value_of : (WorkKey → Fact) → List Element → List ℕ → Value
 value_of facts elements from = list_value (map (walked_element facts) elements) from

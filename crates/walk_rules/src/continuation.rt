@@ -15,13 +15,13 @@ use transitions::find_match;
 /// How a list goes on after an element's outcome.
 #[derive(Debug, Drop)]
 pub enum Continuation {
-    /// At the element with this id, of the same list.
+    /// It goes on at the element with this id, in the same list.
     AtElement(T256),
-    /// No further: the list comes to this value.
+    /// It doesn't go on: the list has this value.
     WithValue(Value),
 }
 
-/// The exit status that is given, or else the status's name.
+/// Returns the given exit status, or the status's name if there is none.
 fn exit_or_name(
     alloc: Global,
     exit: &Option<T256>,
@@ -35,7 +35,7 @@ fn exit_or_name(
     }
 }
 
-/// What a transition element does.
+/// Returns the effect of a transition element.
 fn continuation_by(alloc: Global, then: &Then) -> Result<Continuation, OutOfMemory>
     ensures value { IfOk result (λ made. (on : List ℕ → Value)
         → value_by_transition on then.now ≡ value_of_continuation on made) }
@@ -64,12 +64,13 @@ fn continuation_by(alloc: Global, then: &Then) -> Result<Continuation, OutOfMemo
     }
 }
 
-/// How a list goes on after an outcome of this element: by the first of its transition elements that matches the exit
-/// status, and else by its `next`. See Jakarta Batch 2.1, "Transition Elements".
+/// Returns how a list goes on after an outcome of this element. The first of its transition
+/// elements that matches the exit status decides, and else its `next`. See Jakarta Batch 2.1,
+/// "Transition Elements".
 ///
 /// # Errors
 ///
-/// `OutOfMemory` where memory is refused.
+/// `OutOfMemory` if memory is refused.
 pub fn continuation_after(
     alloc: Global,
     element: &Element,

@@ -1,4 +1,4 @@
-//! Copies of what is known and of what it comes to.
+//! Copies of facts and values.
 ghost use Rattle.std.specs.Prelude.{◌≡◌, ◌++◌, IfOk, OnOk};
 
 use crate::facts::{Fact, Known, Value};
@@ -17,11 +17,11 @@ pub(crate) fn add_keys(to: &mut Vec<WorkKey>, more: &[WorkKey]) -> Result<(), Ou
 }
 
 impl Fact {
-    /// An equal fact.
+    /// Returns an equal fact.
     ///
     /// # Errors
     ///
-    /// `OutOfMemory` where memory is refused.
+    /// `OutOfMemory` if memory is refused.
     pub fn try_clone(&self) -> Result<Fact, OutOfMemory>
         ensures { IfOk result (λ copy. copy ≡ self.now) }
     {
@@ -35,11 +35,11 @@ impl Fact {
     }
 }
 
-/// Equal facts, in the same order.
+/// Returns equal entries, in the same order.
 ///
 /// # Errors
 ///
-/// `OutOfMemory` where memory is refused.
+/// `OutOfMemory` if memory is refused.
 pub fn copies_of_known(alloc: Global, known: &[Known]) -> Result<Vec<Known>, OutOfMemory>
     ensures { IfOk result (λ copies. copies.items ≡ known.now) }
 {
@@ -53,11 +53,11 @@ pub fn copies_of_known(alloc: Global, known: &[Known]) -> Result<Vec<Known>, Out
 }
 
 impl Value {
-    /// An equal value.
+    /// Returns an equal value.
     ///
     /// # Errors
     ///
-    /// `OutOfMemory` where memory is refused.
+    /// `OutOfMemory` if memory is refused.
     pub fn try_clone(&self) -> Result<Value, OutOfMemory>
         ensures { IfOk result (λ copy. copy ≡ self.now) }
     {

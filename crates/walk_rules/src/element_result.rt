@@ -9,12 +9,12 @@ use crate::work_keys::WorkKeys;
 use batch_ids::{BatchStatus, Listed, OutOfMemory, T256, WorkOutcome};
 use std::alloc::Global;
 
-/// What an element comes to by itself, before its transition elements and its `next` are looked at.
+/// An element's own result, before its transition elements and its `next` apply.
 #[derive(Debug, Drop)]
 pub enum ElementResult {
-    /// The list that it stands in comes to this value.
+    /// The element's list has this value.
     ListValue(Value),
-    /// It came to this outcome with this exit status.
+    /// The element has this outcome and this exit status.
     Outcome(WorkOutcome, T256),
 }
 
@@ -44,18 +44,18 @@ fn busy_result(alloc: Global, id: &T256) -> Result<ElementResult, OutOfMemory>
     }))
 }
 
-/// A status's name as a text.
+/// Returns a status's name as a text.
 ///
 /// # Errors
 ///
-/// `OutOfMemory` where memory is refused.
+/// `OutOfMemory` if memory is refused.
 pub fn name_of(alloc: Global, status: BatchStatus) -> Result<T256, OutOfMemory>
     ensures { IfOk result (λ name. name ≡ status_name status) }
 {
     T256::within(alloc, status.name())
 }
 
-/// The value that ends a job with this status and its name.
+/// Returns the value that ends a job with this status, and with its name as the exit status.
 pub(crate) fn ended_value(alloc: Global, status: BatchStatus) -> Result<Value, OutOfMemory>
     ensures { IfOk result (λ value. value ≡ Value.Ended status (status_name status) None) }
 {
@@ -66,7 +66,7 @@ pub(crate) fn ended_value(alloc: Global, status: BatchStatus) -> Result<Value, O
     })
 }
 
-/// The first that is known of a partition of an element.
+/// Finds the first entry for a partition of an element.
 fn find_known<'a>(known: &'a [Known], element: &T256, partition: u32) -> Option<&'a Known>
     ensures { MatchOption result (fact_of known.now (key_of element.now partition) ≡ Fact.Nothing)
         (λ one. fact_of known.now (key_of element.now partition) ≡ one.now.fact) }
@@ -79,11 +79,12 @@ fn find_known<'a>(known: &'a [Known], element: &T256, partition: u32) -> Option<
     None
 }
 
-/// What is known of a partition of an element: the first of these that names it counts.
+/// Returns the fact about a partition of an element, from the first entry that names it. Without
+/// one, it is `Fact::Nothing`.
 ///
 /// # Errors
 ///
-/// `OutOfMemory` where memory is refused.
+/// `OutOfMemory` if memory is refused.
 pub fn fact_of(known: &[Known], element: &T256, partition: u32) -> Result<Fact, OutOfMemory>
     ensures { IfOk result (λ fact. fact ≡ fact_of known.now (key_of element.now partition)) }
 {
@@ -93,11 +94,12 @@ pub fn fact_of(known: &[Known], element: &T256, partition: u32) -> Result<Fact, 
     }
 }
 
-/// What a decision, or a step that isn't partitioned, comes to by itself, where this is known of it.
+/// Returns the own result of a decision, or of a step that isn't partitioned, from the fact about
+/// it.
 ///
 /// # Errors
 ///
-/// `OutOfMemory` where memory is refused.
+/// `OutOfMemory` if memory is refused.
 pub fn result_by(alloc: Global, id: &T256, fact: &Fact) -> Result<ElementResult, OutOfMemory>
     ensures { IfOk result (λ made. made ≡ runnable_result (key_of id.now 0) fact.now) }
 {
@@ -113,11 +115,11 @@ pub fn result_by(alloc: Global, id: &T256, fact: &Fact) -> Result<ElementResult,
     }
 }
 
-/// What a decision, or a step that isn't partitioned, comes to by itself.
+/// Returns the own result of a decision, or of a step that isn't partitioned.
 ///
 /// # Errors
 ///
-/// `OutOfMemory` where memory is refused.
+/// `OutOfMemory` if memory is refused.
 pub fn runnable_result(
     alloc: Global,
     known: &[Known],

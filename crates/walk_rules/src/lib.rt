@@ -1,4 +1,5 @@
-//! What an element of a job comes to by itself, by what is known of its work keys, and how far the walk over its list comes then.
+//! The rules of a walk over a list of elements. They give each element's own result, from the facts
+//! about its work keys, and the progress of the walk.
 #![tactic(auto)]
 
 mod continuation;

@@ -1,4 +1,4 @@
-//! What a step comes to by itself, of what is known of its partitions.
+//! A step's own result, from the facts about its partitions.
 ghost use Rattle.std.specs.Prelude.{◌≡◌, ◌++◌, IfOk, OnOk, map};
 ghost use Rattle.walk_rules.specs.Keys.{key_of, numbers_to};
 ghost use Rattle.walk_rules.specs.Walk.{fact_of, known_of, is_left, is_busy, is_barred, is_failed, is_stopped, has_fact, keys_with, strongest_outcome, partitioned_result, step_result};
@@ -11,7 +11,7 @@ use batch_ids::{BatchStatus, Listed, OutOfMemory, T256, WorkOutcome};
 use std::alloc::Global;
 
 impl Fact {
-    /// Without a work item, and with nothing in its way.
+    /// Returns `true` if there is no work item, and nothing prevents one.
     fn is_left(&self) -> bool
         ensures { result ≡ is_left self.now }
     {
@@ -24,28 +24,28 @@ impl Fact {
         }
     }
 
-    /// Being run.
+    /// Returns `true` if it is being run.
     fn is_busy(&self) -> bool
         ensures { result ≡ is_busy self.now }
     {
         matches!(self, Fact::Busy)
     }
 
-    /// At the step's start limit.
+    /// Returns `true` if the step has reached its start limit.
     fn is_barred(&self) -> bool
         ensures { result ≡ is_barred self.now }
     {
         matches!(self, Fact::Barred)
     }
 
-    /// Over, FAILED.
+    /// Returns `true` if it is over and FAILED.
     fn is_failed(&self) -> bool
         ensures { result ≡ is_failed self.now }
     {
         matches!(self, Fact::Over(WorkOutcome::Failed, _))
     }
 
-    /// Over, STOPPED.
+    /// Returns `true` if it is over and STOPPED.
     fn is_stopped(&self) -> bool
         ensures { result ≡ is_stopped self.now }
     {
@@ -53,7 +53,7 @@ impl Fact {
     }
 }
 
-/// What is known of each partition of a step.
+/// Returns each partition of a step, with the fact about it.
 fn known_partitions(
     alloc: Global,
     known: &[Known],
@@ -93,7 +93,7 @@ fn add_open(
     Ok(())
 }
 
-/// The partitions that may be run, and those that are being run.
+/// Returns the partitions that may be run, and those that are being run.
 fn open_value(alloc: Global, partitions: &[Known]) -> Result<Value, OutOfMemory>
     ensures { IfOk result (λ value. value
         ≡ Value.Open (keys_with is_left partitions.now) (keys_with is_busy partitions.now)) }
@@ -137,7 +137,7 @@ fn has_stopped(partitions: &[Known]) -> bool
     partitions.iter().any(|one| one.fact.is_stopped())
 }
 
-/// What partitions that are over came to.
+/// Returns the outcome of partitions that are over.
 fn strongest_outcome(partitions: &[Known]) -> WorkOutcome
     ensures { result ≡ strongest_outcome partitions.now }
 {
@@ -150,11 +150,11 @@ fn strongest_outcome(partitions: &[Known]) -> WorkOutcome
     }
 }
 
-/// What a partitioned step comes to by itself. See Jakarta Batch 2.1, "Step Partitioning".
+/// Returns the own result of a partitioned step. See Jakarta Batch 2.1, "Step Partitioning".
 ///
 /// # Errors
 ///
-/// `OutOfMemory` where memory is refused.
+/// `OutOfMemory` if memory is refused.
 pub fn partitioned_result(alloc: Global, partitions: &[Known]) -> Result<ElementResult, OutOfMemory>
     ensures { IfOk result (λ made. made ≡ partitioned_result partitions.now) }
 {
@@ -169,11 +169,11 @@ pub fn partitioned_result(alloc: Global, partitions: &[Known]) -> Result<Element
     Ok(ElementResult::Outcome(outcome, exit))
 }
 
-/// What a step comes to by itself.
+/// Returns the own result of a step.
 ///
 /// # Errors
 ///
-/// `OutOfMemory` where memory is refused.
+/// `OutOfMemory` if memory is refused.
 pub fn step_result(
     alloc: Global,
     known: &[Known],

@@ -1,4 +1,4 @@
-//! How far the walk over a list has come.
+//! The progress of a walk over a list.
 ghost use Rattle.std.specs.Prelude.{◌≡◌, [], ◌<◌, ◌≤◌, ℕ, List, length, IfOk, slice_set, slice_index_or};
 ghost use Rattle.std.specs.List.{position};
 ghost use Rattle.std.specs.Str.{bytes_eq};
@@ -13,19 +13,19 @@ use batch_ids::{OutOfMemory, T256};
 use jsl_model::{Element, ElementIndex};
 use std::alloc::Global;
 
-/// How far the walk over a list has come.
+/// The progress of a walk over a list.
 #[derive(Debug, Drop)]
 pub struct Progress {
-    /// What the list comes to.
+    /// The value of the list.
     pub value: Value,
-    /// The place of the element at which the walk stands.
+    /// The index of the element at which the walk halts.
     pub place: Option<usize>,
-    /// Over how many elements the walk may go from there.
+    /// How many elements the walk may go over from there.
     pub left: usize,
 }
 
-/// The place of the first element with this id. Where it is the one that the index has, this takes
-/// no search.
+/// Returns the index of the first element with this id. If `index` has the element there, this
+/// takes no search.
 pub fn place_in(index: &ElementIndex, elements: &[Element], id: &T256) -> Option<usize>
     requires once { count_of id.now elements.now ≤ 1 }
     ensures { result ≡ position (λ e. bytes_eq e.id id.now) elements.now }
@@ -37,7 +37,8 @@ pub fn place_in(index: &ElementIndex, elements: &[Element], id: &T256) -> Option
     elements.iter().position(|element| element.id == *id)
 }
 
-/// What the element at a place comes to by itself, where the one at the changed place comes to this.
+/// Returns the own result of the element at a place: `comes_to` if it is the changed one, else its
+/// entry in `results`.
 fn result_at<'a>(
     results: &'a [ElementResult],
     changed: usize,
@@ -55,7 +56,8 @@ fn result_at<'a>(
     }
 }
 
-/// A walk that has left its list, or has gone over as many elements as it may.
+/// Returns the progress of a walk that has left its list, or has gone over as many elements as it
+/// may.
 fn ended_at(place: Option<usize>, left: usize) -> Progress
     ensures { result ≡ record { value = Value.Done []; place = place; left = left } }
 {
@@ -68,12 +70,12 @@ fn ended_at(place: Option<usize>, left: usize) -> Progress
     }
 }
 
-/// How far the walk over a list comes from an element on, over at most so many elements. `results`
-/// is what its elements come to by themselves, but for the changed one.
+/// Walks over a list from an element on, over at most `left` elements, and returns its progress.
+/// `results` has the own results of the elements. The changed element has `comes_to` instead.
 ///
 /// # Errors
 ///
-/// `OutOfMemory` where memory is refused.
+/// `OutOfMemory` if memory is refused.
 pub fn walk_on(
     alloc: Global,
     index: &ElementIndex,

@@ -9,8 +9,8 @@ use crate::work_keys::WorkKeys;
 use batch_ids::{BatchStatus, Listed, OutOfMemory, WorkOutcome};
 use std::alloc::Global;
 
-/// How many work keys are ready in all of these, and how many busy. It is room to ask for, and no
-/// contract says how much.
+/// Counts the ready and the busy work keys of all values. The counts are only a capacity to ask
+/// for, and no contract describes them.
 fn room_for(values: &[&Value]) -> (usize, usize) {
     let mut ready_room = 0usize;
     let mut busy_room = 0usize;
@@ -27,7 +27,7 @@ fn room_for(values: &[&Value]) -> (usize, usize) {
     (ready_room, busy_room)
 }
 
-/// What is ready and busy in all of these.
+/// Returns the ready and the busy work keys of all values.
 fn open_of_all(alloc: Global, values: &[&Value]) -> Result<Value, OutOfMemory>
     ensures { IfOk result (λ value.
         value ≡ Value.Open (all_ready (map (λ value. value.now) values.now))
@@ -97,11 +97,11 @@ fn find_ended<'v>(values: &[&'v Value], wanted: BatchStatus) -> Option<&'v Value
     None
 }
 
-/// What a split comes to by itself, of its flows' values. See Jakarta Batch 2.1, "Split".
+/// Returns the own result of a split, from its flows' values. See Jakarta Batch 2.1, "Split".
 ///
 /// # Errors
 ///
-/// `OutOfMemory` where memory is refused.
+/// `OutOfMemory` if memory is refused.
 pub fn split_result(alloc: Global, values: &[Value]) -> Result<ElementResult, OutOfMemory>
     ensures { IfOk result (λ made. made ≡ split_result values.now) }
 {
@@ -112,11 +112,11 @@ pub fn split_result(alloc: Global, values: &[Value]) -> Result<ElementResult, Ou
     split_result_of(alloc, lent.as_slice())
 }
 
-/// The same, of values that are lent.
+/// Like `split_result`, but borrows each value.
 ///
 /// # Errors
 ///
-/// `OutOfMemory` where memory is refused.
+/// `OutOfMemory` if memory is refused.
 pub fn split_result_of(alloc: Global, values: &[&Value]) -> Result<ElementResult, OutOfMemory>
     ensures { IfOk result (λ made. made ≡ split_result (map (λ value. value.now) values.now)) }
 {

@@ -3,31 +3,32 @@ ghost use Rattle.walk_rules.specs.Keys.{key_of, keys_of_step, is_same_key, has_k
 
 use batch_ids::{OutOfMemory, T256};
 
-/// What names a work item inside its job execution: a step or a decision, and a partition of it.
+/// The name of a work item in its job execution: a step or a decision, and a partition of it.
 ///
 /// See Jakarta Batch 2.1, "Step Partitioning".
 #[derive(PartialEq, Eq, Debug, Drop)]
 pub struct WorkKey {
     /// The id of the step or decision.
     pub element: T256,
-    /// The number of the partition, from 0; it is 0 where the step isn't partitioned, and for a
-    /// decision.
+    /// The number of the partition, from 0. It is 0 for a decision, and for a step that isn't
+    /// partitioned.
     pub partition: u32,
 }
 
 impl WorkKey {
-    /// An equal work key.
+    /// Returns an equal work key.
     ///
     /// # Errors
     ///
-    /// `OutOfMemory` where memory is refused.
+    /// `OutOfMemory` if memory is refused.
     pub fn try_clone(&self) -> Result<WorkKey, OutOfMemory>
         ensures { IfOk result (λ copy. copy ≡ self.now) }
     {
         key_of(&self.element, self.partition)
     }
 
-    /// Whether it is the work key of this step or decision, or of one of so many partitions of it.
+    /// Checks whether this is a work key of this step or decision: that of one of `partitions`
+    /// partitions, or the only one.
     #[tactic(auto, using(crate::proofs::SameKeys::one_of_partitions))]
     pub fn is_one_of(&self, id: &T256, partitions: Option<u32>) -> bool
         ensures { result ≡ has_key (keys_of_step id.now partitions) self.now }
@@ -38,7 +39,7 @@ impl WorkKey {
         }
     }
 
-    /// Whether it is the work key of this partition of this step or decision.
+    /// Checks whether this is the work key of this partition of this step or decision.
     pub fn is_of(&self, element: &T256, partition: u32) -> bool
         ensures { result ≡ is_same_key self.now (key_of element.now partition) }
     {
@@ -46,11 +47,11 @@ impl WorkKey {
     }
 }
 
-/// The work key of this partition of a step or decision.
+/// Returns the work key of this partition of a step or decision.
 ///
 /// # Errors
 ///
-/// `OutOfMemory` where memory is refused.
+/// `OutOfMemory` if memory is refused.
 pub fn key_of(element: &T256, partition: u32) -> Result<WorkKey, OutOfMemory>
     ensures { IfOk result (λ key. key ≡ key_of element.now partition) }
 {
@@ -58,7 +59,7 @@ pub fn key_of(element: &T256, partition: u32) -> Result<WorkKey, OutOfMemory>
     Ok(WorkKey { element, partition })
 }
 
-/// Whether this is one of the work keys.
+/// Checks whether `keys` contains this work key.
 pub fn has_key(keys: &[WorkKey], key: &WorkKey) -> bool
     ensures { result ≡ has_key keys.now key.now }
 {

@@ -1,4 +1,4 @@
-//! Work keys that copies of what a list comes to share.
+//! Lists of work keys, which the copies of a value share.
 ghost use Rattle.std.specs.Prelude.{◌≡◌, [], IfOk};
 
 use crate::work_key::WorkKey;
@@ -6,7 +6,7 @@ use batch_ids::{Listed, OutOfMemory, Shared};
 use std::alloc::Global;
 use std::marker::Model;
 
-/// Work keys, one after another, which copies share. Contracts see the list.
+/// A list of work keys, which its copies share. Contracts see the list.
 #[derive(Debug, Drop)]
 pub struct WorkKeys {
     shared: Option<Shared<Listed<WorkKey>>>,
@@ -23,14 +23,14 @@ impl Model for WorkKeys {
 }
 
 impl WorkKeys {
-    /// No work keys. It takes no memory.
+    /// Returns an empty list. It takes no memory.
     pub(crate) fn none() -> WorkKeys
         ensures { result ≡ [] }
     {
         WorkKeys { shared: None }
     }
 
-    /// These work keys. Where there are none, it takes no memory.
+    /// Creates a list of these work keys. If there are none, it takes no memory.
     pub(crate) fn new(alloc: Global, keys: Listed<WorkKey>) -> Result<WorkKeys, OutOfMemory>
         ensures { IfOk result (λ made. made ≡ keys) }
     {
@@ -43,7 +43,7 @@ impl WorkKeys {
         })
     }
 
-    /// The work keys.
+    /// Returns the work keys as a slice.
     pub fn as_slice(&self) -> &[WorkKey]
         ensures { result.now ≡ self.now }
     {
@@ -53,11 +53,11 @@ impl WorkKeys {
         }
     }
 
-    /// The same work keys, which share the list. It takes no memory.
+    /// Returns a copy, which shares the list. It takes no memory.
     ///
     /// # Errors
     ///
-    /// `OutOfMemory` where as many copies share it as can be counted.
+    /// `OutOfMemory` if the list has as many copies as can be counted.
     pub fn try_clone(&self) -> Result<WorkKeys, OutOfMemory>
         ensures { IfOk result (λ copy. copy ≡ self.now) }
     {
