@@ -1,10 +1,10 @@
--- What the calls of an artifact answer, by what it means before and after.
+-- The results of an artifact's calls, by its meaning before and after.
 use Rattle.std.specs.Prelude.{ℕ, List, [], ◌∷◌, ◌++◌, Option, Some, None, option_map, Result, Ok, Err, ◌≡◌, ◌<◌, String, string_bytes}
 use Rattle.std.specs.declared.alloc.Global.{Global}
 use Rattle.job_threads.specs.declared.artifact.ArtifactFault.{ArtifactFault}
 use Rattle.job_threads.specs.Meaning.{Coming, Meaning, Known, begun, means_at, put_at}
 
--- a call but open faulted: that is counted, and the groups that are held stay
+-- a call other than begin and open faulted: the fault is counted, and the writer's groups are unchanged
 pub record Faulted (m n : Meaning) : Type 0 where
   pub counted : m.faults < n.faults
   pub holds : n.holds ≡ m.holds
@@ -14,7 +14,7 @@ pub record Unopened (m n : Meaning) : Type 0 where
   pub counted : m.open_faults < n.open_faults
   pub holds : n.holds ≡ m.holds
 
--- the reader begins anew: what is left is what an open with this checkpoint leaves
+-- the reader starts again: an open with this checkpoint determines the items that are left
 abbrev pub opened : Option (List ℕ) → List ℕ → Meaning → Meaning
 opened at mark m = record m { left = m.opens at; mark = mark }
 
@@ -22,7 +22,7 @@ opened at mark m = record m { left = m.opens at; mark = mark }
 abbrev pub passed : List Coming → List ℕ → Meaning → Meaning
 passed rest mark m = record m { left = rest; mark = mark }
 
--- one group more is held, where the writer says what it holds
+-- the writer has one more group, if its groups are described
 abbrev pub taken : List (List ℕ) → Meaning → Meaning
 taken group m = record m { holds = option_map (λ gs. gs ++ group ∷ []) m.holds }
 
@@ -34,7 +34,7 @@ abbrev pub Opening : Option (List ℕ) → Result (Unit {0}) ArtifactFault → M
 Opening at (Ok _) m n = (mark : List ℕ) × (n ≡ opened at mark m)
 Opening at (Err _) m n = Unopened m n
 
--- an item was read, or the end was found, or it faulted
+-- an item was read, or the end was found, or the reader faulted
 abbrev pub Reading : Result (Option (String Global)) ArtifactFault → Meaning → Meaning → Type 0
 Reading (Ok (Some x)) m n = (c : Coming) × (rest : List Coming) × (m.left ≡ c ∷ rest) × (c.item ≡ string_bytes x) × (n ≡ passed rest c.mark m)
 Reading (Ok None) m n = (m.left ≡ []) × (n ≡ m)

@@ -1,4 +1,4 @@
--- A chunk: what one group comes to, and then all of them.
+-- A chunk: the result of one group, and of all of them.
 use Rattle.std.specs.Prelude.{ℕ, ◌<◌, ◌-◌, ◌≡◌, ◌⊎◌, ◌++◌, true, false, length, List, [], ◌∷◌, Result, Ok, Err, Bool}
 use Rattle.std.specs.List.{Contains}
 use Rattle.batch_ids.specs.declared.refusal.Refusal.{Refusal}
@@ -16,7 +16,7 @@ use Rattle.job_threads.specs.Ports.{Stops, FoundNone, FoundLast}
 use Rattle.job_threads.specs.Kits.{Calm, NoneFaulted, HoldsSame, FaultAt, FaultOf, OpenFaultOf, work_of}
 use Rattle.job_threads.specs.Groups.{FirstGroups, IsGroup, kept, unless_empty, grown, written, Done, done, groups, counts, report_of, reports_of, mark_after, AllGo}
 
--- the reader was asked for its mark, and it was reported
+-- the reader was asked for its checkpoint, and the group was reported
 abbrev pub Marks : ℕ → ℕ → ℕ → ℕ → ℕ → Bool → Result Step Refusal → List Known → List Known → List Report → List Report → Type 0
 Marks r work at read kept ended (Ok More) a b before after = (b ≡ a) × (after ≡ before ++ Checkpoint work (means_at r a).mark (counts read (read - kept) kept 1 0) at Go ∷ []) × (ended ≡ false)
 Marks r work at read kept ended (Ok End) a b before after = (b ≡ a) × (after ≡ before ++ Checkpoint work (means_at r a).mark (counts read (read - kept) kept 1 0) at Go ∷ []) × (ended ≡ true)
@@ -33,7 +33,7 @@ pub record GroupDone (roles : Roles) (n work at : ℕ) (a b : List Known) (befor
   pub holds : (means_at roles.writer b).holds ≡ grown (unless_empty (kept (work_of roles.processor a) g)) (means_at roles.writer a).holds
   pub reports : after ≡ before ++ report_of (work_of roles.processor a) work at (done g reply) ∷ []
 
--- a group was read and written, and not reported
+-- a group was read and written, but not reported
 pub record GroupLost (roles : Roles) (n : ℕ) (a b : List Known) (g rest : List Coming) : Type 0 where
   pub group : IsGroup n g rest
   pub items : (means_at roles.reader a).left ≡ g ++ rest
@@ -55,15 +55,15 @@ StepsTo roles n work at (Ok Fault) a b before after =
 StepsTo roles n work at (Err _) a b before after =
     (after ≡ before) × (SameAt roles.writer a b ⊎ ((g : List Coming) × (rest : List Coming) × GroupLost roles n a b g rest))
 
--- the last of the groups, and no other, was answered that a stop is asked for
+-- the reply to the last group, and to no other, asks for a stop
 abbrev pub LastIsStop : List Done → Type 0
 LastIsStop ds = (before : List Done) × (g : List Coming) × (ds ≡ before ++ done g StopAsked ∷ []) × AllGo before
 
--- the last look found that the job execution was asked to stop, and no group was answered so
+-- the last look found that the job execution was asked to stop, and no reply asked for it
 abbrev pub IsSeen : ℕ → List Done → Stops → Type 0
 IsSeen execution ds stops = Contains stops.seen execution × (stops.found ≡ true) × AllGo ds
 
--- the first look that found a stop was the last one, and the chunk was stopped by it: else no look found one
+-- the first look that found a stop was the last one, and stopped the chunk; otherwise, no look found one
 abbrev pub IsHeeded : Result Ending Refusal → Stops → Stops → Type 0
 IsHeeded (Ok Stopped) before after = FoundNone before after ⊎ FoundLast before after
 IsHeeded (Ok Completed) before after = FoundNone before after
@@ -71,19 +71,20 @@ IsHeeded (Ok Failed) before after = FoundNone before after
 IsHeeded (Ok Unopened) before after = FoundNone before after
 IsHeeded (Err _) before after = FoundNone before after
 
--- the writer holds just the reported groups
+-- the writer has exactly the reported groups
 abbrev pub HoldsThese : Roles → List Done → List Known → List Known → Type 0
 HoldsThese roles ds a b = (means_at roles.writer b).holds ≡ grown (written (work_of roles.processor a) (groups ds)) (means_at roles.writer a).holds
 
--- and one more group, which comes next
+-- the writer has the reported groups and the next one
 pub record HoldsNext (roles : Roles) (n : ℕ) (ds : List Done) (left : List Coming) (a b : List Known) (g rest : List Coming) : Type 0 where
   pub items : left ≡ g ++ rest
   pub group : IsGroup n g rest
   pub holds : (means_at roles.writer b).holds ≡ grown (written (work_of roles.processor a) (groups ds) ++ unless_empty (kept (work_of roles.processor a) g)) (means_at roles.writer a).holds
 
--- why the groups ended as they did, and what the writer holds. Completed: all is read, each report was answered that the chunk
--- goes on, the last look found no stop, and nothing faulted. Stopped: by the answer to the last report or by the last look, and
--- nothing more was read. Failed: by a fault, or by a mark that is too long
+-- the reason for the end of the groups, and the groups that the writer has. Completed: all items are read,
+-- each reply says to continue, the last look found no stop, and nothing faulted. Stopped: by the reply to the
+-- last report or by the last look, after which nothing was read. Failed: by a fault, or by a checkpoint that
+-- is too long
 abbrev pub EndsBy : Roles → ℕ → ℕ → Result Ending Refusal → List Done → List Coming → List Known → List Known → Stops → Type 0
 EndsBy roles n execution (Ok Completed) ds left a b stops =
     (left ≡ []) × AllGo ds × (stops.found ≡ false) × NoneFaulted a b × HoldsThese roles ds a b
@@ -97,13 +98,13 @@ EndsBy roles n execution (Ok Unopened) ds left a b stops = (ds ≡ []) × OpenFa
 EndsBy roles n execution (Err _) ds left a b stops =
     AllGo ds × (HoldsThese roles ds a b ⊎ ((g : List Coming) × (rest : List Coming) × HoldsNext roles n ds left a b g rest))
 
--- the reports grew by those of the first groups, and the chunk ended
+-- the first groups were reported, and the chunk ended
 abbrev pub RunsGroups : Roles → ℕ → ℕ → ℕ → ℕ → List Coming → Result Ending Refusal → List Known → List Known → List Report → List Report → Stops → Type 0
 RunsGroups roles n work execution at items result a b before after stops =
     (ds : List Done) × (left : List Coming) × FirstGroups n items (groups ds) left
     × (after ≡ before ++ reports_of (work_of roles.processor a) work at ds) × EndsBy roles n execution result ds left a b stops
 
--- the first groups were reported, and the chunk goes on
+-- the first groups were reported, and the chunk continues
 pub record Went (roles : Roles) (n work at : ℕ) (a b : List Known) (before after : List Report) (ds : List Done) (to : List Coming) : Type 0 where
   pub cut : FirstGroups n (means_at roles.reader a).left (groups ds) to
   pub left : (means_at roles.reader b).left ≡ to

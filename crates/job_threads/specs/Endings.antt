@@ -1,4 +1,4 @@
--- How a chunk that ended is finished.
+-- The finish of a chunk that ended.
 use Rattle.std.specs.Prelude.{ℕ, None}
 use Rattle.batch_ids.specs.Metrics.{zero_step}
 use Rattle.batch_ids.specs.declared.status.WorkOutcome.{WorkOutcome}
@@ -16,7 +16,7 @@ outcome_of Stopped = Stop
 outcome_of Failed = Fail
 outcome_of Unopened = Fail
 
--- a rollback is counted, but where an open faulted
+-- a failed chunk counts a rollback, unless an open faulted
 abbrev pub counts_of : Ending → MetricStep
 counts_of Completed = zero_step
 counts_of Stopped = zero_step

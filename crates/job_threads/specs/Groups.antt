@@ -1,4 +1,4 @@
--- How a chunk's items are cut into groups, and what is reported of a group.
+-- The division of a chunk's items into groups, and the report of a group.
 use Rattle.std.specs.Prelude.{ℕ, ◌-◌, ◌<◌, ◌≤◌, ◌≡◌, List, [], ◌∷◌, ◌++◌, map, length, Option, Some, None, option_map}
 use Rattle.job_threads.specs.declared.report.Onward.{Onward}
 use Rattle.job_threads.specs.declared.report.Onward.TheVariants.{Go}
@@ -8,13 +8,13 @@ use Rattle.job_threads.specs.declared.report.Report.{Report}
 use Rattle.job_threads.specs.declared.report.Report.TheVariants.{Checkpoint}
 use Rattle.job_threads.specs.Meaning.{Coming}
 
--- a group of n items at most, before the rest: none is empty, and only the last may be shorter
+-- a group of at most n items, before the rest: it isn't empty, and only the last one may be shorter
 pub record IsGroup (n : ℕ) (group rest : List Coming) : Type 0 where
   pub some : 0 < length group
   pub most : length group ≤ n
   pub last : length group < n → rest ≡ []
 
--- the items are these first groups, and then what is left
+-- the items are these first groups, followed by the items that are left
 abbrev pub FirstGroups : ℕ → List Coming → List (List Coming) → List Coming → Type 0
 FirstGroups n items [] left = items ≡ left
 FirstGroups n items (g ∷ gs) left = (rest : List Coming) × (items ≡ g ++ rest) × IsGroup n g rest × FirstGroups n rest gs left
@@ -23,12 +23,12 @@ abbrev pub listed : Option (List ℕ) → List (List ℕ) → List (List ℕ)
 listed None xs = xs
 listed (Some x) xs = x ∷ xs
 
--- the results of a group, without the dropped ones
+-- the processed items of a group, without those filtered out
 abbrev pub kept : (List ℕ → Option (List ℕ)) → List Coming → List (List ℕ)
 kept gives [] = []
 kept gives (c ∷ cs) = listed (gives c.item) (kept gives cs)
 
--- the reader's mark after a group
+-- the reader's checkpoint after a group
 abbrev pub mark_from : List ℕ → List Coming → List ℕ
 mark_from mark [] = mark
 mark_from mark (c ∷ cs) = mark_from c.mark cs
@@ -36,17 +36,17 @@ mark_from mark (c ∷ cs) = mark_from c.mark cs
 abbrev pub mark_after : List Coming → List ℕ
 mark_after = mark_from []
 
--- a group as it is written: none if none is kept
+-- the groups to write for these items: none if there are no items
 abbrev pub unless_empty : List (List ℕ) → List (List (List ℕ))
 unless_empty [] = []
 unless_empty (x ∷ xs) = (x ∷ xs) ∷ []
 
--- the kept groups that aren't empty
+-- the groups to write: those in which an item wasn't filtered out
 abbrev pub written : (List ℕ → Option (List ℕ)) → List (List Coming) → List (List (List ℕ))
 written gives [] = []
 written gives (g ∷ gs) = unless_empty (kept gives g) ++ written gives gs
 
--- a writer that says what it holds, with further groups
+-- the groups that a writer has, if they are described, with more groups
 abbrev pub grown : List (List (List ℕ)) → Option (List (List (List ℕ))) → Option (List (List (List ℕ)))
 grown more holds = option_map (λ gs. gs ++ more) holds
 
@@ -65,14 +65,14 @@ abbrev pub counts : ℕ → ℕ → ℕ → ℕ → ℕ → MetricStep
 counts read filtered written committed rolled_back =
     record zero_step { read_count = read; filter_count = filtered; write_count = written; commit_count = committed; rollback_count = rolled_back }
 
--- its report
+-- the report of a group
 abbrev pub report_of : (List ℕ → Option (List ℕ)) → ℕ → ℕ → Done → Report
 report_of gives work at d = Checkpoint work (mark_after d.group) (counts (length d.group) (length d.group - length (kept gives d.group)) (length (kept gives d.group)) 1 0) at d.reply
 
 abbrev pub reports_of : (List ℕ → Option (List ℕ)) → ℕ → ℕ → List Done → List Report
 reports_of gives work at ds = map (report_of gives work at) ds
 
--- all were answered that the chunk goes on
+-- all replies say to continue
 abbrev pub AllGo : List Done → Type 0
 AllGo [] = Unit {0}
 AllGo (d ∷ ds) = (d.reply ≡ Go) × AllGo ds

@@ -1,4 +1,4 @@
--- A work item: the artifacts that it names, how they are opened, and how it is finished.
+-- A work item: the artifacts that it names, their opening, and its finish.
 use Rattle.std.specs.Prelude.{ℕ, ◌≡◌, ◌⊎◌, ◌++◌, max, List, [], ◌∷◌, Option, Some, None, option_map, Result, Ok, Err}
 use Rattle.batch_ids.specs.Metrics.{zero_step}
 use Rattle.batch_ids.specs.declared.refusal.Refusal.{Refusal}
@@ -19,7 +19,7 @@ use Rattle.job_threads.specs.Ports.{Stops, FoundNone, FoundLast}
 use Rattle.job_threads.specs.Chunks.{RunsGroups}
 use Rattle.job_threads.specs.Endings.{outcome_of, finish_of}
 
--- the places of a chunk's artifacts, if the kit has them all
+-- the indexes of a chunk's artifacts, if the kit has them all
 abbrev pub roles_from : Option ℕ → Option (Option ℕ) → Option ℕ → Option Roles
 roles_from None _ _ = None
 roles_from (Some r) None _ = None
@@ -37,12 +37,12 @@ abbrev pub FoundWithin : Option Roles → List Known → Type 0
 FoundWithin None ks = Unit {0}
 FoundWithin (Some roles) ks = AreWithin roles ks
 
--- an artifact was told of the partition, if one is named
+-- the partition of an artifact was set, if an artifact is named
 abbrev pub BeginsIn : Option ℕ → Option ℕ → Result (Unit {0}) ArtifactFault → List Known → List Known → Type 0
 BeginsIn p place (Ok _) a b = b ≡ begun_in p place a
 BeginsIn p place (Err _) a b = OpenFaultIn place a b × HoldsSame a b
 
--- the chunk's artifacts were told of the partition
+-- the partition of the chunk's artifacts was set
 abbrev pub BeginsRoles : Option ℕ → Roles → Result (Unit {0}) ArtifactFault → List Known → List Known → Type 0
 BeginsRoles p roles (Ok _) a b = b ≡ begun_roles p roles a
 BeginsRoles p roles (Err _) a b = OpenFaultOf roles (begun_roles p roles a) b × HoldsSame (begun_roles p roles a) b
@@ -52,7 +52,7 @@ abbrev pub OpensRoles : Option (List ℕ) → Roles → Result (Unit {0}) Artifa
 OpensRoles checkpoint roles (Ok _) a b = Calm a b × HoldsSame a b × ((means_at roles.reader b).left ≡ to_read checkpoint roles a)
 OpensRoles checkpoint roles (Err _) a b = OpenFaultOf roles a b × HoldsSame a b
 
--- a chunk up to its finish
+-- a chunk without its finish
 abbrev pub RunsChunk : Option ℕ → Option Roles → ℕ → ℕ → ℕ → ℕ → Option (List ℕ) → Result Ending Refusal → List Known → List Known → List Report → List Report → Stops → Type 0
 RunsChunk p None n work execution at checkpoint result a b before after stops = (result ≡ Ok Unopened) × (b ≡ a) × (after ≡ before)
 RunsChunk p (Some roles) n work execution at checkpoint result a b before after stops =
@@ -65,14 +65,15 @@ EndsChunk p roles n work execution at checkpoint (Ok outcome) a b before after s
 EndsChunk p roles n work execution at checkpoint (Err _) a b before after stops =
     (result : Result Ending Refusal) × RunsChunk p roles n work execution at checkpoint result a b before after stops
 
--- the first look that found a stop was the last one: a work item that is COMPLETED or FAILED was never found to be stopped
+-- the first look that found a stop was the last one: no look found one for a work item that is COMPLETED or
+-- FAILED
 abbrev pub IsHeededBy : Result WorkOutcome Refusal → Stops → Stops → Type 0
 IsHeededBy (Ok Completed) before after = FoundNone before after
 IsHeededBy (Ok Failed) before after = FoundNone before after
 IsHeededBy (Ok Stopped) before after = FoundNone before after ⊎ FoundLast before after
 IsHeededBy (Err _) before after = FoundNone before after ⊎ FoundLast before after
 
--- a batchlet or decider was told of the partition, and ran
+-- the partition of a batchlet or decider was set, and it ran
 abbrev pub RunsBegun : Option ℕ → ℕ → Result (Option (List ℕ)) ArtifactFault → List Known → List Known → Type 0
 RunsBegun p i (Ok exit) a b =
     (exit ≡ ((means_at i a).begins p).exit) × ((means_at i b).faults ≡ (means_at i a).faults) × ((means_at i b).open_faults ≡ (means_at i a).open_faults)

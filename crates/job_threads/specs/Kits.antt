@@ -1,4 +1,4 @@
--- What calls of a kit's artifacts leave as it was, and what they change.
+-- The parts of a kit that the calls of its artifacts change or leave unchanged.
 use Rattle.std.specs.Prelude.{ℕ, ◌<◌, ◌≡◌, ◌⊎◌, ◌++◌, nat_eq, cond, length, List, Option, Some, None}
 use Rattle.job_threads.specs.Meaning.{Coming, Known, begun, means_at, put_at}
 use Rattle.job_threads.specs.Groups.{mark_from, grown}
@@ -16,7 +16,7 @@ abbrev pub NoneFaulted : List Known → List Known → Type 0
 NoneFaulted before after =
     (i : ℕ) → ((means_at i after).faults ≡ (means_at i before).faults) × ((means_at i after).open_faults ≡ (means_at i before).open_faults)
 
--- every writer holds what it held
+-- every writer has the groups that it had
 abbrev pub HoldsSame : List Known → List Known → Type 0
 HoldsSame before after = (i : ℕ) → (means_at i after).holds ≡ (means_at i before).holds
 
@@ -28,7 +28,7 @@ pub record Read (reader : ℕ) (before after : List Known) (xs rest : List Comin
   pub calm : Calm before after
   pub holds : HoldsSame before after
 
--- the writer took these groups, and no reader went on
+-- the writer took these groups, and no reader advanced
 pub record Written (writer : ℕ) (before after : List Known) (more : List (List (List ℕ))) : Type 0 where
   pub holds : (means_at writer after).holds ≡ grown more (means_at writer before).holds
   pub left : (i : ℕ) → (means_at i after).left ≡ (means_at i before).left
@@ -67,16 +67,16 @@ pub record AreWithin (roles : Roles) (ks : List Known) : Type 0 where
   pub processor : IsWithin roles.processor ks
   pub writer : roles.writer < length ks
 
--- what is made of an item: without a processor each is kept as it is
+-- the result of processing an item: without a processor, the item itself
 abbrev pub work_of : Option ℕ → List Known → (List ℕ → Option (List ℕ))
 work_of None ks = λ item. Some item
 work_of (Some i) ks = (means_at i ks).gives
 
--- the items that are left once the reader was opened with the checkpoint, and then the writer with none
+-- the items that are left after the reader was opened with the checkpoint, and then the writer without one
 abbrev pub to_read : Option (List ℕ) → Roles → List Known → List Coming
 to_read checkpoint roles ks = (means_at roles.reader ks).opens (cond (nat_eq roles.reader roles.writer) None checkpoint)
 
--- the kit once one artifact was told of a partition
+-- the kit after the partition of one artifact was set
 abbrev pub begun_at : Option ℕ → ℕ → List Known → List Known
 begun_at p i ks = put_at i (begun p (means_at i ks)) ks
 
@@ -84,6 +84,7 @@ abbrev pub begun_in : Option ℕ → Option ℕ → List Known → List Known
 begun_in p None ks = ks
 begun_in p (Some i) ks = begun_at p i ks
 
--- the kit once the chunk's artifacts were told: the reader, the processor, and then the writer
+-- the kit after the partition of the chunk's artifacts was set: of the reader, then the processor, then the
+-- writer
 abbrev pub begun_roles : Option ℕ → Roles → List Known → List Known
 begun_roles p roles ks = begun_at p roles.writer (begun_in p roles.processor (begun_at p roles.reader ks))

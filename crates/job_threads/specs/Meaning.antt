@@ -1,22 +1,23 @@
--- What artifacts mean to the worker that calls them, and the kit that holds them.
+-- The meaning of artifacts to the worker that calls them, and the kit that has them.
 use Rattle.std.specs.Prelude.{ℕ, zero, suc, ◌+◌, nat_eq, cond, map, List, [], ◌∷◌, Option, Some, None}
 use Rattle.std.specs.Cmp.Lexicographic.{pointwise}
 
--- an item that a reader has left, with the mark that the reader has once it is read
+-- an item that a reader hasn't read yet, with the reader's checkpoint after it is read
 pub record Coming : Type 0 where
   pub item : List ℕ
   pub mark : List ℕ
 
--- what an artifact says of itself once it was told which partition it works for: as a reader the items that an open leaves, by
--- the checkpoint; as a processor its result for each item; as a batchlet or decider the exit status of its next run
+-- an artifact's description of itself for a partition. For a reader, it has the items that an open leaves, by
+-- the checkpoint. For a processor, it has the result for each item; for a batchlet or decider, the exit
+-- status of its next run
 pub record Told : Type 0 where
   pub opens : Option (List ℕ) → List Coming
   pub gives : List ℕ → Option (List ℕ)
   pub exit : Option (List ℕ)
 
--- what an artifact says of itself: what it would by the partition, if it was told one, and what it does now; as a reader also
--- the items that are left, and its mark; as a writer the groups that it holds, if it says so; and how often a begin or an
--- open faulted, and any other call
+-- an artifact's description of itself: for each partition, and for the current one. For a reader, also the
+-- items that are left, and its checkpoint; for a writer, the groups that it has, if they are described. It
+-- also counts the faults of begin and open, and those of other calls
 pub record Meaning : Type 0 where
   pub begins : Option ℕ → Told
   pub opens : Option (List ℕ) → List Coming
@@ -28,7 +29,7 @@ pub record Meaning : Type 0 where
   pub open_faults : ℕ
   pub faults : ℕ
 
--- an artifact that was told of this partition, or that there is none
+-- an artifact after its partition was set, or set to none
 abbrev pub begun : Option ℕ → Meaning → Meaning
 begun p m = record m { opens = (m.begins p).opens; gives = (m.begins p).gives; exit = (m.begins p).exit }
 
@@ -40,7 +41,7 @@ pub record Known : Type 0 where
 abbrev pub known : List ℕ → Meaning → Known
 known n m = record { name = n; meaning = m }
 
--- one that says nothing, whatever its partition
+-- the description of an artifact that does nothing, for any partition
 abbrev pub silent : Told
 silent = record { opens = λ _. []; gives = λ _. None; exit = None }
 
@@ -58,13 +59,13 @@ nobody =
       faults = 0;
     }
 
--- what the artifact at this place means
+-- the meaning of the artifact at this index
 abbrev pub means_at : ℕ → List Known → Meaning
 means_at _ [] = nobody
 means_at zero (k ∷ ks) = k.meaning
 means_at (suc n) (k ∷ ks) = means_at n ks
 
--- the kit with another meaning at this place
+-- the kit with another meaning at this index
 abbrev pub put_at : ℕ → Meaning → List Known → List Known
 put_at _ _ [] = []
 put_at zero m (k ∷ ks) = known k.name m ∷ ks
@@ -74,7 +75,7 @@ put_at (suc n) m (k ∷ ks) = k ∷ put_at n m ks
 abbrev pub names : List Known → List (List ℕ)
 names ks = map (λ (k : Known). k.name) ks
 
--- the place of the first of these names that is this one, counted on from i
+-- the index of the first of these names that equals this one, counted from i
 abbrev pub place_from : ℕ → List ℕ → List (List ℕ) → Option ℕ
 place_from i _ [] = None
 place_from i name (n ∷ ns) = cond (pointwise nat_eq n name) (Some i) (place_from (i + 1) name ns)

@@ -1,14 +1,15 @@
--- What an artifact has done, as proofs store it.
+-- The past of an artifact, as proofs store it.
 use Rattle.std.specs.Prelude.{ℕ, List, [], refl}
 use Rattle.std.specs.Coded.{Coded, code_by, coded×, coded_ℕ, coded_list}
 
--- the groups that it took, how many of its opens faulted, and how many of its other calls
+-- the groups that the artifact took, the number of its begins and opens that faulted, and of its other calls
+-- that did
 pub record Past : Type 0 where
   pub groups : List (List (List ℕ))
   pub open_faults : ℕ
   pub faults : ℕ
 
--- ahead of the first call
+-- the past before the first call
 abbrev pub nothing_past : Past
 nothing_past = record { groups = []; open_faults = 0; faults = 0 }
 

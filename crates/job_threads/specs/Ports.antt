@@ -1,4 +1,4 @@
--- What a port holds.
+-- The state of a port.
 use Rattle.std.specs.Prelude.{ℕ, ◌≡◌, ◌⊎◌, ◌+◌, ◌%◌, ◌^◌, if◌then◌else◌, Bool, true, false, IsTrue, Option, Some, None, List, [], ◌∷◌, Result, Ok, Err, count_by, filter_map}
 use Rattle.std.specs.List.{Contains}
 use Rattle.batch_ids.specs.declared.refusal.Refusal.{Refusal}
@@ -13,23 +13,24 @@ use Rattle.job_threads.specs.declared.report.Onward.TheVariants.{Go, StopAsked}
 use Rattle.job_threads.specs.declared.report.Report.{Report}
 use Rattle.job_threads.specs.declared.report.Report.TheVariants.{Checkpoint, Finish}
 
--- the report of a call, where it was accepted
+-- the report of a call, if it was accepted
 abbrev pub accepted : {A R E : Type 0} → (A → R) → Result A E → List R
 accepted report (Ok reply) = report reply ∷ []
 accepted report (Err _) = []
 
--- the refusal that a port gave last, after a call with this result
+-- a port's last refusal, after a call with this result
 abbrev pub refused_by : {A : Type 0} → Option Refusal → Result A Refusal → Option Refusal
 refused_by before (Ok _) = before
 refused_by before (Err refusal) = Some refusal
 
--- a refusal that is answered is the port's last, or memory was refused without it; else the port refused nothing
+-- a refusal is the port's last one, or memory was refused outside of the port; otherwise, the port refused
+-- nothing
 abbrev pub IsRefusal : {A : Type 0} → Result A Refusal → Option Refusal → Option Refusal → Type 0
 IsRefusal (Ok _) before after = after ≡ before
 IsRefusal (Err refusal) before after = (after ≡ Some refusal) ⊎ ((refusal ≡ OutOfMemory) × (after ≡ before))
 
--- what a port knows of stops: the job executions whose stop it saw, whether its last look for a stop found one, and how many
--- looks did, as 64 bits count them
+-- a port's view of stops: the job executions whose stop was seen, whether the last look found a stop, and the
+-- 64-bit count of looks that did
 pub record Stops : Type 0 where
   pub seen : List ℕ
   pub found : Bool
@@ -38,7 +39,7 @@ pub record Stops : Type 0 where
 abbrev pub stops_of : List ℕ → Bool → ℕ → Stops
 stops_of seen found finds = record { seen = seen; found = found; finds = finds }
 
--- a count of 64 bits with one more
+-- a 64-bit count with one more
 abbrev pub one_more : ℕ → ℕ
 one_more n = (n + 1) % 2 ^ 64
 
@@ -46,11 +47,11 @@ one_more n = (n + 1) % 2 ^ 64
 abbrev pub StaySeen : List ℕ → List ℕ → Type 0
 StaySeen before after = (x : ℕ) → Contains before x → Contains after x
 
--- nobody looked for a stop
-abbrev pub IsKept : Stops → Stops → Type 0
-IsKept before after = StaySeen before.seen after.seen × (after.found ≡ before.found) × (after.finds ≡ before.finds)
+-- the port didn't look for a stop
+abbrev pub HasNotLooked : Stops → Stops → Type 0
+HasNotLooked before after = StaySeen before.seen after.seen × (after.found ≡ before.found) × (after.finds ≡ before.finds)
 
--- the port looked for the stop of this job execution
+-- the port looked for a stop of this job execution
 abbrev pub HasLooked : ℕ → Bool → Stops → Stops → Type 0
 HasLooked execution found before after =
     StaySeen before.seen after.seen × (after.found ≡ found) × (IsTrue found → Contains after.seen execution)
@@ -69,13 +70,13 @@ abbrev pub is_finish : Report → Bool
 is_finish (Finish work outcome exit step at) = true
 is_finish (Checkpoint work mark step at reply) = false
 
--- how many of these reports are finishes
+-- the number of finishes among these reports
 abbrev pub finishes : List Report → ℕ
 finishes reports = count_by is_finish reports
 
--- ---- Of an operator's session
+-- ---- An operator's session
 
--- what a worker is told by the reply to a checkpoint
+-- the reply to a checkpoint, converted for a worker
 abbrev pub onward_of : Reply → Onward
 onward_of ReplyStopAsked = StopAsked
 onward_of ReplyGo = Go
@@ -85,7 +86,7 @@ onward_of (ReplyClosed x) = Go
 onward_of ReplyNothing = Go
 onward_of ReplyDone = Go
 
--- the report that an operation is, if it is one
+-- the report of an operation, if it is a checkpoint or a finish
 abbrev pub report_by : Call → ℕ → Reply → Option Report
 report_by (CallCheckpoint work mark step) at reply = Some (Checkpoint work mark step at (onward_of reply))
 report_by (CallFinish work outcome exit step) at reply = Some (Finish work outcome exit step at)

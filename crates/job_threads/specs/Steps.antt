@@ -1,4 +1,4 @@
--- What the parts of a chunk do: an item, a group, its report.
+-- The parts of a chunk: an item, a group, and its report.
 use Rattle.std.specs.Prelude.{ℕ, ◌≤◌, ◌≡◌, true, false, map, length, List, [], ◌∷◌, Option, Some, None, Result, Ok, Err, option_map, String, string_bytes}
 use Rattle.std.specs.declared.alloc.Global.{Global}
 use Rattle.job_threads.specs.declared.artifact.ArtifactFault.{ArtifactFault}
@@ -22,7 +22,7 @@ ReadsItem roles (Ok Dropped) before after = (c : Coming) × (rest : List Coming)
 ReadsItem roles (Ok (Kept x)) before after = (c : Coming) × (rest : List Coming) × Read roles.reader before after (c ∷ []) rest × (work_of roles.processor before c.item ≡ Some (string_bytes x))
 ReadsItem roles (Err _) before after = FaultOf roles before after × HoldsSame before after
 
--- a group was read: these items, of which these are kept
+-- a group was read: these items, of which these weren't filtered out
 pub record IsRead (roles : Roles) (n : ℕ) (many : ℕ) (bytes : List (List ℕ)) (before after : List Known) (items rest : List Coming) : Type 0 where
   pub read : Read roles.reader before after items rest
   pub count : many ≡ length items
@@ -30,7 +30,7 @@ pub record IsRead (roles : Roles) (n : ℕ) (many : ℕ) (bytes : List (List ℕ
   pub fewer : length bytes ≤ many
   pub most : many ≤ n
 
--- so many items were read, and these are kept
+-- this many items were read, and these of them weren't filtered out
 abbrev pub Reached : Roles → ℕ → ℕ → List (List ℕ) → List Known → List Known → Type 0
 Reached roles n read bytes before after = (items : List Coming) × (rest : List Coming) × IsRead roles n read bytes before after items rest
 
@@ -44,7 +44,7 @@ ReadsGroup roles n (Ok group) before after =
 ReadsGroup roles n (Err Fault) before after = FaultOf roles before after × HoldsSame before after
 ReadsGroup roles n (Err Memory) before after = HoldsSame before after
 
--- the kept items of a group were written, if there are some
+-- the items of a group that weren't filtered out were written, if there are any
 abbrev pub Writes : ℕ → List (List ℕ) → Result (Unit {0}) ArtifactFault → List Known → List Known → Type 0
 Writes writer group (Ok _) before after = Written writer before after (unless_empty group)
 Writes writer group (Err _) before after = FaultAt writer before after × HoldsSame before after

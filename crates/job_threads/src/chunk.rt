@@ -1,7 +1,7 @@
 ghost use Rattle.std.specs.Prelude.{◌≡◌, ◌<◌, ◌≤◌, ◌-◌, length};
 ghost use Rattle.job_threads.specs.Meaning.{means_at};
 ghost use Rattle.job_threads.specs.Kits.{AreWithin};
-ghost use Rattle.job_threads.specs.Ports.{IsKept, IsRefusal};
+ghost use Rattle.job_threads.specs.Ports.{HasNotLooked, IsRefusal};
 ghost use Rattle.job_threads.specs.Groups.{counts};
 ghost use Rattle.job_threads.specs.Chunks.{Marks, StepsTo, RunsGroups, IsHeeded};
 
@@ -12,7 +12,7 @@ use crate::report::Onward;
 use batch_ids::{ExecutionId, MetricStep, Moment, Refusal, Text, WorkId};
 use std::alloc::Global;
 
-/// What a group came to.
+/// The result of a group.
 #[derive(Clone, Copy)]
 pub(crate) enum Step {
     More,
@@ -21,7 +21,7 @@ pub(crate) enum Step {
     Fault,
 }
 
-/// How a chunk ended.
+/// The end of a chunk.
 #[derive(Clone, Copy)]
 pub(crate) enum Ending {
     Completed,
@@ -30,7 +30,7 @@ pub(crate) enum Ending {
     Unopened,
 }
 
-/// The chunk that is run: its work item, how many items its groups have, and the moment of its
+/// The chunk that runs: its work item, the number of items in a group, and the moment of its
 /// reports.
 #[derive(Clone, Copy)]
 pub(crate) struct Chunk {
@@ -40,7 +40,7 @@ pub(crate) struct Chunk {
     pub(crate) at: Moment,
 }
 
-/// The part of a group that is read and kept.
+/// The counts of a group: items read, items left after filtering, and whether the reader ended.
 #[derive(Clone, Copy)]
 pub(crate) struct Tally {
     pub(crate) read: u32,
@@ -48,7 +48,7 @@ pub(crate) struct Tally {
     pub(crate) ended: bool,
 }
 
-/// What a group adds to the metrics.
+/// Returns the metric step of a group.
 fn step_of(tally: Tally) -> MetricStep
     requires { tally.kept ≤ tally.read }
     ensures { result ≡ counts tally.read (tally.read - tally.kept) tally.kept 1 0 }
@@ -61,7 +61,7 @@ fn step_of(tally: Tally) -> MetricStep
     step
 }
 
-/// Asks the reader for its mark, and reports the group.
+/// Asks the reader for its checkpoint, and reports the group.
 pub(crate) fn report_group<P: Port, K: Artifacts>(
     alloc: Global,
     port: &mut P,
@@ -74,7 +74,7 @@ pub(crate) fn report_group<P: Port, K: Artifacts>(
     requires fewer { tally.kept ≤ tally.read }
     ensures marks { Marks reader chunk.now.work chunk.now.at tally.read tally.kept tally.ended
         result (K.seen kit.old) (K.seen kit.new) (P.reports port.old) (P.reports port.new) }
-    ensures stops { IsKept (P.stops port.old) (P.stops port.new) }
+    ensures stops { HasNotLooked (P.stops port.old) (P.stops port.new) }
     ensures refused { IsRefusal result (P.refused port.old) (P.refused port.new) }
 {
     match kit.checkpoint(reader) {
@@ -113,7 +113,7 @@ pub(crate) fn run_group<P: Port, K: Artifacts>(
     requires size { 0 < chunk.now.size }
     ensures steps { StepsTo roles chunk.now.size chunk.now.work chunk.now.at result (K.seen
         kit.old) (K.seen kit.new) (P.reports port.old) (P.reports port.new) }
-    ensures stops { IsKept (P.stops port.old) (P.stops port.new) }
+    ensures stops { HasNotLooked (P.stops port.old) (P.stops port.new) }
     ensures refused { IsRefusal result (P.refused port.old) (P.refused port.new) }
 {
     match read_group(alloc, kit, roles, chunk.size) {
@@ -138,7 +138,7 @@ pub(crate) fn run_group<P: Port, K: Artifacts>(
     }
 }
 
-/// Runs the groups, until the end or a stop or a fault.
+/// Runs the groups until the end, a stop or a fault.
 pub(crate) fn run_groups<P: Port, K: Artifacts>(
     alloc: Global,
     port: &mut P,

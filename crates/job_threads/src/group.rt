@@ -8,7 +8,7 @@ use crate::artifact::ArtifactFault;
 use crate::kit::{Artifacts, Roles};
 use std::alloc::Global;
 
-/// What came of the next item.
+/// The result of reading and processing the next item.
 #[derive(Drop)]
 pub(crate) enum ItemRead {
     End,
@@ -16,7 +16,7 @@ pub(crate) enum ItemRead {
     Kept(String),
 }
 
-/// A group that was read and processed.
+/// A group after reading and processing.
 #[derive(Drop)]
 pub(crate) struct Group {
     pub(crate) read: u32,
@@ -24,14 +24,14 @@ pub(crate) struct Group {
     pub(crate) ended: bool,
 }
 
-/// Why no group was read.
+/// The reason why no group was read.
 #[derive(Clone, Copy)]
 pub(crate) enum Trouble {
     Fault,
     Memory,
 }
 
-/// What is made of an item.
+/// Processes an item. Without a processor, returns it unchanged.
 pub(crate) fn processed<K: Artifacts>(
     kit: &mut K,
     processor: Option<usize>,
@@ -98,7 +98,7 @@ pub(crate) fn read_group<K: Artifacts>(
     })
 }
 
-/// Writes the kept items of a group, if there are some.
+/// Writes the items of a group that weren't filtered out, if there are any.
 pub(crate) fn write_kept<K: Artifacts>(
     kit: &mut K,
     writer: usize,

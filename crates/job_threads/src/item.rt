@@ -25,7 +25,7 @@ fn outcome(ending: Ending) -> WorkOutcome
     }
 }
 
-/// What the end of a chunk adds to the metrics.
+/// Returns the metric step of a chunk's end.
 fn counts(ending: Ending) -> MetricStep
     ensures { result ≡ counts_of ending }
 {
@@ -39,7 +39,7 @@ fn counts(ending: Ending) -> MetricStep
     step
 }
 
-/// The places of a chunk's artifacts, if the kit has them all.
+/// Returns the indexes of a chunk's artifacts, if the kit has them all.
 fn find_roles<K: Artifacts>(
     kit: &K,
     reader: &T256,
@@ -75,7 +75,7 @@ fn find_roles<K: Artifacts>(
     }
 }
 
-/// Says to an artifact which partition the work item is.
+/// Sets the partition of an artifact, if there is one at `place`.
 fn begin_in<K: Artifacts>(
     kit: &mut K,
     place: Option<usize>,
@@ -90,8 +90,7 @@ fn begin_in<K: Artifacts>(
     }
 }
 
-/// Says to the chunk's artifacts which partition the work item is: the reader, the processor, and
-/// then the writer.
+/// Sets the partition of the chunk's artifacts: of the reader, then the processor, then the writer.
 fn begin_roles<K: Artifacts>(
     kit: &mut K,
     roles: Roles,
@@ -109,7 +108,7 @@ fn begin_roles<K: Artifacts>(
     }
 }
 
-/// Opens the reader with the checkpoint, and then the writer with none.
+/// Opens the reader with the checkpoint, and then the writer without one.
 fn open_roles<K: Artifacts>(
     kit: &mut K,
     roles: Roles,
@@ -148,7 +147,7 @@ fn run_opened<P: Port, K: Artifacts>(
     }
 }
 
-/// Runs a chunk up to its finish.
+/// Runs a chunk without finishing it.
 fn run_chunk<P: Port, K: Artifacts>(
     alloc: Global,
     port: &mut P,
@@ -208,7 +207,7 @@ fn end_chunk<P: Port, K: Artifacts>(
     }
 }
 
-/// Says to a batchlet or decider which partition the work item is, and runs it.
+/// Sets the partition of a batchlet or decider, and runs it.
 fn run_begun<K: Artifacts>(
     kit: &mut K,
     place: usize,
@@ -261,7 +260,7 @@ fn run_once<P: Port, K: Artifacts>(
     }
 }
 
-/// The text of a checkpoint.
+/// Returns the text of a checkpoint.
 fn text_of(checkpoint: &Option<Text<65536>>) -> Option<&str>
     ensures { option_map (λ s. s.now) result ≡ checkpoint.now }
 {
@@ -271,19 +270,23 @@ fn text_of(checkpoint: &Option<Text<65536>>) -> Option<&str>
     }
 }
 
-/// Runs a work item with the artifacts of a kit, reports its groups at this moment, and finishes it
-/// (Jakarta Batch 2.1, "Chunk Processing" and "Batchlet").
+/// Runs a work item with the artifacts of a kit, reports its groups at this moment, and finishes
+/// it. See Jakarta Batch 2.1, "Chunk Processing" and "Batchlet".
 ///
-/// A batchlet or decision is COMPLETED with the exit status that its artifact gives, or FAILED where
-/// the kit lacks the name or the artifact faults. A chunk reads, processes, writes and reports group
-/// by group: the end of the reader is COMPLETED, a stop that is told or seen STOPPED, and a fault or
-/// a checkpoint above 65,536 bytes FAILED with ROLLBACK_COUNT 1; a fault of `begin` or `open`, or a
-/// name that the kit lacks, is FAILED without a count.
+/// A batchlet or decision is COMPLETED with the exit status of its artifact. It is FAILED if the
+/// kit lacks the name or the artifact faults.
+///
+/// A chunk reads, processes, writes and reports group by group:
+///
+/// - It is COMPLETED at the reader's end.
+/// - It is STOPPED if the reply to a report asks for a stop, or if the port sees one.
+/// - It is FAILED with ROLLBACK_COUNT 1 after a fault or a checkpoint above 65,536 bytes.
+/// - It is FAILED without a count after a fault of `begin` or `open`, or if the kit lacks a name.
 ///
 /// # Errors
 ///
-/// The first refusal of a report, or `OutOfMemory` where memory is refused. What was reported before
-/// stays, and the work item is still busy.
+/// Returns the first refusal of a report, or `OutOfMemory` if memory is refused. Earlier reports
+/// stay, and the work item is still running.
 pub fn run_item<P: Port, K: Artifacts>(
     alloc: Global,
     port: &mut P,

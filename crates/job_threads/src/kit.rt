@@ -6,17 +6,17 @@ use crate::artifact::{Artifact, ArtifactFault};
 use batch_ids::{OutOfMemory, T256};
 use std::alloc::Global;
 
-/// Artifacts by their places, as `run_item` calls them.
+/// Artifacts by index, as `run_item` calls them.
 pub trait Artifacts {
     /// The artifacts with their names.
     ghost seen: { Self → List Known };
 
-    /// The place of the first artifact of this name.
+    /// Returns the index of the first artifact with this name.
     fn find(&self, name: &str) -> Option<usize>
         ensures place { result ≡ place_of name.now (seen self.now) }
         ensures within { IfSome result (λ at. at < length (seen self.now)) };
 
-    /// Says which partition the work item is.
+    /// Sets the partition of the work item.
     fn begin(&mut self, at: usize, partition: Option<u32>) -> Result<(), ArtifactFault>
         requires { at < length (seen self.old) }
         ensures { Turned at (Beginning partition result) (seen self.old) (seen self.new) };
@@ -48,13 +48,13 @@ pub trait Artifacts {
         ensures { Turned at (Writing (map string_bytes items.now) result) (seen self.old) (seen
             self.new) };
 
-    /// The reader's mark.
+    /// Returns the reader's checkpoint.
     fn checkpoint(&mut self, at: usize) -> Result<String, ArtifactFault>
         requires { at < length (seen self.old) }
         ensures { Turned at (Marking result) (seen self.old) (seen self.new) };
 }
 
-/// The places of a chunk's artifacts in a kit.
+/// The indexes of a chunk's artifacts in a kit.
 #[derive(Clone, Copy)]
 pub(crate) struct Roles {
     pub(crate) reader: usize,
@@ -123,7 +123,7 @@ impl Named {
     }
 }
 
-/// The place of the first of this name.
+/// Returns the index of the first artifact with this name.
 fn find_name(all: &[Named], name: &str) -> Option<usize>
     ensures place { result ≡ place_from 0 name.now (map (λ e. string_bytes e.name) all.now) }
     ensures within { IfSome result (λ at. at < length all.now) }
@@ -138,8 +138,8 @@ fn find_name(all: &[Named], name: &str) -> Option<usize>
     None
 }
 
-/// The artifacts of one worker, by name (Jakarta Batch 2.1, "Batch Artifacts"). Contracts see their
-/// names and meanings, in the order in which they were added.
+/// The artifacts of one worker, by name. See Jakarta Batch 2.1, "Batch Artifacts". Contracts see
+/// their names and meanings, in the order in which they were added.
 #[derive(Drop)]
 pub struct Kit {
     alloc: Global,
@@ -147,7 +147,7 @@ pub struct Kit {
 }
 
 impl Kit {
-    /// A kit without artifacts.
+    /// Returns a kit without artifacts.
     pub fn new(alloc: Global) -> Kit
         ensures { ⟦<Kit as Artifacts>⟧.seen result ≡ [] }
     {
@@ -157,11 +157,12 @@ impl Kit {
         }
     }
 
-    /// Adds an artifact. Of one name the first counts.
+    /// Adds an artifact. If several have the same name, the first is used.
     ///
     /// # Errors
     ///
-    /// `OutOfMemory` where memory is refused; the kit stays as it was, and the artifact is dropped.
+    /// Returns `OutOfMemory` if memory is refused. The kit is then unchanged, and the artifact is
+    /// dropped.
     pub fn add(&mut self, name: &str, artifact: Box<dyn Artifact + Send>) -> Result<(), OutOfMemory>
         ensures ok { OnOk result (⟦<Kit as Artifacts>⟧.seen self.new ≡ ⟦<Kit as Artifacts>⟧.seen
             self.old ++ known name.now (meaning artifact) ∷ []) }

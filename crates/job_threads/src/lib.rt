@@ -1,4 +1,5 @@
-//! Workers: the artifacts of batch work, what runs a work item with them, and a pool of threads.
+//! Workers: the artifacts of batch work, the code that runs a work item with them, and a pool of
+//! threads.
 #![tactic(auto)]
 
 mod artifact;

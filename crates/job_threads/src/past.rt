@@ -4,8 +4,9 @@ ghost use Rattle.job_threads.specs.Past.{Past, past_code, nothing_past};
 
 use std::marker::Model;
 
-/// What an artifact has done so far, for its meaning: which groups it took, and how often it faulted.
-/// It exists only in proofs, where no count runs out: it takes no memory, and no step of a program.
+/// The past of an artifact, for its meaning: the groups that it took, and the number of its faults.
+/// It exists only in proofs, so that no count overflows. It costs a program neither memory nor
+/// time.
 #[derive(Drop)]
 pub struct Tape {
     ghost told: { Past } by { past_code },
@@ -15,10 +16,10 @@ impl Model for Tape {
     ghost also_owns = { λ _. ftrue };
 }
 
-/// What came of a call.
+/// The result of a call, as the past counts it.
 #[derive(Clone, Copy, Drop)]
 pub enum Happening<'a> {
-    /// This group was taken.
+    /// The writer took this group.
     Took(&'a [String]),
     /// A begin or an open faulted.
     OpenFault,
@@ -36,14 +37,14 @@ enum History<'a> {
 impl Tape {
     ghost use Rattle.job_threads.specs.Noted.{noted, past_in};
 
-    /// Nothing was done yet.
+    /// Returns the past of an artifact before its first call.
     pub fn new() -> Tape
         ensures { result.told ≡ nothing_past }
     {
         Tape::of(&History::Nothing)
     }
 
-    /// With one more call.
+    /// Returns this past with one more call.
     pub fn then(&self, happening: Happening<'_>) -> Tape
         ensures { result.told ≡ noted self.now.told happening.entry }
     {

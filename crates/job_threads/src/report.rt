@@ -1,9 +1,9 @@
 use batch_ids::{MetricStep, Moment, T256, Text, WorkId, WorkOutcome};
 
-/// What a checkpoint is answered.
+/// The reply to a checkpoint.
 #[derive(Clone, Copy, PartialEq, Eq, Debug)]
 pub enum Onward {
-    /// The chunk goes on.
+    /// The chunk continues.
     Go,
     /// The job execution was asked to stop.
     StopAsked,
@@ -16,26 +16,26 @@ pub enum Report {
     Checkpoint {
         /// The work item.
         work: WorkId,
-        /// Where its reader goes on after a restart.
+        /// The reader's checkpoint, from which it resumes after a restart.
         mark: Text<65536>,
-        /// What the group adds to the metrics.
+        /// The metrics that the group adds.
         step: MetricStep,
-        /// The moment that was handed in with it.
+        /// The moment of the report, as its caller gave it.
         at: Moment,
-        /// What it was answered.
+        /// The reply.
         reply: Onward,
     },
-    /// A work item is over.
+    /// A work item has ended.
     Finish {
         /// The work item.
         work: WorkId,
-        /// How it ended.
+        /// The outcome.
         outcome: WorkOutcome,
-        /// Its exit status, where it was given one.
+        /// The exit status, if one was given.
         exit: Option<T256>,
-        /// What its end adds to the metrics.
+        /// The metrics that the end adds.
         step: MetricStep,
-        /// The moment that was handed in with it.
+        /// The moment of the report, as its caller gave it.
         at: Moment,
     },
 }

@@ -11,7 +11,7 @@ use sessions::Session;
 use std::sync::Wait;
 
 /// A session at an operator, as the port of a worker. Its reports are the checkpoints and finishes
-/// among the session's own accepted operations, its stops those that the session has found.
+/// among the session's own accepted operations. Its stops are those that the session has found.
 #[derive(Drop)]
 pub struct SessionPort<'a, R: Wait, N: Site> {
     rt: &'a R,
@@ -24,7 +24,7 @@ pub struct SessionPort<'a, R: Wait, N: Site> {
 }
 
 impl<'a, R: Wait, N: Site> SessionPort<'a, R, N> {
-    /// The port of this session.
+    /// Returns the port of this session.
     pub fn new(rt: &'a R, operator: &'a Operator<N>, session: Session<N>) -> SessionPort<'a, R, N> {
         SessionPort {
             rt,
@@ -38,7 +38,7 @@ impl<'a, R: Wait, N: Site> SessionPort<'a, R, N> {
     }
 }
 
-/// What a worker is told by the reply to a checkpoint.
+/// Converts the reply to a checkpoint for a worker.
 fn onward(reply: &Reply) -> Onward
     ensures { result ≡ onward_of reply.now }
 {
@@ -53,7 +53,7 @@ fn onward(reply: &Reply) -> Onward
     }
 }
 
-/// What a worker is told by the reply to a claim.
+/// Converts the reply to a claim for a worker.
 fn claimed(reply: Reply) -> Claimed {
     match reply {
         Reply::Work(item) => Claimed::Work(item),
@@ -66,7 +66,7 @@ fn claimed(reply: Reply) -> Claimed {
     }
 }
 
-/// Whether a job execution is unfinished by these counts.
+/// Checks whether these counts have an unfinished job execution.
 fn is_unfinished(answer: &Answer) -> bool {
     match answer {
         Answer::StatusCounts(counts) => {
@@ -76,7 +76,7 @@ fn is_unfinished(answer: &Answer) -> bool {
     }
 }
 
-/// How many looks found a stop, after one more look.
+/// Returns the number of looks that found a stop, after one more look.
 fn finds_after(finds: u64, found: bool) -> u64
     ensures { result ≡ (if found then one_more finds else finds) }
 {

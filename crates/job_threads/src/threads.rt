@@ -12,20 +12,20 @@ use std::sync::Wait;
 use std::thread;
 use std::thread::Threads;
 
-/// How many claims of a worker of a pool may find nothing before it gives up.
+/// The number of claims without work after which a worker of a pool gives up.
 const TURNS: u64 = 1_000_000;
 
-/// What the workers of a pool did.
+/// The result of a pool's workers.
 #[derive(Clone, Copy, PartialEq, Eq, Debug)]
 pub struct PoolReport {
-    /// How many work items they ran to their end.
+    /// The number of work items that were run to their end.
     pub items: u64,
-    /// How many of them gave up.
+    /// The number of workers that gave up.
     pub gave_up: u64,
 }
 
 impl PoolReport {
-    /// With the report of one worker more.
+    /// Adds the report of one more worker.
     fn with(self, report: WorkerReport) -> PoolReport
         ensures items { result.items ≡ within_u64 (self.items + report.items) }
         ensures gave_up { result.gave_up ≡ within_u64 (self.gave_up + cond report.gave_up 1 0) }
@@ -37,7 +37,7 @@ impl PoolReport {
     }
 }
 
-/// A kit with the number of its worker, and where its memory comes from.
+/// A kit with the number of its worker, and the allocator of that worker.
 #[derive(Drop)]
 struct Numbered {
     number: u64,
@@ -45,7 +45,7 @@ struct Numbered {
     kit: Kit,
 }
 
-/// The kits with their workers' numbers, from 0.
+/// Returns the kits with the numbers of their workers, from 0.
 fn with_numbers(alloc: Global, kits: Vec<Kit>) -> Result<Vec<Numbered>, Refusal> {
     let mut workers = Vec::new(alloc);
     let mut number: u64 = 0;
@@ -56,7 +56,7 @@ fn with_numbers(alloc: Global, kits: Vec<Kit>) -> Result<Vec<Numbered>, Refusal>
     Ok(workers)
 }
 
-/// One worker, with a session of its own.
+/// Runs one worker, with a session of its own.
 fn work_alone<N: Site, R: Wait, G: Gate>(
     rt: &R,
     operator: &Operator<N>,
@@ -70,7 +70,7 @@ fn work_alone<N: Site, R: Wait, G: Gate>(
     worker(alloc, &mut port, &mut kit, gate, number, TURNS)
 }
 
-/// The workers' reports together, or the refusal of the first of them that has one.
+/// Returns the sum of the workers' reports, or the first refusal among them.
 fn total(reports: &[Result<WorkerReport, Refusal>]) -> Result<PoolReport, Refusal>
     ensures { ComesTo reports.now result }
 {
@@ -87,14 +87,14 @@ fn total(reports: &[Result<WorkerReport, Refusal>]) -> Result<PoolReport, Refusa
     Ok(total)
 }
 
-/// Runs a worker in a thread of its own for each of 1 to 16 kits, with a session of its own, until
-/// nothing is left to do or each has found nothing 1,000,000 times. The worker of the first kit has
-/// the number 0.
+/// Runs a worker for each of 1 to 16 kits, each in a thread and with a session of its own. A worker
+/// ends after nothing is left to do, or after 1,000,000 claims without work. The worker of the
+/// first kit has number 0.
 ///
 /// # Errors
 ///
-/// All workers are joined first. Then the refusal of the worker with the least number that has one,
-/// or `OutOfMemory` where memory is refused.
+/// Waits for all workers first. Then returns the refusal of the lowest-numbered worker that has
+/// one, or `OutOfMemory` if memory is refused.
 pub fn pool<N: Site + Send + Sync, R: Threads + Wait + Sync, G: Gate + Sync>(
     rt: &R,
     alloc: Global,

@@ -8,30 +8,31 @@ use batch_history::WorkItem;
 use batch_ids::{Moment, Refusal, WorkOutcome};
 use std::alloc::Global;
 
-/// What stands beside the workers of a host: it is told what they do, and tells them the time.
+/// The host of workers: it observes them, and gives them the time.
 pub trait Gate {
-    /// Comes ahead of each work item of this worker.
+    /// Is called before each work item of this worker.
     fn before(&self, worker: u64, item: &WorkItem);
 
-    /// Comes after a claim of this worker that found nothing to run while a job execution is
+    /// Is called after a claim of this worker found nothing to run, while a job execution is
     /// unfinished. A host lets time pass here.
     fn idle(&self, worker: u64);
 
-    /// The moment that is handed in with the next call.
+    /// Returns the moment for the next call.
     fn now(&self) -> Moment;
 }
 
-/// What a worker did.
+/// The result of a worker.
 #[derive(Clone, Copy, PartialEq, Eq, Debug)]
 pub struct WorkerReport {
-    /// How many work items it ran to their end.
+    /// The number of work items that it ran to their end.
     pub items: u64,
-    /// Whether it ended since too many claims found nothing, and not since nothing was left to do.
+    /// Whether it ended because too many claims found no work, rather than because nothing was left
+    /// to do.
     pub gave_up: bool,
 }
 
-/// Runs a work item. Where it is refused, the item is given up, so that it isn't busy forever; what
-/// that is answered changes nothing.
+/// Runs a work item. If a report is refused, gives the work item up, so that it isn't running
+/// forever. The result of that is ignored.
 fn run_or_lose<P: Port, K: Artifacts, G: Gate>(
     alloc: Global,
     port: &mut P,
@@ -51,15 +52,16 @@ fn run_or_lose<P: Port, K: Artifacts, G: Gate>(
     }
 }
 
-/// Claims work items and runs them, until nothing is found while no job execution is unfinished, or
-/// until `turns` claims found nothing: it then gave up. `number` is what the gate knows it by.
+/// Claims work items and runs them. It ends after a claim finds nothing while no job execution is
+/// unfinished. It gives up after `turns` claims found nothing. The gate's calls receive `number`.
 ///
-/// Its port has as many accepted finishes more as it ran work items.
+/// The port has one more accepted finish for each work item that was run.
 ///
 /// # Errors
 ///
-/// The first refusal of a claim, a report or a query, which is the port's last but for that of a loss; or
-/// `OutOfMemory` if memory is refused. The work item that it ran then is given up by one `lose`.
+/// Returns the first refusal of a claim, a report or a query, or `OutOfMemory` if memory is
+/// refused. That refusal is the port's last one, apart from that of a loss. One `lose` then gives
+/// up the work item that was running.
 pub fn worker<P: Port, K: Artifacts, G: Gate>(
     alloc: Global,
     port: &mut P,
