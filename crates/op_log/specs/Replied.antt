@@ -1,4 +1,4 @@
--- What an operation enters, and what it is entered into.
+-- The entry of an operation, and the repository that it is entered into.
 use Rattle.std.specs.Prelude.{ℕ}
 use Rattle.batch_history.specs.Legal.{IsLegal}
 use Rattle.batch_history.specs.Rows.{History}
@@ -10,7 +10,7 @@ use Rattle.seq_repository.specs.Kept.{Kept, StandsFor}
 abbrev pub replied : Entry → Reply → Entry
 replied e given = record e { reply = given }
 
--- a repository stands for some legal history
+-- a repository represents some legal history
 pub record StandsForSome (limit : ℕ) (kept : Kept) : Type 0 where
   pub history : History
   pub stands : StandsFor kept history

@@ -15,11 +15,11 @@ use std::alloc::Global;
 use std::marker::Model;
 use std::mem::replace;
 
-/// A job repository and the log of the operations that it accepted, at most `LIMIT` of them.
+/// A job repository, with the log of the operations that it accepted, at most `LIMIT` of them.
 /// Contracts see the history: the catalogue and the log, in the order of acceptance.
 ///
-/// It keeps by its type that the log is legal (each entry has the reply that its call was due after
-/// the entries before it) and that the repository stands for it.
+/// Its type guarantees that the log is legal: each entry has the reply that its call was due after
+/// the entries before it. It also guarantees that the repository represents the history.
 #[derive(Debug, Drop)]
 pub struct Book<const LIMIT: u64> {
     repository: Repository<LIMIT>,
@@ -43,7 +43,7 @@ impl<const LIMIT: u64> Model for Book<LIMIT> {
 }
 
 impl<const LIMIT: u64> Book<LIMIT> {
-    /// A book with an empty log over this catalogue.
+    /// Creates a book with an empty log over this catalogue.
     ///
     /// `LIMIT` is at most 1,000,000. All memory that the book takes later comes from `alloc`.
     ///
@@ -61,7 +61,7 @@ impl<const LIMIT: u64> Book<LIMIT> {
         })
     }
 
-    /// How many operations were accepted. It takes no memory.
+    /// Returns the number of accepted operations. It takes no memory.
     pub fn len(&self) -> usize
         ensures length { result ≡ length self.now.log }
         ensures legal { IsLegal LIMIT self.now }
@@ -69,7 +69,7 @@ impl<const LIMIT: u64> Book<LIMIT> {
         self.log.len()
     }
 
-    /// The entry with this number, counted from 1, if there is one. It takes no memory.
+    /// Returns the entry with this number, counted from 1, if there is one. It takes no memory.
     pub fn entry(&self, k: usize) -> Option<&Entry>
         ensures none { k ≡ 0 → option_copied result ≡ None }
         ensures some { 0 < k → option_copied result ≡ slice_get self.now.log (k - 1) }
@@ -77,18 +77,19 @@ impl<const LIMIT: u64> Book<LIMIT> {
         if k == 0 { None } else { self.log.get(k - 1) }
     }
 
-    /// Answers a call of the session `who` at this moment, and appends its entry where it is
-    /// accepted. The reply Nothing makes no entry. The reply is decided once, and all growths come
-    /// before the first change.
+    /// Returns the reply to a call of the session `who` at this moment, and appends its entry if it
+    /// is accepted. A call with the reply Nothing makes no entry. The reply is decided once, and
+    /// all growths come before the first change.
     ///
-    /// The log grows by doubling: for that an accepted call takes constant time on average, and at worst
-    /// as the log is long. Beside that it takes what `Repository::apply` takes.
+    /// The log grows by doubling. So for the log, an accepted call takes constant time on average,
+    /// and at worst time proportional to the length of the log. In addition, it takes the time and
+    /// memory of `Repository::apply`.
     ///
     /// # Errors
     ///
-    /// The first refusal of the call that stands, `RepositoryFull` after the call's own refusals where
-    /// the log has `LIMIT` entries, or `OutOfMemory` in place of any answer. A refused call changes
-    /// nothing.
+    /// The first refusal of the call that applies. After the call's own refusals, `RepositoryFull`
+    /// if the log has `LIMIT` entries. It may return `OutOfMemory` instead of any of these results.
+    /// A refused call changes nothing.
     pub fn act(&mut self, who: u64, call: Call, at: Moment) -> Result<Reply, Refusal>
         ensures reply { IsDue result (reply LIMIT self.old who call) }
         ensures after { IfOk result (λ reply. self.new ≡ after_call self.old who call at reply) }
@@ -116,11 +117,11 @@ impl<const LIMIT: u64> Book<LIMIT> {
         }
     }
 
-    /// Answers a query about the log so far.
+    /// Returns the answer to a query about the log so far.
     ///
     /// # Errors
     ///
-    /// The query's refusal where it stands, or `OutOfMemory` in place of any answer.
+    /// The query's refusal if it applies. It may return `OutOfMemory` instead of any result.
     pub fn ask(&self, query: &Query) -> Result<Answer, Refusal>
         ensures { IsDue result (answer self.now query.now) }
     {
@@ -128,8 +129,8 @@ impl<const LIMIT: u64> Book<LIMIT> {
     }
 }
 
-/// Decides an entry's call, and enters it with its reply where that is accepted and is not Nothing.
-/// There is then room for one entry more in the log, which stays.
+/// Decides an entry's call. Enters it with its reply if the call is accepted and the reply is not
+/// Nothing. The log then has room for one more entry, and doesn't change.
 fn enter_due<const LIMIT: u64>(
     repository: &mut Repository<LIMIT>,
     log: &mut Vec<Entry>,
@@ -159,7 +160,8 @@ fn enter_due<const LIMIT: u64>(
     }
 }
 
-/// What an entry's call is due. There is then room for one entry more in the log, which stays.
+/// Returns the reply that an entry's call is due. The log then has room for one more entry, and
+/// doesn't change.
 fn due_with_room<const LIMIT: u64>(
     repository: &Repository<LIMIT>,
     log: &mut Vec<Entry>,
@@ -174,7 +176,7 @@ fn due_with_room<const LIMIT: u64>(
     repository.preview(entry.who, &entry.call)
 }
 
-/// Enters an entry with the reply that its call is due, unless that is Nothing.
+/// Enters an entry with the reply that its call is due, unless the reply is Nothing.
 fn enter_accepted<const LIMIT: u64>(
     repository: &mut Repository<LIMIT>,
     entry: &mut Entry,

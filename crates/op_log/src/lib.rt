@@ -1,4 +1,4 @@
-//! The job repository with the log of the operations that it accepted.
+//! The job repository, with the log of the operations that it accepted.
 #![tactic(auto)]
 
 mod book;

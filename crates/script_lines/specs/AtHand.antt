@@ -1,4 +1,4 @@
--- What is done with the bytes at hand, and to have more of them.
+-- Cutting a line from the bytes at hand, and reading more of them.
 use Rattle.std.specs.Prelude.{◌≡◌, ◌⊎◌, ℕ, ◌+◌, ◌<◌, ◌≤◌, List, [], ◌∷◌, ◌++◌, true, false, length, take, drop, Option, Result, OnOk, OnErr, IfErr, MatchOption}
 use Rattle.script_lines.specs.declared.line.Line.{Line}
 use Rattle.script_lines.specs.declared.line_fault.LineFault.{LineFault}
@@ -11,7 +11,7 @@ use Rattle.script_lines.specs.Device.{Told, Tells}
 use Rattle.script_lines.specs.Unread.{Unread, skipped, emptied}
 use Rattle.script_lines.specs.Lines.{Shows, HasEnded}
 
--- a line with more bytes behind it
+-- a line with more bytes at its end
 abbrev pub IsLonger : Line → List ℕ → Line → Type 0
 IsLonger line more longer = (bytes : List ℕ) → Shows line bytes → Shows longer (bytes ++ more)
 
@@ -19,18 +19,19 @@ IsLonger line more longer = (bytes : List ℕ) → Shows line bytes → Shows lo
 abbrev pub IsLast : Line → Option Line → Type 0
 IsLast part last = (bytes : List ℕ) → Shows part bytes → MatchOption last (bytes ≡ []) (λ line. Shows line bytes × (0 < length bytes))
 
--- what the bytes at hand make of a line that begins with a part
+-- the bytes at hand as a line or a part of one, after a part that was there before
 abbrev pub IsAtHand : Line → Unread → Unread → AtHand → Type 0
--- the bytes before the first line feed are taken off with it
+-- the bytes before the first line feed are removed, with the line feed
 IsAtHand part before after (given.Line line) = (before.ended ≡ false)
     × ((at : ℕ) × (at < length before.bytes) × (has_feed (take at before.bytes) ≡ false)
     × (drop at before.bytes ≡ 10 ∷ drop (at + 1) before.bytes) × (after ≡ skipped (at + 1) before) × IsLonger part (take at before.bytes) line)
--- there is no line feed, and all bytes are taken off
+-- there is no line feed, and all bytes are removed
 IsAtHand part before after (given.Part longer) = (before.ended ≡ false) × (after ≡ emptied before) × (has_feed before.bytes ≡ false) × IsLonger part before.bytes longer
 -- there are no bytes, and there will be none
 IsAtHand part before after (given.End last) = (before.ended ≡ true) × (after ≡ before) × (before.bytes ≡ []) × IsLast part last
 
--- the reader was called once, and what it told is at hand; or it failed or may not be called again, and told nothing
+-- the reader was called once, and the bytes that it delivered are at hand; or it failed or may not be called
+-- again, and delivered nothing
 pub record Filled (old new : Told) (before after : Unread) (result : Result Unit LineFault) : Type 0 where
   pub ok : OnOk result (Tells old new after.bytes)
   pub ended : OnOk result (after.ended ≡ true → (after.bytes ≡ []) × HasEnded old new)

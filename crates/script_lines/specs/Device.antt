@@ -1,10 +1,11 @@
--- What a reader and a writer have done so far.
+-- The past of a reader and of a writer.
 use Rattle.std.specs.Prelude.{◌≡◌, ℕ, ◌+◌, ◌&&◌, ◌==◌, List, ◌++◌, length, take, nat_lt, Option, Result, Ok, Err, if◌then◌else◌}
 use Rattle.std.specs.Io.KnownBytes.{Consumes, Appends}
 use Rattle.script_lines.specs.declared.device.DeviceFault.{DeviceFault}
 
--- the bytes that a reader told, how often it told its end, how often it failed, how often it was called, how often
--- with room for fewer bytes than a read is to offer, and the bytes that it has left, where those are known
+-- the past of a reader. It has the bytes that it delivered, and how often it reported its end and failed. It
+-- has the number of its calls, and how many of them had room for fewer bytes than a read must offer. It also
+-- has the bytes that the reader has left, if they are determined.
 pub record Told : Type 0 where
   pub bytes : List ℕ
   pub ends : ℕ
@@ -13,15 +14,16 @@ pub record Told : Type 0 where
   pub narrow : ℕ
   pub left : Option (List ℕ)
 
--- for how many bytes a read is to offer room
+-- the number of bytes for which a read must offer room
 abbrev pub wide : ℕ
 wide = 65536
 
--- how many of the calls were narrow, after one more
+-- the number of narrow calls after one more call
 abbrev pub narrow_after : ℕ → ℕ → ℕ
 narrow_after narrow room = if nat_lt room wide then narrow + 1 else narrow
 
--- what was told after a read into a buffer, with so much left: no byte for a buffer that isn't empty is the end
+-- the past of a reader after a read into a buffer, if it has these bytes left: 0 bytes for a buffer that
+-- isn't empty mean the end
 abbrev pub after_read : Told → Result ℕ DeviceFault → List ℕ → Option (List ℕ) → Told
 after_read t (Ok n) buffer left = record {
   bytes = t.bytes ++ take n buffer;
@@ -40,19 +42,20 @@ after_read t (Err e) buffer left = record {
   left = left;
 }
 
--- a reader told more, which it has left no longer, and none of its calls was narrow
+-- a reader delivered more bytes, which it no longer has left, and none of its calls was narrow
 pub record Tells (old new : Told) (more : List ℕ) : Type 0 where
   pub bytes : new.bytes ≡ old.bytes ++ more
   pub lost : Consumes old.left new.left more
   pub roomy : new.narrow ≡ old.narrow
 
--- the bytes that a writer took, how often it failed, and the bytes that it holds, where those are known
+-- the past of a writer: the bytes that it took, how often it failed, and its contents, if they are determined
 pub record Held : Type 0 where
   pub bytes : List ℕ
   pub failures : ℕ
   pub contents : Option (List ℕ)
 
--- what is held after a write of a piece, with these contents: to take no byte of one that isn't empty is a failure
+-- the past of a writer after a write of a piece, if it has these contents: to take no byte of a piece that
+-- isn't empty is a failure
 abbrev pub after_write : Held → Result ℕ DeviceFault → List ℕ → Option (List ℕ) → Held
 after_write h (Ok n) piece contents = record {
   bytes = h.bytes ++ take n piece;
@@ -65,7 +68,7 @@ after_write h (Err e) piece contents = record {
   contents = contents;
 }
 
--- a writer took more, and holds it
+-- a writer took more bytes, and its contents have them
 pub record Takes (old new : Held) (more : List ℕ) : Type 0 where
   pub bytes : new.bytes ≡ old.bytes ++ more
   pub gained : Appends old.contents new.contents more

@@ -1,4 +1,4 @@
--- What a call for the next line does.
+-- The effect of a call for the next line.
 use Rattle.std.specs.Prelude.{◌≡◌, ◌⊎◌, ℕ, ◌+◌, ◌<◌, ◌≤◌, nat_lt, List, [], ◌∷◌, ◌++◌, Bool, true, false, ◌||◌, if◌then◌else◌, length, take, drop, Option, Some, None, Result, Ok, Err}
 use Rattle.script_lines.specs.declared.line.TheConstants.{MAX_LINE}
 use Rattle.script_lines.specs.declared.line.Line.{Line}
@@ -11,21 +11,21 @@ use Rattle.script_lines.specs.Device.{Told, Held, Tells, Takes, wide}
 use Rattle.script_lines.specs.Cut.{has_feed, lines_of, whole_lines, script_lines}
 use Rattle.script_lines.specs.Unread.{Unread}
 
--- the bytes that a line stands for
+-- the bytes of a line
 abbrev pub Shows : Line → List ℕ → Type 0
 Shows (Whole bytes) line = (bytes.items ≡ line) × (length line ≤ MAX_LINE)
 Shows TooLong line = MAX_LINE < length line
 
--- the bytes that the first line of a script stands for: no line is an empty one
+-- the bytes of the first line of a script: if there is no line, it is empty
 abbrev pub ShowsFirst : Option Line → List ℕ → Type 0
 ShowsFirst None line = line ≡ []
 ShowsFirst (Some first) line = Shows first line
 
--- the line is cut off with its line feed, or is the last one, which lacks it
+-- the line is cut off with its line feed, or it is the last line, which lacks the line feed
 abbrev pub Cuts : List ℕ → List ℕ → Unread → Type 0
 Cuts bytes line p = (bytes ≡ line ++ 10 ∷ p.bytes) ⊎ ((bytes ≡ line) × (0 < length line) × (p.bytes ≡ []) × (p.ended ≡ true))
 
--- what became of the bytes at hand, by the answer
+-- the bytes at hand after a call, by its result
 abbrev pub Outcome : List ℕ → Unread → Result (Option Line) LineFault → Type 0
 Outcome bytes p (Ok None) = (bytes ≡ []) × (p.bytes ≡ []) × (p.ended ≡ true)
 Outcome bytes p (Ok (Some shown)) = (line : List ℕ) × Shows shown line × (has_feed line ≡ false) × Cuts bytes line p
@@ -33,90 +33,93 @@ Outcome bytes p (Err Read) = has_feed bytes ≡ false
 Outcome bytes p (Err Write) = Unit {0}
 Outcome bytes p (Err OutOfMemory) = Unit {0}
 
--- an answer Read has a cause: the reader failed or may not be called again, and hasn't told its end; at any other answer it didn't fail
+-- a result Read has a cause: the reader failed or may not be called again, and hasn't reported its end; with
+-- any other result it didn't fail
 abbrev pub HasCause : Told → Told → Unread → Unread → Result (Option Line) LineFault → Type 0
 HasCause old new before after (Ok line) = new.failures ≡ old.failures
 HasCause old new before after (Err Read) = ((new.failures ≡ old.failures + 1) ⊎ ((new.failures ≡ old.failures) × (after.reads_left ≡ 0))) × (before.ended ≡ false) × (after.ended ≡ false)
 HasCause old new before after (Err Write) = new.failures ≡ old.failures
 HasCause old new before after (Err OutOfMemory) = new.failures ≡ old.failures
 
--- the reader failed since, once, or was called as often as it may be
+-- since the start, the reader failed once, or was called as often as it may be
 abbrev pub IsReadFault : Told → Told → Type 0
 IsReadFault start now = (now.failures ≡ start.failures + 1) ⊎ ((now.failures ≡ start.failures) × (now.calls ≡ start.calls + MAX_READS))
 
--- the reader told its end since, once, and has nothing left
+-- since the start, the reader reported its end once, and has nothing left
 abbrev pub HasEnded : Told → Told → Type 0
 HasEnded start now = (now.ends ≡ start.ends + 1) × IsAtEnd now.left
 
--- the reader told its end once at most since, and was called at most as often as it may be
+-- since the start, the reader reported its end at most once, and was called at most as often as it may be
 abbrev pub IsBounded : Told → Told → Type 0
 IsBounded start now = (now.ends ≤ start.ends + 1) × (now.calls ≤ start.calls + MAX_READS)
 
--- lines that were told to their end: those that have their line feed, or all of them where the reader told its end
+-- lines that were read completely: those that have their line feed, or all of them if the reader reported its
+-- end
 abbrev pub AreComplete : Told → Told → List ℕ → List (List ℕ) → Type 0
 AreComplete start now input lines = (lines ≡ whole_lines input) ⊎ ((start.ends < now.ends) × (lines ≡ script_lines input))
 
--- nothing more was told; or what the last read told, and before that read no line was whole
+-- either nothing more was delivered, or no line was whole before the last read
 abbrev pub InTurn : List ℕ → List ℕ → Type 0
 InTurn bytes more = (more ≡ [])
     ⊎ ((first : List ℕ) × (last : List ℕ) × (more ≡ first ++ last) × (length last ≤ wide) × (has_feed (bytes ++ first) ≡ false))
 
--- the reader told more, and a line was cut off
+-- the reader delivered more, and a line was cut off
 pub record LineRead (old new : Told) (before after : Unread) (result : Result (Option Line) LineFault) : Type 0 where
-  -- what was told in this call
+  -- the bytes that were delivered in this call
   pub more : List ℕ
   pub told : Tells old new more
   pub turn : InTurn before.bytes more
-  -- what became of it and of what was left before
+  -- these bytes and the bytes that were at hand before, after the call
   pub outcome : Outcome (before.bytes ++ more) after result
   pub cause : HasCause old new before after result
   -- each call of the reader counts
   pub calls : new.calls + after.reads_left ≡ old.calls + before.reads_left
-  -- behind the end nothing is read, and nothing is left
+  -- after the end nothing is read, and nothing is left
   pub quiet : before.ended ≡ true → (more ≡ []) × (new ≡ old)
   pub drained : after.ended ≡ true → after.bytes ≡ []
-  -- an end that is known was told, and an end that was told is known
+  -- the buffer has ended if the reader reported its end, and only then
   pub ended : after.ended ≡ true → (before.ended ≡ true) ⊎ HasEnded old new
   pub going : after.ended ≡ false → new.ends ≡ old.ends
   pub later : old.ends ≤ new.ends
 
--- what the reader told since
+-- the bytes that the reader delivered since then
 abbrev pub told_since : Told → Told → List ℕ
 told_since old new = drop (length old.bytes) new.bytes
 
--- whether the reader has told its end
+-- whether the reader has reported its end
 abbrev pub has_told_end : Told → Told → Unread → Bool
 has_told_end old new before = before.ended || nat_lt old.ends new.ends
 
--- the lines of a text that was told to its end, or those that have their line feed
+-- the lines of a text that was read to its end, or else those that have their line feed
 abbrev pub complete_lines : Bool → List ℕ → List (List ℕ)
 complete_lines ended text = if ended then lines_of text else whole_lines text
 
--- the complete lines of the bytes that were at hand before and of what the reader told since
+-- the complete lines of the bytes that were at hand before, and of the bytes that the reader delivered since
+-- then
 abbrev pub lines_since : Told → Told → Unread → List (List ℕ)
 lines_since old new before = complete_lines (has_told_end old new before) (before.bytes ++ told_since old new)
 
--- lines were cut off what a reader told since
+-- lines were cut off from the bytes that a reader delivered since then
 pub record LinesRead (old new : Told) (before after : Unread) : Type 0 where
   pub told : Tells old new (told_since old new)
   -- each call of the reader counts
   pub calls : new.calls + after.reads_left ≡ old.calls + before.reads_left
-  -- it told its end once at most
+  -- it reported its end at most once
   pub later : old.ends ≤ new.ends
   pub once : new.ends ≤ old.ends + 1
 
--- what was written and what waits are together what they were, and the writer didn't fail
+-- the written and the waiting bytes together are the same as before, and the writer didn't fail
 abbrev pub IsPassedOn : Held → Held → List ℕ → List ℕ → Type 0
 IsPassedOn old new waited waits = (new.bytes ++ waits ≡ old.bytes ++ waited) × (new.failures ≡ old.failures)
 
--- what a call for the next line does to the writer and to what waits, by the answer
+-- the effect of a call for the next line on the writer and on the waiting bytes, by its result
 abbrev pub PassedOn : Held → Held → List ℕ → List ℕ → Result (Option Line) LineFault → Type 0
 PassedOn old new waited waits (Ok line) = IsPassedOn old new waited waits
 PassedOn old new waited waits (Err Read) = IsPassedOn old new waited waits
 PassedOn old new waited waits (Err OutOfMemory) = IsPassedOn old new waited waits
 PassedOn old new waited waits (Err Write) = ((n : ℕ) × Takes old new (take n waited)) × (old.failures < new.failures)
 
--- the reader is called once nothing waits, and never after the writer failed
+-- the reader is called only after nothing waits, and never after the writer failed
 abbrev pub IsPrompt : Told → Told → List ℕ → Result (Option Line) LineFault → Type 0
 IsPrompt old new waits (Ok line) = (new ≡ old) ⊎ (waits ≡ [])
 IsPrompt old new waits (Err Read) = (new ≡ old) ⊎ (waits ≡ [])

@@ -1,4 +1,4 @@
--- What a device has done, one answer after another.
+-- The past of a device, one response after another.
 use Rattle.std.specs.Prelude.{ℕ, ◌+◌, ◌++◌}
 use Rattle.script_lines.specs.declared.tape.Answer.{Answer}
 use Rattle.script_lines.specs.declared.tape.Answer.TheVariants.{Bytes, End, Failure}
@@ -7,13 +7,13 @@ use Rattle.script_lines.specs.declared.tape.History.TheVariants.{Nothing, Then}
 use Rattle.script_lines.specs.Device.{narrow_after}
 use Rattle.script_lines.specs.Tape.{Past, nothing_past}
 
--- with one more answer, to a call with this much room
+-- the past after one more response, to a call with this much room
 abbrev pub noted : Past → Answer → ℕ → Past
 noted p (Bytes bytes) room = record { bytes = p.bytes ++ bytes.now; ends = p.ends; failures = p.failures; calls = p.calls + 1; narrow = narrow_after p.narrow room }
 noted p End room = record { bytes = p.bytes; ends = p.ends + 1; failures = p.failures; calls = p.calls + 1; narrow = narrow_after p.narrow room }
 noted p Failure room = record { bytes = p.bytes; ends = p.ends; failures = p.failures + 1; calls = p.calls + 1; narrow = narrow_after p.narrow room }
 
--- all that a history tells
+-- the past of a history
 abbrev pub past_in : History → Past
 past_in Nothing = nothing_past
 past_in (Then before answer room) = noted before.now.past answer room

@@ -1,9 +1,10 @@
--- How proofs store what a device has done.
+-- The form in which proofs store the past of a device.
 use Rattle.std.specs.Prelude.{ℕ, List, [], Option, Some, refl}
 use Rattle.std.specs.Coded.{Coded, code_by, coded×, coded_ℕ, coded_list}
 use Rattle.script_lines.specs.Device.{Told, Held}
 
--- the bytes that a device told or took, how often it told its end, failed, was called, and was called with little room
+-- the bytes that a device delivered or took, how often it reported its end, failed, was called, and was
+-- called with too little room
 pub record Past : Type 0 where
   pub bytes : List ℕ
   pub ends : ℕ
@@ -11,19 +12,19 @@ pub record Past : Type 0 where
   pub calls : ℕ
   pub narrow : ℕ
 
--- before the first call
+-- the past before the first call
 abbrev pub nothing_past : Past
 nothing_past = record { bytes = []; ends = 0; failures = 0; calls = 0; narrow = 0 }
 
--- what a reader with this past told, which has so much left
+-- the past of a reader that has these bytes left
 abbrev pub told_by : Past → Option (List ℕ) → Told
 told_by p left = record { bytes = p.bytes; ends = p.ends; failures = p.failures; calls = p.calls; narrow = p.narrow; left = left }
 
--- what a reader of bytes in memory told, which has these left: it never failed
+-- the past of a reader of bytes in memory that has these left: it never failed
 abbrev pub told_in_memory : Past → List ℕ → Told
 told_in_memory p rest = record { bytes = p.bytes; ends = p.ends; failures = 0; calls = p.calls; narrow = p.narrow; left = Some rest }
 
--- what a writer with this past took, which holds these contents
+-- the past of a writer with these contents
 abbrev pub held_by : Past → Option (List ℕ) → Held
 held_by p contents = record { bytes = p.bytes; failures = p.failures; contents = contents }
 

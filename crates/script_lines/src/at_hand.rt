@@ -1,12 +1,13 @@
 use crate::line::Line;
 
-/// What the bytes at hand make of a line.
+/// The bytes at hand, as a line or a part of one.
 #[derive(Drop)]
 pub enum AtHand {
-    /// The line: its line feed was at hand, and is taken off.
+    /// A line whose line feed was at hand. The line feed is removed.
     Line(Line),
-    /// The beginning of a line whose line feed was not read yet. All bytes at hand are used.
+    /// The beginning of a line whose line feed has not been read yet. All bytes at hand are used.
     Part(Line),
-    /// The reader told its end: the last line, which lacks its line feed, if it isn't empty.
+    /// The reader reported its end. This is the last line, which lacks its line feed, if it isn't
+    /// empty.
     End(Option<Line>),
 }

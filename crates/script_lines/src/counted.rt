@@ -5,8 +5,8 @@ use crate::device::{DeviceFault, Sink, Source};
 use crate::tape::{Answer, Tape};
 use std::io::{Read, Write};
 
-/// Makes a [`Source`] of a reader of std, and a [`Sink`] of a writer of std. What it told or took so far is kept for
-/// proofs alone, and takes no memory.
+/// Makes a [`Source`] from a reader of std, and a [`Sink`] from a writer of std. It records the
+/// device's past for proofs only, which takes no memory.
 #[derive(Drop)]
 pub struct Counted<D: Drop> {
     inner: D,
@@ -14,7 +14,7 @@ pub struct Counted<D: Drop> {
 }
 
 impl<D: Drop> Counted<D> {
-    /// A device whose past begins here.
+    /// Creates a device whose past begins here.
     pub fn new(inner: D) -> Counted<D>
         ensures device { result.inner ≡ inner }
         ensures past { result.tape.past ≡ nothing_past }
@@ -25,7 +25,7 @@ impl<D: Drop> Counted<D> {
         }
     }
 
-    /// The reader or writer, as the calls left it.
+    /// Returns the reader or writer, as the calls left it.
     pub fn into_inner(self) -> D
         ensures { result ≡ self.inner }
     {

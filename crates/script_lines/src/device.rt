@@ -5,7 +5,7 @@ ghost use Rattle.script_lines.specs.Device.{Told, after_read, Held, after_write,
 use std::error::Error;
 use std::fmt;
 
-/// A reader or a writer failed. Why is not kept, since no answer depends on it.
+/// A reader or a writer failed. The cause isn't recorded, since no result depends on it.
 #[derive(Clone, Copy, Debug, PartialEq, Eq)]
 pub struct DeviceFault;
 
@@ -17,40 +17,43 @@ impl fmt::Display for DeviceFault {
 
 impl Error for DeviceFault {}
 
-/// What bytes are read from. Contracts see all that it told so far, and what it has left where that is known.
+/// A reader of bytes. Contracts see all bytes that it has delivered so far, and the bytes that it
+/// has left, if they are determined.
 pub trait Source {
-    /// What its calls told so far, and the bytes that it has left, where those are known.
+    /// The past of the reader's calls, and the bytes that it has left, if they are determined.
     ghost tape: { Self → Told };
 
-    /// Reads into the front of `buffer`, and says how many bytes. No byte for a buffer that isn't empty is the end.
+    /// Reads bytes into the front of `buffer`, and returns how many. 0 bytes for a buffer that
+    /// isn't empty mean the end.
     ///
     /// # Errors
     ///
-    /// `DeviceFault` where the reader failed. Nothing was told then.
+    /// `DeviceFault` if the reader failed. It has delivered nothing then.
     fn read(&mut self, buffer: &mut [u8]) -> Result<usize, DeviceFault>
         ensures bound { IfOk result (λ n. n ≤ length buffer.new) }
         ensures tape { tape self.new ≡ after_read (tape self.old) result buffer.new (tape self.new).left }
         ensures lost { ReadConsumes (tape self.old).left (tape self.new).left result buffer.new };
 }
 
-/// What bytes are written to. Contracts see all that it took so far, and what it holds where that is known.
+/// A writer of bytes. Contracts see all bytes that it has taken so far, and its contents, if they
+/// are determined.
 pub trait Sink {
-    /// What it took so far, and the bytes that it holds, where those are known.
+    /// The past of the writer's calls, and its contents, if they are determined.
     ghost tape: { Self → Held };
 
-    /// Writes a front of `piece`, and says how many bytes. To take no byte of a piece that isn't empty is a failure,
-    /// and counts as one.
+    /// Writes a front of `piece`, and returns how many bytes that is. If the writer takes no byte
+    /// of a piece that isn't empty, this counts as a failure.
     ///
     /// # Errors
     ///
-    /// `DeviceFault` where the writer failed. It took nothing then.
+    /// `DeviceFault` if the writer failed. It has taken nothing then.
     fn write(&mut self, piece: &[u8]) -> Result<usize, DeviceFault>
         ensures bound { IfOk result (λ n. n ≤ length piece.now) }
         ensures tape { tape self.new ≡ after_write (tape self.old) result piece.now (tape self.new).contents }
         ensures gained { WriteAppends (tape self.old).contents (tape self.new).contents result piece.now };
 }
 
-// Writes all of it. At an `Err` the writer has failed, and holds a front of it.
+// Writes all of `bytes`. After an `Err` the writer has failed, and has taken a front of them.
 pub(crate) fn write_all<W: Sink>(writer: &mut W, bytes: &[u8]) -> Result<(), DeviceFault>
     ensures ok { OnOk result (Takes (W.tape writer.old) (W.tape writer.new) bytes.now) }
     ensures ok_failures { OnOk result ((W.tape writer.new).failures ≡ (W.tape writer.old).failures) }

@@ -9,14 +9,14 @@ use crate::output_buffer::OutputBuffer;
 use std::alloc::{AllocError, Global};
 use std::marker::Model;
 
-// How many bytes are read at a time.
+// The number of bytes in a read.
 const CHUNK: usize = 65536;
 
 /// The most calls of a reader by one [`InputBuffer`].
 pub const MAX_READS: u64 = 1 << 40;
 
-/// What was read of a reader and is not used yet. It goes with one reader, the same at each call, and holds a piece
-/// of 65,536 bytes that is made once.
+/// The bytes that were read from a reader and haven't been used yet. It belongs to one reader,
+/// which must be the same at each call. It has a buffer of 65,536 bytes, which is allocated once.
 #[derive(Drop)]
 pub struct InputBuffer {
     alloc: Global,
@@ -47,11 +47,11 @@ impl InputBuffer {
     ghost use Rattle.script_lines.specs.Lines.{LineRead, PassedOn, IsPrompt};
     ghost use Rattle.script_lines.specs.declared.line.TheConstants.{MAX_LINE};
 
-    /// Nothing read yet, of a reader that may be called [`MAX_READS`] times.
+    /// Creates an empty buffer, for a reader that may be called [`MAX_READS`] times.
     ///
     /// # Errors
     ///
-    /// `AllocError` where memory for a chunk is lacking.
+    /// `AllocError` if memory for the buffer is refused.
     pub fn new(alloc: Global) -> Result<InputBuffer, AllocError>
         ensures { IfOk result (λ input. input ≡ nothing_read) }
     {
@@ -71,7 +71,7 @@ impl InputBuffer {
         &self.chunk[self.start..self.end]
     }
 
-    /// Whether the reader told its end. No byte is at hand then.
+    /// Returns `true` if the reader has reported its end. No byte is at hand then.
     pub fn has_ended(&self) -> bool
         ensures value { result ≡ self.now.ended }
         ensures nothing_left { self.now.ended ≡ true → self.now.bytes ≡ [] }
@@ -79,7 +79,7 @@ impl InputBuffer {
         self.ended
     }
 
-    // Counts so many bytes as used.
+    // Marks `count` bytes as used.
     fn skip(&mut self, count: usize)
         requires { count ≤ length self.old.bytes }
         ensures { self.new ≡ skipped count self.old }
@@ -87,20 +87,22 @@ impl InputBuffer {
         self.start += count;
     }
 
-    // Counts all bytes as used.
+    // Marks all bytes as used.
     fn skip_all(&mut self)
         ensures { self.new ≡ emptied self.old }
     {
         self.start = self.end;
     }
 
-    /// The next line, if it is whole in what was read. `part` is the beginning of that line: an empty line at first, and
-    /// later what the last call returned as [`AtHand::Part`]. No reader is called. So a caller can pass on what waits
-    /// before it asks for more by [`InputBuffer::fill`].
+    /// Returns the next line, if the bytes at hand complete it. `part` is the beginning of that
+    /// line. It is an empty line at first, and later the part that the last call returned as
+    /// [`AtHand::Part`]. It calls no reader. So a caller can pass on its waiting output before it
+    /// asks for more by [`InputBuffer::fill`].
     ///
     /// # Errors
     ///
-    /// `AllocError` if memory for the line is lacking. The part is dropped, and the bytes at hand stay.
+    /// `AllocError` if memory for the line is refused. The part is dropped, and the bytes at hand
+    /// stay.
     pub fn line_at_hand(&mut self, part: Line) -> Result<AtHand, AllocError>
         ensures ok { IfOk result (λ given. IsAtHand part self.old self.new given) }
         ensures err { OnErr result ((self.new ≡ self.old) × (self.old.ended ≡ false)) }
@@ -120,12 +122,13 @@ impl InputBuffer {
         }
     }
 
-    /// Calls the reader once, for 65,536 bytes at most. All bytes at hand have to be used: [`InputBuffer::line_at_hand`]
-    /// has returned an [`AtHand::Part`].
+    /// Calls the reader once, for at most 65,536 bytes. All bytes at hand must be used:
+    /// [`InputBuffer::line_at_hand`] has returned an [`AtHand::Part`].
     ///
     /// # Errors
     ///
-    /// `Read` if the reader failed in this call, or may not be called again. No byte was told then.
+    /// `Read` if the reader failed in this call, or may not be called again. The reader has
+    /// delivered no byte then.
     pub fn fill<S: Source>(&mut self, source: &mut S) -> Result<(), LineFault>
         requires used { self.old.bytes ≡ [] }
         ensures { Filled (S.tape source.old) (S.tape source.new) self.old self.new result }
@@ -146,8 +149,8 @@ impl InputBuffer {
         }
     }
 
-    // Reads the next chunk. Nothing may wait in the output, so that whoever answers has seen all
-    // that there is to answer to.
+    // Reads the next chunk. No output may wait, so that the other side has seen all output that it
+    // responds to.
     fn fill_in_turn<S: Source>(
         &mut self,
         source: &mut S,
@@ -161,13 +164,13 @@ impl InputBuffer {
         self.fill(source)
     }
 
-    /// The next line, where nobody waits for a reply to the lines before. It is as of
-    /// [`InputBuffer::next_line`], and nothing is written.
+    /// Returns the next line, if nobody waits for a reply to the lines before it. Like
+    /// [`InputBuffer::next_line`], but writes nothing.
     ///
     /// # Errors
     ///
-    /// - `Read` where the reader failed in this call, or may not be called again.
-    /// - `OutOfMemory` where memory for the line is lacking.
+    /// - `Read` if the reader failed in this call, or may not be called again.
+    /// - `OutOfMemory` if memory for the line is refused.
     pub fn line_alone<S: Source>(&mut self, source: &mut S) -> Result<Option<Line>, LineFault>
         ensures bounds { (MAX_LINE ≡ 16777216) × (MAX_READS ≡ 1099511627776) }
         ensures line { LineRead (S.tape source.old) (S.tape source.new) self.old self.new result }
@@ -185,18 +188,19 @@ impl InputBuffer {
         }
     }
 
-    /// The next line. It ends with a line feed, which is taken off; the last line may lack one. `None` says that the
-    /// reader told its end and nothing is left. A line is kept up to 16,777,216 bytes, and the reader is called 2^40
-    /// times at most.
+    /// Returns the next line. It ends with a line feed, which is removed. The last line may lack
+    /// one. `None` means that the reader has reported its end and nothing is left. A line of more
+    /// than 16,777,216 bytes is returned as [`Line::TooLong`]. The reader is called at most 2^40
+    /// times.
     ///
-    /// Before each call of the reader all that waits in `output` is written, so that whoever is at the other end of a
-    /// pipe has every reply before the script goes on.
+    /// Before each call of the reader, all waiting output in `output` is written. So the other end
+    /// of a pipe has every reply before the script goes on.
     ///
     /// # Errors
     ///
-    /// - `Read` where the reader failed in this call, or may not be called again.
-    /// - `Write` where what waited could not be written. The writer holds a front of it.
-    /// - `OutOfMemory` where memory for the line is lacking.
+    /// - `Read` if the reader failed in this call, or may not be called again.
+    /// - `Write` if the waiting output could not be written. The writer has taken a front of it.
+    /// - `OutOfMemory` if memory for the line is refused.
     pub fn next_line<S: Source, W: Sink>(
         &mut self,
         source: &mut S,

@@ -1,5 +1,6 @@
-//! Lines of a script over any reader and writer: devices whose past contracts can name, the lines that are cut from
-//! what a reader tells, and the output of text that waits to be written.
+//! The lines of a script, over any reader and writer. There are devices whose past contracts can
+//! name, and lines that are cut from the bytes of a reader. There is also a buffer for output that
+//! waits to be written.
 #![tactic(auto)]
 
 mod at_hand;

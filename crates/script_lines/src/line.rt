@@ -3,7 +3,7 @@ ghost use Rattle.script_lines.specs.Cut.{has_feed};
 
 use std::alloc::AllocError;
 
-/// The most bytes of a line, without its line feed.
+/// The most bytes that a line may have, without its line feed.
 pub const MAX_LINE: usize = 16_777_216;
 
 /// A line of a script, without its line feed.
@@ -11,14 +11,14 @@ pub const MAX_LINE: usize = 16_777_216;
 pub enum Line {
     /// All bytes of a line of at most [`MAX_LINE`] bytes.
     Whole(Vec<u8>),
-    /// A longer line, of which nothing is kept.
+    /// A longer line, whose bytes are dropped.
     TooLong,
 }
 
 impl Line {
     ghost use Rattle.script_lines.specs.Lines.{Shows};
 
-    // The line with a part more at its end.
+    // Appends a part to the line.
     pub(crate) fn add(self, part: &[u8]) -> Result<Line, AllocError>
         ensures { IfOk result (λ grown. (line : List ℕ) → Shows self line → Shows grown (line ++ part.now)) }
     {
@@ -34,7 +34,7 @@ impl Line {
         }
     }
 
-    // The last line, if anything stands there.
+    // Returns the last line, if it isn't empty.
     pub(crate) fn unless_empty(self) -> Option<Line>
         ensures { (line : List ℕ) → Shows self line → MatchOption result (line ≡ []) (λ last. Shows last line × (0 < length line)) }
     {
@@ -51,7 +51,7 @@ impl Line {
     }
 }
 
-// Where the first line feed stands.
+// Returns the index of the first line feed.
 pub(crate) fn feed_at(bytes: &[u8]) -> Option<usize>
     ensures { MatchOption result (has_feed bytes.now ≡ false) (λ i. (i < length bytes.now)
         × (has_feed (take i bytes.now) ≡ false) × (drop i bytes.now ≡ 10 ∷ drop (i + 1) bytes.now)) }

@@ -5,14 +5,14 @@ use std::alloc::AllocError;
 use std::error::Error;
 use std::fmt;
 
-/// Why there is no next line.
+/// The cause why there is no next line.
 #[derive(Clone, Copy, Debug, PartialEq, Eq)]
 pub enum LineFault {
     /// The reader failed, or may not be called again.
     Read,
-    /// The writer failed, when what waited was to be written before the next read.
+    /// The writer failed to take the waiting output, which has to be written before the next read.
     Write,
-    /// Memory for the line is lacking.
+    /// Memory for the line was refused.
     OutOfMemory,
 }
 

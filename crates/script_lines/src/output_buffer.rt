@@ -6,11 +6,11 @@ use crate::device::{DeviceFault, Sink, write_all};
 use std::alloc::{AllocError, Global};
 use std::marker::Model;
 
-/// How many bytes may wait in an [`OutputBuffer`].
+/// The most bytes that may wait in an [`OutputBuffer`].
 pub const OUTPUT_BUFFER_SIZE: usize = 65536;
 
-/// Text that waits to be written, in a buffer of [`OUTPUT_BUFFER_SIZE`] bytes that never grows. Contracts see the bytes that
-/// wait.
+/// Output that waits to be written, in a buffer of [`OUTPUT_BUFFER_SIZE`] bytes that never grows.
+/// Contracts see the waiting bytes.
 #[derive(Drop)]
 pub struct OutputBuffer {
     buffer: Vec<u8>,
@@ -29,11 +29,11 @@ impl Model for OutputBuffer {
 }
 
 impl OutputBuffer {
-    /// An output in which nothing waits.
+    /// Creates an output buffer in which nothing waits.
     ///
     /// # Errors
     ///
-    /// `AllocError` where memory for the buffer is lacking. No later call takes memory.
+    /// `AllocError` if memory for the buffer is refused. No later call takes memory.
     pub fn new(alloc: Global) -> Result<OutputBuffer, AllocError>
         ensures { IfOk result (λ output. output ≡ []) }
     {
@@ -43,28 +43,28 @@ impl OutputBuffer {
         })
     }
 
-    /// Whether nothing waits.
+    /// Returns `true` if nothing waits.
     pub fn is_empty(&self) -> bool
         ensures { IsTrue result ↔ (self.now ≡ []) }
     {
         self.used == 0
     }
 
-    /// The bytes that wait.
+    /// Returns the waiting bytes.
     pub fn waiting(&self) -> &[u8]
         ensures { result.now ≡ self.now }
     {
         &self.buffer[..self.used]
     }
 
-    /// How many bytes more may wait.
+    /// Returns how many more bytes may wait.
     pub fn room(&self) -> usize
         ensures { result + length self.now ≡ OUTPUT_BUFFER_SIZE }
     {
         OUTPUT_BUFFER_SIZE - self.used
     }
 
-    /// Adds a part that there is room for. Nothing is written, and no memory is asked for.
+    /// Appends a part for which there is room. It writes nothing and takes no memory.
     pub fn append(&mut self, part: &[u8])
         requires { length self.old + length part.now ≤ OUTPUT_BUFFER_SIZE }
         ensures { self.new ≡ self.old ++ part.now }
@@ -74,19 +74,20 @@ impl OutputBuffer {
         self.used = end;
     }
 
-    /// Drops all that waits, after a caller passed it on by itself.
+    /// Drops all waiting bytes, after a caller passed them on by itself.
     pub fn clear(&mut self)
         ensures { self.new ≡ [] }
     {
         self.used = 0;
     }
 
-    /// Adds `text` behind what waits, and writes the buffer each time that it is full and more is to come.
+    /// Appends `text` to the waiting bytes. Writes the buffer each time that it is full and more is
+    /// to come.
     ///
     /// # Errors
     ///
-    /// `DeviceFault` where the writer failed. It holds a front of what waited and `text` then, and what waits from then
-    /// on is left open: the output is of no more use.
+    /// `DeviceFault` if the writer failed. It has then taken a front of the waiting bytes and
+    /// `text`. The waiting bytes from then on are not specified: the output is of no more use.
     pub fn put<W: Sink>(&mut self, writer: &mut W, text: &[u8]) -> Result<(), DeviceFault>
         ensures size { OUTPUT_BUFFER_SIZE ≡ 65536 }
         ensures ok { OnOk result ((W.tape writer.new).bytes ++ self.new ≡ ((W.tape writer.old).bytes ++ self.old) ++ text.now) }
@@ -106,11 +107,12 @@ impl OutputBuffer {
         Ok(())
     }
 
-    /// Writes all that waits.
+    /// Writes all waiting bytes.
     ///
     /// # Errors
     ///
-    /// `DeviceFault` where the writer failed. It holds a front of what waited then, and the output is as it was.
+    /// `DeviceFault` if the writer failed. It has then taken a front of the waiting bytes, and the
+    /// buffer doesn't change.
     pub fn flush<W: Sink>(&mut self, writer: &mut W) -> Result<(), DeviceFault>
         ensures ok { OnOk result (Takes (W.tape writer.old) (W.tape writer.new) self.old) }
         ensures emptied { OnOk result (self.new ≡ []) }

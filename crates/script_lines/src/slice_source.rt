@@ -4,7 +4,7 @@ ghost use Rattle.script_lines.specs.Tape.{nothing_past, told_in_memory};
 use crate::device::{DeviceFault, Source};
 use crate::tape::{Answer, Tape};
 
-/// A reader of bytes in memory. It never fails: its tape has no failures, whatever was called.
+/// A reader of bytes in memory. It never fails: its tape has no failures, whatever calls were made.
 #[derive(Drop)]
 pub struct SliceSource<'a> {
     rest: &'a [u8],
@@ -12,7 +12,7 @@ pub struct SliceSource<'a> {
 }
 
 impl<'a> SliceSource<'a> {
-    /// A reader that has these bytes left, and told nothing yet.
+    /// Creates a reader that has these bytes left, and has delivered nothing yet.
     pub fn new(bytes: &'a [u8]) -> SliceSource<'a>
         ensures rest { result.rest.now ≡ bytes.now }
         ensures past { result.tape.past ≡ nothing_past }

@@ -1,4 +1,4 @@
-// What a device has done so far. It exists only in proofs: it takes no memory, and no step of a program.
+// The past of a device. It exists only in proofs: it takes no memory and no time in a program.
 ghost use Rattle.std.specs.Prelude.{◌≡◌};
 ghost use Rattle.std.specs.Borrow.{ftrue};
 ghost use Rattle.script_lines.specs.Tape.{Past, past_code, nothing_past};
@@ -14,18 +14,18 @@ impl Model for Tape {
     ghost also_owns = { λ _. ftrue };
 }
 
-// One answer of a device.
+// One response of a device.
 #[derive(Clone, Copy, Drop)]
 pub(crate) enum Answer<'a> {
-    // It told or took these bytes.
+    // It delivered or took these bytes.
     Bytes(&'a [u8]),
-    // It told its end.
+    // It reported its end.
     End,
     // It failed.
     Failure,
 }
 
-// All that a device has done.
+// The whole past of a device.
 #[derive(Clone, Copy, Drop)]
 enum History<'a> {
     Nothing,
@@ -41,7 +41,7 @@ impl Tape {
         Tape::of(&History::Nothing)
     }
 
-    // The tape with one more answer on it, to a call with this much room.
+    // Returns the tape with one more response, to a call with this much room.
     pub(crate) fn then(&self, answer: Answer<'_>, room: usize) -> Tape
         ensures { result.past ≡ noted self.now.past answer.entry room }
     {

@@ -28,7 +28,7 @@ use Rattle.seq_repository.specs.Changes.{put_row, row_after, ReplacesExecution}
 use Rattle.seq_repository.specs.Reports.{IsReport, works_with}
 use Rattle.seq_repository.specs.declared.after.After.{After}
 use Rattle.seq_repository.specs.declared.rows.Change.TheVariants.{Report}
-use Rattle.seq_repository.specs.Kept.{Kept, IsKept, IsSound}
+use Rattle.seq_repository.specs.Kept.{Kept, IsRepository, IsSound}
 use Rattle.seq_repository.specs.Metered.{IsStep}
 use Rattle.seq_repository.proofs.Agendas.{KeepsOthers, agenda_changed, agenda_pushed, agenda_without, others_apart, others_beside, others_same}
 use Rattle.seq_repository.proofs.Below.{numbers_changed}
@@ -58,11 +58,11 @@ rising-put x (Some row) rows own rising =
 
 -- the rows and the agenda after an operation on job execution x
 kept-put : (limit : ℕ) (old done : List ℕ) (walks left : BTreeMap ℕ Slot) (kept after : Kept) (x : ℕ) (f : ExecutionRow → ExecutionRow) (new : Option ExecutionRow) (ready : Bool) (cursor : Option CursorState)
-    → IsKept limit old walks kept → IsSound limit after → after.catalogue ≡ kept.catalogue → after.records.executions ≡ put_row x new kept.records.executions
+    → IsRepository limit old walks kept → IsSound limit after → after.catalogue ≡ kept.catalogue → after.records.executions ≡ put_row x new kept.records.executions
     → KeepsOthers x kept.records.works after.records.works → IfSome new (λ row. ReplacesExecution kept.records.executions x row)
     → new ≡ option_map f (find (is_execution x) kept.records.executions) → ready ≡ is_ready_row kept.catalogue after.records.works new → Puts ready x old done
     → AllApart after.records.works → Walks kept.catalogue after.records.works (find (is_execution x) kept.records.executions) cursor → KeepsWalk x new cursor walks left
-    → IsKept limit done left after
+    → IsRepository limit done left after
 kept-put limit old done walks left kept after x f new ready cursor k sound same rows others own made is_ready puts apart walked stays =
     record {
       sound = sound;
@@ -81,11 +81,11 @@ kept-put limit old done walks left kept after x f new ready cursor k sound same 
     }
 
 pub kept_change : (limit : ℕ) (old done : List ℕ) (walks left : BTreeMap ℕ Slot) (kept : Kept) (m : Maps) (x : ℕ) (f : ExecutionRow → ExecutionRow) (new : Option ExecutionRow) (ready : Bool) (cursor : Option CursorState)
-    → IsKept limit old walks kept → kept.count < limit → IfSome new (λ row. ReplacesExecution kept.records.executions x row)
+    → IsRepository limit old walks kept → kept.count < limit → IfSome new (λ row. ReplacesExecution kept.records.executions x row)
     → new ≡ option_map f (find (is_execution x) kept.records.executions) → ready ≡ is_ready_row kept.catalogue kept.records.works new
     → m ≡ record kept.records { executions = put_row x new kept.records.executions } → Puts ready x old done
     → Walks kept.catalogue kept.records.works (find (is_execution x) kept.records.executions) cursor → KeepsWalk x new cursor walks left
-    → IsKept limit done left (record kept { count = kept.count + 1; records = m })
+    → IsRepository limit done left (record kept { count = kept.count + 1; records = m })
 kept_change limit old done walks left kept m x f new ready cursor k room own made is_ready is puts walked stays =
     let same : kept.records.works ≡ m.works = ap (λ (maps : Maps). maps.works) (sym is) in
     kept-put limit old done walks left kept (record kept { count = kept.count + 1; records = m }) x f new ready cursor k (sound_change limit kept m x new k.sound room own is) refl
@@ -94,12 +94,12 @@ kept_change limit old done walks left kept m x f new ready cursor k room own mad
     (subst AllApart same k.apart) (subst (λ works. Walks kept.catalogue works (find (is_execution x) kept.records.executions) cursor) same walked) stays
 
 pub kept_work : (limit : ℕ) (old done : List ℕ) (walks left : BTreeMap ℕ Slot) (kept : Kept) (m1 m2 : Maps) (x : ℕ) (f : ExecutionRow → ExecutionRow) (new : Option ExecutionRow) (ready : Bool) (cursor : Option CursorState) (work : WorkRow)
-    → IsKept limit old walks kept → kept.count < limit → IfSome new (λ row. ReplacesExecution kept.records.executions x row)
+    → IsRepository limit old walks kept → kept.count < limit → IfSome new (λ row. ReplacesExecution kept.records.executions x row)
     → new ≡ option_map f (find (is_execution x) kept.records.executions) → ready ≡ is_ready_row kept.catalogue (kept.records.works ++ work ∷ []) new
     → work.work ≡ kept.last.work + 1 → work.execution ≡ x → work.metrics ≡ zero_metrics
     → m1 ≡ record kept.records { works = kept.records.works ++ work ∷ [] } → m2 ≡ record m1 { executions = put_row x new m1.executions } → Puts ready x old done
     → AllApart (kept.records.works ++ work ∷ []) → Walks kept.catalogue (kept.records.works ++ work ∷ []) (find (is_execution x) kept.records.executions) cursor → KeepsWalk x new cursor walks left
-    → IsKept limit done left (record kept { count = kept.count + 1; last = record { instance = kept.last.instance; execution = kept.last.execution; work = kept.last.work + 1 }; records = m2 })
+    → IsRepository limit done left (record kept { count = kept.count + 1; last = record { instance = kept.last.instance; execution = kept.last.execution; work = kept.last.work + 1 }; records = m2 })
 kept_work limit old done walks left kept m1 m2 x f new ready cursor work k room own made is_ready next of zero e1 e2 puts apart walked stays =
     let whole : m2 ≡ record kept.records { executions = put_row x new kept.records.executions; works = kept.records.works ++ work ∷ [] } =
     e2 ∙ ap (λ (m : Maps). record m { executions = put_row x new m.executions }) e1 in
@@ -111,14 +111,14 @@ kept_work limit old done walks left kept m1 m2 x f new ready cursor work k room 
     (subst AllApart same apart) (subst (λ works. Walks kept.catalogue works (find (is_execution x) kept.records.executions) cursor) same walked) stays
 
 kept-report : (limit : ℕ) (old done : List ℕ) (walks left : BTreeMap ℕ Slot) (kept : Kept) (m1 m2 m3 : Maps) (p : WorkRow → Bool) (x : ℕ) (f : ExecutionRow → ExecutionRow) (row work : WorkRow) (new : Option ExecutionRow) (ready : Bool) (cursor : Option CursorState) (step : MetricStep)
-    → IsKept limit old walks kept → kept.count < limit → IfSome new (λ row. ReplacesExecution kept.records.executions x row)
+    → IsRepository limit old walks kept → kept.count < limit → IfSome new (λ row. ReplacesExecution kept.records.executions x row)
     → new ≡ option_map f (find (is_execution x) kept.records.executions) → ready ≡ is_ready_row kept.catalogue (change_first p (λ gone. work) kept.records.works) new
     → find p kept.records.works ≡ Some row → row.execution ≡ x → work.execution ≡ row.execution → work_key work ≡ work_key row
     → work.work ≡ row.work → work.metrics ≡ added row.metrics step → IsStep step
     → m1 ≡ record kept.records { checkpoints = m1.checkpoints } → m2 ≡ record m1 { works = change_first p (λ gone. work) m1.works }
     → m3 ≡ record m2 { executions = put_row x new m2.executions } → Puts ready x old done
     → Walks kept.catalogue (change_first p (λ gone. work) kept.records.works) (find (is_execution x) kept.records.executions) cursor → KeepsWalk x new cursor walks left
-    → IsKept limit done left (record kept { count = kept.count + 1; records = m3 })
+    → IsRepository limit done left (record kept { count = kept.count + 1; records = m3 })
 kept-report limit old done walks left kept m1 m2 m3 p x f row work new ready cursor step k room own made is_ready found of stays key same sum small e1 e2 e3 puts walked keeps =
     let whole = maps-changed kept.records m1 m2 m3 m1.checkpoints (change_first p (λ gone. work)) (put_row x new) e1 e2 e3 in
     let works : change_first p (λ gone. work) kept.records.works ≡ m3.works = ap (λ (maps : Maps). maps.works) (sym whole) in
@@ -130,18 +130,18 @@ kept-report limit old done walks left kept m1 m2 m3 p x f row work new ready cur
     (subst (λ l. Walks kept.catalogue l (find (is_execution x) kept.records.executions) cursor) works walked) keeps
 
 pub kept_reported : (limit : ℕ) (old done : List ℕ) (walks left : BTreeMap ℕ Slot) (kept : Kept) (m1 m2 m3 : Maps) (w at : ℕ) (work : WorkRow) (after : After) (cursor : Option CursorState)
-    → IsKept limit old walks kept → kept.count < limit → IsReport kept w at work after cursor
+    → IsRepository limit old walks kept → kept.count < limit → IsReport kept w at work after cursor
     → m1 ≡ record kept.records { checkpoints = m1.checkpoints } → m2 ≡ record m1 { works = works_with w work m1.works }
     → m3 ≡ record m2 { executions = put_row work.execution after.row m2.executions } → Puts after.ready work.execution old done → KeepsWalk work.execution after.row cursor walks left
-    → IsKept limit done left (record kept { count = kept.count + 1; records = m3 })
+    → IsRepository limit done left (record kept { count = kept.count + 1; records = m3 })
 kept_reported limit old done walks left kept m1 m2 m3 w at work after cursor k room r e1 e2 e3 puts keeps =
     kept-report limit old done walks left kept m1 m2 m3 (is_work w) work.execution (row_after Report kept.catalogue (works_with w work kept.records.works) at) r.row work after.row after.ready cursor r.step
     k room r.own r.new r.ready r.found (sym r.execution) r.execution r.key r.number r.counts r.small e1 e2 e3 puts r.walks keeps
 
 -- the rows and the agenda after a job execution is made
-kept-pushed : (limit : ℕ) (old put : List ℕ) (walks : BTreeMap ℕ Slot) (kept after : Kept) (row : ExecutionRow) → IsKept limit old walks kept → IsSound limit after → after.catalogue ≡ kept.catalogue
+kept-pushed : (limit : ℕ) (old put : List ℕ) (walks : BTreeMap ℕ Slot) (kept after : Kept) (row : ExecutionRow) → IsRepository limit old walks kept → IsSound limit after → after.catalogue ≡ kept.catalogue
     → after.records.works ≡ kept.records.works → after.records.executions ≡ kept.records.executions ++ row ∷ []
-    → row.execution ≡ kept.last.execution + 1 → row_status row ≡ Starting → put ≡ insert_key nat_cmp old row.execution → IsKept limit put walks after
+    → row.execution ≡ kept.last.execution + 1 → row_status row ≡ Starting → put ≡ insert_key nat_cmp old row.execution → IsRepository limit put walks after
 kept-pushed limit old put walks kept after row k sound catalogue works rows is status is_put =
     let below : AreBelow row.execution (execution_numbers kept.records.executions) =
     subst (λ n. AreBelow n (execution_numbers kept.records.executions)) (sym is) k.sound.last.execution in
@@ -162,26 +162,26 @@ kept-pushed limit old put walks kept after row k sound catalogue works rows is s
           ∙ ap (λ catalogue. agenda_of catalogue after.records.works after.records.executions) (sym catalogue)));
     }
 
-pub kept_start : (limit : ℕ) (old put : List ℕ) (walks : BTreeMap ℕ Slot) (kept : Kept) (m : Maps) (made : JobInstance) (row : ExecutionRow) → IsKept limit old walks kept
+pub kept_start : (limit : ℕ) (old put : List ℕ) (walks : BTreeMap ℕ Slot) (kept : Kept) (m : Maps) (made : JobInstance) (row : ExecutionRow) → IsRepository limit old walks kept
     → made.instance ≡ kept.last.instance + 1 → row.execution ≡ kept.last.execution + 1 → row_status row ≡ Starting → kept.count < limit → is_placed kept.catalogue row ≡ true
     → m ≡ record kept.records { instances = kept.records.instances ++ made ∷ []; executions = kept.records.executions ++ row ∷ [] } → put ≡ insert_key nat_cmp old row.execution
-    → IsKept limit put walks (record kept { count = kept.count + 1; last = record { instance = kept.last.instance + 1; execution = kept.last.execution + 1; work = kept.last.work }; records = m })
+    → IsRepository limit put walks (record kept { count = kept.count + 1; last = record { instance = kept.last.instance + 1; execution = kept.last.execution + 1; work = kept.last.work }; records = m })
 kept_start limit old put walks kept m made row k i x status room placed is is_put =
     kept-pushed limit old put walks kept (record kept { count = kept.count + 1; last = record { instance = kept.last.instance + 1; execution = kept.last.execution + 1; work = kept.last.work }; records = m }) row k
     (sound_start limit kept m made row k.sound i x room placed is) refl
     (ap (λ (maps : Maps). maps.works) is) (ap (λ (maps : Maps). maps.executions) is) x status is_put
 
-pub kept_restart : (limit : ℕ) (old put : List ℕ) (walks : BTreeMap ℕ Slot) (kept : Kept) (m : Maps) (row : ExecutionRow) → IsKept limit old walks kept → row.execution ≡ kept.last.execution + 1
+pub kept_restart : (limit : ℕ) (old put : List ℕ) (walks : BTreeMap ℕ Slot) (kept : Kept) (m : Maps) (row : ExecutionRow) → IsRepository limit old walks kept → row.execution ≡ kept.last.execution + 1
     → row_status row ≡ Starting → kept.count < limit → is_placed kept.catalogue row ≡ true
     → m ≡ record kept.records { executions = kept.records.executions ++ row ∷ [] } → put ≡ insert_key nat_cmp old row.execution
-    → IsKept limit put walks (record kept { count = kept.count + 1; last = record { instance = kept.last.instance; execution = kept.last.execution + 1; work = kept.last.work }; records = m })
+    → IsRepository limit put walks (record kept { count = kept.count + 1; last = record { instance = kept.last.instance; execution = kept.last.execution + 1; work = kept.last.work }; records = m })
 kept_restart limit old put walks kept m row k x status room placed is is_put =
     kept-pushed limit old put walks kept (record kept { count = kept.count + 1; last = record { instance = kept.last.instance; execution = kept.last.execution + 1; work = kept.last.work }; records = m }) row k
     (sound_restart limit kept m row k.sound x room placed is) refl
     (ap (λ (maps : Maps). maps.works) is) (ap (λ (maps : Maps). maps.executions) is) x status is_put
 
-pub kept_purge : (limit : ℕ) (old : List ℕ) (walks : BTreeMap ℕ Slot) (kept : Kept) (m : Maps) (i : ℕ) → IsKept limit old walks kept → kept.count < limit → list_any (is_running_in i) kept.records.executions ≡ false
-    → m ≡ without_instance i kept.records → IsKept limit old walks (record kept { count = kept.count + 1; records = m })
+pub kept_purge : (limit : ℕ) (old : List ℕ) (walks : BTreeMap ℕ Slot) (kept : Kept) (m : Maps) (i : ℕ) → IsRepository limit old walks kept → kept.count < limit → list_any (is_running_in i) kept.records.executions ≡ false
+    → m ≡ without_instance i kept.records → IsRepository limit old walks (record kept { count = kept.count + 1; records = m })
 kept_purge limit old walks kept m i k room finished is =
     record {
       sound = sound_purge limit kept m i k.sound room is;
@@ -200,8 +200,8 @@ kept_purge limit old walks kept m i k room finished is =
     }
 
 -- a cursor is taken out of its slot
-pub kept_taken : (limit : ℕ) (numbers : List ℕ) (walks left : BTreeMap ℕ Slot) (kept : Kept) (x : ℕ) → IsKept limit numbers walks kept
-    → ((q : ℕ) → kept_at left q ≡ cond (is_eq (nat_cmp x q)) None (kept_at walks q)) → keys left ≡ keys walks → IsKept limit numbers left kept
+pub kept_taken : (limit : ℕ) (numbers : List ℕ) (walks left : BTreeMap ℕ Slot) (kept : Kept) (x : ℕ) → IsRepository limit numbers walks kept
+    → ((q : ℕ) → kept_at left q ≡ cond (is_eq (nat_cmp x q)) None (kept_at walks q)) → keys left ≡ keys walks → IsRepository limit numbers left kept
 kept_taken limit numbers walks left kept x k rest same =
     record {
       sound = k.sound;

@@ -17,12 +17,12 @@ agenda_of catalogue works executions = execution_numbers (filter (has_ready cata
 abbrev pub without_number : ℕ → List ℕ → List ℕ
 without_number x numbers = remove_key (λ y. is_eq (nat_cmp x y)) numbers
 
--- an ordered set with this number, or without it
+-- an ordered set with this number if the flag is true, else without it
 abbrev pub put_number : Bool → ℕ → List ℕ → List ℕ
 put_number true x numbers = insert_key nat_cmp numbers x
 put_number false x numbers = without_number x numbers
 
--- whether there is something to do for a job execution, if it is there
+-- whether there is a job execution, and something to do for it
 abbrev pub is_ready_row : List JobTree → List WorkRow → Option ExecutionRow → Bool
 is_ready_row catalogue works None = false
 is_ready_row catalogue works (Some row) = has_ready catalogue works row

@@ -1,4 +1,4 @@
--- What an operation does to the job execution that it is on.
+-- The change that an operation makes to its job execution.
 use Rattle.std.specs.Prelude.{ℕ, ◌≡◌, true, false, Option, None, Some, List, find}
 use Rattle.std.specs.Option.{option_map}
 use Rattle.batch_ids.specs.declared.status.WorkOutcome.{WorkOutcome}
@@ -16,39 +16,39 @@ use Rattle.records.specs.Maps.{Maps, KeepsExecution, SetsCheckpoint}
 use Rattle.seq_repository.specs.declared.rows.Change.{Change}
 use Rattle.seq_repository.specs.declared.rows.Change.TheVariants.{StopRequest, Abandonment, Claim as TakeUp, Report}
 
--- the effect on a job execution that is asked to stop, abandoned, taken up or reported of
+-- the effect on a job execution that is asked to stop, abandoned, taken up or reported on
 abbrev pub effect_of : Change → Effect
 effect_of StopRequest = record { asks = true; gives_up = false; takes = false }
 effect_of Abandonment = record { asks = false; gives_up = true; takes = false }
 effect_of TakeUp = record { asks = false; gives_up = false; takes = true }
 effect_of Report = record { asks = false; gives_up = false; takes = false }
 
--- the row after it, `works` being the work items after it
+-- the row of a job execution after a change, if `works` are the work items after it
 abbrev pub row_after : Change → List JobTree → List WorkRow → ℕ → ExecutionRow → ExecutionRow
 row_after change catalogue works at row =
     refreshed (effect_of change) (walk_value catalogue works row.execution row.job row.plan) at row
 
--- the job executions with this row, if there is one, in place of the one of its number
+-- the job executions, with this row instead of the row of job execution x, if a row is given
 abbrev pub put_row : ℕ → Option ExecutionRow → List ExecutionRow → List ExecutionRow
 put_row x None rows = rows
 put_row x (Some row) rows = change_first (is_execution x) (λ old. row) rows
 
--- a row may stand in place of that of job execution x, which is there: it keeps what the indexes go by, and its plan, by which
--- its walk goes
+-- a row may replace the row of job execution x, which exists: it has the same indexed fields, and the same
+-- plan, which its walk follows
 abbrev pub ReplacesExecution : List ExecutionRow → ℕ → ExecutionRow → Type 0
 ReplacesExecution rows x row =
     (before : ExecutionRow) × (find (is_execution x) rows ≡ Some before) × KeepsExecution before row × (row.plan ≡ before.plan)
 
--- the step of the job instance of this job execution, if there is one
+-- the step in the job instance of this job execution, if this exists
 abbrev pub place_at : Option ExecutionRow → WorkKey → Option InstanceStep
 place_at row step = option_map (λ r. record { instance = r.instance; step = step }) row
 
--- the checkpoint of this step, if there is one, is set to this mark or cleared, and no other row changes
+-- the checkpoint of this step, if the step is given, is set to this mark or cleared, and no other row changes
 abbrev pub SetsMark : Option InstanceStep → Option (List ℕ) → Maps → Maps → Type 0
 SetsMark None mark before after = after ≡ before
 SetsMark (Some p) mark before after = SetsCheckpoint before after p mark
 
--- a step that is completed keeps no checkpoint
+-- a step that is COMPLETED loses its checkpoint
 abbrev pub LeavesMark : WorkOutcome → Option InstanceStep → Maps → Maps → Type 0
 LeavesMark Completed p before after = SetsMark p None before after
 LeavesMark Failed p before after = after ≡ before

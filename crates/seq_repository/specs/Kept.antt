@@ -1,4 +1,4 @@
--- What a repository keeps, and the histories that it stands for.
+-- The state of a repository, and the histories that it represents.
 use Rattle.std.specs.Prelude.{ℕ, ◌≡◌, ◌≤◌, ◌+◌, List}
 use Rattle.std.specs.BTreeMap.{BTreeMap}
 use Rattle.batch_ids.specs.Metrics.{most_after}
@@ -16,26 +16,26 @@ use Rattle.seq_repository.specs.Following.{AreFollowed, AreOfUnfinished, kept_at
 use Rattle.seq_repository.specs.Metered.{AreWithin}
 use Rattle.seq_repository.specs.declared.cursors.Slot.{Slot}
 
--- what a repository keeps: a catalogue, how many operations were accepted, the last number that was given to a job
--- instance, a job execution and a work item, and the rows
+-- the state of a repository: a catalogue, the number of accepted operations, the last numbers that were given
+-- to a job instance, a job execution and a work item, and the rows
 pub record Kept : Type 0 where
   pub catalogue : List JobTree
   pub count : ℕ
   pub last : LastNumbers
   pub records : Maps
 
--- what it says
+-- the rows of a state
 abbrev pub rows_in : Kept → Rows
 rows_in kept = rows_over kept.catalogue kept.count kept.last kept.records
 
--- no row has a number above the last that was given
+-- no row has a number greater than the last that was given
 pub record AreLast (last : LastNumbers) (maps : Maps) : Type 0 where
   pub instance : AreBelow (last.instance + 1) (instance_numbers maps.instances)
   pub execution : AreBelow (last.execution + 1) (execution_numbers maps.executions)
   pub work : AreBelow (last.work + 1) (work_numbers maps.works)
 
--- what a repository of at most so many operations keeps to: an operation gives one number of each kind at most, the
--- counts of work items fit, and each walk begins at an element of the own list of its job
+-- the invariant of a repository of at most `limit` operations. An operation gives at most one number of each
+-- kind. The counts of work items fit. Each walk begins at an element of its job's own list.
 pub record IsSound (limit : ℕ) (kept : Kept) : Type 0 where
   pub few : limit ≤ 1000000
   pub room : kept.count ≤ limit
@@ -46,10 +46,10 @@ pub record IsSound (limit : ℕ) (kept : Kept) : Type 0 where
   pub metrics : AreWithin (most_after kept.count) kept.records.works
   pub placed : ArePlaced kept.catalogue kept.records.executions
 
--- what it keeps to beside: job executions stand by rising number, no work key of one has two work items, its agenda has the
--- numbers of those that have something to do, and each of its cursors follows the walk of an unfinished one, of which alone
--- there are slots
-pub record IsKept (limit : ℕ) (numbers : List ℕ) (cursors : BTreeMap ℕ Slot) (kept : Kept) : Type 0 where
+-- its further invariant. The numbers of job executions rise. No two work items of a job execution have the
+-- same work key. The agenda has the numbers of the job executions that have something to do. Each cursor
+-- follows the walk of an unfinished job execution. Only unfinished ones have slots.
+pub record IsRepository (limit : ℕ) (numbers : List ℕ) (cursors : BTreeMap ℕ Slot) (kept : Kept) : Type 0 where
   pub sound : IsSound limit kept
   pub rising : AreRising (execution_numbers kept.records.executions)
   pub apart : AllApart kept.records.works
@@ -57,11 +57,11 @@ pub record IsKept (limit : ℕ) (numbers : List ℕ) (cursors : BTreeMap ℕ Slo
   pub followed : AreFollowed kept.catalogue kept.records.works kept.records.executions (kept_at cursors)
   pub slots : AreOfUnfinished kept.records.executions cursors
 
--- a repository stands for a history if it says what the history says
+-- a repository represents a history if its rows are the history's
 abbrev pub StandsFor : Kept → History → Type 0
 StandsFor kept h = rows_in kept ≡ rows h
 
--- an entry is the next operation after what is kept: some history that it stands for is legal with it too
+-- an entry is the next operation in this state: some history that the state represents is legal with it too
 pub record IsNext (limit : ℕ) (kept : Kept) (e : Entry) : Type 0 where
   pub history : History
   pub stands : StandsFor kept history

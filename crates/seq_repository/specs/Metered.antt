@@ -1,14 +1,14 @@
--- How far the counts of work items go.
+-- The bounds of the counts of work items.
 use Rattle.std.specs.Prelude.{ℕ, ◌≤◌, List, map}
 use Rattle.batch_ids.specs.Metrics.{IsWithin, sum_of_metrics}
 use Rattle.batch_ids.specs.declared.metric_step.MetricStep.{MetricStep}
 use Rattle.batch_history.specs.declared.rows.WorkRow.{WorkRow}
 
--- the counts of all these work items come to at most this
+-- the sum of each count of these work items is at most this
 abbrev pub AreWithin : ℕ → List WorkRow → Type 0
 AreWithin most works = IsWithin most (sum_of_metrics (map (λ row. row.metrics) works))
 
--- what is added to each count is at most 4,294,967,295
+-- a metric step adds at most 4,294,967,295 to each count
 pub record IsStep (step : MetricStep) : Type 0 where
   pub read : step.read_count ≤ 4294967295
   pub write : step.write_count ≤ 4294967295

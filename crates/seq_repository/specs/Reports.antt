@@ -1,4 +1,4 @@
--- What a report of a work item makes of it and of its job execution.
+-- The effect of a report of a work item on its row and on its job execution.
 use Rattle.std.specs.Prelude.{ℕ, ◌≡◌, Option, Some, IfSome, List, find}
 use Rattle.std.specs.Option.{option_map}
 use Rattle.batch_ids.specs.Metrics.{added}
@@ -17,12 +17,12 @@ use Rattle.seq_repository.specs.Metered.{IsStep}
 use Rattle.seq_repository.specs.declared.after.After.{After}
 use Rattle.seq_repository.specs.declared.rows.Change.TheVariants.{Report}
 
--- the work items with this one in the place of work item w
+-- the work items, with this one instead of work item w
 abbrev pub works_with : ℕ → WorkRow → List WorkRow → List WorkRow
 works_with w work works = change_first (is_work w) (λ old. work) works
 
--- a report puts this row in the place of that of work item w, and makes this of its job execution, whose walk then is in
--- this cursor
+-- a report replaces the row of work item w and the row of its job execution by these rows; this cursor then
+-- has the walk
 pub record IsReport (kept : Kept) (w at : ℕ) (work : WorkRow) (after : After) (cursor : Option CursorState) : Type 0 where
   pub row : WorkRow
   pub found : find (is_work w) kept.records.works ≡ Some row

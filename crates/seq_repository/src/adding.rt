@@ -1,4 +1,4 @@
-//! Rows that are added, each with its number on the agenda: both are, or neither is.
+//! Adding a row, together with its number on the agenda. Either both are added, or neither is.
 ghost use Rattle.std.specs.Prelude.{◌≡◌, ◌++◌, ◌∷◌, [], Some, OnOk, OnErr, if◌then◌else◌};
 ghost use Rattle.std.specs.BTreeSet.{insert_key};
 ghost use Rattle.std.specs.Ordering.{nat_cmp};
@@ -79,8 +79,8 @@ fn put_work(records: &mut Records, who: u64, at: Moment, item: &WorkItem) -> Res
     records.add_work(work)
 }
 
-/// Adds a work item of a job execution that is handed out, which stays on the agenda if there is more
-/// to do for it.
+/// Adds a work item that is handed out. Its job execution stays on the agenda if there is more to
+/// do for it.
 pub(crate) fn add_work(
     agenda: &mut BTreeSet<u64>,
     records: &mut Records,
@@ -129,8 +129,8 @@ fn set_mark(
     }
 }
 
-/// Keeps the checkpoint of a step of the job instance of this job execution, if there is one, which
-/// is on the agenda if there is something to do for it.
+/// Stores the checkpoint of a step of the job instance of this job execution, if this exists. The
+/// job execution is on the agenda afterwards if there is something to do for it.
 pub(crate) fn put_mark(
     agenda: &mut BTreeSet<u64>,
     records: &mut Records,

@@ -1,4 +1,4 @@
-//! What a report of a work item makes of its job execution.
+//! The state of a job execution after a report of one of its work items.
 ghost use Rattle.std.specs.Prelude.{◌≡◌, List, find, IfOk, IfSome};
 ghost use Rattle.std.specs.Option.{option_map};
 ghost use Rattle.batch_history.specs.Replies.{is_execution};
@@ -18,17 +18,18 @@ use job_walk::{Cursor, WorkKey};
 use records::Records;
 use std::alloc::Global;
 
-/// What a report of a work item makes of the row of its job execution, if that is there.
+/// The state after a report of a work item.
 pub(crate) struct After {
-    /// The work item's place in the job.
+    /// The work key of the work item.
     pub(crate) step: WorkKey,
-    /// The row of the job execution.
+    /// The new row of the job execution, if it exists.
     pub(crate) row: Option<ExecutionRow>,
-    /// Whether there is something to do for it.
+    /// Whether there is something to do for the job execution.
     pub(crate) ready: bool,
 }
 
-/// What a report makes of the job execution of this work item, by its walk then.
+/// Returns the state after a report of this work item. `cursor` has the walk of its job execution
+/// after the report.
 pub(crate) fn after_report(
     alloc: Global,
     records: &Records,

@@ -1,4 +1,4 @@
-//! The numbers of the job executions that have something to do, in an ordered set.
+//! The agenda: an ordered set of the numbers of the job executions that have something to do.
 ghost use Rattle.std.specs.Prelude.{◌≡◌, IfOk, OnOk, OnErr, if◌then◌else◌};
 ghost use Rattle.std.specs.BTreeSet.{insert_key};
 ghost use Rattle.std.specs.Ordering.{nat_cmp};
@@ -7,7 +7,8 @@ ghost use Rattle.seq_repository.specs.Agendas.{without_number};
 use batch_ids::{ExecutionId, OutOfMemory};
 use std::collections::BTreeSet;
 
-/// Puts a job execution that has something to do on the agenda, and tells whether it was missing.
+/// Adds a job execution to the agenda if `ready`. Returns whether it was missing and has been
+/// added.
 #[tactic(auto, using(crate::proofs::Numbers::taken_back))]
 pub(crate) fn put(
     agenda: &mut BTreeSet<u64>,
@@ -28,7 +29,7 @@ pub(crate) fn put(
     }
 }
 
-/// Takes a job execution off the agenda, if it is to go.
+/// Removes a job execution from the agenda if `goes`.
 pub(crate) fn remove_if(agenda: &mut BTreeSet<u64>, x: ExecutionId, goes: bool)
     ensures { agenda.new.keys
         ≡ (if goes then without_number x agenda.old.keys else agenda.old.keys) }

@@ -17,7 +17,7 @@ use jsl_model::Catalogue;
 use records::Records;
 use std::alloc::Global;
 
-/// What a query is answered by these rows.
+/// Returns the answer to a query, from these rows.
 pub(crate) fn answer(
     alloc: Global,
     catalogue: &Catalogue,
@@ -58,7 +58,8 @@ pub(crate) fn answer(
     }
 }
 
-/// The row of a job execution that is there.
+/// Returns the row of a job execution, or `NoSuchJobExecutionException` if there is no such job
+/// execution.
 fn known(rows: &Records, x: ExecutionId) -> Result<&ExecutionRow, Refusal>
     ensures there { IfOk result (λ row. find (is_execution x) rows.now.executions ≡ Some row.now) }
     ensures none { IfErr result (λ refusal. (refusal ≡ Refusal.NoSuchJobExecutionException)
@@ -70,7 +71,7 @@ fn known(rows: &Records, x: ExecutionId) -> Result<&ExecutionRow, Refusal>
     }
 }
 
-/// Whether a job has a job instance.
+/// Checks whether a job has a job instance.
 fn is_known(rows: &Records, job: &T256) -> bool
     ensures { (found : Answer)
         → if_job_known (instances_of_job job.now rows.now.instances) found
@@ -118,7 +119,8 @@ fn instances(
     Ok(Answer::JobInstances(Listed::from_vec(page)))
 }
 
-/// At most `count` of the job instances of a job, the newest first, without the `start` newest.
+/// Returns at most `count` of the job instances of a job, the newest first, without the `start`
+/// newest.
 fn newest(
     alloc: Global,
     rows: &Records,
@@ -165,7 +167,7 @@ fn executions(alloc: Global, rows: &Records, i: InstanceId) -> Result<Answer, Re
     Ok(Answer::JobExecutions(Listed::from_vec(records)))
 }
 
-/// The records of the job executions of a job instance, the newest first.
+/// Returns the records of the job executions of a job instance, the newest first.
 fn records_of(
     alloc: Global,
     rows: &Records,

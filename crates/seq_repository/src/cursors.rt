@@ -1,4 +1,5 @@
-//! The walks of job executions, each in a cursor that is kept from its first claim to its end.
+//! The walks of job executions. A cursor stores each of them, from the first claim of the job
+//! execution to its end.
 ghost use Rattle.std.specs.Prelude.{ℕ, ◌≡◌, ◌++◌, ◌∷◌, [], true, false, None, Some, List, find, option_copied, IfOk, IfSome, if◌then◌else◌};
 ghost use Rattle.std.specs.BTreeMap.{get, keys};
 ghost use Rattle.std.specs.Ordering.{nat_cmp, is_eq};
@@ -25,15 +26,14 @@ use std::alloc::Global;
 use std::collections::BTreeMap;
 use std::fmt::{self, Debug, Formatter};
 
-/// Where the walk of a job execution is kept. It is empty while an operation has the walk, and after
-/// one that was refused memory.
+/// The slot for the walk of a job execution. It is empty while an operation has the walk, and after
+/// an operation that was refused memory.
 #[derive(Drop)]
 pub(crate) struct Slot {
     pub(crate) cursor: Option<Cursor>,
 }
 
-/// The walks that are kept, as they are printed: by the numbers of their job executions, without the
-/// slots that are empty.
+/// The stored walks, for printing: by the numbers of their job executions, without the empty slots.
 #[derive(Drop)]
 pub(crate) struct KeptCursors<'a> {
     pub(crate) slots: &'a BTreeMap<u64, Slot>,
@@ -51,7 +51,7 @@ impl<'a> Debug for KeptCursors<'a> {
     }
 }
 
-/// The walk of a job execution, where its work items tell this of its work keys.
+/// Makes the walk of a job execution from the facts about its work keys.
 fn resumed(
     alloc: Global,
     catalogue: &Catalogue,
@@ -88,7 +88,7 @@ fn current_of(
     }
 }
 
-/// The walk of a job execution as it stands, if it is there: the one that was kept, or else one that
+/// Returns the current walk of a job execution, if this exists: the stored walk, or else one that
 /// is made anew.
 pub(crate) fn current(
     kept: Option<Cursor>,
@@ -112,8 +112,8 @@ pub(crate) fn current(
     }
 }
 
-/// The walk of a job execution, if it is there, once this work item of its first ready work key is
-/// handed out.
+/// Returns the walk of a job execution, if this exists, after this work item of its first ready
+/// work key is handed out.
 pub(crate) fn claimed(
     kept: Option<Cursor>,
     alloc: Global,
@@ -146,8 +146,8 @@ pub(crate) fn claimed(
     }
 }
 
-/// Tells a walk that was kept that a work item is over, where it shows it as being run, and whether it
-/// does.
+/// Reports the end of a work item to a stored walk, if the walk shows the work item as being run.
+/// Returns whether it does.
 fn tell_end(
     cursor: &mut Cursor,
     work: &WorkRow,
@@ -169,7 +169,7 @@ fn tell_end(
     Ok(false)
 }
 
-/// The walk of a job execution once a work item of it is over, made anew.
+/// Makes the walk of a job execution anew, as it is after this work item of it is over.
 fn remade(
     alloc: Global,
     catalogue: &Catalogue,
@@ -190,8 +190,8 @@ fn remade(
     resumed(alloc, catalogue, known.as_slice(), row)
 }
 
-/// The walk of a job execution once a work item of it is over. One that was kept goes on where it
-/// shows the work item as being run.
+/// Returns the walk of a job execution after this work item of it is over. The stored walk goes on,
+/// if it shows the work item as being run. Else the walk is made anew.
 fn finished_of(
     kept: Option<Cursor>,
     alloc: Global,
@@ -228,7 +228,8 @@ fn finished_of(
     }
 }
 
-/// The walk of the job execution of a work item, if it is there, once the work item is over.
+/// Returns the walk of the job execution of a work item, if this exists, after the work item is
+/// over.
 pub(crate) fn finished(
     kept: Option<Cursor>,
     alloc: Global,
@@ -257,7 +258,7 @@ pub(crate) fn finished(
     }
 }
 
-/// The walk that is kept of a job execution, if one is.
+/// Returns the stored walk of a job execution, if there is one.
 pub(crate) fn kept(cursors: &BTreeMap<u64, Slot>, x: ExecutionId) -> Option<&Cursor>
     ensures { option_copied result ≡ kept_at cursors.now x }
 {
@@ -267,7 +268,7 @@ pub(crate) fn kept(cursors: &BTreeMap<u64, Slot>, x: ExecutionId) -> Option<&Cur
     }
 }
 
-/// Takes the walk of a job execution out of its slot, which stays.
+/// Takes the walk of a job execution out of its slot. The slot stays.
 pub(crate) fn take(cursors: &mut BTreeMap<u64, Slot>, x: ExecutionId) -> Option<Cursor>
     ensures taken { result ≡ kept_at cursors.old x }
     ensures left { (q : ℕ) → kept_at cursors.new q
@@ -280,8 +281,8 @@ pub(crate) fn take(cursors: &mut BTreeMap<u64, Slot>, x: ExecutionId) -> Option<
     }
 }
 
-/// Puts the walk of a job execution into its slot, or into a new one. Where memory is refused it is
-/// not kept.
+/// Puts the walk of a job execution into its slot, or into a new slot. If memory is refused, the
+/// walk isn't stored.
 fn put(cursors: &mut BTreeMap<u64, Slot>, x: ExecutionId, cursor: Cursor)
     ensures others { (q : ℕ) → is_eq (nat_cmp x q) ≡ false
         → get nat_cmp cursors.new q ≡ get nat_cmp cursors.old q }
@@ -300,8 +301,8 @@ fn put(cursors: &mut BTreeMap<u64, Slot>, x: ExecutionId, cursor: Cursor)
     }
 }
 
-/// Keeps the walk of a job execution that is unfinished still, and otherwise no slot for it. Where
-/// memory is refused it is not kept, and is made anew when it is needed.
+/// Stores the walk of a job execution that is still unfinished, and else removes its slot. If
+/// memory is refused, the walk isn't stored, and is made anew when it is needed.
 pub(crate) fn keep(
     cursors: &mut BTreeMap<u64, Slot>,
     x: ExecutionId,

@@ -31,7 +31,7 @@ use records::Records;
 use restart_rules::{first_plan, restart_plan};
 use std::alloc::Global;
 
-/// Puts a row in place of that of its job execution.
+/// Replaces the row of a job execution, if a new one is given.
 fn put_row(records: &mut Records, x: ExecutionId, new: Option<ExecutionRow>)
     requires { IfSome new (λ row. ReplacesExecution records.old.executions x row) }
     ensures { records.new ≡ record records.old { executions = put_row x new records.old.executions } }
@@ -42,7 +42,7 @@ fn put_row(records: &mut Records, x: ExecutionId, new: Option<ExecutionRow>)
     }
 }
 
-/// Drops the checkpoint of a step that is completed.
+/// Drops the checkpoint of a step if the outcome is COMPLETED.
 fn drop_mark(records: &mut Records, outcome: WorkOutcome, row: &Option<ExecutionRow>, step: WorkKey)
     ensures { LeavesMark outcome (place_at row.now step) records.old records.new }
 {
@@ -59,8 +59,8 @@ fn drop_mark(records: &mut Records, outcome: WorkOutcome, row: &Option<Execution
     }
 }
 
-/// The row of a job execution after an operation on it, if it is there, by its walk then, and whether
-/// there is something to do for it.
+/// Returns the row of a job execution after an operation on it, if it exists, and whether there is
+/// something to do for it. `cursor` has its walk after the operation.
 pub(crate) fn execution_after(
     alloc: Global,
     records: &Records,
@@ -95,7 +95,7 @@ pub(crate) fn execution_after(
 }
 
 impl<const LIMIT: u64> Repository<LIMIT> {
-    /// Takes the walk of a job execution out of those that are kept.
+    /// Takes the walk of a job execution out of the stored walks.
     fn take_cursor(&mut self, x: ExecutionId) -> Option<Cursor>
         ensures same { self.new ≡ self.old }
         ensures cursor { IfSome result (IsFollowed self.old.catalogue
@@ -187,7 +187,7 @@ impl<const LIMIT: u64> Repository<LIMIT> {
         self.change_with(kept, x, change, at)
     }
 
-    /// The same with the walk that was kept of it, if one was.
+    /// Like `enter_change`, given the stored walk of the job execution, if there is one.
     fn change_with(
         &mut self,
         kept: Option<Cursor>,
@@ -212,7 +212,7 @@ impl<const LIMIT: u64> Repository<LIMIT> {
         result
     }
 
-    /// The same with its walk, if it is there.
+    /// Like `enter_change`, given the walk of the job execution, if this exists.
     fn change_by(
         &mut self,
         cursor: &mut Option<Cursor>,
@@ -258,8 +258,8 @@ impl<const LIMIT: u64> Repository<LIMIT> {
         self.work_with(kept, who, at, item)
     }
 
-    /// Enters that a work item is handed out, with the walk that was kept of its job execution, if
-    /// one was.
+    /// Enters that a work item is handed out, given the stored walk of its job execution, if there
+    /// is one.
     fn work_with(
         &mut self,
         kept: Option<Cursor>,
@@ -285,7 +285,8 @@ impl<const LIMIT: u64> Repository<LIMIT> {
         result
     }
 
-    /// The same with its walk once the work item is handed out, if it is there.
+    /// Like `work_with`, given the walk after the work item is handed out, if the job execution
+    /// exists.
     fn work_by(
         &mut self,
         cursor: &mut Option<Cursor>,
@@ -347,7 +348,8 @@ impl<const LIMIT: u64> Repository<LIMIT> {
         self.checkpoint_with(kept, at, w, mark, step)
     }
 
-    /// The same with the walk that was kept of its job execution, if one was.
+    /// Enters a checkpoint of a work item, given the stored walk of its job execution, if there is
+    /// one.
     fn checkpoint_with(
         &mut self,
         kept: Option<Cursor>,
@@ -379,7 +381,7 @@ impl<const LIMIT: u64> Repository<LIMIT> {
         result
     }
 
-    /// The same with its walk, if it is there.
+    /// Like `checkpoint_with`, given the walk of the job execution, if this exists.
     fn checkpoint_by(
         &mut self,
         cursor: &mut Option<Cursor>,
@@ -414,7 +416,7 @@ impl<const LIMIT: u64> Repository<LIMIT> {
         }
     }
 
-    /// Puts what a checkpoint of a work item makes of it and of its job execution.
+    /// Stores the rows of a work item and of its job execution after a checkpoint of the work item.
     fn put_checkpoint(
         &mut self,
         w: WorkId,
@@ -486,8 +488,8 @@ impl<const LIMIT: u64> Repository<LIMIT> {
         self.finish_with(kept, at, w, outcome, exit, step)
     }
 
-    /// The same with the walk that was kept of its job execution, if one was, and the exit status that
-    /// the work item shows then.
+    /// Enters the end of a work item, with the exit status that the work item shows then. `kept` is
+    /// the stored walk of its job execution, if there is one.
     fn finish_with(
         &mut self,
         kept: Option<Cursor>,
@@ -529,7 +531,7 @@ impl<const LIMIT: u64> Repository<LIMIT> {
         result
     }
 
-    /// The same with its walk once the work item is over, if it is there.
+    /// Like `finish_with`, given the walk after the work item is over, if the job execution exists.
     fn finish_by(
         &mut self,
         cursor: &mut Option<Cursor>,
@@ -567,7 +569,7 @@ impl<const LIMIT: u64> Repository<LIMIT> {
         }
     }
 
-    /// Puts what the end of a work item makes of it and of its job execution.
+    /// Stores the rows of a work item and of its job execution after the end of the work item.
     fn put_end(
         &mut self,
         w: WorkId,
@@ -657,7 +659,7 @@ impl<const LIMIT: u64> Repository<LIMIT> {
         }
     }
 
-    /// Enters a call with the reply that it is due.
+    /// Enters a call with its reply.
     #[tactic(auto, using(crate::proofs::Replying::started_there, crate::proofs::Replying::restarted_there, crate::proofs::Replying::lost_there, crate::proofs::Replying::checkpointed_there, crate::proofs::Replying::finished_there, crate::proofs::Entries::stop_rows, crate::proofs::Entries::abandon_rows))]
     pub(crate) fn enter_call(
         &mut self,
@@ -703,7 +705,7 @@ impl<const LIMIT: u64> Repository<LIMIT> {
         }
     }
 
-    /// Answers a call, and enters it where it is accepted.
+    /// Returns the reply to a call, and enters the call if it is accepted.
     #[tactic(auto, using(crate::proofs::Replying::accepted_room))]
     pub(crate) fn decide_and_enter(
         &mut self,

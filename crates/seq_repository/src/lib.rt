@@ -1,5 +1,5 @@
-//! The sequential job repository: what each call and query is answered after a history of accepted
-//! operations, kept in rows.
+//! The sequential job repository: the reply to each call, and the answer to each query, after a
+//! history of accepted operations. It stores the history as rows.
 #![tactic(auto)]
 
 mod adding;

@@ -12,7 +12,7 @@ use batch_ids::Refusal;
 use reply_rules::{Standing, accept};
 
 impl<const LIMIT: u64> Repository<LIMIT> {
-    /// What its calls are answered by.
+    /// Returns the state from which its calls are replied to.
     fn standing(&self) -> Standing<'_, LIMIT>
         ensures rows { rows_at result ≡ rows_in self.now }
         ensures executions { result.last.execution ≤ 1000000 }
@@ -46,7 +46,7 @@ impl<const LIMIT: u64> Repository<LIMIT> {
         }
     }
 
-    /// What a call of the session `who` is answered.
+    /// Returns the reply to a call of the session `who`.
     pub(crate) fn reply(&self, who: u64, call: &Call) -> Result<Reply, Refusal>
         ensures { IsDue result (reply_by LIMIT (rows_in self.now) who call.now) }
     {

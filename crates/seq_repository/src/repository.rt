@@ -19,11 +19,11 @@ use std::marker::Model;
 
 /// A job repository for one caller, of at most `LIMIT` accepted operations. Contracts see its rows.
 ///
-/// It stands for a history: a catalogue and the operations that were accepted over it. See Jakarta
+/// It represents a history: a catalogue and the operations that were accepted over it. See Jakarta
 /// Batch 2.1, "JobRepository" and "JobOperator".
 #[derive(Drop)]
 pub struct Repository<const LIMIT: u64> {
-    /// Where the rows, replies and answers take their memory.
+    /// The allocator for the rows, replies and answers.
     pub(crate) alloc: Global,
     pub(crate) catalogue: Catalogue,
     pub(crate) count: u64,
@@ -55,7 +55,7 @@ impl<const LIMIT: u64> Debug for Repository<LIMIT> {
 }
 
 impl<const LIMIT: u64> Model for Repository<LIMIT> {
-    ghost use Rattle.seq_repository.specs.Kept.{Kept, IsKept};
+    ghost use Rattle.seq_repository.specs.Kept.{Kept, IsRepository};
     ghost use Rattle.jsl_model.specs.contracts.element.Body as body;
     ghost use Rattle.std.specs.Coded.{codes};
 
@@ -65,11 +65,11 @@ impl<const LIMIT: u64> Model for Repository<LIMIT> {
 
     ghost view = { λ r. record { catalogue = r.catalogue; count = r.count; last = r.last; records = r.records } };
 
-    ghost invariant = { λ r. IsKept LIMIT r.agenda.keys r.cursors record { catalogue = r.catalogue; count = r.count; last = r.last; records = r.records } };
+    ghost invariant = { λ r. IsRepository LIMIT r.agenda.keys r.cursors record { catalogue = r.catalogue; count = r.count; last = r.last; records = r.records } };
 }
 
 impl<const LIMIT: u64> Repository<LIMIT> {
-    /// A repository with no operation yet. It stands for the empty history over its catalogue.
+    /// Creates a repository without operations. It represents the empty history over its catalogue.
     ///
     /// `LIMIT` is at most 1,000,000. All memory that the repository takes later comes from `alloc`.
     ///
@@ -97,19 +97,20 @@ impl<const LIMIT: u64> Repository<LIMIT> {
         })
     }
 
-    /// How many operations were accepted.
+    /// Returns the number of accepted operations.
     pub fn len(&self) -> u64
         ensures { result ≡ self.now.count }
     {
         self.count
     }
 
-    /// What `apply` would answer a call of the session `who`. Nothing changes.
+    /// Returns the reply that `apply` would return to a call of the session `who`. Nothing changes.
     ///
     /// # Errors
     ///
-    /// The first refusal of the call that stands, `RepositoryFull` after the call's own refusals where
-    /// `LIMIT` operations were accepted, or `OutOfMemory` in place of any answer.
+    /// The first refusal of the call that applies. After the call's own refusals, `RepositoryFull`
+    /// if `LIMIT` operations were accepted. It may return `OutOfMemory` instead of any of these
+    /// results.
     #[tactic(auto, using(crate::proofs::Standing::due_for))]
     pub fn preview(&self, who: u64, call: &Call) -> Result<Reply, Refusal>
         ensures { (h : History) → StandsFor self.now h → IsDue result (reply LIMIT h who call.now) }
@@ -117,16 +118,16 @@ impl<const LIMIT: u64> Repository<LIMIT> {
         self.reply(who, call)
     }
 
-    /// Answers a call of the session `who` at this moment, and enters it where it is accepted. The
-    /// reply Nothing is not entered.
+    /// Returns the reply to a call of the session `who` at this moment, and enters the call if it
+    /// is accepted. A call with the reply Nothing is not entered.
     ///
-    /// What each call walks is said in docs/PERFORMANCE.md, "Where the time goes now".
+    /// docs/PERFORMANCE.md, "Where the time goes now", says what each call walks over.
     ///
     /// # Errors
     ///
-    /// The first refusal of the call that stands, `RepositoryFull` after the call's own refusals where
-    /// `LIMIT` operations were accepted, or `OutOfMemory` in place of any answer. A refused call changes
-    /// nothing.
+    /// The first refusal of the call that applies. After the call's own refusals, `RepositoryFull`
+    /// if `LIMIT` operations were accepted. It may return `OutOfMemory` instead of any of these
+    /// results. A refused call changes nothing.
     #[tactic(auto, using(crate::proofs::Standing::due_for, crate::proofs::Standing::stands_call))]
     pub fn apply(&mut self, who: u64, call: &Call, at: Moment) -> Result<Reply, Refusal>
         ensures reply { (h : History) → StandsFor self.old h
@@ -138,12 +139,12 @@ impl<const LIMIT: u64> Repository<LIMIT> {
         self.decide_and_enter(who, call, at)
     }
 
-    /// Enters an operation that was accepted after the operations before it: some legal history that
-    /// the repository stands for is legal with this entry too. It decides nothing anew.
+    /// Enters an operation that was accepted after the operations before it. It decides nothing
+    /// anew. The entry must be legal after some legal history that the repository represents.
     ///
     /// # Errors
     ///
-    /// `OutOfMemory` alone, and then nothing has changed.
+    /// Only `OutOfMemory`, and then nothing has changed.
     #[tactic(auto, using(crate::proofs::Standing::stands_after, crate::proofs::Replying::next_room, crate::proofs::Replying::next_due, crate::proofs::Replying::next_entered))]
     pub fn enter(&mut self, entry: &Entry) -> Result<(), OutOfMemory>
         requires { IsNext LIMIT self.old entry.now }
@@ -154,11 +155,11 @@ impl<const LIMIT: u64> Repository<LIMIT> {
         self.enter_call(entry.who, &entry.call, entry.at, &entry.reply)
     }
 
-    /// Answers a query.
+    /// Returns the answer to a query.
     ///
     /// # Errors
     ///
-    /// The query's refusal where it stands, or `OutOfMemory` in place of any answer.
+    /// The query's refusal if it applies. It may return `OutOfMemory` instead of any result.
     #[tactic(auto, using(crate::proofs::Metering::within_limit))]
     pub fn ask(&self, query: &Query) -> Result<Answer, Refusal>
         ensures { (h : History) → StandsFor self.now h → IsDue result (answer h query.now) }
@@ -166,7 +167,8 @@ impl<const LIMIT: u64> Repository<LIMIT> {
         answers::answer(self.alloc, &self.catalogue, &self.records, query)
     }
 
-    /// How many job executions have each batch status. It takes no memory and constant time.
+    /// Returns how many job executions have each batch status. It takes no memory and constant
+    /// time.
     pub fn status_counts(&self) -> CountsByStatus
         ensures { (h : History) → StandsFor self.now h → answer h Query.StatusCounts ≡ Ok (Answer.StatusCounts result) }
     {

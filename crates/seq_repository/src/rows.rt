@@ -15,20 +15,20 @@ use job_walk::{Plan, Value};
 use reply_rules::{batch_status, earliest, exit_status, is_finished};
 use std::alloc::Global;
 
-/// What an operation does to the job execution that it is on.
+/// The change that an operation makes to its job execution.
 #[derive(Clone, Copy, PartialEq, Eq, Debug)]
 pub(crate) enum Change {
-    /// It requests a stop.
+    /// A stop is requested.
     StopRequest,
-    /// It abandons it.
+    /// The job execution is abandoned.
     Abandonment,
-    /// It takes it up.
+    /// The job execution is taken up.
     Claim,
-    /// It reports of a work item.
+    /// A work item of the job execution is reported on.
     Report,
 }
 
-/// The row of a job execution that is made now.
+/// Returns the row of a job execution that is made now.
 fn row_of(
     x: u64,
     instance: InstanceId,
@@ -56,7 +56,7 @@ fn row_of(
     }
 }
 
-/// The same with a copy of its job's name and of its parameters.
+/// Like `row_of`, with a copy of its job's name and of its parameters.
 pub(crate) fn new_execution(
     alloc: Global,
     x: u64,
@@ -74,7 +74,7 @@ pub(crate) fn new_execution(
     Ok(row_of(x, instance, at, job, parameters, plan))
 }
 
-/// The row with this start, these marks and this value of its walk.
+/// Returns the row with this start, these flags and this value of its walk.
 fn row_with(
     alloc: Global,
     stop: bool,
@@ -108,7 +108,8 @@ fn row_with(
     })
 }
 
-/// The row of a job execution after a change, `value` being that of its walk after it.
+/// Returns the row of a job execution after a change. `value` is the value of its walk after the
+/// change.
 pub(crate) fn change_row(
     alloc: Global,
     change: Change,
@@ -129,7 +130,7 @@ pub(crate) fn change_row(
     }
 }
 
-/// The row of a work item that is handed out to this session.
+/// Returns the row of a work item that is handed out to this session.
 pub(crate) fn new_work(who: u64, at: Moment, item: &WorkItem) -> Result<WorkRow, OutOfMemory>
     ensures { IfOk result (λ row. row ≡ busy_work who at item.now) }
 {
@@ -158,7 +159,7 @@ fn copy_state(state: &WorkState) -> Result<WorkState, OutOfMemory>
     }
 }
 
-/// The metrics with these counts added.
+/// Returns the metrics with these counts added.
 fn add_counts(metrics: Metrics, step: MetricStep) -> Metrics
     requires { IsWithin (most_after 1000000) metrics }
     ensures sum { result ≡ added metrics step }
@@ -169,7 +170,7 @@ fn add_counts(metrics: Metrics, step: MetricStep) -> Metrics
     sum
 }
 
-/// The row of a work item with these counts added to its metrics.
+/// Returns the row of a work item with these counts added to its metrics.
 pub(crate) fn report_counts(step: MetricStep, row: &WorkRow) -> Result<WorkRow, OutOfMemory>
     requires { IsWithin (most_after 1000000) row.now.metrics }
     ensures new { IfOk result (λ new. new ≡ reported step row.now) }
@@ -193,7 +194,7 @@ pub(crate) fn report_counts(step: MetricStep, row: &WorkRow) -> Result<WorkRow, 
     })
 }
 
-/// The row of a work item that is over, by the operation of this number.
+/// Returns the row of a work item that is over, by the operation with this number.
 pub(crate) fn end_work(
     outcome: WorkOutcome,
     exit: T256,

@@ -23,7 +23,7 @@ use restart_rules::{state_fact, walk_value};
 use std::alloc::Global;
 use std::collections::{BTreeMap, BTreeSet};
 
-/// What is known of the elements of a job execution once a work item of it is over.
+/// Returns the facts about the work keys of a job execution after a work item of it is over.
 pub(crate) fn known_once_finished(
     alloc: Global,
     records: &Records,
@@ -58,7 +58,7 @@ pub(crate) fn known_once_finished(
     Ok(known)
 }
 
-/// The first work key of a walk that may be run now.
+/// Returns the first work key of a walk that may be run now.
 fn first_key(value: &Value) -> Result<Option<WorkKey>, OutOfMemory>
     ensures { IfOk result (λ key. key ≡ first_ready value.now) }
 {
@@ -68,7 +68,8 @@ fn first_key(value: &Value) -> Result<Option<WorkKey>, OutOfMemory>
     }
 }
 
-/// The first work key of a job execution that may be run now, by its walk where that is kept.
+/// Returns the first work key of a job execution that may be run now, from its stored walk if there
+/// is one.
 #[tactic(auto, using(crate::proofs::Followed::follows_value, crate::proofs::Followed::followed_at))]
 fn next_key(
     alloc: Global,
@@ -93,14 +94,14 @@ fn next_key(
     }
 }
 
-/// A job execution that has something to do, and the first work key of it that may be run now.
+/// A job execution that has something to do, and its first work key that may be run now.
 #[derive(Debug, Drop)]
 pub(crate) struct Claimable<'a> {
     pub(crate) row: &'a ExecutionRow,
     pub(crate) key: Option<WorkKey>,
 }
 
-/// The first job execution that has something to do: the least on the agenda.
+/// Returns the first job execution that has something to do: the least on the agenda.
 #[tactic(auto, using(crate::proofs::Agendas::least_there, crate::proofs::Agendas::least_first, crate::proofs::Agendas::none_due))]
 pub(crate) fn find_claimable<'a>(
     alloc: Global,

@@ -24,7 +24,7 @@ use jsl_model::Catalogue;
 use records::Records;
 use std::alloc::Global;
 
-/// Whether earlier job executions completed this partition of a step.
+/// Checks whether this partition of a step is kept: earlier job executions completed it.
 fn is_kept(owner: &ExecutionRow, step: &T256, partition: u32) -> bool
     ensures { result ≡ is_kept owner.now.plan (key_of step.now partition) }
 {
@@ -36,7 +36,7 @@ fn is_kept(owner: &ExecutionRow, step: &T256, partition: u32) -> bool
     false
 }
 
-/// Whether one of these work items is of this partition.
+/// Checks whether one of these work items is of this partition.
 fn has_partition(items: &[&WorkRow], partition: u32) -> bool
     ensures { result ≡ list_any (λ row. is_at partition row.partition) (map (λ row. row.now) items.now) }
 {
@@ -48,14 +48,14 @@ fn has_partition(items: &[&WorkRow], partition: u32) -> bool
     false
 }
 
-/// Whether this partition of a step is left: it is not kept, and has no work item.
+/// Checks whether this partition of a step is left: it is not kept, and has no work item.
 fn is_left(owner: &ExecutionRow, step: &T256, items: &[&WorkRow], partition: u32) -> bool
     ensures { result ≡ is_left owner.now.plan step.now (map (λ row. row.now) items.now) partition }
 {
     !is_kept(owner, step, partition) && !has_partition(items, partition)
 }
 
-/// Whether some partition of so many is left.
+/// Checks whether one of `count` partitions is left.
 #[tactic(auto, using(restart_rules::proofs::Keeping::numbers_ahead))]
 fn any_left(owner: &ExecutionRow, step: &T256, items: &[&WorkRow], count: Option<u32>) -> bool
     ensures { result ≡ any_left owner.now.plan step.now (map (λ row. row.now) items.now) count }
@@ -93,8 +93,8 @@ fn has_busy(items: &[&WorkRow]) -> bool
     false
 }
 
-/// Whether the step execution goes on: a partition is busy, or one is left and the job execution is
-/// unfinished.
+/// Checks whether the step execution goes on: a partition is busy, or one is left and the job
+/// execution is unfinished.
 fn goes_on(unfinished: bool, left: bool, items: &[&WorkRow]) -> bool
     ensures { result ≡ (list_any (λ row. is_busy row.state) (map (λ row. row.now) items.now)
         || (left && unfinished)) }
@@ -146,7 +146,7 @@ fn has_stopped(items: &[&WorkRow]) -> bool
     false
 }
 
-/// The status of partitions that do not go on.
+/// Returns the batch status of partitions that do not go on.
 fn status_over(left: bool, items: &[&WorkRow]) -> BatchStatus
     ensures { result ≡ (if list_any (λ row. is_failed row.state) (map (λ row. row.now) items.now)
         then Failed else if left || list_any (λ row. is_stopped row.state)
@@ -161,7 +161,7 @@ fn status_over(left: bool, items: &[&WorkRow]) -> BatchStatus
     }
 }
 
-/// Whether a work item ended by no later operation than another.
+/// Checks whether `one` was ended by no later operation than `other`.
 fn is_ended_by(one: &WorkRow, other: &WorkRow) -> bool
     ensures { result ≡ ended_by one.now.ended other.now.ended }
 {
@@ -172,7 +172,7 @@ fn is_ended_by(one: &WorkRow, other: &WorkRow) -> bool
     }
 }
 
-/// Whether these work items ended by no later operation than this one.
+/// Checks whether these work items were ended by no later operation than `last`.
 fn are_ended_by(items: &[&WorkRow], last: &WorkRow) -> bool
     ensures { result ≡ list_all (λ other. ended_by other.ended last.now.ended)
         (map (λ row. row.now) items.now) }
@@ -185,7 +185,7 @@ fn are_ended_by(items: &[&WorkRow], last: &WorkRow) -> bool
     true
 }
 
-/// The work item that ended last.
+/// Returns the work item that ended last.
 fn last_ended<'a>(items: &[&'a WorkRow]) -> Option<&'a WorkRow>
     ensures { option_copied result ≡ last_ended (map (λ row. row.now) items.now) }
 {
@@ -197,7 +197,7 @@ fn last_ended<'a>(items: &[&'a WorkRow]) -> Option<&'a WorkRow>
     None
 }
 
-/// The end of the work item that ended last.
+/// Returns the end of the work item that ended last.
 fn last_end(items: &[&WorkRow]) -> Option<Moment>
     ensures { result ≡ option_and_then (λ row. row.end)
         (last_ended (map (λ row. row.now) items.now)) }
@@ -208,7 +208,7 @@ fn last_end(items: &[&WorkRow]) -> Option<Moment>
     }
 }
 
-/// The sums of what was reported of these work items.
+/// Returns the sums of the reported metrics of these work items.
 #[tactic(auto, using(crate::proofs::Metering::both_none))]
 fn sum_of(items: &[&WorkRow]) -> Metrics
     requires { AreWithin (most_after 1000000) (map (λ row. row.now) items.now) }
@@ -222,7 +222,7 @@ fn sum_of(items: &[&WorkRow]) -> Metrics
     sum
 }
 
-/// The step execution that partitions of a step are, the first of which is this work item.
+/// Returns the step execution of these partitions of a step, the first of which is this work item.
 fn shown_partitions(
     alloc: Global,
     owner: &ExecutionRow,
@@ -262,7 +262,7 @@ fn shown_partitions(
     })
 }
 
-/// The work items of the same step among those of a job execution.
+/// Returns the work items of a job execution that are of the same step as this one.
 fn same_step<'a>(
     alloc: Global,
     works: &[&'a WorkRow],
@@ -280,7 +280,7 @@ fn same_step<'a>(
     Ok(items)
 }
 
-/// In how many partitions the step of a work item runs, where it is partitioned.
+/// Returns the number of partitions of the step of a work item, if it is partitioned.
 fn partitions_of(catalogue: &Catalogue, owner: &ExecutionRow, key: &WorkKey) -> Option<u32>
     ensures { result ≡ partitions_of_job (job_named catalogue.now owner.now.job) key.now }
 {
@@ -290,7 +290,7 @@ fn partitions_of(catalogue: &Catalogue, owner: &ExecutionRow, key: &WorkKey) -> 
     }
 }
 
-/// Whether a work item is the first of these.
+/// Checks whether a work item is the first of these.
 fn is_first(items: &[&WorkRow], row: &WorkRow) -> bool
     ensures { result ≡ is_first (map (λ item. item.now) items.now) row.now }
 {
@@ -300,7 +300,7 @@ fn is_first(items: &[&WorkRow], row: &WorkRow) -> bool
     }
 }
 
-/// The step execution that partitions of a step are, if it begins with this work item.
+/// Returns the step execution of the partitions of a step, if it begins with this work item.
 fn partitions_shown(
     alloc: Global,
     catalogue: &Catalogue,
@@ -324,7 +324,7 @@ fn partitions_shown(
     Ok(Some(shown))
 }
 
-/// The step execution that begins with this work item of a step, if one does.
+/// Returns the step execution that begins with this work item of a step, if there is one.
 fn step_by_partition(
     alloc: Global,
     catalogue: &Catalogue,
@@ -342,7 +342,7 @@ fn step_by_partition(
     }
 }
 
-/// The step execution that begins with this work item of a job execution, if one does.
+/// Returns the step execution that begins with this work item of a job execution, if there is one.
 fn step_execution(
     alloc: Global,
     catalogue: &Catalogue,
@@ -361,7 +361,7 @@ fn step_execution(
     }
 }
 
-/// The work items of a job execution, in order.
+/// Returns the work items of a job execution, in order.
 fn works_of(alloc: Global, rows: &Records, x: ExecutionId) -> Result<Vec<&WorkRow>, OutOfMemory>
     ensures { IfOk result (λ works. map (λ work. work.now) works.items
         ≡ works_of x rows.now.works) }
@@ -373,7 +373,7 @@ fn works_of(alloc: Global, rows: &Records, x: ExecutionId) -> Result<Vec<&WorkRo
     Ok(works)
 }
 
-/// The step executions that begin with these work items of a job execution.
+/// Returns the step executions that begin with these work items of a job execution.
 fn each_of(
     alloc: Global,
     catalogue: &Catalogue,
@@ -394,7 +394,7 @@ fn each_of(
     Ok(found)
 }
 
-/// The step executions of a job execution, in order of their first work items.
+/// Returns the step executions of a job execution, in order of their first work items.
 pub(crate) fn step_executions(
     alloc: Global,
     catalogue: &Catalogue,
