@@ -1,25 +1,25 @@
--- What the words of the command line ask for.
+-- The commands that the words of the command line ask for.
 use Rattle.std.specs.Prelude.{◌≡◌, ◌⊎◌, ◌≤◌, ◌==◌, ℕ, false, List, [], ◌∷◌, ◌++◌, codes}
 use Rattle.std.specs.Str.Parse.{IsNumeral, digits_value, without_leading_plus}
 use Rattle.batch_commands.specs.declared.asked.Arguments.{Arguments}
 use Rattle.batch_commands.specs.declared.asked.Arguments.TheVariants.{Script, LoggedScript, Run}
 
--- the text of a number: its decimal digits, ahead of which a plus may stand
+-- the text of a number: its decimal digits, after an optional plus sign
 abbrev pub IsNumberText : List ℕ → ℕ → Type 0
 IsNumberText text number = IsNumeral 10 (without_leading_plus text) × (number ≡ digits_value 10 (without_leading_plus text))
 
--- options ask for so many workers: by `--workers N` or `--workers=N`; no option asks for 2
+-- options ask for this many workers: by `--workers N` or `--workers=N`, or for 2 without an option
 abbrev pub AsksFor : ℕ → List (List ℕ) → Type 0
 AsksFor workers [] = workers ≡ 2
 AsksFor workers (word ∷ []) = (text : List ℕ) × (word ≡ codes "--workers=" ++ text) × IsNumberText text workers
 AsksFor workers (word ∷ text ∷ []) = (word ≡ codes "--workers") × IsNumberText text workers
 AsksFor workers (word ∷ text ∷ other ∷ others) = ⊥
 
--- the options among words: a last `--` is none
+-- the options among words: a `--` at the end isn't one
 abbrev pub HasOptions : List (List ℕ) → List (List ℕ) → Type 0
 HasOptions options words = (words ≡ options) ⊎ (words ≡ options ++ codes "--" ∷ [])
 
--- the name of a log's file has a byte, and no hyphen ahead
+-- the name of a log's file isn't empty, and doesn't begin with a hyphen
 abbrev pub IsLogName : List ℕ → Type 0
 IsLogName name = (first : ℕ) × (rest : List ℕ) × (name ≡ first ∷ rest) × ((first == 45) ≡ false)
 
@@ -27,7 +27,8 @@ IsLogName name = (first : ℕ) × (rest : List ℕ) × (name ≡ first ∷ rest)
 abbrev pub NamesLog : List ℕ → List (List ℕ) → Type 0
 NamesLog name words = (words ≡ (codes "--log=" ++ name) ∷ []) ⊎ (words ≡ codes "--log" ∷ name ∷ [])
 
--- a script is asked for by one word, or with a log, a run by its first word, with 1 to 16 workers by its options
+-- one word asks for a script, and more words for one with a log. For a run, it is the first word; the options
+-- ask for 1 to 16 workers
 abbrev pub IsAsked : Arguments → List (List ℕ) → Type 0
 IsAsked Script words = words ≡ codes "script" ∷ []
 IsAsked (LoggedScript log) words = IsLogName log.now × ((rest : List (List ℕ)) × (words ≡ codes "script" ∷ rest) × NamesLog log.now rest)

@@ -22,11 +22,11 @@ script_app = with_rule (new_app (codes "script")) log_rule
 abbrev pub run_app : App
 run_app = with_rule (new_app (codes "run")) workers_rule
 
--- the program without its commands: one of them must follow its name
+-- the program without its commands, of which one must follow its name
 abbrev pub bare_app : App
 bare_app = on_top (λ s. record s { has_version = true; no_binary_name = true; subcommand_required = true; arg_required_else_help = true }) (new_app (codes "batchctl"))
 
--- the program with `script` alone
+-- the program with only the command `script`
 abbrev pub scripts_app : App
 scripts_app = with_subcommand bare_app script_app.top
 
@@ -34,6 +34,6 @@ scripts_app = with_subcommand bare_app script_app.top
 abbrev pub batchctl_app : App
 batchctl_app = with_subcommand scripts_app run_app.top
 
--- clap's answer is a text that the words ask for
+-- clap returns a text that the words ask for
 abbrev pub IsShown : Error → Type 0
 IsShown error = (kind_of error ≡ DisplayHelp) ⊎ (kind_of error ≡ DisplayVersion)

@@ -1,4 +1,4 @@
--- A script over a log, as the program answers it.
+-- A script over a log, as the program runs it.
 use Rattle.std.specs.Prelude.{ℕ, ◌≡◌, ◌⊎◌, ◌<◌, List, [], length, false, Option, Result, Ok, Err}
 use Rattle.jsl_model.specs.Jobs.{JobTree}
 use Rattle.jsl_json.specs.Catalogues.{is_out_of_memory}
@@ -24,7 +24,8 @@ use Rattle.batch_commands.specs.declared.logged_fault.OverLogFault.TheVariants.{
 
 -- ---- Statuses
 
--- 3 the catalogue is refused, 4 a read or a write failed, 5 out of memory, 6 the file failed, 7 the log is refused
+-- 3: the catalogue is refused, 4: a read or a write failed, 5: memory was refused, 6: the file failed, 7: the
+-- log is refused
 abbrev pub over_log_status : OverLogFault → ℕ
 over_log_status Catalogue = 3
 over_log_status Refused = 7
@@ -50,9 +51,9 @@ fault_of_logged logged.Write = Write
 fault_of_logged logged.Log = Log
 fault_of_logged logged.OutOfMemory = OutOfMemory
 
--- ---- Lines that tell of a fault
+-- ---- Lines of faults
 
--- a line is written; or the writer fails, or memory is refused
+-- a line is written, or the writer fails, or memory is refused
 abbrev pub PutsLine : Held → Held → List ℕ → Result Unit EngineFault → Type 0
 PutsLine w w' text (Ok done) = Takes w w' text × (w'.failures ≡ w.failures)
 PutsLine w w' text (Err (engine.Catalogue fault)) = ⊥
@@ -60,7 +61,7 @@ PutsLine w w' text (Err engine.Read) = ⊥
 PutsLine w w' text (Err engine.Write) = w.failures < w'.failures
 PutsLine w w' text (Err engine.OutOfMemory) = Unit {0}
 
--- a run ends with a fault whose line is written; or the writer fails, or memory is refused
+-- a script ends with a fault whose line is written, or the writer fails, or memory is refused
 abbrev pub Tells : List ℕ → OverLogFault → Held → Held → OverLogFault → Type 0
 Tells text fault w w' end = ((end ≡ fault) × Takes w w' text) ⊎ ((end ≡ Write) × (w.failures < w'.failures)) ⊎ (end ≡ OutOfMemory)
 
@@ -80,21 +81,21 @@ pub record HasFirstFault (r r' : Told) (p p' : Unread) (fault : ReadFault) : Typ
   pub is : (line : List ℕ) → ShowsFirst first line → catalogue_at line ≡ Err fault
   pub no_want : is_out_of_memory fault ≡ false
 
--- why there is no first line that is a catalogue
+-- the reason why there is no first line that is a catalogue
 abbrev pub FailsFirst : Told → Told → Unread → Unread → EngineFault → Type 0
 FailsFirst r r' p p' (engine.Catalogue fault) = HasFirstFault r r' p p' fault
 FailsFirst r r' p p' engine.Read = LineRead r r' p p' (Err lines.Read)
 FailsFirst r r' p p' engine.Write = ⊥
 FailsFirst r r' p p' engine.OutOfMemory = Unit {0}
 
--- a catalogue's fault that has a name, which want of memory has not; or another fault
+-- a catalogue's fault other than refused memory, or another fault
 abbrev pub HasName : EngineFault → Type 0
 HasName (engine.Catalogue fault) = is_out_of_memory fault ≡ false
 HasName engine.Read = Unit {0}
 HasName engine.Write = Unit {0}
 HasName engine.OutOfMemory = Unit {0}
 
--- what is told of it
+-- the output about that reason
 abbrev pub TellsFirst : EngineFault → Held → Held → OverLogFault → Type 0
 TellsFirst (engine.Catalogue fault) w w' end = Tells (fault_text fault) Catalogue w w' end
 TellsFirst engine.Read w w' end = (end ≡ Read) × (w' ≡ w)
@@ -103,11 +104,11 @@ TellsFirst engine.OutOfMemory w w' end = (end ≡ OutOfMemory) × (w' ≡ w)
 
 -- ---- The log
 
--- what is told of a file that can't be had
+-- the output about a file that isn't available
 abbrev pub TellsUnavailable : Held → Held → OverLogFault → Type 0
 TellsUnavailable w w' end = Tells (log_fault_text InUse) Refused w w' end ⊎ (((end ≡ Log) ⊎ (end ≡ OutOfMemory)) × (w' ≡ w))
 
--- what is told of how a run over a log ended
+-- the output about the end of a script over a log
 abbrev pub TellsOutcome : Result Unit LoggedFault → Held → Held → Result Unit OverLogFault → Type 0
 TellsOutcome (Ok done) w w' result = (result ≡ Ok tt) × (w' ≡ w)
 TellsOutcome (Err (logged.Refused fault)) w w' result = (end : OverLogFault) × (result ≡ Err end) × Tells (log_fault_text fault) Refused w w' end
@@ -116,8 +117,8 @@ TellsOutcome (Err logged.Write) w w' result = (result ≡ Err Write) × (w' ≡ 
 TellsOutcome (Err logged.Log) w w' result = (result ≡ Err Log) × (w' ≡ w)
 TellsOutcome (Err logged.OutOfMemory) w w' result = (result ≡ Err OutOfMemory) × (w' ≡ w)
 
--- what was asked of the file and of its listener: what the file has, what was heard, the moment, what a crash since an earlier
--- moment might have left, and how often a call failed
+-- the past of a file and of its listener. It has the file's content, the text that was heard, and the moment.
+-- It also has the content that a crash since an earlier moment may have left, and the number of failed calls
 abbrev pub seen_of : Past → List ℕ
 seen_of past = seen_after past.start past.calls
 
@@ -133,7 +134,8 @@ left_since past = left_after past.start past.calls
 abbrev pub faults_of : Past → ℕ
 faults_of past = faults_after past.calls
 
--- THE LINES BEHIND THE FIRST are answered over a file that was read: what a crash leaves at every moment, and how the run ended
+-- THE LINES AFTER THE FIRST run over a file that was read, with the content that a crash leaves at every
+-- moment, and the end
 pub record RanOverLog (line : List ℕ) (r r' : Told) (p p' : Unread) (outcome : Result Unit LoggedFault) : Type 0 where
   pub file : List ℕ
   pub before : Past
@@ -143,14 +145,15 @@ pub record RanOverLog (line : List ℕ) (r r' : Told) (p p' : Unread) (outcome :
   pub any_moment : LeavesOnly moment_of left_since before after (Leaves file line (lines_since r r' p) (heard_of before))
   pub ended : IsLoggedOutcome seen_of heard_of moment_of left_since faults_of file line r r' p p' before after outcome
 
--- the file can't be read; or the lines are answered over it
+-- the file can't be read, or the lines run over it
 abbrev pub AnswersIn : List ℕ → Told → Told → Unread → Unread → Held → Result Unit OverLogFault → Type 0
 AnswersIn line r r' p p' w' result = (((result ≡ Err Log) ⊎ (result ≡ Err OutOfMemory)) × (r' ≡ r))
     ⊎ ((outcome : Result Unit LoggedFault) × (held : Held) × RanOverLog line r r' p p' outcome × TellsOutcome outcome held w' result)
 
--- ---- All of it
+-- ---- The whole script
 
--- nothing is read for want of memory; or the first line is no catalogue; or the file can't be had; or the lines are answered
+-- memory is refused before anything is read, or the first line is no catalogue, or the file isn't available,
+-- or the lines are run
 abbrev pub IsLogServed : Told → Told → Held → Held → Result Unit OverLogFault → Type 0
 IsLogServed r r' w w' result =
     ((result ≡ Err OutOfMemory) × (r' ≡ r) × (w' ≡ w))

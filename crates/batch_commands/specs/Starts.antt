@@ -1,4 +1,4 @@
--- What start lines are replied to.
+-- The replies to start lines.
 use Rattle.std.specs.Prelude.{◌≡◌, ℕ, ◌+◌, ◌<◌, ◌≤◌, ◌==◌, Bool, List, [], ◌∷◌, ◌++◌, length, Result, Ok, Err, if◌then◌else◌}
 use mathlib.Core.List.{IsPrefix}
 use Rattle.batch_ids.specs.declared.refusal.Refusal.{Refusal}
@@ -20,23 +20,23 @@ use Rattle.batch_ids.specs.declared.refusal.Refusal.TheVariants as refusals
 
 -- Lines
 
--- the command that a start is in a script's terms: of this session, at moment 0
+-- a start as a script's command: of this session, at moment 0
 abbrev pub command_for : ℕ → Result StartLine StartFault → Command
 command_for by (Ok start) = Act by 0 (Start start.job start.parameters)
 command_for by (Err starts.BadLine) = BadLine
 command_for by (Err starts.TextTooLong) = TextTooLong
 command_for by (Err starts.OutOfMemory) = BadLine
 
--- the command that a line is
+-- a line as a script's command
 abbrev pub command_of_start : ℕ → List ℕ → Command
 command_of_start by line = command_for by (start_at line)
 
--- how many job executions a reply tells of: an accepted start makes one
+-- the number of job executions that a reply has: an accepted start creates one
 abbrev pub made_by : Result Reply Refusal → ℕ
 made_by (Ok reply) = 1
 made_by (Err refusal) = 0
 
--- how many job executions a start makes after a history
+-- the number of job executions that a start creates after a history
 abbrev pub made_for : History → Command → ℕ
 made_for h BadLine = 0
 made_for h TextTooLong = 0
@@ -51,13 +51,13 @@ start_text by line h = if length line == 0 then [] else text_for h (command_of_s
 unfoldable pub start_after : ℕ → List ℕ → History → History
 start_after by line h = if length line == 0 then h else history_for h (command_of_start by line)
 
--- how many job executions a line makes after a history; an empty line makes none
+-- the number of job executions that a line creates after a history; an empty line creates none
 unfoldable pub start_made : ℕ → List ℕ → History → ℕ
 start_made by line h = if length line == 0 then 0 else made_for h (command_of_start by line)
 
--- THE START LINES, one after another, of a session that had seen these operations: each is replied to after some more
--- operations of one history, which other sessions may have made. They make so many job executions, and the session has
--- then seen no more than the last history
+-- THE START LINES, one after another, of a session that had seen these operations. Each has its reply after
+-- some more operations of one history, which other sessions may have added. They create this many job
+-- executions, and the session has then seen at most the last history
 abbrev pub AreStarted : List JobTree → ℕ → List Entry → List (List ℕ) → List ℕ → ℕ → List Entry → Type 0
 AreStarted catalogue by seen [] text made last = (text ≡ []) × (made ≡ 0) × IsPrefix seen last
 AreStarted catalogue by seen (line ∷ lines) text made last =

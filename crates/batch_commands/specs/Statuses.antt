@@ -12,7 +12,8 @@ use Rattle.batch_commands.specs.Runs.{HasRun}
 use Rattle.batch_commands.specs.declared.logged_fault.OverLogFault.{OverLogFault}
 use Rattle.batch_commands.specs.declared.asked.Arguments.TheVariants.{Script, LoggedScript, Run}
 
--- 0 done, 3 the catalogue is refused, 4 a read or a write failed, 5 out of memory
+-- the exit status: 0 for success, 3 if the catalogue is refused, 4 if a read or a write failed, 5 if memory
+-- was refused
 abbrev pub exit_status : {A : Type 0} → Result A EngineFault → ℕ
 exit_status (Ok done) = 0
 exit_status (Err (Catalogue fault)) = 3
@@ -24,7 +25,8 @@ exit_status (Err OutOfMemory) = 5
 abbrev pub IsRefused : Told → Told → Held → Held → ℕ → Type 0
 IsRefused r r' w w' status = (status ≡ 2) × (r' ≡ r) × (w' ≡ w)
 
--- the words ask for a text, as for help, and for neither a script nor a run: it is written or the writer fails, and nothing is read
+-- the words ask for a text, such as help, and for neither a script nor a run. It is written or the writer
+-- fails, and nothing is read
 abbrev pub IsText : List (List ℕ) → Told → Told → ℕ → Type 0
 IsText words r r' status = AskForNone words × ((status ≡ 0) ⊎ (status ≡ 4)) × (r' ≡ r)
 
@@ -32,14 +34,14 @@ IsText words r r' status = AskForNone words × ((status ≡ 0) ⊎ (status ≡ 4
 abbrev pub IsScript : List (List ℕ) → Told → Told → Held → Held → ℕ → Type 0
 IsScript words r r' w w' status = (outcome : Result Summary EngineFault) × IsAsked Script words × Ran r r' w w' outcome × (status ≡ exit_status outcome)
 
--- the words ask for a run by so many workers, which is done
+-- the words ask for a run by this many workers, which is done
 abbrev pub IsRun : List (List ℕ) → Told → Told → Held → Held → ℕ → Type 0
 IsRun words r r' w w' status = (workers : ℕ) × (outcome : Result Unit EngineFault) × IsAsked (Run workers) words × HasRun r r' w w' outcome × (status ≡ exit_status outcome)
 
--- the words ask for a script over a log, which is answered
+-- the words ask for a script over a log, which is run
 abbrev pub IsLoggedScript : List (List ℕ) → Told → Told → Held → Held → ℕ → Type 0
 IsLoggedScript words r r' w w' status = (log : Bor (List ℕ)) × (outcome : Result Unit OverLogFault) × IsAsked (LoggedScript log) words × IsLogServed r r' w w' outcome × (status ≡ over_log_exit outcome)
 
--- THE EXIT STATUS: it says what became of the words
+-- THE EXIT STATUS of the command that the words ask for
 abbrev pub IsServed : List (List ℕ) → Told → Told → Held → Held → ℕ → Type 0
 IsServed words r r' w w' status = IsRefused r r' w w' status ⊎ IsText words r r' status ⊎ IsScript words r r' w w' status ⊎ IsLoggedScript words r r' w w' status ⊎ IsRun words r r' w w' status

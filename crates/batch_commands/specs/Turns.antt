@@ -1,4 +1,4 @@
--- What the parts of a run do: a reply, a line, all start lines, a job execution, all of them.
+-- The parts of a run: a reply, a line, all start lines, a job execution, all of them.
 use Rattle.std.specs.Prelude.{◌≡◌, ◌⊎◌, ℕ, ◌+◌, ◌<◌, ◌≤◌, Bool, false, List, [], ◌++◌, length, Some, None, Result, Ok, Err}
 use mathlib.Core.List.{IsPrefix}
 use Rattle.batch_ids.specs.Refusals.{is_out_of_memory}
@@ -34,7 +34,7 @@ use Rattle.batch_commands.specs.Starts.{AreStarted, made_for, start_text, start_
 
 -- ---- One reply
 
--- whether a reply is that memory was refused
+-- whether a reply is the refusal `OutOfMemory`
 abbrev pub wants_memory : {A : Type 0} → Result A Refusal → Bool
 wants_memory (Ok reply) = false
 wants_memory (Err refusal) = is_out_of_memory refusal
@@ -47,12 +47,12 @@ PutsReply reply w waited w' waits (Err Read) = ⊥
 PutsReply reply w waited w' waits (Err Write) = (wants_memory reply ≡ false) × Breaks w waited w' (reply_text reply)
 PutsReply reply w waited w' waits (Err OutOfMemory) = Grows w waited w' waits []
 
--- what is told of what a pool did: nothing, or the line of its refusal
+-- the output about a pool's result: nothing, or the line of its refusal
 abbrev pub pool_text : {A : Type 0} → Result A Refusal → List ℕ
 pool_text (Ok report) = []
 pool_text (Err refusal) = reply_text (Err refusal)
 
--- the line of what is no start is put
+-- the line of the fault of a line that is no start is put
 abbrev pub PutsFault : StartFault → Held → List ℕ → Held → List ℕ → Result Unit EngineFault → Type 0
 PutsFault starts.BadLine w waited w' waits result = Puts w waited w' waits bad_line_text result
 PutsFault starts.TextTooLong w waited w' waits result = Puts w waited w' waits (reply_text (Err TextTooLong)) result
@@ -60,7 +60,8 @@ PutsFault starts.OutOfMemory w waited w' waits result = (result ≡ Err OutOfMem
 
 -- ---- One start line
 
--- a session had seen a beginning of one log, and has seen another after it, with so many operations of its own more
+-- a session had seen a prefix of one log, and has then seen another log, with this many more operations of
+-- its own
 pub record GoesOn (catalogue : List JobTree) (before after : SessionView) (log next : List Entry) (made : ℕ) : Type 0 where
   pub begins : IsPrefix before.seen log
   pub seen : after.seen ≡ next
@@ -69,8 +70,8 @@ pub record GoesOn (catalogue : List JobTree) (before after : SessionView) (log n
   pub own : length after.mine ≡ length before.mine + made
   pub few : 0 < made → length after.mine ≤ most_operations
 
--- a session replies, by the answer, which says whether a job execution was made: after some operations of a history
--- this text is put, and the history goes on so
+-- a session replies, and the result says whether a job execution was created. After some operations of a
+-- history, this text is put, and the history continues like this
 abbrev pub Turns : List JobTree → SessionView → SessionView → (History → List ℕ) → (History → History) → (History → ℕ) → Held → List ℕ → Held → List ℕ → Result Bool EngineFault → Type 0
 Turns catalogue before after text next made w waited w' waits (Ok is_made) =
     (log : List Entry) × GoesOn catalogue before after log (next (history catalogue log)).log (made (history catalogue log))
@@ -92,12 +93,13 @@ TurnsToLine catalogue before after line = Turns catalogue before after (start_te
 
 -- ---- All start lines
 
--- start lines are replied to by a session, and make so many job executions
+-- a session replies to start lines, which create this many job executions
 pub record Started (catalogue : List JobTree) (before : SessionView) (lines : List (List ℕ)) (text : List ℕ) (made : ℕ) (last : List Entry) : Type 0 where
   pub started : AreStarted catalogue before.number before.seen lines text made last
   pub legal : IsLegalLog catalogue before.seen → IsLegalLog catalogue last
 
--- all lines up to the reader's end are read and replied to, by the answer: how many job executions they make; or as far as it came
+-- all lines up to the reader's end are read and have replies. The result is the number of job executions that
+-- they create, or a fault after a part of the lines
 abbrev pub Starts : List JobTree → SessionView → SessionView → Told → Told → Unread → Unread → Held → List ℕ → Held → List ℕ → Result ℕ EngineFault → Type 0
 Starts catalogue before after r r' p p' w waited w' waits (Ok made) =
     (lines : List (List ℕ)) × (text : List ℕ) × AreReadTo r p lines (Ok None) r' p' × Started catalogue before lines text made after.seen
@@ -116,13 +118,13 @@ Starts catalogue before after r r' p p' w waited w' waits (Err OutOfMemory) =
 
 -- ---- Job executions
 
--- a session asks about a job execution whose step executions were answered so, and its line is put
+-- a session queries a job execution, with this answer about its step executions, and the line is put
 pub record ListsWith (catalogue : List JobTree) (before after : SessionView) (execution : ℕ) (steps : Answer) (w : Held) (waited : List ℕ) (w' : Held) (waits : List ℕ) (result : Result Unit EngineFault) : Type 0 where
   pub grows : IsPrefix before.seen after.seen
   pub legal : IsLegalLog catalogue after.seen
   pub put : Puts w waited w' waits (listed_text (Ok steps) (answer (history catalogue after.seen) (JobExecution execution))) result
 
--- a session asks about a job execution, and its line is put
+-- a session queries a job execution, and its line is put
 pub record Lists (catalogue : List JobTree) (before after : SessionView) (execution : ℕ) (w : Held) (waited : List ℕ) (w' : Held) (waits : List ℕ) (result : Result Unit EngineFault) : Type 0 where
   pub log : List Entry
   pub begins : IsPrefix before.seen log
@@ -130,7 +132,7 @@ pub record Lists (catalogue : List JobTree) (before after : SessionView) (execut
   pub legal : IsLegalLog catalogue after.seen
   pub put : Puts w waited w' waits (execution_line (history catalogue log) (history catalogue after.seen) execution) result
 
--- how many lines were put, of so many, by the answer
+-- the number of lines that were put, out of this many, by the result
 abbrev pub AreTold : ℕ → ℕ → Result Unit EngineFault → Type 0
 AreTold told count (Ok done) = told ≡ count
 AreTold told count (Err (Catalogue fault)) = ⊥
@@ -138,7 +140,7 @@ AreTold told count (Err Read) = ⊥
 AreTold told count (Err Write) = told ≤ count
 AreTold told count (Err OutOfMemory) = told ≤ count
 
--- a session asks about the job executions up to a number, and their lines are put
+-- a session queries the job executions up to a number, and their lines are put
 pub record ListsAll (catalogue : List JobTree) (before after : SessionView) (count : ℕ) (w : Held) (waited : List ℕ) (w' : Held) (waits : List ℕ) (result : Result Unit EngineFault) : Type 0 where
   pub told : ℕ
   pub text : List ℕ
@@ -148,9 +150,9 @@ pub record ListsAll (catalogue : List JobTree) (before after : SessionView) (cou
   pub legal : IsLegalLog catalogue before.seen → IsLegalLog catalogue last
   pub put : Writes w waited w' waits text result
 
--- ---- All of it
+-- ---- The whole run
 
--- start lines are replied to as far as they were read; or all are, and some job executions are told of
+-- the start lines that were read have replies, or all have, and some job executions have a line
 abbrev pub IsPartOf : List JobTree → Told → Told → Unread → Unread → List ℕ → Type 0
 IsPartOf catalogue r r' p p' text =
     ((lines : List (List ℕ)) × (rest : List (List ℕ)) × (AreRead r p (lines ++ rest) r' p' ⊎ AreReadTo r p lines (Err line_faults.OutOfMemory) r' p') × AreReplied catalogue lines text)
@@ -160,7 +162,7 @@ IsPartOf catalogue r r' p p' text =
 abbrev pub IsUnopenedOf : Told → Told → Unread → Unread → List ℕ → Type 0
 IsUnopenedOf r r' p p' text = (r' ≡ r) × (p' ≡ p) × (text ≡ reply_text (Err RepositoryFull))
 
--- the text that is due behind the first line, which was a catalogue, by the answer
+-- the text that is due after the first line, which was a catalogue, by the result
 abbrev pub IsDueBehind : List JobTree → Told → Told → Unread → Unread → List ℕ → Result Unit EngineFault → Type 0
 IsDueBehind catalogue r r' p p' text (Ok done) =
     ((lines : List (List ℕ)) × (made : ℕ) × AreReadTo r p lines (Ok None) r' p' × IsRunText catalogue lines made made text) ⊎ IsUnopenedOf r r' p p' text
@@ -169,13 +171,13 @@ IsDueBehind catalogue r r' p p' text (Err Read) = (lines : List (List ℕ)) × A
 IsDueBehind catalogue r r' p p' text (Err Write) = IsPartOf catalogue r r' p p' text ⊎ IsUnopenedOf r r' p p' text
 IsDueBehind catalogue r r' p p' text (Err OutOfMemory) = IsPartOf catalogue r r' p p' text
 
--- start lines are read, replied to, run and told of
+-- start lines are read, have replies and are run, and their job executions have lines
 pub record Runs (catalogue : List JobTree) (r r' : Told) (p p' : Unread) (w : Held) (waited : List ℕ) (w' : Held) (waits : List ℕ) (result : Result Unit EngineFault) : Type 0 where
   pub text : List ℕ
   pub due : IsDueBehind catalogue r r' p p' text result
   pub put : Writes w waited w' waits text result
 
--- a run, of which the last lines wait, behind what waited
+-- a run whose last lines wait, after the output that waited before
 pub record RunsSoFar (r r' : Told) (w : Held) (waited : List ℕ) (w' : Held) (waits : List ℕ) (result : Result Unit EngineFault) : Type 0 where
   pub input : List ℕ
   pub text : List ℕ

@@ -1,16 +1,16 @@
-/// What the command line asks for.
+/// The command that the command line asks for.
 #[derive(Clone, Copy, PartialEq, Eq, Debug)]
 pub enum Arguments<'a> {
-    /// To answer a script.
+    /// Runs a script.
     Script,
-    /// To answer a script over a log.
+    /// Runs a script over a log.
     LoggedScript {
         /// The name of the log's file.
         log: &'a str,
     },
-    /// To run a catalogue's jobs.
+    /// Runs a catalogue's jobs.
     Run {
-        /// By how many workers, 1 to 16.
+        /// The number of workers, 1 to 16.
         workers: u64,
     },
 }

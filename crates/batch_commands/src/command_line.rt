@@ -10,10 +10,10 @@ use clap::error::ErrorKind;
 use clap::{Arg, ArgMatches, Command, Error};
 use std::alloc::{AllocError, Global};
 
-/// How many workers a run has at most.
+/// The maximum number of workers of a run.
 const MOST_WORKERS: u64 = 16;
 
-/// How many workers a run has where none are asked for.
+/// The number of workers of a run, unless an option sets it.
 const DEFAULT_WORKERS: u64 = 2;
 
 fn is_script(words: &[&str]) -> bool
@@ -25,7 +25,7 @@ fn is_script(words: &[&str]) -> bool
     }
 }
 
-/// The words behind the first, if that is this command.
+/// Returns the words after the first, if that is this command.
 fn behind<'a, 'b>(words: &'b [&'a str], command: &str) -> Option<&'b [&'a str]>
     ensures { IfSome result (λ rest. map (λ word. word.now) words.now ≡ command.now ∷ map (λ word. word.now) rest.now) }
 {
@@ -35,7 +35,8 @@ fn behind<'a, 'b>(words: &'b [&'a str], command: &str) -> Option<&'b [&'a str]>
     }
 }
 
-/// A name of a log's file, if the text is one: it has a byte, and no hyphen ahead.
+/// Returns the text if it is the name of a log's file: it isn't empty, and doesn't begin with a
+/// hyphen.
 fn log_named(name: &str) -> Option<&str>
     ensures { IfSome result (λ log. (log.now ≡ name.now) × IsLogName name.now) }
 {
@@ -45,7 +46,7 @@ fn log_named(name: &str) -> Option<&str>
     }
 }
 
-/// The log that the words behind `script` name: `--log FILE` or `--log=FILE`.
+/// Returns the log that the words after `script` name: `--log FILE` or `--log=FILE`.
 fn log_of<'a>(words: &[&'a str]) -> Option<&'a str>
     ensures { IfSome result (λ log. IsLogName log.now × NamesLog log.now (map (λ word. word.now) words.now)) }
 {
@@ -56,7 +57,7 @@ fn log_of<'a>(words: &[&'a str]) -> Option<&'a str>
     }
 }
 
-/// The number of workers of a run, if it is 1 to 16.
+/// Returns the number of workers of a run, if it is 1 to 16.
 fn workers_of(matches: &ArgMatches<'_>) -> Option<u64>
     ensures { IfSome result (λ workers. (1 ≤ workers) × (workers ≤ 16)) }
 {
@@ -70,7 +71,7 @@ fn workers_of(matches: &ArgMatches<'_>) -> Option<u64>
     }
 }
 
-/// Whether a text is this number in decimal digits.
+/// Checks whether a text is this number in decimal digits.
 fn writes(text: &str, number: u64) -> bool
     ensures { IsTrue result → IsNumberText text.now number }
 {
@@ -80,7 +81,7 @@ fn writes(text: &str, number: u64) -> bool
     }
 }
 
-/// Whether one word asks for so many workers: `--workers=N`.
+/// Checks whether one word asks for this many workers: `--workers=N`.
 fn word_asks_for(word: &str, workers: u64) -> bool
     ensures { IsTrue result → (text : List ℕ) × (word.now ≡ codes "--workers=" ++ text) × IsNumberText text workers }
 {
@@ -90,7 +91,7 @@ fn word_asks_for(word: &str, workers: u64) -> bool
     }
 }
 
-/// Whether the words behind `run` ask for so many workers: none of them for 2.
+/// Checks whether the words after `run` ask for this many workers. No words ask for 2.
 fn asks_for(words: &[&str], workers: u64) -> bool
     ensures { IsTrue result → AsksFor workers (map (λ word. word.now) words.now) }
 {
@@ -102,7 +103,7 @@ fn asks_for(words: &[&str], workers: u64) -> bool
     }
 }
 
-/// The words ahead of a last `--`, which ends the options.
+/// Returns the words without a `--` at the end, which ends the options.
 fn options_of<'a, 'b>(words: &'b [&'a str]) -> &'b [&'a str]
     ensures { HasOptions (map (λ word. word.now) result.now) (map (λ word. word.now) words.now) }
 {
@@ -112,7 +113,7 @@ fn options_of<'a, 'b>(words: &'b [&'a str]) -> &'b [&'a str]
     }
 }
 
-/// What words ask for that `clap` has accepted.
+/// Returns the command for words that `clap` has accepted.
 fn asked<'a>(matches: &ArgMatches<'_>, words: &[&'a str]) -> Option<Arguments<'a>>
     ensures { IfSome result (λ arguments. IsAsked arguments (map (λ word. word.now) words.now)) }
 {
@@ -132,7 +133,7 @@ fn asked<'a>(matches: &ArgMatches<'_>, words: &[&'a str]) -> Option<Arguments<'a
     }
 }
 
-/// The argument `--log` of the command `script`.
+/// Returns the argument `--log` of the command `script`.
 fn log_argument<'a>(alloc: Global) -> Arg<'a>
     ensures rule { rule_of result ≡ log_rule }
     ensures local { result.global ≡ false }
@@ -144,7 +145,7 @@ fn log_argument<'a>(alloc: Global) -> Arg<'a>
         .value_parser(ValueParser::string())
 }
 
-/// The command `script`.
+/// Returns the command `script`.
 fn script_command<'a>(alloc: Global) -> Result<Command<'a>, AllocError>
     ensures { IfOk result (λ command. app_of command ≡ script_app) }
 {
@@ -154,7 +155,7 @@ fn script_command<'a>(alloc: Global) -> Result<Command<'a>, AllocError>
         .arg(log_argument(alloc))
 }
 
-/// The argument `--workers` of the command `run`.
+/// Returns the argument `--workers` of the command `run`.
 fn workers_argument<'a>(alloc: Global) -> Arg<'a>
     ensures rule { rule_of result ≡ workers_rule }
     ensures local { result.global ≡ false }
@@ -167,7 +168,7 @@ fn workers_argument<'a>(alloc: Global) -> Arg<'a>
         .default_value("2")
 }
 
-/// The command `run`.
+/// Returns the command `run`.
 fn run_command<'a>(alloc: Global) -> Result<Command<'a>, AllocError>
     ensures { IfOk result (λ command. app_of command ≡ run_app) }
 {
@@ -177,16 +178,18 @@ fn run_command<'a>(alloc: Global) -> Result<Command<'a>, AllocError>
         .arg(workers_argument(alloc))
 }
 
-/// Reads the words that follow the program's name.
+/// Parses the words that follow the program's name.
 ///
-/// They are accepted only if they are the one word `script`; or `script` with a log by `--log FILE` or
-/// `--log=FILE`, whose name begins with no hyphen; or `run` with 1 to 16 workers: by `--workers N` or
-/// `--workers=N`, else 2.
+/// These are accepted, and no others:
+///
+/// - the one word `script`
+/// - `script` with a log by `--log FILE` or `--log=FILE`, whose name begins with no hyphen
+/// - `run` with 1 to 16 workers, by `--workers N` or `--workers=N`, or with 2 by default
 ///
 /// # Errors
 ///
-/// `clap`'s, where they are other words, also for a request for help or for the version; and where
-/// memory is refused. None of them asks for a text where the words ask for a script or a run.
+/// Returns `clap`'s error for other words, for a request for help or for the version, and if memory
+/// is refused. It is never a requested text if the words ask for a script or a run.
 pub fn arguments<'a>(alloc: Global, words: &'a [&'a str]) -> Result<Arguments<'a>, Error>
     ensures only { IfOk result (λ arguments. IsAsked arguments (map (λ word. word.now) words.now)) }
     ensures shown { IfErr result (λ error. IsShown error → AskForNone (map (λ word. word.now) words.now)) }
@@ -197,14 +200,14 @@ pub fn arguments<'a>(alloc: Global, words: &'a [&'a str]) -> Result<Arguments<'a
     read
 }
 
-/// The program's name, which its help has before each command.
+/// Returns a command with the program's name, which its help has before each command.
 fn named_command<'a>(alloc: Global) -> Result<Command<'a>, AllocError>
     ensures { IfOk result (λ command. app_of command ≡ new_app (codes "batchctl")) }
 {
     Command::new(alloc, "batchctl").bin_name("batchctl")
 }
 
-/// The command of the program without its subcommands.
+/// Returns the program's command without its subcommands.
 fn bare_command<'a>(alloc: Global) -> Result<Command<'a>, AllocError>
     ensures { IfOk result (λ command. app_of command ≡ bare_app) }
 {
@@ -219,7 +222,7 @@ fn bare_command<'a>(alloc: Global) -> Result<Command<'a>, AllocError>
     )
 }
 
-/// The same with `script`.
+/// Returns the program's command with the subcommand `script`.
 fn command_of_scripts<'a>(alloc: Global) -> Result<Command<'a>, AllocError>
     ensures { IfOk result (λ command. app_of command ≡ scripts_app) }
 {
@@ -233,7 +236,7 @@ fn command_of_scripts<'a>(alloc: Global) -> Result<Command<'a>, AllocError>
     }
 }
 
-/// The command of the program.
+/// Returns the program's command.
 fn batchctl_command<'a>(alloc: Global) -> Result<Command<'a>, AllocError>
     ensures { IfOk result (λ command. app_of command ≡ batchctl_app) }
 {
@@ -247,7 +250,7 @@ fn batchctl_command<'a>(alloc: Global) -> Result<Command<'a>, AllocError>
     }
 }
 
-/// What the words ask for by this command.
+/// Parses the words with this command.
 fn read_words<'a>(command: &mut Command<'a>, words: &'a [&'a str]) -> Result<Arguments<'a>, Error>
     requires { app_of command.old ≡ batchctl_app }
     ensures only { IfOk result (λ arguments. IsAsked arguments (map (λ word. word.now) words.now)) }
@@ -262,7 +265,7 @@ fn read_words<'a>(command: &mut Command<'a>, words: &'a [&'a str]) -> Result<Arg
     }
 }
 
-/// Refuses words that ask for nothing, though the command accepts them.
+/// Refuses words that `clap` accepts, but that ask for none of the commands.
 fn refuse_others<'a>(command: &mut Command<'_>) -> Result<Arguments<'a>, Error>
     ensures { IsErrAnd result (λ error. IsShown error → ⊥) }
 {

@@ -1,4 +1,4 @@
-// What is told of the job executions of a run.
+// The output about the job executions of a run.
 ghost use Rattle.batch_commands.specs.Listing.{text_of};
 ghost use Rattle.batch_commands.specs.Putting.{Puts};
 ghost use Rattle.batch_commands.specs.Turns.{Lists, ListsAll, ListsWith};
@@ -13,8 +13,8 @@ use sessions::Session;
 use std::alloc::Global;
 use std::sync::Wait;
 
-/// Adds the line of a job execution and its step executions. Nothing where an answer is of another
-/// kind, which it never is.
+/// Adds the line of a job execution and its step executions. Adds nothing if an answer is of
+/// another kind, which never happens.
 fn put_line<W: Sink>(
     alloc: Global,
     execution: &Answer,
@@ -34,7 +34,7 @@ fn put_line<W: Sink>(
     put(output, writer, &line)
 }
 
-/// Adds the line of a job execution, whose step executions these are.
+/// Adds the line of a job execution, which has these step executions.
 fn put_with_steps<N: Site, R: Wait + AllocGlobal, W: Sink>(
     rt: &R,
     operator: &Operator<N>,
@@ -77,7 +77,7 @@ fn put_execution<N: Site, R: Wait + AllocGlobal, W: Sink>(
     }
 }
 
-/// Adds a line for each of the first so many job executions, by rising number.
+/// Adds a line for each of the first `count` job executions, in ascending order of their numbers.
 pub(crate) fn put_executions<N: Site, R: Wait + AllocGlobal, W: Sink>(
     rt: &R,
     operator: &Operator<N>,

@@ -1,14 +1,14 @@
-// The texts of help.
+// The help texts.
 
-/// What the program is for.
+/// The purpose of the program.
 pub const ABOUT: &str =
     "Drives a repository of batch jobs: starts and restarts them, hands out their work and tells how they stand";
 
-/// What `script` is for.
+/// The purpose of `script`.
 pub const SCRIPT_ABOUT: &str =
     "Answers a script of commands from standard input, one reply line for each line";
 
-/// What stands in the lines of a script.
+/// The format of a script's lines.
 pub const SCRIPT_HELP: &str =
     r#"Standard input is text, one JSON value a line. The first line is the catalogue of jobs; each later
 line is a command or a query. An empty line has no reply; every other line has one, written to
@@ -70,17 +70,17 @@ Exit status: 0 done, 2 the command line was refused, 3 the catalogue was refused
 one line of output), 4 a read or a write failed, 5 out of memory; with a log also 6 its file failed,
 7 the log was refused (its fault is the one line of output)."#;
 
-/// What `--log` is for.
+/// The purpose of `--log`.
 pub const LOG_HELP: &str = "Keeps what is accepted in this file, and goes on from what it has";
 
-/// What `run` is for.
+/// The purpose of `run`.
 pub const RUN_ABOUT: &str =
     "Starts jobs of a catalogue and runs them by workers with built-in artifacts";
 
-/// What `--workers` is for.
+/// The purpose of `--workers`.
 pub const WORKERS_HELP: &str = "How many workers run the jobs, 1 to 16";
 
-/// What stands in the lines of a run.
+/// The format of a run's lines.
 pub const RUN_HELP: &str =
     r#"Standard input is text, one JSON value a line. The first line is the catalogue of jobs; each later
 line starts a job, at moment 0 (what stands in brackets may be left out):

@@ -1,4 +1,4 @@
-//! What the words of `batchctl`'s command line ask for, and what is told of it.
+//! The commands of `batchctl`'s command line, and their output.
 #![tactic(auto)]
 
 mod asked;

@@ -28,7 +28,8 @@ fn put_line<W: Sink>(alloc: Global, line: &[u8], sink: &mut W) -> Result<(), Eng
     flush(&mut output, sink)
 }
 
-/// Writes the line of what the run ends with.
+/// Writes a fault's line, and returns the fault. Returns the fault of the writer if that fails, or
+/// `OutOfMemory` if memory is refused.
 fn tell_end<W: Sink>(alloc: Global, line: &[u8], end: OverLogFault, sink: &mut W) -> OverLogFault
     ensures { Tells line.now end (W.tape sink.old) (W.tape sink.new) result }
 {
@@ -38,7 +39,7 @@ fn tell_end<W: Sink>(alloc: Global, line: &[u8], end: OverLogFault, sink: &mut W
     }
 }
 
-/// Tells why a log is refused, and ends the run by it.
+/// Writes the reason why a log is refused, and returns that fault.
 fn refuse<W: Sink>(alloc: Global, fault: LogFault, sink: &mut W) -> Result<(), OverLogFault>
     ensures { IsErrAnd result (Tells (log_fault_text fault) Refused (W.tape sink.old) (W.tape sink.new)) }
 {
@@ -46,7 +47,7 @@ fn refuse<W: Sink>(alloc: Global, fault: LogFault, sink: &mut W) -> Result<(), O
     Err(tell_end(alloc, &line, OverLogFault::Refused, sink))
 }
 
-/// The first line, which is a catalogue.
+/// Reads the first line, which is a catalogue.
 fn read_first<S: Source>(
     alloc: Global,
     input: &mut InputBuffer,
@@ -67,7 +68,7 @@ fn read_first<S: Source>(
     }
 }
 
-/// Tells why there is no catalogue, and ends the run by it.
+/// Writes the reason why there is no catalogue, and returns that fault.
 fn tell_first<W: Sink>(alloc: Global, fault: EngineFault, sink: &mut W) -> Result<(), OverLogFault>
     requires { HasName fault }
     ensures { IsErrAnd result (TellsFirst fault (W.tape sink.old) (W.tape sink.new)) }
@@ -79,7 +80,7 @@ fn tell_first<W: Sink>(alloc: Global, fault: EngineFault, sink: &mut W) -> Resul
     Err(OverLogFault::of_engine(fault))
 }
 
-/// Opens the file of a log. It is made over this catalogue if there is none.
+/// Opens the file of a log. Creates it for this catalogue if there is none.
 fn open_or_make<R: Files<File = File>>(
     rt: &R,
     alloc: Global,
@@ -97,7 +98,8 @@ fn open_or_make<R: Files<File = File>>(
     }
 }
 
-/// Tells why the file of a log cannot be had, and ends the run by it.
+/// Writes the reason why the file of a log isn't available, if it is in use, and returns that
+/// fault.
 fn tell_unavailable<W: Sink>(
     alloc: Global,
     fault: FileFault,
@@ -113,7 +115,7 @@ fn tell_unavailable<W: Sink>(
     }
 }
 
-/// Tells how a run over a log ended.
+/// Writes the reason why the log was refused, if it was, and returns the end of the script.
 fn tell_outcome<W: Sink>(
     alloc: Global,
     outcome: Result<(), LoggedFault>,
@@ -128,7 +130,7 @@ fn tell_outcome<W: Sink>(
     }
 }
 
-/// Answers the lines behind the first over a file.
+/// Replies to the lines after the first, over the log in a file.
 fn answer_in<S: Source, W: Sink>(
     alloc: Global,
     input: &mut InputBuffer,
@@ -152,7 +154,7 @@ fn answer_in<S: Source, W: Sink>(
     tell_outcome(alloc, outcome, sink)
 }
 
-/// Answers a script over a log.
+/// Runs a script over a log.
 fn answer_over<R: AllocGlobal + Files<File = File>, S: Source, W: Sink>(
     rt: &R,
     log: &str,
@@ -173,7 +175,7 @@ fn answer_over<R: AllocGlobal + Files<File = File>, S: Source, W: Sink>(
     }
 }
 
-/// Answers a script over a log, and gives the exit status.
+/// Runs a script over a log, and returns the exit status.
 pub(crate) fn serve_logged<R: AllocGlobal + Files<File = File>, S: Source, W: Sink, F: Write>(
     rt: &R,
     log: &str,

@@ -1,4 +1,4 @@
-// Why a script over a log was not answered to its end.
+// The faults of a script over a log.
 ghost use Rattle.std.specs.Prelude.{◌≡◌};
 ghost use Rattle.batch_commands.specs.declared.logged_fault.OverLogFault.TheVariants.{OutOfMemory};
 ghost use Rattle.batch_commands.specs.Logging.{over_log_status, fault_of_engine, fault_of_logged};
@@ -11,18 +11,18 @@ use script_engine::EngineFault;
 use std::alloc::AllocError;
 use std::io::Write;
 
-/// Why a script over a log was not answered to its end.
+/// The fault that ended a script over a log early.
 #[derive(Clone, Copy, Debug, PartialEq, Eq)]
 pub(crate) enum OverLogFault {
-    /// The first line is no catalogue. Its fault's line was told.
+    /// The first line is no catalogue. The line of its fault was written.
     Catalogue,
-    /// The log is refused. Its fault's line was told.
+    /// The log is refused. The line of its fault was written.
     Refused,
     /// The reader failed.
     Read,
     /// The writer failed.
     Write,
-    /// The file of the log failed, or cannot be opened or made.
+    /// The file of the log failed, or can't be opened or created.
     Log,
     /// Memory was refused.
     OutOfMemory,
@@ -37,7 +37,7 @@ impl From<AllocError> for OverLogFault {
 }
 
 impl OverLogFault {
-    /// The fault of what is read or told without a log.
+    /// Converts the fault of a script without a log.
     pub(crate) fn of_engine(fault: EngineFault) -> OverLogFault
         ensures { result ≡ fault_of_engine fault }
     {
@@ -49,7 +49,7 @@ impl OverLogFault {
         }
     }
 
-    /// The fault of a run over a log.
+    /// Converts the fault of a script over a log.
     pub(crate) fn of_logged(fault: LoggedFault) -> OverLogFault
         ensures { result ≡ fault_of_logged fault }
     {
@@ -62,7 +62,8 @@ impl OverLogFault {
         }
     }
 
-    /// Tells the fault on standard error, unless a line of output says it, and gives the exit status.
+    /// Writes the fault to standard error, unless a line of output has it, and returns the exit
+    /// status.
     pub(crate) fn end<F: Write>(self, faults: &mut F) -> u8
         ensures { result ≡ over_log_status self }
     {

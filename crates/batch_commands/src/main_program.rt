@@ -20,19 +20,19 @@ use std::io::{ErrorKind, Read, Write};
 use std::sync::Wait;
 use std::thread::Threads;
 
-/// The exit status of a run that is done, also of a request for help.
+/// The exit status of success, also of a request for help.
 pub const DONE: u8 = 0;
 
-/// The exit status where the command line is refused.
+/// The exit status if the command line is refused.
 pub const REFUSED: u8 = 2;
 
-/// The exit status where the catalogue is refused.
+/// The exit status if the catalogue is refused.
 pub const FAULTY_CATALOGUE: u8 = 3;
 
-/// The exit status where a read or a write failed.
+/// The exit status if a read or a write failed.
 pub const DEVICE_FAILED: u8 = 4;
 
-/// The exit status where memory was refused.
+/// The exit status if memory was refused.
 pub const OUT_OF_MEMORY: u8 = 5;
 
 /// The exit status if the file of a log failed.
@@ -41,13 +41,14 @@ pub const LOG_FAILED: u8 = 6;
 /// The exit status if a log is refused.
 pub const LOG_REFUSED: u8 = 7;
 
-// What is told on standard error is told as far as it goes: the exit status says it again.
+// A failure to write to standard error is ignored, because the exit status has the same
+// information.
 pub(crate) fn tell<F: Write>(faults: &mut F, text: &str) {
     let _ = writeln!(faults, "{text}");
 }
 
-/// Tells why the words of the command line could not be read, and gives the exit status: 5 for want
-/// of memory, else 2, since a word is not UTF-8.
+/// Writes the reason why the words of the command line couldn't be read, and returns the exit
+/// status. It is 5 if memory was refused, and otherwise 2, because a word isn't UTF-8.
 pub fn refuse_words<F: Write>(error: &io::Error, faults: &mut F) -> u8
     ensures memory { error_kind error.now ≡ ErrorKind.OutOfMemory → result ≡ OUT_OF_MEMORY }
     ensures other { error_kind error.now ≢ ErrorKind.OutOfMemory → result ≡ REFUSED }
@@ -61,7 +62,7 @@ pub fn refuse_words<F: Write>(error: &io::Error, faults: &mut F) -> u8
     }
 }
 
-/// Tells why a script or a run was not done to its end, and gives the exit status.
+/// Writes the fault that ended a script or a run early, if any, and returns the exit status.
 fn end<T: Drop, F: Write>(outcome: Result<T, EngineFault>, faults: &mut F) -> u8
     ensures { result ≡ exit_status outcome }
 {
@@ -83,7 +84,7 @@ fn end<T: Drop, F: Write>(outcome: Result<T, EngineFault>, faults: &mut F) -> u8
     }
 }
 
-/// Runs the jobs of a catalogue by so many workers, and gives the exit status.
+/// Runs the jobs of a catalogue by `workers` workers, and returns the exit status.
 fn serve_run<R: Threads + Wait + AllocGlobal + Sync, S: Source, W: Sink, F: Write>(
     rt: &R,
     workers: u64,
@@ -99,7 +100,7 @@ fn serve_run<R: Threads + Wait + AllocGlobal + Sync, S: Source, W: Sink, F: Writ
     end(outcome, faults)
 }
 
-/// Answers a script, and gives the exit status.
+/// Runs a script, and returns the exit status.
 fn serve_script<S: Source, W: Sink, F: Write>(
     alloc: Global,
     source: &mut S,
@@ -112,7 +113,7 @@ fn serve_script<S: Source, W: Sink, F: Write>(
     end(outcome, faults)
 }
 
-/// Tells the text that the words asked for, and gives the exit status.
+/// Writes the text that the words asked for, and returns the exit status.
 fn tell_text<W: Sink, F: Write>(error: &Error, sink: &mut W, faults: &mut F) -> u8
     ensures { (result ≡ DONE) ⊎ (result ≡ DEVICE_FAILED) }
 {
@@ -128,7 +129,8 @@ fn tell_text<W: Sink, F: Write>(error: &Error, sink: &mut W, faults: &mut F) -> 
     }
 }
 
-/// Tells why the words were refused, or the text that they asked for, and gives the exit status.
+/// Writes the reason why the words were refused, or the text that they asked for, and returns the
+/// exit status.
 fn tell_words<W: Sink, F: Write>(error: &Error, sink: &mut W, faults: &mut F) -> u8
     ensures { ((result ≡ REFUSED) × (W.tape sink.new ≡ W.tape sink.old)) ⊎ (((result ≡ DONE) ⊎ (result ≡ DEVICE_FAILED)) × IsShown error.now) }
 {
@@ -139,7 +141,7 @@ fn tell_words<W: Sink, F: Write>(error: &Error, sink: &mut W, faults: &mut F) ->
     tell_text(error, sink, faults)
 }
 
-/// Does what the words ask for, and gives the exit status.
+/// Runs the command that the words ask for, and returns the exit status.
 fn serve<R: Threads + Wait + AllocGlobal + Files<File = File> + Sync, S: Source, W: Sink, F: Write>(
     rt: &R,
     words: &[&str],
@@ -161,11 +163,17 @@ fn serve<R: Threads + Wait + AllocGlobal + Files<File = File> + Sync, S: Source,
     }
 }
 
-/// Runs the program on the words that follow its name, and gives the exit status: 0 done (also a
-/// request for help, its text on `writer`), 2 the command line was refused, 3 the catalogue was
-/// refused (its fault line on `writer`), 4 a read or a write failed, 5 out of memory, 6 the file of a
-/// log failed, 7 a log was refused (its fault line on `writer`). What goes to standard error is told to
-/// `faults`.
+/// Runs the program on the words that follow its name, and returns the exit status:
+///
+/// - 0: success, also after a request for help, whose text is written to `writer`
+/// - 2: the command line was refused
+/// - 3: the catalogue was refused, and the line of its fault is written to `writer`
+/// - 4: a read or a write failed
+/// - 5: memory was refused
+/// - 6: the file of a log failed
+/// - 7: a log was refused, and the line of its fault is written to `writer`
+///
+/// The text for standard error is written to `faults`.
 pub fn program<
     R: Threads + Wait + AllocGlobal + Files<File = File> + Sync,
     D: Read + Drop,

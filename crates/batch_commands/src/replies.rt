@@ -1,4 +1,4 @@
-// The lines that are written, which wait in a buffer until it is full or the run needs them out.
+// The output lines. They wait in a buffer until it is full or flushed.
 ghost use Rattle.std.specs.Prelude.{◌≡◌, Err};
 ghost use Rattle.batch_commands.specs.Putting.{Flushes, Puts};
 ghost use Rattle.batch_commands.specs.Turns.{PutsReply, pool_text, wants_memory};
@@ -20,7 +20,7 @@ pub(crate) fn put<W: Sink>(
     Ok(())
 }
 
-/// Writes what waits.
+/// Writes the waiting lines.
 pub(crate) fn flush<W: Sink>(output: &mut OutputBuffer, writer: &mut W) -> Result<(), EngineFault>
     ensures { Flushes (W.tape writer.old) output.old (W.tape writer.new) output.new result }
 {
@@ -28,7 +28,7 @@ pub(crate) fn flush<W: Sink>(output: &mut OutputBuffer, writer: &mut W) -> Resul
     Ok(())
 }
 
-/// Whether a reply is that memory was refused.
+/// Checks whether a reply is the refusal `OutOfMemory`.
 fn wants_memory(reply: &Result<Reply, Refusal>) -> bool
     ensures { result ≡ wants_memory reply.now }
 {
@@ -39,7 +39,8 @@ fn wants_memory(reply: &Result<Reply, Refusal>) -> bool
     }
 }
 
-/// Adds the line of a reply. Want of memory ends the run in its place.
+/// Adds the line of a reply. Returns the fault `OutOfMemory` instead if the reply is that refusal,
+/// which ends the run.
 pub(crate) fn put_reply<W: Sink>(
     alloc: Global,
     reply: &Result<Reply, Refusal>,
@@ -55,7 +56,7 @@ pub(crate) fn put_reply<W: Sink>(
     put(output, writer, &line)
 }
 
-/// The same of a refusal.
+/// Adds the line of a refusal, as `put_reply` does.
 pub(crate) fn put_refusal<W: Sink>(
     alloc: Global,
     refusal: Refusal,

@@ -24,7 +24,7 @@ use std::sync::Wait;
 use std::thread;
 use std::thread::Threads;
 
-/// Lets other threads run where a worker finds nothing. Every moment is 0.
+/// A host that lets other threads run if a worker finds no work. Every moment is 0.
 struct Host;
 
 impl Gate for Host {
@@ -39,8 +39,8 @@ impl Gate for Host {
     }
 }
 
-/// Starts the jobs that the lines name, runs them by a pool, and tells of each job execution. The
-/// catalogue names these artifacts.
+/// Starts the jobs that the lines name, runs them by a pool, and adds a line for each job
+/// execution. `names` are the artifacts that the catalogue names.
 fn run_over<N: Site + Send + Sync, R: Threads + Wait + AllocGlobal + Sync, S: Source, W: Sink>(
     rt: &R,
     workers: u64,
@@ -69,7 +69,7 @@ fn run_over<N: Site + Send + Sync, R: Threads + Wait + AllocGlobal + Sync, S: So
     ran
 }
 
-/// The same on an operator.
+/// Does the work of `run_over` on an operator.
 fn run_on<N: Site + Send + Sync, R: Threads + Wait + AllocGlobal + Sync, S: Source, W: Sink>(
     rt: &R,
     workers: u64,
@@ -105,7 +105,7 @@ fn run_on<N: Site + Send + Sync, R: Threads + Wait + AllocGlobal + Sync, S: Sour
     }
 }
 
-/// The same in a session.
+/// Does the work of `run_over` in a session.
 fn run_in<N: Site + Send + Sync, R: Threads + Wait + AllocGlobal + Sync, S: Source, W: Sink>(
     rt: &R,
     workers: u64,
@@ -128,7 +128,7 @@ fn run_in<N: Site + Send + Sync, R: Threads + Wait + AllocGlobal + Sync, S: Sour
     put_executions(rt, operator, session, started, output, writer)
 }
 
-/// Runs what was started by a pool, and adds the line of its refusal, if it has one.
+/// Runs the started jobs by a pool, and adds the line of its refusal, if it has one.
 fn run_pool<N: Site + Send + Sync, R: Threads + Wait + AllocGlobal + Sync, W: Sink>(
     rt: &R,
     workers: u64,
@@ -193,8 +193,8 @@ fn run_jobs_of<R: Threads + Wait + AllocGlobal + Sync, S: Source, W: Sink>(
     )
 }
 
-/// Runs what the lines ask for, the first of which is the catalogue. The last replies stay in their
-/// buffer.
+/// Runs the jobs that the lines ask for, of which the first is the catalogue. The last replies stay
+/// in their buffer.
 fn run_lines<R: Threads + Wait + AllocGlobal + Sync, S: Source, W: Sink>(
     rt: &R,
     workers: u64,
@@ -221,7 +221,7 @@ fn run_lines<R: Threads + Wait + AllocGlobal + Sync, S: Source, W: Sink>(
     }
 }
 
-/// Runs what the lines of a reader ask for.
+/// Runs the jobs that the lines of a reader ask for. The last replies stay in their buffer.
 fn run_source<R: Threads + Wait + AllocGlobal + Sync, S: Source, W: Sink>(
     rt: &R,
     workers: u64,
@@ -239,7 +239,7 @@ fn run_source<R: Threads + Wait + AllocGlobal + Sync, S: Source, W: Sink>(
     ran
 }
 
-/// Whether a run ended by a failure of the writer.
+/// Checks whether a failure of the writer ended a run.
 fn has_writer_failed(outcome: &Result<(), EngineFault>) -> bool
     ensures { result ≡ has_writer_failed outcome.now }
 {
@@ -250,7 +250,8 @@ fn has_writer_failed(outcome: &Result<(), EngineFault>) -> bool
     }
 }
 
-/// The same, with the last replies written, where the writer has not failed.
+/// Runs the jobs that the lines of a reader ask for, and writes the last replies, unless the writer
+/// has failed.
 fn run_to_end<R: Threads + Wait + AllocGlobal + Sync, S: Source, W: Sink>(
     rt: &R,
     workers: u64,
@@ -273,18 +274,18 @@ fn run_to_end<R: Threads + Wait + AllocGlobal + Sync, S: Source, W: Sink>(
 
 /// Runs a catalogue's jobs by 1 to 16 workers with built-in artifacts.
 ///
-/// The first line that `source` tells is the catalogue, each later one that isn't empty starts a job,
-/// at moment 0, and has one reply line. When the reader has told its end, the workers run what was
-/// started, and then one line is written for each job execution, by rising number. Where the pool
-/// answers a refusal, its line stands ahead of those.
+/// The first line of `source` is the catalogue. Each later line that isn't empty starts a job, at
+/// moment 0, and has one reply line. After the reader's end, the workers run the started jobs. Then
+/// one line is written for each job execution, in ascending order of their numbers. If the pool
+/// returns a refusal, its line precedes those.
 ///
 /// # Errors
 ///
-/// - `Catalogue` where the first line is no catalogue: its fault's line is all that is written.
-/// - `Read` where the reader failed, or was called 2^40 times: the replies to the lines before were
+/// - `Catalogue` if the first line is no catalogue. The line of its fault is the only output.
+/// - `Read` if the reader failed, or was called 2^40 times. The replies to the lines before were
 ///   written, and nothing is run.
-/// - `Write` where the writer failed.
-/// - `OutOfMemory` where memory was refused.
+/// - `Write` if the writer failed.
+/// - `OutOfMemory` if memory was refused.
 pub fn run_jobs<R: Threads + Wait + AllocGlobal + Sync, S: Source, W: Sink>(
     rt: &R,
     workers: u64,

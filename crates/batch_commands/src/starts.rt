@@ -19,7 +19,7 @@ use sessions::Session;
 use std::alloc::Global;
 use std::sync::Wait;
 
-/// What a line asks to be started. One above the bound of a line starts nothing.
+/// Parses the start that a line asks for. A line that is too long starts nothing.
 fn start_in(alloc: Global, line: &Line) -> Result<StartLine, StartFault>
     ensures { (bytes : List ℕ) → Shows line.now bytes → IsStart (start_at bytes) result }
 {
@@ -29,7 +29,8 @@ fn start_in(alloc: Global, line: &Line) -> Result<StartLine, StartFault>
     }
 }
 
-/// Adds the reply to a line that is no start line. Want of memory ends the run in its place.
+/// Adds the reply to a line that is no start line. Returns the fault `OutOfMemory` instead if
+/// memory was refused, which ends the run.
 fn refuse_line<W: Sink>(
     alloc: Global,
     fault: StartFault,
@@ -45,8 +46,8 @@ fn refuse_line<W: Sink>(
     }
 }
 
-/// Starts the job that a line names, and adds the reply. Says whether a job execution was made. An
-/// empty line is passed over.
+/// Starts the job that a line names, and adds the reply. Returns whether a job execution was
+/// created. Ignores an empty line.
 fn answer_line<N: Site, R: Wait + AllocGlobal, W: Sink>(
     rt: &R,
     operator: &Operator<N>,
@@ -69,7 +70,7 @@ fn answer_line<N: Site, R: Wait + AllocGlobal, W: Sink>(
     }
 }
 
-/// Starts a job, and adds the reply. Says whether a job execution was made.
+/// Starts a job, and adds the reply. Returns whether a job execution was created.
 fn start_job<N: Site, R: Wait + AllocGlobal, W: Sink>(
     rt: &R,
     operator: &Operator<N>,
@@ -88,7 +89,7 @@ fn start_job<N: Site, R: Wait + AllocGlobal, W: Sink>(
     Ok(is_started)
 }
 
-/// Whether a line has no byte.
+/// Checks whether a line is empty.
 fn is_empty(line: &Line) -> bool
     ensures { (bytes : List ℕ) → Shows line.now bytes → result ≡ (length bytes == 0) }
 {
@@ -98,7 +99,8 @@ fn is_empty(line: &Line) -> bool
     }
 }
 
-/// Starts the jobs that the lines name, up to their end. Says how many job executions were made.
+/// Starts the jobs that the lines name, up to their end. Returns the number of job executions
+/// created.
 pub(crate) fn answer_starts<N: Site, R: Wait + AllocGlobal, S: Source, W: Sink>(
     rt: &R,
     operator: &Operator<N>,

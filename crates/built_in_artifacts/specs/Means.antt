@@ -1,4 +1,4 @@
--- What a built-in artifact means to a worker.
+-- The meaning of a built-in artifact to a worker.
 use Rattle.std.specs.Prelude.{ℕ, zero, suc, ◌-◌, ◌==◌, ◌||◌, Bool, false, cond, length, slice_get, map, List, [], ◌∷◌, Option, Some, None}
 use Rattle.std.specs.Fmt.{decimal}
 use Rattle.std.specs.Str.Parse.{digits_value}
@@ -7,12 +7,12 @@ use Rattle.built_in_artifacts.specs.declared.built_in.BuiltIn.TheVariants.{Compl
 use Rattle.job_threads.specs.Meaning.{Coming, Told, Meaning}
 use Rattle.job_threads.specs.Past.{Past, nothing_past}
 
--- so many numbers after this one
+-- this many numbers after this one
 abbrev pub numbers_after : ℕ → ℕ → List ℕ
 numbers_after at zero = []
 numbers_after at (suc many) = suc at ∷ numbers_after (suc at) many
 
--- a number as an item, with the checkpoint of a reader that read it
+-- a number as an item, with the checkpoint of a reader that has read it
 abbrev pub coming : ℕ → Coming
 coming n = record { item = decimal n; mark = decimal n }
 
@@ -20,7 +20,7 @@ coming n = record { item = decimal n; mark = decimal n }
 abbrev pub up_to : ℕ → ℕ → List Coming
 up_to last at = map coming (numbers_after at (last - at))
 
--- the number after which an open goes on
+-- the number after which an open resumes
 abbrev pub number_at : Option (List ℕ) → ℕ
 number_at None = 0
 number_at (Some mark) = digits_value 10 mark
@@ -42,7 +42,7 @@ exit_of (Count last) = None
 exit_of Odd = None
 exit_of Sink = None
 
--- what an open with this checkpoint leaves to read
+-- the items that an open with this checkpoint leaves to read
 abbrev pub opens_of : BuiltIn → Option (List ℕ) → List Coming
 opens_of Complete at = []
 opens_of Fail at = []
@@ -51,7 +51,7 @@ opens_of (Count last) at = up_to last (number_at at)
 opens_of Odd at = []
 opens_of Sink at = []
 
--- what is left to read after this number
+-- the items that are left to read after this number
 abbrev pub left_of : BuiltIn → ℕ → List Coming
 left_of Complete at = []
 left_of Fail at = []
@@ -69,7 +69,7 @@ mark_of (Count last) at = decimal at
 mark_of Odd at = []
 mark_of Sink at = []
 
--- what is made of an item
+-- the result of processing an item
 abbrev pub gives_of : BuiltIn → List ℕ → Option (List ℕ)
 gives_of Complete item = None
 gives_of Fail item = None
@@ -78,11 +78,11 @@ gives_of (Count last) item = None
 gives_of Odd item = cond (has_even_end item) None (Some item)
 gives_of Sink item = None
 
--- whatever its partition
+-- the description of an artifact, for any partition
 abbrev pub told_of : BuiltIn → Told
 told_of b = record { opens = opens_of b; gives = gives_of b; exit = exit_of b }
 
--- an artifact that has read up to this number, with this past
+-- the meaning of an artifact that has read up to this number, with this past
 abbrev pub means : BuiltIn → ℕ → Past → Meaning
 means b at past =
     record {
@@ -97,6 +97,6 @@ means b at past =
       faults = past.faults;
     }
 
--- ahead of its first call
+-- the meaning of an artifact before its first call
 abbrev pub fresh : BuiltIn → Meaning
 fresh b = means b 0 nothing_past

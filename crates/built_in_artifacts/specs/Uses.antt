@@ -1,4 +1,4 @@
--- Which calls a built-in artifact is meant for, and what it answers: any other use faults.
+-- The calls that each built-in artifact is meant for, and their results. All others fault.
 use Rattle.std.specs.Prelude.{ℕ, ◌≡◌, ◌+◌, nat_lt, cond, Bool, true, false, List, Option, Some, None, Result, Ok, Err, String, string_bytes, option_map}
 use Rattle.std.specs.declared.alloc.Global.{Global}
 use Rattle.std.specs.Fmt.{decimal}
@@ -9,7 +9,7 @@ use Rattle.built_in_artifacts.specs.declared.built_in.BuiltIn.TheVariants.{Compl
 use Rattle.built_in_artifacts.specs.Names.{IsNumber}
 use Rattle.built_in_artifacts.specs.Means.{has_even_end}
 
--- this answer, but for want of memory
+-- this result, unless memory was refused
 abbrev pub IsDue : Option (List ℕ) → Result (Option (List ℕ)) ArtifactFault → Type 0
 IsDue wanted (Ok answer) = answer ≡ wanted
 IsDue wanted (Err fault) = fault ≡ OutOfMemory
@@ -22,7 +22,7 @@ abbrev pub IsItemDue : Option (List ℕ) → Result (Option (String Global)) Art
 IsItemDue wanted (Ok answer) = option_map string_bytes answer ≡ wanted
 IsItemDue wanted (Err fault) = fault ≡ OutOfMemory
 
--- a run
+-- the result of a run
 abbrev pub RunsAs : BuiltIn → Result (Option (List ℕ)) ArtifactFault → Type 0
 RunsAs Complete r = r ≡ Ok None
 RunsAs Fail r = r ≡ Err Failed
@@ -31,7 +31,7 @@ RunsAs (Count last) r = r ≡ Err Failed
 RunsAs Odd r = r ≡ Err Failed
 RunsAs Sink r = r ≡ Err Failed
 
--- where an open goes on, or that it faults
+-- the number after which an open resumes, or its fault
 abbrev pub StartsAs : BuiltIn → Option (List ℕ) → Option ℕ → Type 0
 StartsAs Complete at r = r ≡ None
 StartsAs Fail at r = r ≡ None
@@ -42,7 +42,7 @@ StartsAs (Count last) (Some mark) (Some n) = IsNumber mark n
 StartsAs Odd at r = r ≡ None
 StartsAs Sink at r = r ≡ Some 0
 
--- an open at this checkpoint
+-- the result of an open at this checkpoint
 abbrev pub OpensAs : BuiltIn → Option (List ℕ) → Result (Unit {0}) ArtifactFault → Type 0
 OpensAs Complete at r = r ≡ Err Failed
 OpensAs Fail at r = r ≡ Err Failed
@@ -57,7 +57,7 @@ OpensAs Sink at r = r ≡ Ok tt
 abbrev pub next_of : ℕ → ℕ → Option (List ℕ)
 next_of last at = cond (nat_lt at last) (Some (decimal (at + 1))) None
 
--- a read after this number
+-- the result of a read after this number
 abbrev pub ReadsAs : BuiltIn → ℕ → Result (Option (String Global)) ArtifactFault → Type 0
 ReadsAs Complete at r = r ≡ Err Failed
 ReadsAs Fail at r = r ≡ Err Failed
@@ -66,7 +66,7 @@ ReadsAs (Count last) at r = IsItemDue (next_of last at) r
 ReadsAs Odd at r = r ≡ Err Failed
 ReadsAs Sink at r = r ≡ Err Failed
 
--- an item is processed
+-- the result of processing an item
 abbrev pub ProcessesAs : BuiltIn → List ℕ → Result (Option (String Global)) ArtifactFault → Type 0
 ProcessesAs Complete item r = r ≡ Err Failed
 ProcessesAs Fail item r = r ≡ Err Failed
@@ -75,7 +75,7 @@ ProcessesAs (Count last) item r = r ≡ Err Failed
 ProcessesAs Odd item r = IsItemDue (cond (has_even_end item) None (Some item)) r
 ProcessesAs Sink item r = r ≡ Err Failed
 
--- whether groups are taken
+-- whether an artifact is a writer, which takes groups
 abbrev pub is_writer : BuiltIn → Bool
 is_writer Complete = false
 is_writer Fail = false
@@ -84,11 +84,11 @@ is_writer (Count last) = false
 is_writer Odd = false
 is_writer Sink = true
 
--- a group is written
+-- the result of writing a group
 abbrev pub WritesAs : BuiltIn → Result (Unit {0}) ArtifactFault → Type 0
 WritesAs b r = r ≡ cond (is_writer b) (Ok tt) (Err Failed)
 
--- the checkpoint after this number
+-- the result of asking for the checkpoint after this number
 abbrev pub MarksAs : BuiltIn → ℕ → Result (String Global) ArtifactFault → Type 0
 MarksAs Complete at r = r ≡ Err Failed
 MarksAs Fail at r = r ≡ Err Failed

@@ -9,10 +9,10 @@ use batch_ids::{OutOfMemory, T256};
 use job_threads::ArtifactFault;
 use std::alloc::Global;
 
-/// How many bytes an exit status has at most.
+/// The maximum length of an exit status, in bytes.
 const LONGEST_EXIT: usize = 256;
 
-/// A built-in artifact, as a catalogue names it. Any other use of one than its own faults.
+/// A built-in artifact, as a catalogue names it. Calls of roles that it doesn't have fault.
 #[derive(PartialEq, Eq, Debug, Drop)]
 pub enum BuiltIn {
     /// `ok`: a batchlet or decider that completes without an exit status.
@@ -23,13 +23,13 @@ pub enum BuiltIn {
     Exit(T256),
     /// `count:N`: a reader of the numbers 1 to N in decimal.
     Count(u32),
-    /// `odd`: a processor that drops each item whose last character is an even digit.
+    /// `odd`: a processor that filters out each item whose last character is an even digit.
     Odd,
     /// `sink`: a writer that takes every group.
     Sink,
 }
 
-/// The artifact that completes with this exit status, where that is short enough.
+/// Returns the artifact that completes with this exit status, or `None` if that is too long.
 fn exit_with(alloc: Global, exit: &str) -> Result<Option<BuiltIn>, OutOfMemory>
     ensures some { IfOk result (λ found. IfSome found (λ b. (b ≡ BuiltIn.Exit exit.now)
         × (length exit.now ≤ 256))) }
@@ -41,7 +41,7 @@ fn exit_with(alloc: Global, exit: &str) -> Result<Option<BuiltIn>, OutOfMemory>
     Ok(Some(BuiltIn::Exit(T256::within(alloc, exit)?)))
 }
 
-/// Whether the last character is an even digit.
+/// Checks whether the last character is an even digit.
 fn ends_even(item: &str) -> bool
     ensures { result ≡ has_even_end item.now }
 {
@@ -52,12 +52,12 @@ fn ends_even(item: &str) -> bool
 }
 
 impl BuiltIn {
-    /// The built-in artifact of this name, if it is the name of one. An exit status of more than 256
-    /// bytes, and a number that isn't 1 to 9 decimal digits, make another name.
+    /// Returns the built-in artifact with this name, if there is one. There is none for an exit
+    /// status of more than 256 bytes, or for a number that isn't 1 to 9 decimal digits.
     ///
     /// # Errors
     ///
-    /// `OutOfMemory` where memory is refused.
+    /// Returns `OutOfMemory` if memory is refused.
     pub fn of(alloc: Global, name: &str) -> Result<Option<BuiltIn>, OutOfMemory>
         ensures known { IfOk result (λ found. IfSome found (λ b. IsNameOf b name.now)) }
         ensures unknown { IfOk result (λ found. IfNone found ((b : BuiltIn) → ¬ IsNameOf b name.now)) }
@@ -77,7 +77,7 @@ impl BuiltIn {
         })
     }
 
-    /// The exit status of a run.
+    /// Returns the exit status of a run.
     pub(crate) fn exit_status(&self) -> Result<Option<T256>, ArtifactFault>
         ensures { RunsAs self.now result }
     {
@@ -93,7 +93,7 @@ impl BuiltIn {
         }
     }
 
-    /// The number after which an open at this checkpoint goes on; none where it faults.
+    /// Returns the number after which an open at this checkpoint resumes, or `None` if it faults.
     pub(crate) fn opened_at(&self, checkpoint: Option<&str>) -> Option<u32>
         ensures { StartsAs self.now (option_map (λ s. s.now) checkpoint.entry) result }
     {
@@ -107,7 +107,7 @@ impl BuiltIn {
         }
     }
 
-    /// The item after this number.
+    /// Returns the item after this number.
     pub(crate) fn next_item(&self, alloc: Global, at: u32) -> Result<Option<String>, ArtifactFault>
         ensures answer { ReadsAs self.now at result }
         ensures fits { IfOk result (λ item. OnSome item (at < u32.MAX)) }
@@ -127,7 +127,7 @@ impl BuiltIn {
         }
     }
 
-    /// What is made of an item.
+    /// Processes an item.
     pub(crate) fn made_of(&self, alloc: Global, item: &str) -> Result<Option<String>, ArtifactFault>
         ensures { ProcessesAs self.now item.now result }
     {
@@ -149,7 +149,7 @@ impl BuiltIn {
         }
     }
 
-    /// Whether it takes groups.
+    /// Checks whether it is a writer, which takes groups.
     pub(crate) fn takes_groups(&self) -> bool
         ensures { result ≡ is_writer self.now }
     {
@@ -163,7 +163,7 @@ impl BuiltIn {
         }
     }
 
-    /// The checkpoint of a reader that has read up to this number.
+    /// Returns the checkpoint of a reader that has read up to this number.
     pub(crate) fn mark_at(&self, alloc: Global, at: u32) -> Result<String, ArtifactFault>
         ensures { MarksAs self.now at result }
     {

@@ -9,8 +9,9 @@ use batch_ids::T256;
 use job_threads::{Artifact, ArtifactFault, Happening, Tape};
 use std::alloc::Global;
 
-/// A built-in artifact at work. It accepts every partition. A fault is `Failed` where it is not meant
-/// for the call, or for this checkpoint, else `OutOfMemory` where memory is refused.
+/// A running built-in artifact. It accepts every partition. A fault is `Failed` if the artifact
+/// isn't meant for the call or for this checkpoint. Otherwise, it is `OutOfMemory` because memory
+/// was refused.
 #[derive(Drop)]
 pub struct BuiltInArtifact {
     alloc: Global,
@@ -20,7 +21,7 @@ pub struct BuiltInArtifact {
 }
 
 impl BuiltInArtifact {
-    /// The artifact ahead of its first call.
+    /// Returns the artifact before its first call.
     pub fn new(alloc: Global, built_in: BuiltIn) -> BuiltInArtifact
         ensures meaning { ⟦<BuiltInArtifact as Artifact>⟧.meaning result ≡ fresh built_in }
         ensures same { result.built_in ≡ built_in }

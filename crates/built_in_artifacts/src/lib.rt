@@ -1,4 +1,4 @@
-//! The built-in artifacts: what a catalogue may name without an artifact of one's own.
+//! The built-in artifacts, which a catalogue can name without artifacts of its own.
 #![tactic(auto)]
 
 mod built_in;

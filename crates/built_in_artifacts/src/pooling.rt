@@ -10,12 +10,12 @@ use std::alloc::Global;
 use std::sync::Wait;
 use std::thread::Threads;
 
-/// Runs a pool of 1 to 16 workers, each with an artifact of each of these names: the built-in one, or
-/// one that faults in each use, as `fail` does.
+/// Runs a pool of 1 to 16 workers, each with an artifact for each of these names: the built-in one,
+/// or one that faults in every call, as `fail` does.
 ///
 /// # Errors
 ///
-/// Those of `pool`.
+/// Returns the errors of `pool`.
 pub fn pool_with_built_ins<N: Site + Send + Sync, R: Threads + Wait + Sync, G: Gate + Sync>(
     rt: &R,
     alloc: Global,

@@ -1,4 +1,5 @@
--- A crash may leave what is there now. Now is one of the moments since an earlier one, and the only one since now.
+-- A crash may leave the current state. Now is one of the moments since an earlier one, and the only one since
+-- now.
 use Rattle.std.specs.Prelude.{ℕ, List, [], ◌∷◌, length, refl}
 use mathlib.Core.Logic.{inl, inr}
 use native.Mathlib.Nat.{lt_irrefl}

@@ -1,4 +1,4 @@
--- How a call is noted.
+-- The record of a call in the past.
 use Rattle.std.specs.Prelude.{ℕ, [], ◌∷◌, Bool, true, false}
 use Rattle.log_host.specs.Past.{Past, Call}
 use Rattle.log_host.specs.declared.tape.Asked.{Asked}

@@ -1,13 +1,14 @@
--- What was asked of a file and a listener, and what that makes of them.
+-- The past calls of a file and a listener, and their effect.
 use Rattle.std.specs.Prelude.{ℕ, zero, suc, ◌≡◌, ◌⊎◌, ◌+◌, ◌≤◌, List, [], ◌∷◌, ◌++◌, length, take, drop, refl}
 use Rattle.std.specs.Coded.{Coded, code_by, coded×, coded_ℕ, coded_list}
 use Rattle.log_host.specs.Host.{Outcomes, Torn, Cut, Hearing}
 
--- a call: 0 a write, 1 a cut, 2 a sync, 3 to tell; a place, a length or how many bytes were told; the bytes; 1 where it succeeded
+-- a call: its kind (0 a write, 1 a cut, 2 a sync, 3 sending to the listener); its place, its length or how
+-- many bytes were sent; its bytes; and 1 if it succeeded
 abbrev pub Call : Type 0
 Call = ℕ × (ℕ × (List ℕ × ℕ))
 
--- the bytes that the file had, and the calls, the newest first
+-- the first bytes of the file, and the calls, the newest first
 pub record Past : Type 0 where
   pub start : List ℕ
   pub calls : List Call
@@ -15,9 +16,10 @@ pub record Past : Type 0 where
 abbrev pub past_code : Coded Past
 past_code = code_by (List ℕ × List Call) (coded× (coded_list coded_ℕ) (coded_list (coded× coded_ℕ (coded× coded_ℕ (coded× (coded_list coded_ℕ) coded_ℕ))))) (λ t. (t.start, t.calls)) (λ p. record { start = p.0; calls = p.1 }) (λ _. refl)
 
--- What the file has
+-- The bytes of the file
 
--- kind, number, whether it succeeded, bytes, the file before
+-- the bytes of the file after a call: its kind, its number, whether it succeeded, its bytes, and the file
+-- before it
 abbrev pub seen_by : ℕ → ℕ → ℕ → List ℕ → List ℕ → List ℕ
 seen_by kind n zero bytes file = file
 seen_by zero n (suc ok) bytes file = take n file ++ bytes ++ drop (n + length bytes) file
@@ -28,7 +30,7 @@ abbrev pub seen_after : List ℕ → List Call → List ℕ
 seen_after start [] = start
 seen_after start (call ∷ calls) = seen_by call.0 call.1.0 call.1.1.1 call.1.1.0 (seen_after start calls)
 
--- What was heard
+-- The bytes that the listener has heard
 
 abbrev pub heard_by : ℕ → ℕ → ℕ → List ℕ → List ℕ → List ℕ
 heard_by kind n zero bytes heard = heard
@@ -41,9 +43,10 @@ abbrev pub heard_after : List Call → List ℕ
 heard_after [] = []
 heard_after (call ∷ calls) = heard_by call.0 call.1.0 call.1.1.1 call.1.1.0 (heard_after calls)
 
--- What a crash may leave
+-- The outcomes of a crash
 
--- kind, number, whether it succeeded, bytes; the file and what was heard before; what a crash might have left before
+-- the outcomes after a call: its kind, its number, whether it succeeded, and its bytes; the file and the
+-- bytes heard before it; the outcomes before it
 abbrev pub leaves_by : ℕ → ℕ → ℕ → List ℕ → List ℕ → List ℕ → Outcomes → Outcomes
 leaves_by zero n ok bytes seen heard old c o = (d : List ℕ) × old d o × Torn n (length bytes) d c
 leaves_by (suc zero) n ok bytes seen heard old c o = (d : List ℕ) × old d o × Cut n d c
@@ -52,21 +55,21 @@ leaves_by (suc (suc zero)) n (suc ok) bytes seen heard old c o = old c o × (c �
 leaves_by (suc (suc (suc kind))) n zero bytes seen heard old c o = Hearing bytes old c o
 leaves_by (suc (suc (suc kind))) n (suc ok) bytes seen heard old c o = Hearing bytes old c o × (o ≡ heard ++ take n bytes) × ((p : List ℕ) × old c p)
 
--- or what a read returns now
+-- the outcomes after these calls: those after the last call, or the bytes that a read returns now
 abbrev pub leaves_after : List ℕ → List Call → Outcomes
 leaves_after start [] c o = (c ≡ start) × (o ≡ [])
 leaves_after start (call ∷ calls) c o =
     leaves_by call.0 call.1.0 call.1.1.1 call.1.1.0 (seen_after start calls) (heard_after calls) (leaves_after start calls) c o
     ⊎ ((c ≡ seen_after start (call ∷ calls)) × (o ≡ heard_after (call ∷ calls)))
 
--- what a crash may leave only in the call
+-- the outcomes that a crash has only during the call
 abbrev pub in_call : ℕ → List ℕ → Outcomes → Outcomes
 in_call zero bytes old c o = ⊥
 in_call (suc zero) bytes old c o = ⊥
 in_call (suc (suc zero)) bytes old c o = ⊥
 in_call (suc (suc (suc kind))) bytes old c o = Hearing bytes old c o
 
--- what a crash since so many calls might have left
+-- the outcomes of a crash at some moment since the first `t` calls
 abbrev pub left_after : List ℕ → List Call → ℕ → Outcomes
 left_after start [] t c o = leaves_after start [] c o
 left_after start (call ∷ calls) t c o = leaves_after start (call ∷ calls) c o

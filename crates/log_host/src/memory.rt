@@ -10,26 +10,28 @@ use crate::{Host, HostFault};
 use std::alloc::{AllocError, Global};
 use std::mem;
 
-/// How much of a write that was not synced a crash leaves.
+/// The part of a write that a crash leaves, if the write was not synced.
 #[derive(Clone, Copy, Debug, PartialEq, Eq)]
 pub enum Tear {
-    /// Nothing.
+    /// No byte.
     Nothing,
-    /// So many bytes from its beginning.
+    /// This many bytes from its beginning.
     Beginning(usize),
-    /// This byte in place of each of its bytes.
+    /// This byte instead of each of its bytes.
     Garbage(u8),
-    /// All of it.
+    /// All its bytes.
     All,
 }
 
-/// A file and a listener in memory, for tests. A call fails if it lacks memory, and leaves the bytes as they were.
+/// A file and a listener in memory, for tests. If memory is refused, a call fails and doesn't
+/// change the bytes.
 #[derive(Drop)]
 pub struct Memory {
     alloc: Global,
     bytes: Vec<u8>,
     heard: Vec<u8>,
-    // Whether the last write was not synced since; what was there before it, where it wrote, and what.
+    // Whether the last write has not been synced yet; the bytes of the file before it; its place;
+    // and its bytes.
     tears: bool,
     before: Vec<u8>,
     at: usize,
@@ -44,7 +46,8 @@ pub struct Memory {
 impl Memory {
     ghost use Rattle.log_host.specs.Past.{seen_after, heard_after, leaves_after};
 
-    /// A file with these bytes, all of them on the disk, and a listener who heard nothing.
+    /// Creates a file with these bytes, all of them on the disk, and a listener that has heard
+    /// nothing.
     pub fn new(alloc: Global, bytes: Vec<u8>) -> Self
         ensures bytes { seen_after result.tape.past.start result.tape.past.calls ≡ bytes.items }
         ensures past { (result.tape.past.start ≡ bytes.items) × (result.tape.past.calls ≡ []) }
@@ -61,21 +64,22 @@ impl Memory {
         }
     }
 
-    /// The bytes of the file, as a read would return them.
+    /// Returns the bytes of the file, as a read would return them.
     pub fn bytes(&self) -> &[u8]
         ensures { result.now ≡ seen_after self.now.tape.past.start self.now.tape.past.calls }
     {
         &self.bytes
     }
 
-    /// All that the listener was told.
+    /// Returns all bytes that the listener has heard.
     pub fn heard(&self) -> &[u8]
         ensures { result.now ≡ heard_after self.now.tape.past.calls }
     {
         &self.heard
     }
 
-    /// What a crash at this moment may leave of the file. Only the last write is torn, and only until a sync or a cut.
+    /// Returns bytes that a crash at this moment may leave of the file. Only the last write is
+    /// torn, and only until a sync or a cut.
     ///
     /// # Errors
     ///
@@ -90,7 +94,7 @@ impl Memory {
         }
     }
 
-    // What a crash leaves of the last write.
+    // Returns the file after a crash that tears the last write.
     fn torn_left(&self, tear: Tear) -> Result<Vec<u8>, AllocError>
         requires { IsTrue self.now.tears }
         ensures { IfOk result (λ file. ∥ leaves_after self.now.tape.past.start self.now.tape.past.calls file.items (heard_after self.now.tape.past.calls) ∥₁) }
@@ -99,7 +103,7 @@ impl Memory {
         Ok(file)
     }
 
-    // What a read returns.
+    // Returns the file, as a read would return it.
     fn whole_left(&self) -> Result<Vec<u8>, AllocError>
         ensures { IfOk result (λ file. ∥ leaves_after self.now.tape.past.start self.now.tape.past.calls file.items (heard_after self.now.tape.past.calls) ∥₁) }
     {
@@ -108,7 +112,7 @@ impl Memory {
     }
 }
 
-// The bytes, with others written over them at a place.
+// Returns the old bytes with others written over them at a place.
 fn written(alloc: Global, old: &[u8], at: usize, bytes: &[u8]) -> Result<Vec<u8>, AllocError>
     requires { at ≤ length old.now }
     ensures { IfOk result (λ new. Holds old.now at bytes.now new.items) }
@@ -121,7 +125,7 @@ fn written(alloc: Global, old: &[u8], at: usize, bytes: &[u8]) -> Result<Vec<u8>
     Ok(new)
 }
 
-// The same, and a copy of what was written.
+// Like `written`, but also returns a copy of the bytes that were written.
 fn written_with(
     alloc: Global,
     old: &[u8],
@@ -137,14 +141,14 @@ fn written_with(
     Ok((new, piece))
 }
 
-// At most so many bytes from the beginning.
+// Returns at most `n` bytes from the beginning.
 fn beginning(bytes: &[u8], n: usize) -> &[u8]
     ensures { length result.now ≤ length bytes.now }
 {
     if n < bytes.len() { &bytes[..n] } else { bytes }
 }
 
-// A write that a crash cut short.
+// Returns the bytes after a write that a crash cut short.
 #[tactic(auto, using(crate::proofs::Replays::torn_by))]
 fn torn(
     alloc: Global,
@@ -167,14 +171,14 @@ fn torn(
     }
 }
 
-// A copy of the bytes.
+// Returns a copy of the bytes.
 fn copy(alloc: Global, old: &Vec<u8>) -> Result<Vec<u8>, AllocError>
     ensures { IfOk result (λ new. new.items ≡ old.now.items) }
 {
     old.to_vec(alloc)
 }
 
-// A front of the bytes.
+// Returns a front of the bytes.
 fn front(alloc: Global, old: &[u8], len: usize) -> Result<Vec<u8>, AllocError>
     requires { len ≤ length old.now }
     ensures { IfOk result (λ new. new.items ≡ take len old.now) }
@@ -182,7 +186,7 @@ fn front(alloc: Global, old: &[u8], len: usize) -> Result<Vec<u8>, AllocError>
     old[..len].to_vec(alloc)
 }
 
-// The bytes, and a piece behind them.
+// Returns the bytes with a piece appended.
 fn told(alloc: Global, old: &[u8], piece: &[u8]) -> Result<Vec<u8>, AllocError>
     ensures { IfOk result (λ new. new.items ≡ old.now ++ piece.now) }
 {

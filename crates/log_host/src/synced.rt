@@ -1,14 +1,15 @@
-// A call that changes the file, and the sync behind it.
+// A call that changes the file, followed by a sync.
 ghost use Rattle.std.specs.Prelude.{◌≡◌, ◌≤◌, ◌<◌, List, ℕ, length, take, OnOk, OnErr};
 ghost use Rattle.log_host.specs.Host.{Only, Holds, Torn, Cut, LeavesOnly};
 
 use crate::{Host, HostFault};
 
-/// Writes, and waits until it is on the disk. A crash at any moment of it leaves the file with any bytes in the range.
+/// Writes, and waits until the bytes are on the disk. A crash at any moment of it leaves the file
+/// with any bytes in the range.
 ///
 /// # Errors
 ///
-/// `HostFault` if the host failed. Nothing is known of the file then but that.
+/// `HostFault` if the host failed. Nothing else is certain about the file then.
 pub fn write_and_sync<H: Host>(host: &mut H, at: usize, bytes: &[u8]) -> Result<(), HostFault>
     requires place { at ≤ length (H.seen host.old) }
     requires durable { Only (H.seen host.old) (H.heard host.old) (H.may_leave host.old) }
@@ -25,11 +26,12 @@ pub fn write_and_sync<H: Host>(host: &mut H, at: usize, bytes: &[u8]) -> Result<
     Ok(())
 }
 
-/// Cuts the file, and waits until that is on the disk. A crash at any moment of it leaves some length between.
+/// Cuts the file, and waits until the cut is on the disk. A crash at any moment of it leaves some
+/// length between the old and the new.
 ///
 /// # Errors
 ///
-/// `HostFault` if the host failed. Nothing is known of the file then but that.
+/// `HostFault` if the host failed. Nothing else is certain about the file then.
 pub fn cut_and_sync<H: Host>(host: &mut H, len: usize) -> Result<(), HostFault>
     requires place { len ≤ length (H.seen host.old) }
     requires durable { Only (H.seen host.old) (H.heard host.old) (H.may_leave host.old) }

@@ -1,4 +1,4 @@
--- Why a log is not opened.
+-- The faults of a log that is not opened.
 use Rattle.std.specs.Prelude.{ℕ, ◌≡◌, ◌⊎◌, ◌<◌, ◌≤◌, ◌^◌, ◌+◌, List, [], ◌∷◌, ◌++◌, length, Bool, true, false, Ok, Err}
 use Rattle.jsl_model.specs.Jobs.{JobTree}
 use Rattle.jsl_json.specs.declared.fault.ReadFault.{ReadFault}
@@ -21,7 +21,7 @@ use Rattle.logged_script.specs.declared.opening.OpeningFault.TheVariants.{Refuse
 abbrev pub IsNoScriptLog : List LogRecord → Type 0
 IsNoScriptLog records = (BeginsWithCatalogue records → ⊥) ⊎ ((fault : ReadFault) × (catalogue_at (last_catalogue [] records) ≡ Err fault))
 
--- why the last catalogue of a log was not read
+-- the fault of a log whose last catalogue was not read
 abbrev pub IsCatalogueFault : List LogRecord → OpeningFault → Type 0
 IsCatalogueFault records (Refused InUse) = ⊥
 IsCatalogueFault records (Refused Foreign) = IsNoScriptLog records
@@ -32,16 +32,16 @@ IsCatalogueFault records (Refused (OtherReply number)) = ⊥
 IsCatalogueFault records Failed = ⊥
 IsCatalogueFault records OutOfMemory = Unit {0}
 
--- the given catalogue has all jobs of the kept one, and more if it has grown
+-- the given catalogue has all jobs of the log's, and more if it has grown
 abbrev pub HasGrown : List JobTree → List JobTree → Bool → Type 0
 HasGrown kept given true = IsGrown kept given
 HasGrown kept given false = given ≡ kept
 
--- the job with this number is the first of the log's that the given catalogue does not have in its place
+-- the job with this number is the first of the log's that the given catalogue does not have in the same place
 abbrev pub IsOtherJob : List LogRecord → List JobTree → ℕ → Type 0
 IsOtherJob records given job = (kept : List JobTree) × (catalogue_at (last_catalogue [] records) ≡ Ok kept) × IsFirstOther kept given job
 
--- why the catalogue of a log is not one from which the given catalogue has grown
+-- the fault of a log whose catalogue is not one from which the given catalogue has grown
 abbrev pub IsGrowthFault : List LogRecord → List JobTree → OpeningFault → Type 0
 IsGrowthFault records given (Refused InUse) = ⊥
 IsGrowthFault records given (Refused Foreign) = IsNoScriptLog records
@@ -52,7 +52,7 @@ IsGrowthFault records given (Refused (OtherReply number)) = ⊥
 IsGrowthFault records given Failed = ⊥
 IsGrowthFault records given OutOfMemory = Unit {0}
 
--- WHY A LOG IS REFUSED, by its file and the line of the given catalogue
+-- THE FAULT OF A REFUSED LOG, by its file and the line of the given catalogue
 abbrev pub HasLogFault : List ℕ → List ℕ → LogFault → Type 0
 HasLogFault file line InUse = ⊥
 HasLogFault file line Foreign = (opening file ≡ ForeignFile) ⊎ IsNoScriptLog (records_of file)
@@ -65,7 +65,8 @@ HasLogFault file line (OtherReply number) = IsOtherReply is_kept reply_at line (
 abbrev pub HasFailedSince : {D : Type 0} (moment counts : D → ℕ) → D → D → Type 0
 HasFailedSince {D} moment counts old new = (middle : D) × (moment old ≤ moment middle) × (counts middle < counts new)
 
--- THE FILE IS FULL: these are its records with others that wait, and if those were written, it would have 2^62 bytes or more
+-- THE FILE IS FULL: these are its records with others that wait, and if those were written, it would have
+-- 2^62 bytes or more
 abbrev pub IsFullWith : List LogRecord → List ℕ → Type 0
 IsFullWith records file = (waits : List LogRecord) × (records_of file ++ waits ≡ records) × (2 ^ 62 ≤ length file + length (behind_gate waits))
 
@@ -73,7 +74,8 @@ IsFullWith records file = (waits : List LogRecord) × (records_of file ++ waits 
 abbrev pub HasFailed : {D : Type 0} (seen : D → List ℕ) (moment counts : D → ℕ) → List LogRecord → D → D → Type 0
 HasFailed seen moment counts records old new = HasFailedSince moment counts old new ⊎ IsFullWith records (seen new)
 
--- why a log was not opened: nothing was written; or a crash leaves its records, or those and the given catalogue
+-- the fault of a log that was not opened: nothing was written, or a crash leaves its records, or those and
+-- the given catalogue
 abbrev pub IsOpeningFault : {D : Type 0} (seen : D → List ℕ) (moment : D → ℕ) (left_since : D → ℕ → Outcomes) (counts : D → ℕ) (file line heard : List ℕ) (old new : D) → OpeningFault → Type 0
 IsOpeningFault seen moment left_since counts file line heard old new (Refused fault) = HasLogFault file line fault × (new ≡ old)
 IsOpeningFault seen moment left_since counts file line heard old new Failed =
@@ -82,7 +84,8 @@ IsOpeningFault seen moment left_since counts file line heard old new Failed =
 IsOpeningFault seen moment left_since counts file line heard old new OutOfMemory =
     (new ≡ old) ⊎ LeavesOnly moment left_since old new (BeforeOrAfter (records_of file) (catalogue_record line ∷ []) heard)
 
--- why the given catalogue was not added: a crash leaves the records, or those and the given catalogue
+-- the fault of a log to which the given catalogue was not added: a crash leaves the records, or those and the
+-- given catalogue
 abbrev pub IsAddingFault : {D : Type 0} (seen : D → List ℕ) (moment : D → ℕ) (left_since : D → ℕ → Outcomes) (counts : D → ℕ) (records : List LogRecord) (line heard : List ℕ) (old new : D) → OpeningFault → Type 0
 IsAddingFault seen moment left_since counts records line heard old new (Refused fault) = ⊥
 IsAddingFault seen moment left_since counts records line heard old new Failed =

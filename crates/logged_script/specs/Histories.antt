@@ -8,16 +8,16 @@ use Rattle.script_engine.specs.Standing.{Stands}
 use Rattle.script_log.specs.Runs.{History as LogHistory}
 use Rattle.logged_script.specs.declared.engine.ScriptEngine.{ScriptEngine}
 
--- the jobs of a catalogue that was read; where there is none, no job
+-- the jobs of a catalogue that was read, none if there is no catalogue
 abbrev pub jobs_read : Result (List JobTree) ReadFault → List JobTree
 jobs_read (Ok catalogue) = catalogue
 jobs_read (Err fault) = []
 
--- THE HISTORY THAT A LOG STANDS FOR: its catalogue, and the operations of its lines
+-- THE HISTORY OF A LOG: its catalogue, and the operations of its lines
 abbrev pub history_at : LogHistory → History
 history_at h = history_past (begin (jobs_read (catalogue_at h.catalogue))) h.lines
 
--- whether a line is kept: whether the history has one operation more after it
+-- whether a line is logged: whether the history has one more operation after it
 abbrev pub is_kept : LogHistory → List ℕ → Bool
 is_kept h line = nat_lt (length (history_at h).log) (length (line_after (history_at h) line).log)
 
@@ -25,6 +25,6 @@ is_kept h line = nat_lt (length (history_at h).log) (length (line_after (history
 abbrev pub reply_at : LogHistory → List ℕ → List ℕ
 reply_at h line = line_text (history_at h) line
 
--- the repository stands for the history
+-- the repository represents the history
 abbrev pub Answers : ScriptEngine → LogHistory → Type 0
 Answers engine h = Stands (box_value engine.repository) (history_at h)

@@ -1,4 +1,4 @@
--- What a script over a log does.
+-- The effects of a script over a log.
 use Rattle.std.specs.Prelude.{ℕ, ◌≡◌, ◌⊎◌, ◌<◌, ◌≤◌, ◌+◌, List, [], ◌∷◌, ◌++◌, true, Result, Ok, Err}
 use Rattle.log_host.specs.Host.{Outcomes, LeavesOnly}
 use Rattle.durable_log.specs.Format.{LogRecord}
@@ -19,13 +19,13 @@ use Rattle.logged_script.specs.declared.opening.OpeningFault.TheVariants as open
 use Rattle.logged_script.specs.declared.outcome.LoggedFault.{LoggedFault}
 use Rattle.logged_script.specs.declared.outcome.LoggedFault.TheVariants.{Refused, Read, Write, Log, OutOfMemory}
 
--- why a script ended early, if its log was not opened
+-- the fault of a script whose log was not opened
 abbrev pub fault_of_opening : OpeningFault → LoggedFault
 fault_of_opening (openings.Refused fault) = Refused fault
 fault_of_opening openings.Failed = Log
 fault_of_opening openings.OutOfMemory = OutOfMemory
 
--- if its lines were not all answered
+-- the fault of a script whose lines didn't all get their replies
 abbrev pub fault_of_run : RunFault → LoggedFault
 fault_of_run runs.Read = Read
 fault_of_run runs.Write = Write
@@ -36,8 +36,9 @@ abbrev pub outcome_of_run : Result Unit RunFault → Result Unit LoggedFault
 outcome_of_run (Ok done) = Ok done
 outcome_of_run (Err fault) = Err (fault_of_run fault)
 
--- WHAT A CRASH LEAVES: the file as it was, and nothing was heard; or a file that stands for the records from before, the given
--- catalogue if it has grown, and the first of the lines, and what was heard is a beginning of the replies to those lines
+-- THE STATE THAT A CRASH LEAVES. Either the file is as it was, and the listener heard nothing new. Or the
+-- file has the records from before, the given catalogue if it has grown, and the first of the lines. The
+-- listener then heard a beginning of the replies to those lines
 abbrev pub Leaves : List ℕ → List ℕ → List (List ℕ) → List ℕ → Outcomes
 Leaves file line lines heard c o = ((c ≡ file) × (o ≡ heard))
     ⊎ ((now : List LogRecord) × IsBegun (records_of file) line now × Covered is_kept reply_at now lines heard c o)
@@ -46,29 +47,29 @@ Leaves file line lines heard c o = ((c ≡ file) × (o ≡ heard))
 abbrev pub HasReadFault : Told → Told → Unread → Type 0
 HasReadFault r r' p' = (r'.failures ≡ r.failures + 1) ⊎ ((r'.failures ≡ r.failures) × (p'.reads_left ≡ 0))
 
--- the file is full with these records, and those of the first of the lines behind them
+-- the file is full with these records, and after them those of the first of the lines
 abbrev pub IsFullBy : List LogRecord → List (List ℕ) → List ℕ → Type 0
 IsFullBy records lines file = (done : List (List ℕ)) × (others : List (List ℕ)) × (done ++ others ≡ lines)
     × IsFullWith (records ++ records_of_lines is_kept reply_at (history_of records) done) file
 
--- what was answered over these records, by how the run ended
+-- the replies that were sent over these records, by how the run ended
 abbrev pub IsAnsweredOver : {D : Type 0} (seen heard : D → List ℕ) (moment counts : D → ℕ) (records : List LogRecord) (r r' : Told) (p p' : Unread) (old new : D) → Result Unit LoggedFault → Type 0
--- all lines, and the reader told its end
+-- those to all lines, and the reader reported its end
 IsAnsweredOver seen heard moment counts records r r' p p' old new (Ok done) =
     AreAnswered is_kept reply_at records (lines_since r r' p) (heard old) (records_of (seen new)) (heard new) × ((p.ended ≡ true) ⊎ HasEnded r r')
 IsAnsweredOver seen heard moment counts records r r' p p' old new (Err (Refused fault)) = ⊥
--- all complete lines
+-- those to all complete lines
 IsAnsweredOver seen heard moment counts records r r' p p' old new (Err Read) =
     AreAnswered is_kept reply_at records (lines_since r r' p) (heard old) (records_of (seen new)) (heard new) × HasReadFault r r' p'
 IsAnsweredOver seen heard moment counts records r r' p p' old new (Err Write) = HasFailedSince moment counts old new
 IsAnsweredOver seen heard moment counts records r r' p p' old new (Err Log) =
     HasFailedSince moment counts old new ⊎ IsFullBy records (lines_since r r' p) (seen new)
--- the first lines
+-- those to the first lines
 IsAnsweredOver seen heard moment counts records r r' p p' old new (Err OutOfMemory) =
     (done : List (List ℕ)) × (others : List (List ℕ)) × (done ++ others ≡ lines_since r r' p) × AreAnswered is_kept reply_at records done (heard old) (records_of (seen new)) (heard new)
 
--- HOW A SCRIPT OVER A LOG ENDS: the log was not opened, and nothing was read; or lines were answered over the records from before
--- and the given catalogue, if it has grown
+-- HOW A SCRIPT OVER A LOG ENDS. Either the log was not opened, and nothing was read. Or lines got their
+-- replies over the records from before and the given catalogue, if it has grown
 abbrev pub IsLoggedOutcome : {D : Type 0} (seen heard : D → List ℕ) (moment : D → ℕ) (left_since : D → ℕ → Outcomes) (counts : D → ℕ) (file line : List ℕ) (r r' : Told) (p p' : Unread) (old new : D) → Result Unit LoggedFault → Type 0
 IsLoggedOutcome seen heard moment left_since counts file line r r' p p' old new result =
     ((fault : OpeningFault) × (result ≡ Err (fault_of_opening fault)) × IsOpeningFault seen moment left_since counts file line (heard old) old new fault × (r' ≡ r) × (p' ≡ p))

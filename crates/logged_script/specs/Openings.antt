@@ -1,4 +1,4 @@
--- How the log of a script is opened.
+-- The opening of a script's log.
 use Rattle.std.specs.Prelude.{ℕ, ◌≡◌, ◌⊎◌, List, [], ◌∷◌, ◌++◌, Bool, Ok}
 use Rattle.jsl_model.specs.Jobs.{JobTree}
 use Rattle.jsl_json.specs.declared.fault.ReadFault.{ReadFault as CatalogueFault}
@@ -17,34 +17,34 @@ use Rattle.logged_script.specs.declared.fault.LogFault.TheVariants.{Foreign, Lat
 use Rattle.logged_script.specs.declared.opening.OpeningFault.{OpeningFault}
 use Rattle.logged_script.specs.declared.opening.OpeningFault.TheVariants.{Refused, Failed, OutOfMemory}
 
--- the records that a run begins with: those of the file, behind which the given catalogue stands if it has grown
+-- the records with which a run begins: those of the file, and after them the given catalogue if it has grown
 abbrev pub IsBegun : List LogRecord → List ℕ → List LogRecord → Type 0
 IsBegun records line now = (now ≡ records) ⊎ (now ≡ records ++ catalogue_record line ∷ [])
 
--- the catalogue that the line is has all jobs of the records' last one, and more if it has grown
+-- the catalogue of the line has all jobs of the records' last one, and more if it has grown
 abbrev pub GoesOnFrom : List LogRecord → List ℕ → Bool → Type 0
 GoesOnFrom records line grown = (kept : List JobTree) × (given : List JobTree)
     × (catalogue_at (last_catalogue [] records) ≡ Ok kept) × (catalogue_at line ≡ Ok given) × HasGrown kept given grown
 
--- why a log was not opened, if it was not read
+-- the fault of a log that was not read
 abbrev pub fault_of_read : ReadFault → OpeningFault
 fault_of_read reads.Foreign = Refused Foreign
 fault_of_read reads.Later = Refused Later
 fault_of_read (reads.Damaged number byte) = Refused (Damaged number byte)
 fault_of_read reads.OutOfMemory = OutOfMemory
 
--- if its lines were not answered again
+-- the fault of a log whose lines can't be run again
 abbrev pub fault_of_open : OpenFault → OpeningFault
 fault_of_open (opens.OtherReply number) = Refused (OtherReply number)
 fault_of_open opens.OutOfMemory = OutOfMemory
 fault_of_open opens.Failed = Failed
 
--- if the given catalogue was not added
+-- the fault of a log to which the given catalogue was not added
 abbrev pub fault_of_append : AppendFault → OpeningFault
 fault_of_append (appends.Log fault) = Failed
 fault_of_append appends.OutOfMemory = OutOfMemory
 
--- if its last catalogue can't be read
+-- the fault of a log whose last catalogue can't be read
 abbrev pub fault_of_catalogue : CatalogueFault → OpeningFault
 fault_of_catalogue catalogues.NotJson = Refused Foreign
 fault_of_catalogue catalogues.NotACatalogue = Refused Foreign

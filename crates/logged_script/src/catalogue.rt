@@ -1,4 +1,4 @@
-// The catalogue of a log, and the one that is given.
+// The catalogue of a log, and the given catalogue.
 ghost use Rattle.std.specs.Prelude.{◌≡◌, ◌∷◌, [], false, List, ℕ, map, Ok, Err, IfOk, IfErr, nat_lt, length};
 ghost use Rattle.jsl_model.specs.Jobs.{JobTree};
 ghost use Rattle.jsl_json.specs.Catalogues.{is_out_of_memory};
@@ -20,11 +20,12 @@ use script_lines::MAX_LINE;
 use script_log::{CATALOGUE_MARK, find_catalogues};
 use std::alloc::{AllocError, Global};
 
-/// The catalogue that a line is, its line feed left out. A line above [`MAX_LINE`] bytes is none.
+/// Reads the catalogue of a line, without its line feed. A line above [`MAX_LINE`] bytes is none.
 ///
 /// # Errors
 ///
-/// The first fault of the catalogue; `OutOfMemory` if memory is refused, in place of any answer.
+/// Returns the first fault of the catalogue. Returns `OutOfMemory` instead of any result if memory
+/// is refused.
 pub fn catalogue_at(alloc: Global, line: &[u8]) -> Result<Catalogue, ReadFault>
     ensures read { IfOk result (λ catalogue. catalogue_at line.now ≡ Ok catalogue) }
     ensures fault { IfErr result (λ fault. is_out_of_memory fault ≡ false → catalogue_at line.now ≡ Err fault) }
@@ -35,11 +36,11 @@ pub fn catalogue_at(alloc: Global, line: &[u8]) -> Result<Catalogue, ReadFault>
     read_catalogue(alloc, line)
 }
 
-/// The bytes of a new log over the catalogue that a line is.
+/// Returns the bytes of a new log over the catalogue of a line.
 ///
 /// # Errors
 ///
-/// `OutOfMemory` if memory is refused.
+/// Returns `OutOfMemory` if memory is refused.
 #[tactic(auto, using(crate::proofs::Growing::catalogue_is_short))]
 pub fn new_log(alloc: Global, line: &[u8]) -> Result<Vec<u8>, AllocError>
     requires { (catalogue : List JobTree) × (catalogue_at line.now ≡ Ok catalogue) }
@@ -54,7 +55,7 @@ pub fn new_log(alloc: Global, line: &[u8]) -> Result<Vec<u8>, AllocError>
     log_of(alloc, first)
 }
 
-// Why the last catalogue of a log was not read.
+// Returns the fault of a log whose last catalogue was not read.
 fn unreadable(fault: ReadFault) -> OpeningFault
     ensures { result ≡ fault_of_catalogue fault }
 {
@@ -64,7 +65,7 @@ fn unreadable(fault: ReadFault) -> OpeningFault
     }
 }
 
-// The last catalogue of a log.
+// Reads the last catalogue of a log.
 fn last_catalogue(alloc: Global, records: &[Record<'_>]) -> Result<Catalogue, OpeningFault>
     ensures read { IfOk result (λ kept. catalogue_at (last_catalogue [] (map record_shown records.now)) ≡ Ok kept) }
     ensures fault { IfErr result (IsCatalogueFault (map record_shown records.now)) }
@@ -82,7 +83,8 @@ fn last_catalogue(alloc: Global, records: &[Record<'_>]) -> Result<Catalogue, Op
     }
 }
 
-// Whether the given catalogue has more jobs than the log's, with all of which it begins.
+// Checks whether the given catalogue has more jobs than the log's. Returns `Refused` with
+// `OtherCatalogue` if it doesn't begin with all of the log's jobs.
 pub(crate) fn has_grown(
     alloc: Global,
     records: &[Record<'_>],

@@ -1,4 +1,4 @@
-// A job repository that answers the lines of a script.
+// A job repository that replies to the lines of a script.
 ghost use Rattle.std.specs.Prelude.{◌≡◌, [], List, ℕ, Ok, IfOk};
 ghost use Rattle.script_engine.specs.Script.{catalogue_at};
 ghost use Rattle.script_log.specs.Openings.{replayed};
@@ -13,8 +13,8 @@ use script_text::CommandReader;
 use seq_repository::Repository;
 use std::alloc::{AllocError, Global};
 
-/// A job repository that answers the lines of a script, one after another. It keeps a line if that is a call that
-/// is accepted with another reply than Nothing.
+/// A job repository that replies to the lines of a script, one after another. A line is logged if
+/// it is a call that is accepted with another reply than Nothing.
 #[derive(Drop)]
 pub struct ScriptEngine {
     commands: CommandReader,
@@ -22,11 +22,11 @@ pub struct ScriptEngine {
 }
 
 impl ScriptEngine {
-    /// A repository over this catalogue, without an operation.
+    /// Makes a repository over this catalogue, without operations.
     ///
     /// # Errors
     ///
-    /// `OutOfMemory` if memory is refused. The catalogue is dropped.
+    /// Returns `OutOfMemory` if memory is refused. The catalogue is dropped.
     pub fn new(alloc: Global, catalogue: Catalogue) -> Result<ScriptEngine, OutOfMemory>
         ensures { IfOk result (λ engine. (line : List ℕ) → catalogue_at line ≡ Ok catalogue → Answers engine (replayed line [])) }
     {

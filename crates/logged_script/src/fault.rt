@@ -1,14 +1,14 @@
-// Why a log is refused.
+// The faults of a log.
 ghost use Rattle.std.specs.Prelude.{◌≡◌};
 ghost use Rattle.logged_script.specs.Texts.{log_fault_name};
 
 use std::error::Error;
 use std::fmt;
 
-/// Why a log is refused. Its file is as it was.
+/// The reason why a log is refused. Its file is as it was.
 #[derive(Clone, Copy, Debug, PartialEq, Eq)]
 pub enum LogFault {
-    /// Another program has it.
+    /// Another program uses it.
     InUse,
     /// It is no log of a script: another file, or an empty one.
     Foreign,
@@ -18,15 +18,16 @@ pub enum LogFault {
     Damaged {
         /// The number of the record. Records count from 0.
         number: usize,
-        /// The byte at which its gate stands. Bytes count from 0.
+        /// The byte at which the record's gate begins. Bytes count from 0.
         byte: usize,
     },
-    /// The given catalogue does not begin with all jobs of the log's catalogue.
+    /// The given catalogue doesn't begin with all jobs of the log's catalogue.
     OtherCatalogue {
         /// The number of the first job that differs. Jobs count from 0.
         job: usize,
     },
-    /// The line of a record is not accepted any more, or its reply has another check than was kept.
+    /// The line of a record is not accepted any more, or its reply has another check than the one
+    /// in the record.
     OtherReply {
         /// The number of the record. Records count from 0.
         number: usize,
@@ -34,7 +35,7 @@ pub enum LogFault {
 }
 
 impl LogFault {
-    /// The name of the fault, as its line has it.
+    /// Returns the name of the fault, as its line has it.
     pub fn name(self) -> &'static str
         ensures { result.now ≡ log_fault_name self }
     {

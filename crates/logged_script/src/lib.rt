@@ -1,4 +1,5 @@
-//! Runs a script over a log on the disk: an engine that is a job repository, the faults of a log, and the run.
+//! Runs a script over a log on the disk: an engine that is a job repository, the faults of a log,
+//! and the run.
 #![tactic(auto)]
 
 mod catalogue;

@@ -1,4 +1,4 @@
-// How the log of a script is opened.
+// Opening the log of a script.
 ghost use Rattle.std.specs.Prelude.{◌≡◌, ◌∷◌, [], map, Ok, IfOk, IfErr};
 ghost use Rattle.log_host.specs.Host.{Only, LeavesOnly};
 ghost use Rattle.durable_log.specs.Files.{StandsFor};
@@ -20,10 +20,10 @@ use jsl_model::Catalogue;
 use script_log::{AppendFault, OpenFault, append_catalogue, open};
 use std::alloc::{AllocError, Global};
 
-/// Why the log of a script is not opened.
+/// The reason why the log of a script is not opened.
 #[derive(Clone, Copy, Debug, PartialEq, Eq)]
 pub enum OpeningFault {
-    /// It is refused. The file is as it was.
+    /// The log is refused. The file is as it was.
     Refused(LogFault),
     /// The file failed, or is full. It has the same records, or those and the given catalogue.
     Failed,
@@ -39,7 +39,7 @@ impl From<AllocError> for OpeningFault {
     }
 }
 
-/// The log of a script that was opened, and the engine that stands for its records.
+/// The opened log of a script, and the engine that represents the history of its records.
 #[derive(Drop)]
 pub struct OpenedLog<H: Host> {
     /// The log. Nothing waits in it.
@@ -48,7 +48,7 @@ pub struct OpenedLog<H: Host> {
     pub engine: ScriptEngine,
 }
 
-// Why a log is not opened, if its file cannot be read as one.
+// Returns the fault of a log whose file can't be read as one.
 fn unreadable(fault: ReadFault) -> OpeningFault
     ensures { result ≡ fault_of_read fault }
 {
@@ -62,7 +62,7 @@ fn unreadable(fault: ReadFault) -> OpeningFault
     }
 }
 
-// Why a log is not opened, if its lines cannot be answered again.
+// Returns the fault of a log whose lines can't be run again.
 fn unanswered(fault: OpenFault) -> OpeningFault
     ensures { result ≡ fault_of_open fault }
 {
@@ -73,7 +73,7 @@ fn unanswered(fault: OpenFault) -> OpeningFault
     }
 }
 
-// Why a log is not opened, if the catalogue cannot be added.
+// Returns the fault of a log to which the catalogue can't be added.
 fn unadded(fault: AppendFault) -> OpeningFault
     ensures { result ≡ fault_of_append fault }
 {
@@ -112,7 +112,7 @@ fn with_catalogue<H: Host>(
     }
 }
 
-// Answers the lines of the records again, and adds the catalogue if it has grown.
+// Runs the lines of the records again, and adds the catalogue if it has grown.
 fn open_records<H: Host>(
     alloc: Global,
     host: H,
@@ -140,18 +140,18 @@ fn open_records<H: Host>(
     }
 }
 
-/// Opens the log that a file is for a script whose catalogue is given, and brings an engine to its history. Each line of the
-/// log is answered again. A clean file is taken as it is, unless the catalogue has more jobs than the log's: then it is added
-/// as a record.
+/// Opens a file as the log of a script with this catalogue, and brings an engine to the log's
+/// history. Each line of the log is run again. A clean file is taken as it is, unless the catalogue
+/// has more jobs than the log's. Then the catalogue is added as a record.
 ///
 /// # Errors
 ///
-/// With the host:
+/// Returns the host with one of these faults:
 ///
-/// - `Refused`, in this order: `Foreign`, `Later`, `Damaged`; `Foreign` if record 0 is no catalogue or the last catalogue
-///   cannot be read; `OtherCatalogue`; `OtherReply`. The file is as it was.
+/// - `Refused`, in this order: `Foreign`, `Later`, `Damaged`; `Foreign` if record 0 is no catalogue
+///   or the last catalogue can't be read; `OtherCatalogue`; `OtherReply`. The file is as it was.
 /// - `Failed` if the host failed, or the file is full.
-/// - `OutOfMemory` if memory was refused.
+/// - `OutOfMemory` if memory is refused.
 pub fn open_log<H: Host>(
     alloc: Global,
     host: H,
@@ -160,7 +160,7 @@ pub fn open_log<H: Host>(
     catalogue: Catalogue,
 ) -> Result<OpenedLog<H>, (OpeningFault, H)>
     requires seen { H.seen host ≡ file.now }
-    // After a restart, what is read is what is on the disk.
+    // After a restart, the bytes that are read are those on the disk.
     requires durable { Only (H.seen host) (H.heard host) (H.may_leave host) }
     requires catalogue { catalogue_at line.now ≡ Ok catalogue }
     ensures settled { IfOk result (λ opened. IsSettled H.seen H.heard H.may_leave opened.log × (waiting_in opened.log ≡ [])) }

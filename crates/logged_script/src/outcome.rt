@@ -1,4 +1,4 @@
-// Why a script over a log ended early.
+// The faults that end a script over a log early.
 ghost use Rattle.std.specs.Prelude.{◌≡◌};
 ghost use Rattle.logged_script.specs.Logged.{fault_of_opening, fault_of_run};
 
@@ -6,22 +6,22 @@ use crate::fault::LogFault;
 use crate::opening::OpeningFault;
 use script_log::RunFault;
 
-/// Why a script over a log ended before the end of its lines.
+/// The reason why a script over a log ended before the end of its lines.
 #[derive(Clone, Copy, Debug, PartialEq, Eq)]
 pub enum LoggedFault {
-    /// The log is refused. Its file is as it was, and nothing was told.
+    /// The log is refused. Its file is as it was, and nothing was sent to the listener.
     Refused(LogFault),
-    /// The reader failed, or may not be called again. All complete lines were answered, and their replies told.
+    /// The reader failed, or may not be called again. The replies to all complete lines were sent.
     Read,
     /// The listener failed. It heard a beginning of the replies to lines that are on the disk.
     Write,
-    /// The file failed or is full. No reply to what is not on the disk was told.
+    /// The file failed or is full. No reply to a line that isn't on the disk was sent.
     Log,
-    /// Memory was refused. The lines before were answered, and their replies told.
+    /// Memory was refused. The replies to the lines before were sent.
     OutOfMemory,
 }
 
-// Why a script ended early, if its log was not opened.
+// Returns the fault of a script whose log was not opened.
 pub(crate) fn unopened(fault: OpeningFault) -> LoggedFault
     ensures { result ≡ fault_of_opening fault }
 {
@@ -32,7 +32,7 @@ pub(crate) fn unopened(fault: OpeningFault) -> LoggedFault
     }
 }
 
-// Why a script ended early, if its lines were not all answered.
+// Returns the fault of a script whose lines didn't all get their replies.
 pub(crate) fn unanswered(fault: RunFault) -> LoggedFault
     ensures { result ≡ fault_of_run fault }
 {

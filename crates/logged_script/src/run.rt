@@ -27,18 +27,20 @@ fn outcome_of(ran: Result<(), RunFault>) -> Result<(), LoggedFault>
     }
 }
 
-/// Answers the lines at hand in `input`, then those that `source` tells, over the log that a file is, and tells the replies to
-/// the host's listener. The line is that of the given catalogue. The file's bytes are dropped once the log is open.
+/// Runs a script over the log in a file. It replies to the lines at hand in `input`, then to those
+/// of `source`, and sends the replies to the host's listener. `line` is the line of the given
+/// catalogue. The file's bytes are dropped after the log is open.
 ///
-/// Each accepted call is a record of the log. It is on the disk before its reply is told.
+/// Each accepted call is a record of the log. It is on the disk before its reply is sent.
 ///
 /// # Errors
 ///
-/// - `Refused` if the log is refused ([`open_log`]): nothing was read, written or told.
-/// - `Read` if the reader failed, or may not be called again: all complete lines were answered and their replies told.
+/// - `Refused` if the log is refused ([`open_log`]). Nothing was read, written or sent.
+/// - `Read` if the reader failed, or may not be called again. The replies to all complete lines
+///   were sent.
 /// - `Write` if the listener failed.
-/// - `Log` if the file failed or is full. No reply to what is not on the disk was told.
-/// - `OutOfMemory` if memory was refused: the lines before were answered and their replies told.
+/// - `Log` if the file failed or is full. No reply to a line that isn't on the disk was sent.
+/// - `OutOfMemory` if memory is refused. The replies to the lines before were sent.
 pub fn answer_logged<S: Source, H: Host>(
     alloc: Global,
     input: &mut InputBuffer,
@@ -49,7 +51,7 @@ pub fn answer_logged<S: Source, H: Host>(
     catalogue: Catalogue,
 ) -> (Result<(), LoggedFault>, H)
     requires seen { H.seen host ≡ file.items }
-    // After a restart, what is read is what is on the disk.
+    // After a restart, the bytes that are read are those on the disk.
     requires durable { Only (H.seen host) (H.heard host) (H.may_leave host) }
     requires catalogue { catalogue_at line.now ≡ Ok catalogue }
     ensures any_moment { LeavesOnly H.moment H.left_since host result.1
@@ -65,7 +67,7 @@ pub fn answer_logged<S: Source, H: Host>(
     }
 }
 
-// Answers the lines over a log that was opened.
+// Replies to the lines over a log that was opened.
 fn answer_opened<S: Source, H: Host>(
     alloc: Global,
     input: &mut InputBuffer,

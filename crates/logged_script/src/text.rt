@@ -24,7 +24,7 @@ fn put_number(
     Ok(())
 }
 
-// The members of a fault.
+// Returns the members of a fault.
 fn fault_members(alloc: Global, fault: LogFault) -> Result<Map<String, Value>, OutOfMemory>
     ensures { IfOk result (λ members. object (members_view members.entries) ≡ log_fault_data fault) }
 {
@@ -49,7 +49,7 @@ fn fault_members(alloc: Global, fault: LogFault) -> Result<Map<String, Value>, O
     Ok(members)
 }
 
-// The line of a value, with its line feed.
+// Returns the line of a value, with its line feed.
 #[tactic(auto, using(crate::proofs::Floats::line_is))]
 fn line_of(alloc: Global, value: &Value) -> Result<Vec<u8>, OutOfMemory>
     requires { has_float (view value.now) ≡ false }
@@ -60,12 +60,15 @@ fn line_of(alloc: Global, value: &Value) -> Result<Vec<u8>, OutOfMemory>
     Ok(text)
 }
 
-/// The line of a fault, with its line feed: `{"fault":NAME}`, for a damaged record
-/// `{"byte":N,"fault":"LogDamaged","record":N}`, and with `"job"` or `"record"` for what differs.
+/// Writes the line of a fault, with its line feed:
+/// - `{"byte":N,"fault":"LogDamaged","record":N}` for a damaged record.
+/// - `{"fault":NAME,"job":N}` for another catalogue.
+/// - `{"fault":NAME,"record":N}` for another reply.
+/// - `{"fault":NAME}` for any other fault.
 ///
 /// # Errors
 ///
-/// `OutOfMemory` if memory is refused.
+/// Returns `OutOfMemory` if memory is refused.
 #[tactic(auto, using(crate::proofs::Floats::fault_has_no_float))]
 pub fn log_fault_text(alloc: Global, fault: LogFault) -> Result<Vec<u8>, OutOfMemory>
     ensures { IfOk result (λ text. text.items ≡ log_fault_text fault) }

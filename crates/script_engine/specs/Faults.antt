@@ -1,11 +1,11 @@
--- Why a run ends before its script.
+-- The faults that end a run before its script's end.
 use Rattle.std.specs.Prelude.{Bool, true, false}
 use Rattle.script_lines.specs.declared.line_fault.LineFault.{LineFault}
 use Rattle.script_lines.specs.declared.line_fault.LineFault.TheVariants as lines
 use Rattle.script_engine.specs.declared.fault.EngineFault.{EngineFault}
 use Rattle.script_engine.specs.declared.fault.EngineFault.TheVariants.{Catalogue, Read, Write, OutOfMemory}
 
--- how a run ends where there is no next line
+-- the fault that ends a run if there is no next line
 abbrev pub engine_fault : LineFault → EngineFault
 engine_fault lines.Read = Read
 engine_fault lines.Write = Write

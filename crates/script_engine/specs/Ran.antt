@@ -1,4 +1,4 @@
--- What a run of a script reads and writes.
+-- The bytes that a run of a script reads and writes.
 use Rattle.std.specs.Prelude.{◌≡◌, ◌⊎◌, ℕ, ◌<◌, ◌≤◌, List, [], ◌∷◌, ◌++◌, Bool, false, length, take, Some, Result, Ok, Err, if◌then◌else◌}
 use Rattle.std.specs.Io.KnownBytes.{append_known}
 use Rattle.script_lines.specs.Device.{Told, Held, Tells, Takes, wide}
@@ -27,11 +27,11 @@ IsOpenedIfAny lines = (lines ≡ []) ⊎ IsOpened lines
 abbrev pub IsFirstFault : List (List ℕ) → ReadFault → Type 0
 IsFirstFault lines fault = (line : List ℕ) × (rest : List (List ℕ)) × (lines ≡ line ∷ rest) × (catalogue_at line ≡ Err fault)
 
--- the output is a front of the text of lines that were told to their end
+-- the output is a beginning of the text of lines that were read completely
 abbrev pub IsFront : Told → Told → List ℕ → List ℕ → Type 0
 IsFront r r' input output = (lines : List (List ℕ)) × (rest : List ℕ) × AreComplete r r' input lines × (output ++ rest ≡ text_of_lines lines)
 
--- all lines that were whole before the last read were replied to before it
+-- all lines that were whole before the last read had their replies written before it
 pub record RepliesInTurn (input output : List ℕ) : Type 0 where
   pub before : List ℕ
   pub last : List ℕ
@@ -40,31 +40,35 @@ pub record RepliesInTurn (input output : List ℕ) : Type 0 where
   pub one_read : length last ≤ wide
   pub replied : output ≡ text_of_lines (whole_lines before) ++ others
 
--- the input that was told and the output that was written, by the answer; a line counts once it was told to its end
+-- the input that was read and the output that was written, by the run's result: a line counts only if it was
+-- read completely
 abbrev pub IsOutcome : List ℕ → List ℕ → Told → Told → Held → Held → Result Summary EngineFault → Type 0
--- the first line is a catalogue, the reader told its end, no device failed, and all is answered and counted
+-- the first line is a catalogue, the reader reported its end, no device failed, and all replies are written
+-- and counted
 IsOutcome input output r r' w w' (Ok summary) = (output ≡ script_text input) × HasEnded r r' × (summary ≡ summary_of (script_lines input)) × IsOpened (script_lines input)
     × (r'.failures ≡ r.failures) × (w'.failures ≡ w.failures)
--- the fault of a first line that was told to its end, which is all that there is to tell
+-- the fault of a first line that was read completely: only the line of this fault is written
 IsOutcome input output r r' w w' (Err (Catalogue fault)) = (output ≡ fault_text fault) × (script_text input ≡ fault_text fault) × ((lines : List (List ℕ)) × AreComplete r r' input lines × IsFirstFault lines fault)
--- the whole lines are answered, of which the first is a catalogue; the reader hasn't told its end
+-- the replies to the whole lines are written, the first of which is a catalogue, and the reader hasn't
+-- reported its end
 IsOutcome input output r r' w w' (Err Read) = (output ≡ text_of_lines (whole_lines input)) × IsReadFault r r' × IsOpenedIfAny (whole_lines input) × (r'.ends ≡ r.ends)
--- a front of the text was written, and nothing was read while replies to whole lines waited
+-- a beginning of the text was written, and nothing was read while replies to whole lines waited
 IsOutcome input output r r' w w' (Err Write) = IsFront r r' input output × RepliesInTurn input output × (w.failures < w'.failures)
--- the lines before are answered, and nothing was read while replies to whole lines waited
+-- the replies to the lines before are written, and nothing was read while replies to whole lines waited
 IsOutcome input output r r' w w' (Err OutOfMemory) = ((done : List (List ℕ)) × (rest : List (List ℕ)) × AreComplete r r' input (done ++ rest) × (output ≡ text_of_lines done) × IsOpenedIfAny done) × RepliesInTurn input output
 
--- THE RUN OF A SCRIPT: what the reader told and the writer took in the call are an input and an output that fit the answer
+-- THE RUN OF A SCRIPT: in the call the reader delivered an input and the writer took an output, and both fit
+-- the result
 pub record Ran (r r' : Told) (w w' : Held) (result : Result Summary EngineFault) : Type 0 where
   pub input : List ℕ
   pub output : List ℕ
   pub read : Tells r r' input
   pub written : Takes w w' output
   pub outcome : IsOutcome input output r r' w w' result
-  -- the reader told its end once at most, and was called at most as often as it may be
+  -- the reader reported its end at most once, and was called at most as often as it may be
   pub bounded : IsBounded r r'
 
--- a script in memory was run: a reader that had the script left, and a writer that held nothing and holds the text
+-- a script in memory was run: the reader had the script left, and the writer was empty and has the text now
 pub record RanInMemory (script text : List ℕ) (result : Result Summary EngineFault) : Type 0 where
   pub r : Told
   pub r' : Told
@@ -75,10 +79,10 @@ pub record RanInMemory (script text : List ℕ) (result : Result Summary EngineF
   pub front : (rest : List ℕ) × (r'.left ≡ Some rest) × (script ≡ ran.input ++ rest)
   pub empty : w.contents ≡ Some []
   pub all : (w'.contents ≡ Some text) × (text ≡ ran.output)
-  -- no read failed, so that an answer Read comes at the bound on reads alone
+  -- no read failed, so that a result Read comes only from the bound on reads
   pub calm : r'.failures ≡ r.failures
 
--- the buffer holds the text of a script that was run to its end, or the line of its catalogue's fault
+-- the text is that of a script that was run to its end, or the line of its catalogue's fault
 abbrev pub HoldsReplies : List ℕ → List ℕ → Result Summary EngineFault → Type 0
 HoldsReplies script text (Ok summary) = text ≡ script_text script
 HoldsReplies script text (Err (Catalogue fault)) = text ≡ fault_text fault
@@ -93,15 +97,15 @@ abbrev pub has_writer_failed : Result Summary EngineFault → Bool
 has_writer_failed (Ok summary) = false
 has_writer_failed (Err fault) = is_of_writer fault
 
--- what a writer holds once it took what waits
+-- the writer after it took the waiting bytes
 abbrev pub with_all : Held → List ℕ → Held
 with_all w waits = record { bytes = w.bytes ++ waits; failures = w.failures; contents = append_known w.contents waits }
 
--- what a writer holds before the last replies are written; behind a failure it takes no more
+-- the writer after it took the last replies: after a failure it takes no more
 abbrev pub with_waiting : Held → List ℕ → Result Summary EngineFault → Held
 with_waiting w waits result = if has_writer_failed result then w else with_all w waits
 
--- the script is run as soon as the writer takes what waits
+-- the script is run, except that the writer has still to take the waiting bytes
 pub record RanSoFar (r r' : Told) (w w' : Held) (waits : List ℕ) (result : Result Summary EngineFault) : Type 0 where
   pub ran : Ran r r' w (with_waiting w' waits result) result
   pub sent : List ℕ
@@ -109,7 +113,8 @@ pub record RanSoFar (r r' : Told) (w w' : Held) (waits : List ℕ) (result : Res
   pub turn : RepliesInTurn ran.input sent
   pub quiet : has_writer_failed result ≡ false → w'.failures ≡ w.failures
 
--- a fault's line is put behind what waited, and the run ends with that fault; or with the writer's, or by want of memory
+-- a fault's line is put after the bytes that waited, and the run ends with that fault, or with the writer's,
+-- or with OutOfMemory
 abbrev pub TellsFault : ReadFault → Held → List ℕ → Held → List ℕ → EngineFault → Type 0
 TellsFault fault w waited w' waits (Catalogue told) = (told ≡ fault) × (is_out_of_memory fault ≡ false) × (w'.bytes ++ waits ≡ (w.bytes ++ waited) ++ fault_text fault) × ((sent : List ℕ) × Takes w w' sent) × (w'.failures ≡ w.failures)
 TellsFault fault w waited w' waits Read = ⊥

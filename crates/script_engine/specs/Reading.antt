@@ -1,4 +1,4 @@
--- What a call for the next line of a reader does, where nobody waits for replies.
+-- The effect of a call for the next line of a reader, if nobody waits for replies.
 use Rattle.std.specs.Prelude.{Option, Result, Ok, Err}
 use Rattle.script_lines.specs.Device.{Told}
 use Rattle.script_lines.specs.Unread.{Unread}
@@ -8,7 +8,8 @@ use Rattle.script_lines.specs.declared.line_fault.LineFault.TheVariants as lines
 use Rattle.script_engine.specs.declared.fault.EngineFault.{EngineFault}
 use Rattle.script_engine.specs.declared.fault.EngineFault.TheVariants.{Catalogue, Read, Write, OutOfMemory}
 
--- the reader told more, and a line was cut off; or the reader failed or may not be called again, or memory was refused
+-- the reader delivered more and a line was cut off, or the reader failed or may not be called again, or
+-- memory was refused
 abbrev pub NextLine : Told → Told → Unread → Unread → Result (Option Line) EngineFault → Type 0
 NextLine old new before after (Ok line) = LineRead old new before after (Ok line)
 NextLine old new before after (Err (Catalogue fault)) = ⊥

@@ -1,4 +1,4 @@
--- The text that a script is answered with.
+-- The text of a script's replies.
 use Rattle.std.specs.Prelude.{ℕ, ◌==◌, List, [], ◌∷◌, ◌++◌, length, nat_lt, Result, Ok, Err, if◌then◌else◌}
 use Rattle.batch_ids.specs.declared.refusal.Refusal.TheVariants as refusals
 use Rattle.jsl_model.specs.Jobs.{JobTree}
@@ -24,15 +24,15 @@ use Rattle.script_text.specs.Faults.{fault_text}
 
 -- Lines
 
--- the command that a line is: one above the bound is none
+-- the command of a line: a line above the bound is none
 abbrev pub command_at : List ℕ → Command
 command_at line = if nat_lt MAX_LINE (length line) then BadLine else command_of line
 
--- the catalogue that a line is: one above the bound is none
+-- the catalogue of a line: a line above the bound is none
 abbrev pub catalogue_at : List ℕ → Result (List JobTree) ReadFault
 catalogue_at line = if nat_lt MAX_LINE (length line) then Err NotACatalogue else catalogue_of line
 
--- the start that a line of a run is: one above the bound is none
+-- the start of a job in a line of a run: a line above the bound is none
 abbrev pub start_at : List ℕ → Result StartLine StartFault
 start_at line = if nat_lt MAX_LINE (length line) then Err starts.BadLine else start_of_line line
 
@@ -50,11 +50,11 @@ history_for h TextTooLong = h
 history_for h (Act by at call) = history_after h by call at (reply most_operations h by call)
 history_for h (Ask query) = h
 
--- the reply to a line after a history; an empty line has none
+-- the reply to a line after a history: an empty line has none
 unfoldable pub line_text : History → List ℕ → List ℕ
 line_text h line = if length line == 0 then [] else text_for h (command_at line)
 
--- the history after a line; an empty line changes nothing
+-- the history after a line: an empty line changes nothing
 unfoldable pub line_after : History → List ℕ → History
 line_after h line = if length line == 0 then h else history_for h (command_at line)
 
@@ -74,7 +74,7 @@ history_past h (line ∷ lines) = history_past (line_after h line) lines
 abbrev pub begin : List JobTree → History
 begin catalogue = history catalogue []
 
--- the text for the lines behind the first: a fault of the catalogue is all that is told
+-- the text for the lines after the first: if the catalogue has a fault, only that fault's line
 abbrev pub opened : Result (List JobTree) ReadFault → List (List ℕ) → List ℕ
 opened (Ok catalogue) lines = replies (begin catalogue) lines
 opened (Err fault) lines = fault_text fault
@@ -84,16 +84,16 @@ abbrev pub text_of_lines : List (List ℕ) → List ℕ
 text_of_lines [] = []
 text_of_lines (line ∷ lines) = opened (catalogue_at line) lines
 
--- how many operations are in the log behind lines; without a catalogue there is none
+-- the number of operations after these lines: without a catalogue there is none
 abbrev pub entries_from : Result (List JobTree) ReadFault → List (List ℕ) → ℕ
 entries_from (Ok catalogue) lines = length (history_past (begin catalogue) lines).log
 entries_from (Err fault) lines = 0
 
--- how many operations are in the log behind lines, of which the first is the catalogue
+-- the number of operations after these lines, of which the first is the catalogue
 abbrev pub entries_of_lines : List (List ℕ) → ℕ
 entries_of_lines [] = 0
 entries_of_lines (line ∷ lines) = entries_from (catalogue_at line) lines
 
--- THE TEXT OF A SCRIPT: what is written for an input
+-- THE TEXT OF A SCRIPT: the text that is written for an input
 abbrev pub script_text : List ℕ → List ℕ
 script_text input = text_of_lines (script_lines input)

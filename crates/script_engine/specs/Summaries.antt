@@ -1,4 +1,4 @@
--- What a script did, by what becomes of its lines.
+-- The summary of a script, by the kinds of its lines.
 use Rattle.std.specs.Prelude.{ℕ, ◌+◌, ◌-◌, ◌^◌, ◌==◌, min, List, [], ◌∷◌, length, count_by, Bool, true, false, Result, Ok, Err, if◌then◌else◌}
 use Rattle.batch_ids.specs.declared.refusal.Refusal.{Refusal}
 use Rattle.jsl_model.specs.Jobs.{JobTree}
@@ -14,35 +14,35 @@ use Rattle.script_engine.specs.declared.summary.Kind.TheVariants.{Empty, Accepte
 use Rattle.script_engine.specs.declared.summary.Summary.{Summary}
 use Rattle.script_engine.specs.Script.{command_at, line_after, begin, catalogue_at, entries_of_lines}
 
--- What becomes of lines
+-- The kinds of lines
 
--- a call or a query that is answered so
+-- the kind of a call or a query with this result
 abbrev pub kind_of : {R : Type 0} → Result R Refusal → Kind
 kind_of (Ok answered) = Accepted
 kind_of (Err refusal) = Refused
 
--- a command after a history
+-- the kind of a command after a history
 abbrev pub kind_for : History → Command → Kind
 kind_for h BadLine = Bad
 kind_for h TextTooLong = Refused
 kind_for h (Act by at call) = kind_of (reply most_operations h by call)
 kind_for h (Ask query) = kind_of (answer h query)
 
--- a line after a history
+-- the kind of a line after a history
 unfoldable pub line_kind : History → List ℕ → Kind
 line_kind h line = if length line == 0 then Empty else kind_for h (command_at line)
 
--- lines, one after another
+-- the kinds of lines, one after another
 abbrev pub kinds : History → List (List ℕ) → List Kind
 kinds h [] = []
 kinds h (line ∷ lines) = line_kind h line ∷ kinds (line_after h line) lines
 
--- the lines behind the first; behind what is no catalogue, none is looked at
+-- the kinds of the lines after the first: after a line that is no catalogue, none is looked at
 abbrev pub kinds_from : Result (List JobTree) ReadFault → List (List ℕ) → List Kind
 kinds_from (Ok catalogue) lines = kinds (begin catalogue) lines
 kinds_from (Err fault) lines = []
 
--- lines, of which the first is the catalogue
+-- the kinds of lines, of which the first is the catalogue
 abbrev pub kinds_of_lines : List (List ℕ) → List Kind
 kinds_of_lines [] = []
 kinds_of_lines (line ∷ lines) = kinds_from (catalogue_at line) lines
@@ -67,11 +67,11 @@ is_bad Accepted = false
 is_bad Refused = false
 is_bad Bad = true
 
--- a number as 64 bits hold it
+-- a number, at most the greatest of 64 bits
 abbrev pub at_most_64_bits : ℕ → ℕ
 at_most_64_bits n = min n (2 ^ 64 - 1)
 
--- how many lines had a reply, were refused, were bad
+-- the numbers of lines that had a reply, were refused, were bad
 abbrev pub tally : List Kind → Summary
 tally ks = record {
   lines = at_most_64_bits (count_by has_reply ks);
@@ -80,7 +80,7 @@ tally ks = record {
   bad = at_most_64_bits (count_by is_bad ks);
 }
 
--- with one line more
+-- the summary with one more line
 abbrev pub counted : Kind → Summary → Summary
 counted Empty s = s
 counted Accepted s = record s { lines = at_most_64_bits (s.lines + 1) }

@@ -18,19 +18,20 @@ use script_text::{Command, CommandReader, answer_text, bad_line_text, reply_text
 use seq_repository::{Answer, Call, Query, Reply, Repository};
 use std::alloc::{AllocError, Global};
 
-/// How many operations the repository of a script accepts at most.
+/// The most operations that the repository of a script accepts.
 pub const LIMIT: u64 = 1_000_000;
 
-/// The reply line to a line, and what became of it.
+/// The reply to a line, with the line's kind.
 #[derive(Drop)]
 pub struct Answered {
-    /// The text, with its line feed; nothing for an empty line.
+    /// The text, with its line feed. It is empty for an empty line.
     pub text: Vec<u8>,
-    /// What became of the line.
+    /// The kind of the line.
     pub kind: Kind,
 }
 
-/// Answers a line after the operations before it. At an `Err` it is left open what the repository stands for.
+/// Replies to a line after the operations before it. After an `Err` the repository's history is not
+/// determined.
 #[tactic(auto, unfolding(crate::specs::Script::line_text, crate::specs::Script::line_after, crate::specs::Summaries::line_kind))]
 pub(crate) fn answer(
     alloc: Global,
@@ -51,12 +52,12 @@ pub(crate) fn answer(
     }
 }
 
-/// Answers a whole line, its line feed left out, after the operations before it. The line has at most
-/// [`MAX_LINE`](crate::MAX_LINE) bytes. An empty line has an empty reply.
+/// Replies to a whole line, without its line feed, after the operations before it. The line has at
+/// most [`MAX_LINE`](crate::MAX_LINE) bytes. An empty line has an empty reply.
 ///
 /// # Errors
 ///
-/// `OutOfMemory` if memory is refused. What the repository stands for is open then.
+/// Returns `OutOfMemory` if memory is refused. The repository's history is not determined then.
 #[tactic(auto, unfolding(crate::specs::Script::line_text, crate::specs::Script::line_after, crate::specs::Summaries::line_kind))]
 pub fn answer_whole(
     alloc: Global,
@@ -81,7 +82,7 @@ pub fn answer_whole(
     answer_command(alloc, repository, command)
 }
 
-/// Answers a command.
+/// Replies to a command.
 fn answer_command(
     alloc: Global,
     repository: &mut Repository<LIMIT>,
@@ -99,7 +100,7 @@ fn answer_command(
     }
 }
 
-/// The reply to what is no command.
+/// Returns the reply to a line that is no command.
 fn reply_bad_line(alloc: Global) -> Result<Answered, OutOfMemory>
     ensures { IfOk result (λ answered. (answered.text.items ≡ bad_line_text) × (answered.kind ≡ Bad)) }
 {
@@ -109,7 +110,7 @@ fn reply_bad_line(alloc: Global) -> Result<Answered, OutOfMemory>
     })
 }
 
-/// The reply to a call that is refused.
+/// Returns the reply to a call that is refused.
 fn reply_refusal(alloc: Global, refusal: Refusal) -> Result<Answered, OutOfMemory>
     ensures { IfOk result (λ answered. (answered.text.items ≡ reply_text (Err refusal)) × (answered.kind ≡ Refused)) }
 {
@@ -119,7 +120,7 @@ fn reply_refusal(alloc: Global, refusal: Refusal) -> Result<Answered, OutOfMemor
     answered
 }
 
-/// The line of a reply.
+/// Returns the line of a reply.
 fn reply_line(alloc: Global, reply: &Result<Reply, Refusal>) -> Result<Answered, OutOfMemory>
     ensures known { IfOk result (λ answered. (answered.text.items ≡ reply_text reply.now) × (answered.kind ≡ kind_of reply.now)) }
     ensures due { (due : Result Reply Refusal) → IsDue reply.now due → OnOk result (reply.now ≡ due) }
@@ -130,7 +131,7 @@ fn reply_line(alloc: Global, reply: &Result<Reply, Refusal>) -> Result<Answered,
     })
 }
 
-/// What becomes of a line with this reply, where memory was not refused.
+/// Returns the kind of a line with this reply. Returns `OutOfMemory` if the reply is that refusal.
 fn kind_of<R>(reply: &Result<R, Refusal>) -> Result<Kind, OutOfMemory>
     ensures known { IfOk result (λ kind. kind ≡ kind_of reply.now) }
     ensures due { (due : Result R Refusal) → IsDue reply.now due → OnOk result (reply.now ≡ due) }
@@ -142,7 +143,7 @@ fn kind_of<R>(reply: &Result<R, Refusal>) -> Result<Kind, OutOfMemory>
     }
 }
 
-/// Answers a call.
+/// Replies to a call.
 fn act(
     alloc: Global,
     repository: &mut Repository<LIMIT>,
@@ -160,7 +161,7 @@ fn act(
     answered
 }
 
-/// Answers a query.
+/// Replies to a query.
 fn ask(
     alloc: Global,
     repository: &Repository<LIMIT>,
@@ -175,7 +176,7 @@ fn ask(
     answered
 }
 
-/// The line of an answer.
+/// Returns the line of an answer.
 fn answer_line(alloc: Global, answer: &Result<Answer, Refusal>) -> Result<Answered, OutOfMemory>
     ensures known { IfOk result (λ answered. (answered.text.items ≡ answer_text answer.now) × (answered.kind ≡ kind_of answer.now)) }
     ensures due { (due : Result Answer Refusal) → IsDue answer.now due → OnOk result (answer.now ≡ due) }

@@ -11,12 +11,13 @@ use script_lines::{Line, OutputBuffer, Sink};
 use script_text::fault_text;
 use std::alloc::Global;
 
-/// The catalogue that the first line of an input is. No line counts as an empty one, and a line above
-/// [`MAX_LINE`](crate::MAX_LINE) bytes is no catalogue.
+/// Reads the catalogue of an input's first line. If there is no line, it counts as an empty one. A
+/// line above [`MAX_LINE`](crate::MAX_LINE) bytes is no catalogue.
 ///
 /// # Errors
 ///
-/// The first fault of the catalogue; `OutOfMemory` where memory is refused, in place of any answer.
+/// Returns the first fault of the catalogue. Returns `OutOfMemory` instead of any result if memory
+/// is refused.
 pub fn catalogue_in(alloc: Global, first: &Option<Line>) -> Result<Catalogue, ReadFault>
     ensures read { IfOk result (λ catalogue. (line : List ℕ) → ShowsFirst first.now line → catalogue_at line ≡ Ok catalogue) }
     ensures fault { IfErr result (λ fault. is_out_of_memory fault ≡ false → (line : List ℕ) → ShowsFirst first.now line → catalogue_at line ≡ Err fault) }
@@ -28,9 +29,11 @@ pub fn catalogue_in(alloc: Global, first: &Option<Line>) -> Result<Catalogue, Re
     }
 }
 
-/// Replies with the line of a catalogue's fault, and answers how the run ends by that: with the fault;
-/// with `Write` where the writer failed; or with `OutOfMemory` where memory is refused, also for the
-/// catalogue.
+/// Puts the line of a catalogue's fault into the output, and returns the fault with which the run
+/// ends:
+/// - `Catalogue` with this fault.
+/// - `Write` if the writer failed.
+/// - `OutOfMemory` if memory is refused, or if `fault` says that it was refused for the catalogue.
 pub fn tell_fault<W: Sink>(
     alloc: Global,
     output: &mut OutputBuffer,

@@ -7,10 +7,10 @@ use script_lines::{DeviceFault, LineFault};
 use std::alloc::AllocError;
 use thiserror::Error;
 
-/// Why a script was not run to its end.
+/// The reason why a script was not run to its end.
 #[derive(Clone, Copy, Debug, PartialEq, Eq, Error)]
 pub enum EngineFault {
-    /// The first line is no catalogue. The line of this fault is all that was written.
+    /// The first line is no catalogue. Only the line of this fault was written.
     #[error("the catalogue is refused: {0}")]
     Catalogue(ReadFault),
     /// The reader failed, or was called [`MAX_READS`](crate::MAX_READS) times. The replies to the
@@ -26,7 +26,7 @@ pub enum EngineFault {
 }
 
 impl EngineFault {
-    /// Whether the writer failed.
+    /// Checks whether the writer failed.
     pub(crate) fn is_of_writer(self) -> bool
         ensures { result ≡ is_of_writer self }
     {

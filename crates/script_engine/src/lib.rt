@@ -1,6 +1,6 @@
-//! Runs a script: the bytes of any reader in, the replies to its lines out to any writer. Beside it
-//! stands what another program over the same lines needs: the lines of a reader, its catalogue, and
-//! the texts of replies and faults.
+//! Runs a script: reads its bytes from any reader, and writes the replies to its lines to any
+//! writer. It also has parts for other programs over the same lines: the lines of a reader, its
+//! catalogue, and the texts of replies and faults.
 #![tactic(auto)]
 
 mod answer;

@@ -7,8 +7,8 @@ use batch_ids::OutOfMemory;
 use script_lines::{InputBuffer, Line, MAX_LINE, MAX_READS, Source};
 use std::alloc::Global;
 
-/// The lines that a reader tells, one after another. Each ends with a line feed, which is taken off;
-/// the last may lack it. Nothing is told back before the next line is read.
+/// The lines of a reader, one after another. Each ends with a line feed, which is removed. The last
+/// line may lack it. Nothing is written before the next line is read.
 #[derive(Drop)]
 pub struct Lines<S: Source + Drop> {
     source: S,
@@ -17,11 +17,11 @@ pub struct Lines<S: Source + Drop> {
 }
 
 impl<S: Source + Drop> Lines<S> {
-    /// The lines of a reader, of which none is read yet.
+    /// Makes the lines of a reader, none of which has been read yet.
     ///
     /// # Errors
     ///
-    /// `OutOfMemory` where memory for 65,536 bytes is refused. The reader is dropped.
+    /// Returns `OutOfMemory` if memory for 65,536 bytes is refused. The reader is dropped.
     pub fn new(alloc: Global, source: S) -> Result<Lines<S>, OutOfMemory>
         ensures reader { IfOk result (λ lines. S.tape lines.source ≡ S.tape source) }
         ensures begun { IfOk result (λ lines. (lines.input ≡ nothing_read) × (lines.failed ≡ false)) }
@@ -33,21 +33,21 @@ impl<S: Source + Drop> Lines<S> {
         })
     }
 
-    /// Whether a call of [`Lines::next_line`] answered an `Err`. There is no line behind it.
+    /// Checks whether a call of [`Lines::next_line`] returned an `Err`. No line follows after that.
     pub fn has_failed(&self) -> bool
         ensures { result ≡ self.now.failed }
     {
         self.failed
     }
 
-    /// The next line; `None` says that the reader told its end and nothing is left. No call before may
-    /// have answered an `Err`; [`Lines::has_failed`] says so from then on. A line is kept up to
-    /// [`MAX_LINE`] bytes. The time is that of the reads.
+    /// Returns the next line. `None` means that the reader reported its end and nothing is left. No
+    /// earlier call may have returned an `Err`, which [`Lines::has_failed`] checks. A line is
+    /// stored up to [`MAX_LINE`] bytes. The time is that of the reads.
     ///
     /// # Errors
     ///
-    /// - `Read` where the reader failed in this call, or was called [`MAX_READS`] times in all.
-    /// - `OutOfMemory` where memory for the line is refused.
+    /// - `Read` if the reader failed in this call, or was called [`MAX_READS`] times in all.
+    /// - `OutOfMemory` if memory for the line is refused.
     pub fn next_line(&mut self) -> Result<Option<Line>, EngineFault>
         requires { self.old.failed ≡ false }
         ensures bounds { (MAX_LINE ≡ 16777216) × (MAX_READS ≡ 1099511627776) }

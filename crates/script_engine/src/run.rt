@@ -14,11 +14,11 @@ use script_text::CommandReader;
 use seq_repository::Repository;
 use std::alloc::{AllocError, Global};
 
-/// A repository without an operation over this catalogue, on the heap.
+/// Makes a repository over this catalogue, without operations, on the heap.
 ///
 /// # Errors
 ///
-/// `OutOfMemory` if memory is refused. The catalogue is dropped.
+/// Returns `OutOfMemory` if memory is refused. The catalogue is dropped.
 pub fn boxed_repository(
     alloc: Global,
     catalogue: Catalogue,
@@ -72,24 +72,28 @@ fn has_writer_failed(outcome: &Result<Summary, EngineFault>) -> bool
     }
 }
 
-/// Runs the script that `reader` tells, to its end, and writes the replies to `writer`.
+/// Runs the script of `reader` to its end, and writes the replies to `writer`.
 ///
-/// A script is lines, each ended by a line feed; the last may lack it. The first line is the
-/// catalogue of jobs (no input at all counts as an empty first line), every other line a command or
-/// a query. An empty line has no reply; every other line has one, a line, in their order. A line of
-/// more than [`MAX_LINE`](crate::MAX_LINE) bytes is no command and no catalogue. At most 1,000,000
-/// operations are accepted. They are entered into the rows of a repository, and none is kept as an entry.
-/// Replies are collected, 65,536 bytes at most, and written before the reader is asked for more and at
-/// the end.
+/// A script is lines, each ended by a line feed, which the last may lack. The first line is the
+/// catalogue of jobs. If there is no input at all, it counts as an empty first line. Every other
+/// line is a command or a query.
+///
+/// An empty line has no reply. Every other line has one, which is a line, and the replies are in
+/// the order of the lines. A line of more than [`MAX_LINE`](crate::MAX_LINE) bytes is no command
+/// and no catalogue.
+///
+/// At most 1,000,000 operations are accepted. They are entered into the rows of a repository, and
+/// none is stored as an entry. Replies are collected, 65,536 bytes at most. They are written before
+/// the reader is called again, and at the end.
 ///
 /// # Errors
 ///
-/// - `Catalogue` where the first line is no catalogue: its fault's line is all that is written, and
-///   no further line is answered.
-/// - `Read` where the reader failed, or was called [`MAX_READS`](crate::MAX_READS) times: the
-///   replies to the complete lines were written.
-/// - `Write` where the writer failed: it holds a front of the replies to what was read.
-/// - `OutOfMemory` where memory was refused: the replies to the lines before were written.
+/// - `Catalogue` if the first line is no catalogue. Only its fault's line is written, and no
+///   further line has a reply.
+/// - `Read` if the reader failed, or was called [`MAX_READS`](crate::MAX_READS) times. The replies
+///   to the complete lines were written.
+/// - `Write` if the writer failed. It has a beginning of the replies to the lines read.
+/// - `OutOfMemory` if memory is refused. The replies to the lines before were written.
 pub fn run_script<R: Source, W: Sink>(
     alloc: Global,
     reader: &mut R,
@@ -106,10 +110,12 @@ pub fn run_script<R: Source, W: Sink>(
     outcome
 }
 
-/// Runs a script that stands in memory, by [`run_script`]. Gives the text that was written beside how
-/// the run ended: the replies to all its lines, or the line of its catalogue's fault. At `OutOfMemory` it
-/// is the replies to the lines before, and at `Write`, if the text has no memory, a front of them. No read
-/// fails: `Read` could come after 2^40 reads alone.
+/// Runs a script in memory, as [`run_script`] does. Returns the text that was written, and how the
+/// run ended. The text has the replies to all lines, or the line of the catalogue's fault.
+///
+/// After `OutOfMemory` the text has the replies to the lines before. After `Write`, which means
+/// that memory for the text was refused, it has a beginning of them. No read fails. `Read` could be
+/// returned only after 2^40 reads.
 pub fn answer_script(alloc: Global, script: &[u8]) -> (Vec<u8>, Result<Summary, EngineFault>)
     ensures replies { HoldsReplies script.now result.0.items result.1 }
     ensures ran { RanInMemory script.now result.0.items result.1 }

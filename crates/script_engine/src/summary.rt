@@ -1,30 +1,30 @@
 ghost use Rattle.std.specs.Prelude.{◌≡◌};
 ghost use Rattle.script_engine.specs.Summaries.{counted};
 
-/// What a script did.
+/// The counts of a script's lines and operations.
 #[derive(Clone, Copy, Debug, Default, PartialEq, Eq)]
 pub struct Summary {
-    /// How many lines behind the catalogue had a reply, at most 2^64 - 1.
+    /// The number of lines after the catalogue that had a reply, at most 2^64 - 1.
     pub lines: u64,
-    /// How many operations the log has.
+    /// The number of operations in the history.
     pub entries: u64,
-    /// How many calls and queries were refused, those with a text above its bound too, at most
-    /// 2^64 - 1.
+    /// The number of calls and queries that were refused, with those that had a text above its
+    /// bound, at most 2^64 - 1.
     pub refusals: u64,
-    /// How many lines were no command, at most 2^64 - 1.
+    /// The number of lines that were no command, at most 2^64 - 1.
     pub bad: u64,
 }
 
-/// What became of a line.
+/// The kind of a line, by its reply.
 #[derive(Clone, Copy, Debug, PartialEq, Eq)]
 pub enum Kind {
-    /// It is empty, and has no reply.
+    /// The line is empty, and has no reply.
     Empty,
-    /// A call was accepted, or a query answered.
+    /// The line is a call that was accepted, or a query that has an answer.
     Accepted,
-    /// A call or a query was refused.
+    /// The line is a call or a query that was refused.
     Refused,
-    /// It is no command.
+    /// The line is no command.
     Bad,
 }
 

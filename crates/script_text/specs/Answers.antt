@@ -68,6 +68,6 @@ answer_data (Ok (StepExecutions steps)) = one (codes "step_executions") (list_of
 answer_data (Ok (StatusCounts counts)) = one (codes "counts") (counts_data (status_counts counts))
 answer_data (Err refusal) = refused (refusal_name refusal)
 
--- the line that answers a query
+-- the line of a query's answer
 abbrev pub answer_text : Result Answer Refusal → List ℕ
 answer_text answer = line_of (answer_data answer)

@@ -1,4 +1,5 @@
--- The bounds of the texts of a command: from a command whose texts may be of any length to one whose texts are within their bounds.
+-- The bounds of a command's texts. The definitions take a command with texts of any length to one whose texts
+-- are within their bounds.
 use Rattle.std.specs.Prelude.{ℕ, List, length, nat_le, Option, Some, None, option_map, if◌then◌else◌}
 use Rattle.batch_history.specs.declared.call.Call.{Call}
 use Rattle.batch_history.specs.declared.call.Call.TheVariants.{Start, Restart, Stop, Abandon, Claim, Checkpoint, Finish, Lose, Purge}
@@ -7,7 +8,7 @@ use Rattle.batch_history.specs.declared.query.Query.TheVariants.{JobNames, JobIn
 use Rattle.json_members.specs.Chains.{◌>>=◌}
 use Rattle.script_text.specs.Parameters.{parameters_within}
 
--- a text that has at most so many bytes
+-- a text that has at most `most` bytes
 abbrev pub text_within : ℕ → List ℕ → Option (List ℕ)
 text_within most text = if nat_le (length text) most then Some text else None
 

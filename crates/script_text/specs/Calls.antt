@@ -1,4 +1,5 @@
--- The calls of a script (`do`), a row of the table each: the members that a line has, and no others. A text may be of any length here.
+-- The calls of a script (`do`), one definition for each entry of the table: the members that a line has, and
+-- no others. A text may be of any length here.
 use Rattle.std.specs.Prelude.{ℕ, List, [], ◌∷◌, bytes_eq, codes, Option, Some, None, option_map, if◌then◌else◌}
 use Rattle.serde_json.specs.Data.{Data}
 use Rattle.json_members.specs.Members.{has_only, text_at, number_at, optional_text}
@@ -47,7 +48,7 @@ abandon_of d =
 unfoldable pub claim_of : Data → Option Call
 claim_of d = if has_only (codes "do" ∷ codes "by" ∷ codes "at" ∷ []) d then Some Claim else None
 
--- checkpoint: a work item, where its reader goes on, and metrics, which may be left out
+-- checkpoint: a work item, the position from which its reader goes on, and metrics, which may be left out
 unfoldable pub checkpoint_of : Data → Option Call
 checkpoint_of d =
     if has_only (codes "do" ∷ codes "by" ∷ codes "at" ∷ codes "work" ∷ codes "data" ∷ codes "metrics" ∷ []) d
@@ -58,7 +59,7 @@ checkpoint_of d =
       Some (Checkpoint work mark step))
     else None
 
--- finish: a work item, its outcome, its exit status and metrics, which may both be left out
+-- finish: a work item, its outcome, its exit status and metrics; the last two may be left out
 unfoldable pub finish_of : Data → Option Call
 finish_of d =
     if has_only (codes "do" ∷ codes "by" ∷ codes "at" ∷ codes "work" ∷ codes "outcome" ∷ codes "exit" ∷ codes "metrics" ∷ []) d

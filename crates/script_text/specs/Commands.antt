@@ -1,4 +1,4 @@
--- The lines of a script: which command each of them is.
+-- The commands of a script's lines.
 use Rattle.std.specs.Prelude.{ℕ, ◌==◌, List, codes, Option, Some, None, option_map, unwrap_or, if◌then◌else◌}
 use Rattle.std.specs.Option.{option_or}
 use Rattle.serde_json.specs.Data.{Data}
@@ -30,7 +30,7 @@ query_of d = do
   query ← query_named word d
   Some (Ask query)
 
--- the command that a value is, its texts of any length, if it is one of the table
+-- the command, with texts of any length, in a value, if it is one of the table
 unfoldable pub raw_command_of : Data → Option Command
 raw_command_of d = option_or (call_of d) (query_of d)
 
@@ -41,10 +41,11 @@ within_bounds (Ask query) = unwrap_or (option_map Ask (query_within query)) Text
 within_bounds TextTooLong = TextTooLong
 within_bounds BadLine = BadLine
 
--- the command that a value is
+-- the command in a value
 unfoldable pub command_of_data : Data → Command
 command_of_data d = unwrap_or (option_map within_bounds (raw_command_of d)) BadLine
 
--- the command that a line is: BadLine where it is none of the table, whatever its texts; then TextTooLong where one is above its bound
+-- the command of a line: BadLine if it is none of the table, whatever its texts; then TextTooLong if a text
+-- is above its bound
 unfoldable pub command_of : List ℕ → Command
 command_of line = unwrap_or (option_map command_of_data (data_of line)) BadLine

@@ -6,7 +6,7 @@ use Rattle.jsl_json.specs.declared.fault.ReadFault.{ReadFault}
 use Rattle.jsl_json.specs.declared.fault.ReadFault.TheVariants.{NotJson, NotACatalogue, BadElement, InJob, OutOfMemory}
 use Rattle.script_text.specs.Written.{one, count, count_or_null, line_of}
 
--- a fault by its name, with the numbers of the job and of the element; want of memory has no text
+-- a fault by its name, with the numbers of the job and of the element: OutOfMemory has no text
 abbrev pub fault_data : ReadFault → Data
 fault_data NotJson = one (codes "fault") (string (read_fault_name NotJson))
 fault_data NotACatalogue = one (codes "fault") (string (read_fault_name NotACatalogue))

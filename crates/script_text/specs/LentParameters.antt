@@ -1,4 +1,4 @@
--- Parameters where they stand in the text of their line.
+-- Parameters borrowed from the text of their line.
 use Rattle.std.specs.Prelude.{ℕ, List, map}
 use Rattle.std.specs.Borrow.{Bor}
 use Rattle.lent_json.specs.Kinds.{text_of}

@@ -1,4 +1,5 @@
--- Metrics in JSON: an object of counts by the metrics' names. A count of zero may be left out of what is read, and is left out of what is written.
+-- Metrics in JSON: an object of counts by the metrics' names. A count of zero may be left out when metrics
+-- are read, and is left out when they are written.
 use Rattle.std.specs.Prelude.{ℕ, ◌^◌, List, [], ◌∷◌, nat_lt, codes, Option, Some, None, if◌then◌else◌}
 use Rattle.serde_json.specs.Data.{Data}
 use Rattle.batch_ids.specs.Metrics.{metric_name, zero_step}
@@ -10,7 +11,7 @@ use Rattle.json_members.specs.Members.{has_only, optional_number, optional_objec
 use Rattle.json_members.specs.Chains.{◌>>=◌}
 use Rattle.script_text.specs.Written.{counts_data}
 
--- a count of 32 bits; one that is left out is 0
+-- a count of 32 bits: one that is left out is 0
 abbrev pub small_count : Option ℕ → Option ℕ
 small_count None = Some 0
 small_count (Some n) = if nat_lt n (2 ^ 32) then Some n else None
@@ -25,7 +26,7 @@ metric_names =
     metric_name ReadCount ∷ metric_name WriteCount ∷ metric_name CommitCount ∷ metric_name RollbackCount
     ∷ metric_name ReadSkipCount ∷ metric_name ProcessSkipCount ∷ metric_name FilterCount ∷ metric_name WriteSkipCount ∷ []
 
--- the step that an object of counts is
+-- the metric step in an object of counts
 unfoldable pub step_of : Data → Option MetricStep
 step_of d =
     if has_only metric_names d
@@ -50,12 +51,12 @@ step_of d =
       }))
     else None
 
--- the step that an object is that may be left out
+-- the metric step in an object that may be left out
 abbrev pub step_given : Option Data → Option MetricStep
 step_given None = Some zero_step
 step_given (Some d) = step_of d
 
--- the step that the member `metrics` is; nothing is added where it is left out
+-- the metric step of the member `metrics`: if it is left out, nothing is added
 abbrev pub metrics_at : Data → Option MetricStep
 metrics_at d = optional_object (codes "metrics") d >>= step_given
 

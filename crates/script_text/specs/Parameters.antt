@@ -13,7 +13,7 @@ abbrev pub text_pairs : Members → List Pair
 text_pairs no_members = []
 text_pairs (member name d ms) = (name, unwrap_or (as_str d) []) ∷ text_pairs ms
 
--- the keys and values that an object of texts gives
+-- the keys and values of an object of texts
 abbrev pub given_pairs : Data → List Pair
 given_pairs d = unwrap_or (option_map text_pairs (as_object d)) []
 
@@ -22,11 +22,11 @@ abbrev pub pairs_given : Option Data → Option (List Pair)
 pairs_given None = Some []
 pairs_given (Some d) = if has_texts d then Some (given_pairs d) else None
 
--- the keys and values that the member `parameters` gives; none where it is left out
+-- the keys and values of the member `parameters`, none if it is left out
 abbrev pub parameters_at : Data → Option (List Pair)
 parameters_at d = optional_object (codes "parameters") d >>= pairs_given
 
--- the parameters that these keys and values are, if all are within their bounds
+-- the parameters of these keys and values, if all are within their bounds
 abbrev pub parameters_within : List Pair → Option (List Pair)
 parameters_within given = if is_too_large given then None else Some (parameters_of given)
 

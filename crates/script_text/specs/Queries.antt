@@ -1,4 +1,5 @@
--- The queries of a script (`ask`), a row of the table each: the members that a line has, and no others. A text may be of any length here.
+-- The queries of a script (`ask`), one definition for each entry of the table: the members that a line has,
+-- and no others. A text may be of any length here.
 use Rattle.std.specs.Prelude.{ℕ, List, [], ◌∷◌, Bool, bytes_eq, codes, Option, Some, None, option_map, if◌then◌else◌}
 use Rattle.serde_json.specs.Data.{Data}
 use Rattle.json_members.specs.Members.{has_only, text_at, number_at}
@@ -6,23 +7,23 @@ use Rattle.json_members.specs.Chains.{◌>>=◌}
 use Rattle.batch_history.specs.declared.query.Query.{Query}
 use Rattle.batch_history.specs.declared.query.Query.TheVariants.{JobNames, JobInstanceCount, JobInstances, RunningExecutions, Parameters, JobInstance, JobExecutions, JobExecution, StepExecutions, StatusCounts}
 
--- nothing more
+-- a query with nothing more
 abbrev pub is_alone : Data → Bool
 is_alone d = has_only (codes "ask" ∷ []) d
 
--- a job
+-- a query about a job
 abbrev pub job_asked : Data → Option (List ℕ)
 job_asked d = if has_only (codes "ask" ∷ codes "job" ∷ []) d then text_at (codes "job") d else None
 
--- a job execution
+-- a query about a job execution
 abbrev pub execution_asked : Data → Option ℕ
 execution_asked d = if has_only (codes "ask" ∷ codes "execution" ∷ []) d then number_at (codes "execution") d else None
 
--- a job instance
+-- a query about a job instance
 abbrev pub instance_asked : Data → Option ℕ
 instance_asked d = if has_only (codes "ask" ∷ codes "instance" ∷ []) d then number_at (codes "instance") d else None
 
--- job_instances: a job, how many of the newest are left out, and how many there are at most
+-- job_instances: a job, the number of the newest ones to leave out, and the most to return
 unfoldable pub job_instances_of : Data → Option Query
 job_instances_of d =
     if has_only (codes "ask" ∷ codes "job" ∷ codes "start" ∷ codes "count" ∷ []) d

@@ -1,4 +1,4 @@
--- What a raw command, call or query stands for: one as its line spells it, whose texts are borrowed from the line.
+-- The command, call or query of a raw one, whose texts are borrowed from its line.
 use Rattle.std.specs.Prelude.{List, [], Option, Some, None, option_map, unwrap_or}
 use Rattle.serde_json.specs.Data.{Data}
 use Rattle.batch_ids.specs.Parameters.{Pair}
@@ -19,12 +19,12 @@ use Rattle.script_text.specs.declared.raw.RawQuery.TheVariants as raw_queries
 use Rattle.script_text.specs.declared.raw.RawCommand.{RawCommand}
 use Rattle.script_text.specs.declared.raw.RawCommand.TheVariants as raw_commands
 
--- the keys and values that an object of texts gives, if there is one
+-- the keys and values of an object of texts, if there is one
 abbrev pub pairs_in : Option Texts → List Pair
 pairs_in None = []
 pairs_in (Some texts) = given_pairs (texts_data texts)
 
--- the call that a raw call spells
+-- the call of a raw call
 abbrev pub call_in : RawCall → Call
 call_in (raw_calls.Start job parameters) = Start job.now (pairs_in parameters)
 call_in (raw_calls.Restart execution parameters) = Restart execution (pairs_in parameters)
@@ -36,7 +36,7 @@ call_in (raw_calls.Finish work outcome exit step) = Finish work outcome (option_
 call_in (raw_calls.Lose work) = Lose work
 call_in (raw_calls.Purge instance) = Purge instance
 
--- the query that a raw query spells
+-- the query of a raw query
 abbrev pub query_in : RawQuery → Query
 query_in raw_queries.JobNames = JobNames
 query_in (raw_queries.JobInstanceCount job) = JobInstanceCount job.now
@@ -49,11 +49,11 @@ query_in (raw_queries.JobExecution execution) = JobExecution execution
 query_in (raw_queries.StepExecutions execution) = StepExecutions execution
 query_in raw_queries.StatusCounts = StatusCounts
 
--- the command that a raw command spells
+-- the command of a raw command
 abbrev pub command_in : RawCommand → Command
 command_in (raw_commands.Act by at call) = Act by at (call_in call)
 command_in (raw_commands.Ask query) = Ask (query_in query)
 
--- the command that a text is, by the value that it has, if it has one
+-- the command of a text, by its value, if it has one
 abbrev pub command_of_read : Option Data → Command
 command_of_read found = unwrap_or (option_map command_of_data found) BadLine

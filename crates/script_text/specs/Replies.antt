@@ -1,4 +1,4 @@
--- The text of the replies to calls, and to what is no command.
+-- The text of the replies to calls, and to lines that are no commands.
 use Rattle.std.specs.Prelude.{ℕ, Option, Some, None, List, true, codes, Result, Ok, Err}
 use Rattle.serde_json.specs.Data.{Data, boolean, string, object, Members, member, no_members, put}
 use Rattle.batch_ids.specs.Refusals.{refusal_name}
@@ -34,7 +34,7 @@ task_members (Chunk reader processor writer item_count checkpoint) item =
     (member (codes "work") (count item.work)
     (member (codes "writer") (string writer) no_members))))))))
 
--- the members with the partition of a work item, where it names one
+-- the members with the partition of a work item, if it names one
 abbrev pub with_partition : Option ℕ → Members → Members
 with_partition None ms = ms
 with_partition (Some p) ms = put (codes "partition") (count p) ms
@@ -54,10 +54,10 @@ reply_data (Ok replies.Go) = one (codes "go") (boolean true)
 reply_data (Ok replies.StopAsked) = one (codes "stop") (boolean true)
 reply_data (Err refusal) = refused (refusal_name refusal)
 
--- the line that replies to a call
+-- the line of the reply to a call
 abbrev pub reply_text : Result Reply Refusal → List ℕ
 reply_text reply = line_of (reply_data reply)
 
--- the reply to what is no command
+-- the line of the reply to a line that is no command
 abbrev pub bad_line_text : List ℕ
 bad_line_text = line_of (refused (codes "BadLine"))

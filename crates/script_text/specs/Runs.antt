@@ -1,4 +1,4 @@
--- The lines in which a run tells of its job executions.
+-- The lines in which a run reports its job executions.
 use Rattle.std.specs.Prelude.{ℕ, List, map, codes}
 use Rattle.serde_json.specs.Data.{Data, string, array, object, Items, no_items, item, Members, member, no_members}
 use Rattle.batch_ids.specs.Statuses.{status_name}

@@ -1,4 +1,4 @@
--- What a member of an object shows, lent to the function that writes it.
+-- The value of an object's member, borrowed by the function that writes it.
 use Rattle.std.specs.Prelude.{ℕ, List, map}
 use Rattle.std.specs.Borrow.{Bor}
 use Rattle.serde_json.specs.Data.{Data, null, string, Members, no_members}
@@ -18,6 +18,6 @@ shown_data (Metrics metrics) = metrics_data metrics.now
 abbrev pub shown_named : Bor (List ℕ) × Shown → List ℕ × Data
 shown_named named = (named.0.now, shown_data named.1)
 
--- these members, each in its place by the bytes of its name
+-- these members, in rising order of the bytes of their names
 abbrev pub shown_members : List (Bor (List ℕ) × Shown) → Members
 shown_members named = with_members no_members (map shown_named named)

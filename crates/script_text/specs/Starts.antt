@@ -1,4 +1,4 @@
--- The start lines of a run: a job and its parameters, and no session and no moment.
+-- The start lines of a run: a job and its parameters, without a session and a moment.
 use Rattle.std.specs.Prelude.{◌≡◌, ℕ, List, [], ◌∷◌, codes, Option, Some, None, Result, Ok, Err, if◌then◌else◌}
 use Rattle.serde_json.specs.Data.{Data}
 use Rattle.batch_ids.specs.Parameters.{Pair}
@@ -27,21 +27,22 @@ start_within given = do
   parameters ← parameters_within given.1
   Some (record { job = job; parameters = parameters })
 
--- what is there, else a fault
+-- the value, or else this fault
 abbrev pub or_fault : {A : Type 0} → StartFault → Option A → Result A StartFault
 or_fault fault None = Err fault
 or_fault fault (Some found) = Ok found
 
--- a start whose texts are within their bounds, else TextTooLong; where there is none, BadLine
+-- a start whose texts are within their bounds, else TextTooLong: if there is none, BadLine
 abbrev pub bounded_start : Option (List ℕ × List Pair) → Result StartLine StartFault
 bounded_start None = Err BadLine
 bounded_start (Some given) = or_fault TextTooLong (start_within given)
 
--- the start that a line is: BadLine where it is none, whatever its texts; then TextTooLong where one is above its bound
+-- the start of a line: BadLine if it is none, whatever its texts; then TextTooLong if a text is above its
+-- bound
 unfoldable pub start_of_line : List ℕ → Result StartLine StartFault
 start_of_line line = bounded_start (data_of line >>= start_at)
 
--- the answer is the start that is due, or its fault; or memory was refused
+-- the result is the start that is due, or its fault, or memory was refused
 abbrev pub IsStart : Result StartLine StartFault → Result StartLine StartFault → Type 0
 IsStart due (Ok start) = due ≡ Ok start
 IsStart due (Err BadLine) = due ≡ Err BadLine

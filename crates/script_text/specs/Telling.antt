@@ -1,4 +1,4 @@
--- What a writer has after it wrote a value: its tokens, behind those that it had.
+-- A writer after it wrote a value: the value's tokens come after those that it had.
 use Rattle.std.specs.Prelude.{◌≡◌, ◌==◌, Bool, true, false, Result, Ok, Err, ℕ, List, [], ◌∷◌, ◌++◌, if◌then◌else◌}
 use Rattle.std.specs.Borrow.{Bor}
 use Rattle.json.specs.Token.{Token}
@@ -25,7 +25,7 @@ use Rattle.script_text.specs.declared.objects.Shown.{Shown}
 abbrev pub AddsTokens : List Token → Written → Written → Type 0
 AddsTokens ts old new = (new.tokens ≡ old.tokens ++ ts) × (new.before ≡ old.before)
 
--- tokens with those of a value behind them
+-- tokens with those of a value after them
 unfoldable pub told_after : Data → List Token → List Token
 told_after d ts = ts ++ json_tokens (outline d)
 
@@ -33,7 +33,7 @@ told_after d ts = ts ++ json_tokens (outline d)
 abbrev pub Adds : Data → Written → Written → Type 0
 Adds d old new = (new.tokens ≡ told_after d old.tokens) × (new.before ≡ old.before)
 
--- members in the order in which they are given
+-- members in the given order
 abbrev pub told_members : List (Bor (List ℕ) × Shown) → Members
 told_members [] = no_members
 told_members (named ∷ rest) = member named.0.now (shown_data named.1) (told_members rest)
@@ -42,7 +42,7 @@ told_members (named ∷ rest) = member named.0.now (shown_data named.1) (told_me
 abbrev pub count_tokens : List ℕ × ℕ → List Token
 count_tokens named = if named.1 == 0 then [] else Token.key named.0 ∷ json_tokens (outline (count named.1))
 
--- counts in the order in which they are given, those of zero left out
+-- counts in the given order, without those of zero
 abbrev pub told_counts : List (List ℕ × ℕ) → Members
 told_counts [] = no_members
 told_counts (named ∷ rest) = if named.1 == 0 then told_counts rest else member named.0 (count named.1) (told_counts rest)

@@ -1,4 +1,5 @@
--- What is written as JSON: each line is compact JSON, the members of an object in rising order of the bytes of their names.
+-- Written JSON. Each line is compact JSON, the members of an object in rising order of the bytes of their
+-- names.
 use Rattle.std.specs.Prelude.{ℕ, ◌==◌, Bool, not, List, [], ◌∷◌, ◌++◌, map, filter, codes, Option, Some, None}
 use Rattle.serde_json.specs.Data.{Data, null, number, unsigned, string, array, object, Members, member, no_members, put}
 use Rattle.serde_json.specs.View.{items_of}
@@ -20,17 +21,17 @@ count n = number (unsigned n)
 abbrev pub list_of : List Data → Data
 list_of ds = array (items_of ds)
 
--- a text, null for none
+-- a text, or null if there is none
 abbrev pub text_or_null : Option (List ℕ) → Data
 text_or_null None = null
 text_or_null (Some text) = string text
 
--- a moment, null for none
+-- a moment, or null if there is none
 abbrev pub count_or_null : Option ℕ → Data
 count_or_null None = null
 count_or_null (Some n) = count n
 
--- the members with these too, each in its place by the bytes of its name
+-- the members with these added, in rising order of the bytes of their names
 abbrev pub with_members : Members → List (List ℕ × Data) → Members
 with_members ms [] = ms
 with_members ms (named ∷ rest) = with_members (put named.0 named.1 ms) rest

@@ -12,28 +12,29 @@ use batch_ids::{OutOfMemory, Parameters, Refusal};
 use json::Writer;
 use std::alloc::Global;
 
-/// The line that answers a query, with its line feed: compact JSON, the members of each object in
-/// rising order of their names, null for none.
+/// Writes the line of a query's answer, with its line feed. It is compact JSON, the members of each
+/// object in rising order of their names. A missing value is null.
 ///
-/// It is, by the query (Jakarta Batch 2.1, "JobOperator"; `status_counts` is this service's own):
-/// - `job_names`: `{"names":[..]}`;
-/// - `job_instance_count`: `{"count":N}`;
-/// - `job_instances`: `{"instances":[..]}`, `job_instance`: one of them alone, each with the members
-///   `instance` and `job`;
-/// - `running_executions`: `{"running":[..]}`, a list of numbers;
-/// - `parameters`: `{"parameters":{..}}`;
-/// - `job_executions`: `{"job_executions":[..]}`, `job_execution`: `{"job_execution":{..}}`, each with
-///   the members `create`, `end`, `execution`, `exit`, `instance`, `job`, `start`, `status` and
-///   `updated` ("JobExecution");
-/// - `step_executions`: `{"step_executions":[..]}`, each with the members `end`, `execution`, `exit`,
-///   `metrics`, `start`, `status`, `step` and `work` ("StepExecution");
-/// - `status_counts`: `{"counts":{..}}`, by the names of the statuses;
+/// The line depends on the query (Jakarta Batch 2.1, "JobOperator"; `status_counts` is this
+/// service's own):
+/// - `job_names`: `{"names":[..]}`
+/// - `job_instance_count`: `{"count":N}`
+/// - `job_instances`: `{"instances":[..]}`. `job_instance`: one of them alone. Each has the members
+///   `instance` and `job`.
+/// - `running_executions`: `{"running":[..]}`, a list of numbers.
+/// - `parameters`: `{"parameters":{..}}`
+/// - `job_executions`: `{"job_executions":[..]}`. `job_execution`: `{"job_execution":{..}}`. Each
+///   has the members `create`, `end`, `execution`, `exit`, `instance`, `job`, `start`, `status` and
+///   `updated` ("JobExecution").
+/// - `step_executions`: `{"step_executions":[..]}`. Each has the members `end`, `execution`,
+///   `exit`, `metrics`, `start`, `status`, `step` and `work` ("StepExecution").
+/// - `status_counts`: `{"counts":{..}}`, by the names of the statuses.
 ///
-/// or `{"refused":NAME}`. In `metrics` and `counts` a count of 0 is left out.
+/// The line of a refusal is `{"refused":NAME}`. In `metrics` and `counts` a count of 0 is left out.
 ///
 /// # Errors
 ///
-/// `OutOfMemory` where memory is refused.
+/// Returns `OutOfMemory` if memory is refused.
 pub fn answer_text(alloc: Global, answer: &Result<Answer, Refusal>) -> Result<Vec<u8>, OutOfMemory>
     ensures { IfOk result (λ text. text.items ≡ answer_text answer.now) }
 {
@@ -45,7 +46,7 @@ pub fn answer_text(alloc: Global, answer: &Result<Answer, Refusal>) -> Result<Ve
     line_from(out)
 }
 
-/// The line of parameters.
+/// Writes the line of parameters.
 #[tactic(auto, using(crate::proofs::Floats::answer_has_no_float))]
 fn parameters_text(alloc: Global, parameters: &Parameters) -> Result<Vec<u8>, OutOfMemory>
     ensures { IfOk result (λ text. text.items ≡ answer_text (Ok (answers.Parameters parameters.now))) }
@@ -54,7 +55,7 @@ fn parameters_text(alloc: Global, parameters: &Parameters) -> Result<Vec<u8>, Ou
     line_of(alloc, &value)
 }
 
-/// Writes an answer that is not of parameters.
+/// Writes an answer other than parameters.
 fn tell_answer(out: &mut Writer, answer: &Result<Answer, Refusal>) -> Result<(), OutOfMemory>
     requires { tells_parameters answer.now ≡ false }
     ensures { OnOk result (Adds (answer_data answer.now) out.old out.new) }

@@ -1,4 +1,4 @@
-// The bounds of the texts of a command: what is within them is copied.
+// The bounds of a command's texts. A text within its bound is copied.
 ghost use Rattle.std.specs.Prelude.{◌≡◌, IfOk, option_map};
 ghost use Rattle.batch_history.specs.declared.call.Call.TheVariants.{Start, Restart, Checkpoint, Finish};
 ghost use Rattle.batch_history.specs.declared.query.Query.TheVariants.{JobInstances};
@@ -14,7 +14,8 @@ use batch_ids::{
 use lent_json::Texts;
 use std::alloc::Global;
 
-/// The call that a raw call spells, with copies of its texts; `None` where one is above its bound.
+/// Returns the call of a raw call, with copies of its texts. Returns `None` if a text is above its
+/// bound.
 pub fn call_within(alloc: Global, call: &RawCall<'_, '_>) -> Result<Option<Call>, OutOfMemory>
     ensures { IfOk result (λ made. made ≡ call_within (call_in call.now)) }
 {
@@ -117,7 +118,8 @@ fn finish_within(
     }))
 }
 
-/// The query that a raw query spells, with a copy of its text; `None` where that is above its bound.
+/// Returns the query of a raw query, with a copy of its text. Returns `None` if the text is above
+/// its bound.
 pub fn query_within(alloc: Global, query: &RawQuery<'_>) -> Result<Option<Query>, OutOfMemory>
     ensures { IfOk result (λ made. made ≡ query_within (query_in query.now)) }
 {
@@ -167,7 +169,7 @@ fn instances_within(
     Ok(Some(Query::JobInstances { job, start, count }))
 }
 
-/// A text of at most `MAX` bytes, copied; `None` where it has more.
+/// Copies a text of at most `MAX` bytes. Returns `None` if it has more.
 pub fn text_within<const MAX: usize>(
     alloc: Global,
     text: &str,
@@ -180,7 +182,7 @@ pub fn text_within<const MAX: usize>(
     Ok(Some(Text::within(alloc, text)?))
 }
 
-/// An exit status that may be left out, copied; `None` where it is above its bound.
+/// Copies an exit status that may be left out. Returns `None` if it is above its bound.
 fn exit_within(alloc: Global, exit: Option<&str>) -> Result<Option<Option<T256>>, OutOfMemory>
     ensures { IfOk result (λ made. made ≡ exit_within (option_map (λ text. text.now) exit.entry)) }
 {

@@ -1,4 +1,4 @@
-// The calls of a script, a row of the table each.
+// The calls of a script, one function for each entry of the table.
 ghost use Rattle.std.specs.Prelude.{◌≡◌, option_map};
 ghost use Rattle.lent_json.specs.Looks.{shown};
 ghost use Rattle.batch_ids.specs.Statuses.{outcome_named};
@@ -11,7 +11,7 @@ use crate::raw::RawCall;
 use batch_ids::WorkOutcome;
 use lent_json::Look;
 
-/// The call of a line whose `do` is this word.
+/// Reads the call of a line whose `do` is this word.
 #[tactic(auto, unfolding(crate::specs::Calls::call_named))]
 pub fn call_named<'v, 't>(word: &str, value: Look<'v, 't>) -> Option<RawCall<'v, 't>>
     ensures { option_map call_in result ≡ call_named word.now (shown value.entry) }
@@ -145,7 +145,7 @@ fn purge_of<'v, 't>(value: Look<'v, 't>) -> Option<RawCall<'v, 't>>
     Some(RawCall::Purge { instance })
 }
 
-/// The outcome that a text is the name of.
+/// Returns the outcome of this name.
 fn outcome_named(name: &str) -> Option<WorkOutcome>
     ensures { result ≡ outcome_named name.now }
 {

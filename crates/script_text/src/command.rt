@@ -13,20 +13,21 @@ use lent_json::{Look, Scratch, Unread, read_flat};
 use simdutf8::compat::from_utf8;
 use std::alloc::{AllocError, Global};
 
-/// What a line of a script is.
+/// The command of a script's line.
 #[derive(Debug, PartialEq, Eq, Drop)]
 pub enum Command {
-    /// No JSON, or no command of the table: an unknown word, a member that is missing, not listed,
-    /// of another kind or out of its range. It is answered with the refusal `BadLine`.
+    /// The line is no JSON, or no command of the table. Its word doesn't exist, or a member is
+    /// missing, not listed, of another kind or out of its range. The reply is the refusal
+    /// `BadLine`.
     BadLine,
-    /// A command of the table with a text above its bound. It is answered with the refusal
+    /// The line is a command of the table with a text above its bound. The reply is the refusal
     /// `TextTooLong`.
     TextTooLong,
     /// A call.
     Act {
-        /// The number of the session that makes it, from 1.
+        /// The number of the session that makes the call, from 1.
         by: u64,
-        /// The moment that is handed in with it.
+        /// The moment that the line gives for it.
         at: Moment,
         /// The call.
         call: Call,
@@ -35,41 +36,43 @@ pub enum Command {
     Ask(Query),
 }
 
-/// The command that a line is, the line feed left out.
+/// Reads the command of a line, without its line feed.
 ///
 /// Calls (Jakarta Batch 2.1, "JobOperator"; claim, checkpoint, finish, lose and purge are this
 /// service's own) have the members `do`, `by` (the session's number, from 1), `at` (the moment, in
 /// milliseconds) and:
-/// - `"do":"start"`: `job`, a text of at most 256 bytes, and `parameters`;
-/// - `"do":"restart"`: `execution`, a number, and `parameters`;
-/// - `"do":"stop"`, `"do":"abandon"`: `execution`;
-/// - `"do":"claim"`: nothing more;
-/// - `"do":"checkpoint"`: `work`, a number, `data`, a text of at most 65,536 bytes, and `metrics`;
-/// - `"do":"finish"`: `work`, `outcome`, which is `COMPLETED`, `FAILED` or `STOPPED`, `exit`, a text
-///   of at most 256 bytes, which may be left out, and `metrics`;
-/// - `"do":"lose"`: `work`;
+/// - `"do":"start"`: `job`, a text of at most 256 bytes, and `parameters`.
+/// - `"do":"restart"`: `execution`, a number, and `parameters`.
+/// - `"do":"stop"`, `"do":"abandon"`: `execution`.
+/// - `"do":"claim"`: nothing more.
+/// - `"do":"checkpoint"`: `work`, a number, `data`, a text of at most 65,536 bytes, and `metrics`.
+/// - `"do":"finish"`: `work`, `outcome`, which is `COMPLETED`, `FAILED` or `STOPPED`, `exit`, a
+///   text of at most 256 bytes, which may be left out, and `metrics`.
+/// - `"do":"lose"`: `work`.
 /// - `"do":"purge"`: `instance`, a number.
 ///
-/// `parameters`, an object of at most 64 texts, with keys of at most 256 bytes and values of at most
-/// 4,096, and `metrics`, an object of numbers up to 4,294,967,295 by the metrics' names, may be left
-/// out; so may any metric, which is then 0.
+/// `parameters` is an object of at most 64 texts, with keys of at most 256 bytes and values of at
+/// most 4,096. `metrics` is an object of numbers up to 4,294,967,295 by the metrics' names. Both
+/// may be left out. So may any metric, which is then 0.
 ///
 /// Queries have the member `ask` and:
-/// - `job_names`, `status_counts`: nothing more;
-/// - `job_instance_count`, `running_executions`: `job`, a text of at most 256 bytes;
-/// - `job_instances`: `job`, and the numbers `start` and `count`;
-/// - `parameters`, `job_instance`, `job_execution`, `step_executions`: `execution`, a number;
+/// - `job_names`, `status_counts`: nothing more.
+/// - `job_instance_count`, `running_executions`: `job`, a text of at most 256 bytes.
+/// - `job_instances`: `job`, and the numbers `start` and `count`.
+/// - `parameters`, `job_instance`, `job_execution`, `step_executions`: `execution`, a number.
 /// - `job_executions`: `instance`, a number.
 ///
-/// Numbers are whole, 0 to 2^64 - 1, without sign, point or exponent; null is no left-out member. Of
-/// a member that comes twice the last counts. Any other line is `BadLine`, which is decided over the
-/// whole line before any text's length: a text above its bound, or too many parameters, makes it
-/// `TextTooLong` only then. The time is that of reading the JSON; a text is copied only where the
-/// line is a command.
+/// Numbers are whole, 0 to 2^64 - 1, without sign, point or exponent. A member that is null is not
+/// left out. If a member comes twice, the last one counts.
+///
+/// Any other line is `BadLine`. That is decided over the whole line before any text's length. Only
+/// then does a text above its bound, or too many parameters, make it `TextTooLong`.
+///
+/// The time is that of reading the JSON. A text is copied only if the line is a command.
 ///
 /// # Errors
 ///
-/// `OutOfMemory` where memory is refused.
+/// Returns `OutOfMemory` if memory is refused.
 #[tactic(auto, unfolding(crate::specs::Commands::command_of))]
 pub fn read_command(alloc: Global, line: &[u8]) -> Result<Command, OutOfMemory>
     ensures { IfOk result (λ command. command ≡ command_of line.now) }
@@ -80,11 +83,11 @@ pub fn read_command(alloc: Global, line: &[u8]) -> Result<Command, OutOfMemory>
     }
 }
 
-/// The longest line, in bytes, that is read with memory that is kept, so that one long line leaves
-/// nothing behind.
+/// The longest line, in bytes, that is read with the reader's own memory. A longer line takes
+/// memory for itself alone, so that the reader doesn't hold it afterwards.
 const MAX_KEPT_LINE: usize = 65_536;
 
-/// Reads the commands of lines, one after another, with memory that it keeps from line to line.
+/// A reader of commands, one line after another, which reuses its memory from line to line.
 #[derive(Drop)]
 pub struct CommandReader {
     alloc: Global,
@@ -92,7 +95,7 @@ pub struct CommandReader {
 }
 
 impl CommandReader {
-    /// A reader that has read nothing. It takes no memory.
+    /// Makes a new reader. It takes no memory.
     pub fn new(alloc: Global) -> CommandReader {
         CommandReader {
             alloc,
@@ -100,12 +103,13 @@ impl CommandReader {
         }
     }
 
-    /// The command that a line is, as [`read_command`] says. A line of at most 65,536 bytes without a
-    /// list, whose inner objects are of whole numbers or of texts, 64 at most, is read in one pass.
+    /// Reads the command of a line, by the rules of [`read_command`]. Some lines are read in one
+    /// pass. Such a line has at most 65,536 bytes and no list. Its inner objects are of whole
+    /// numbers or of texts. The line's object and each inner one have at most 64 members.
     ///
     /// # Errors
     ///
-    /// `OutOfMemory` where memory is refused.
+    /// Returns `OutOfMemory` if memory is refused.
     pub fn read(&mut self, line: &[u8]) -> Result<Command, OutOfMemory>
         ensures { IfOk result (λ command. command ≡ command_of line.now) }
     {
@@ -119,7 +123,7 @@ impl CommandReader {
     }
 }
 
-/// The command that a text is, read in one pass if it can be, with this memory.
+/// Reads the command of a text with this memory, in one pass if possible.
 fn command_of_text(alloc: Global, text: &str, scratch: &mut Scratch) -> Result<Command, OutOfMemory>
     ensures { IfOk result (λ command. command ≡ command_of_read (read text.now)) }
 {
@@ -132,7 +136,7 @@ fn command_of_text(alloc: Global, text: &str, scratch: &mut Scratch) -> Result<C
     }
 }
 
-/// The command that a text is, read into a tree.
+/// Reads the command of a text, by way of a tree.
 fn command_of_tree(alloc: Global, text: &str) -> Result<Command, OutOfMemory>
     ensures { IfOk result (λ command. command ≡ command_of_read (read text.now)) }
 {

@@ -10,13 +10,14 @@ use jsl_json::ReadFault;
 use serde_json::Value;
 use std::alloc::Global;
 
-/// The line of a fault that is not `OutOfMemory`, with its line feed: `{"fault":NAME}` for a line
-/// that is no catalogue, `{"element":N,"fault":"BadElement","job":N}` (null for no element), and
-/// `{"fault":NAME,"job":N}` with the job's fault.
+/// Writes the line of a fault other than `OutOfMemory`, with its line feed:
+/// - `{"fault":NAME}` for a line that is no catalogue.
+/// - `{"element":N,"fault":"BadElement","job":N}` for wrong members, with null for no element.
+/// - `{"fault":NAME,"job":N}` with the job's fault.
 ///
 /// # Errors
 ///
-/// `OutOfMemory` where memory is refused.
+/// Returns `OutOfMemory` if memory is refused.
 #[tactic(auto, using(crate::proofs::Floats::fault_has_no_float))]
 pub fn fault_text(alloc: Global, fault: &ReadFault) -> Result<Vec<u8>, OutOfMemory>
     requires { is_out_of_memory fault.now ≡ false }

@@ -1,4 +1,5 @@
-//! The text of a script: which command each line is, and how each reply is written.
+//! The text of a script: how each line is read as a command, and how each reply and answer is
+//! written.
 #![tactic(auto)]
 
 mod answer;

@@ -10,8 +10,8 @@ use lent_json::Look;
 use serde_json::Value;
 use std::alloc::Global;
 
-/// The step that the member `metrics` is, which may be left out; `None` where it is there and no
-/// object of counts.
+/// Reads the metric step of the member `metrics`, which may be left out. Returns `None` if it is
+/// there and no object of counts.
 pub fn metrics_at(value: Look<'_, '_>) -> Option<MetricStep>
     ensures { result ≡ metrics_at (shown value.entry) }
 {
@@ -55,8 +55,8 @@ fn metric_names() -> [&'static str; 8]
     ]
 }
 
-/// The count of this metric, which may be left out; `None` where it is there and no number from 0
-/// to 4,294,967,295.
+/// Reads the count of this metric, which may be left out. Returns `None` if it is there and no
+/// number from 0 to 4,294,967,295.
 fn metric_at(metric: Metric, object: Look<'_, '_>) -> Option<u32>
     ensures { result ≡ metric_at metric (shown object.entry) }
 {
@@ -66,12 +66,12 @@ fn metric_at(metric: Metric, object: Look<'_, '_>) -> Option<u32>
     }
 }
 
-/// The metrics of a step execution as they are written: an object of counts by the names of the
-/// metrics; a count of 0 is left out (Jakarta Batch 2.1, "Metric").
+/// Returns a step execution's metrics as they are written: an object of counts by the names of the
+/// metrics. A count of 0 is left out (Jakarta Batch 2.1, "Metric").
 ///
 /// # Errors
 ///
-/// `OutOfMemory` where memory is refused.
+/// Returns `OutOfMemory` if memory is refused.
 pub fn metrics_value(alloc: Global, metrics: &Metrics) -> Result<Value, OutOfMemory>
     ensures { IfOk result (λ value. view value ≡ metrics_data metrics.now) }
 {

@@ -10,7 +10,7 @@ use batch_ids::{Metrics, OutOfMemory, Text};
 use serde_json::{Map, Value, put};
 use std::alloc::Global;
 
-/// What a member of an object shows, lent to the function that writes it.
+/// The value of an object's member, borrowed by the function that writes it.
 #[derive(Clone, Copy)]
 pub enum Shown<'a> {
     /// Null.
@@ -23,7 +23,7 @@ pub enum Shown<'a> {
     Metrics(&'a Metrics),
 }
 
-/// A text that may be none, which is null.
+/// Returns this text, or null if there is none.
 pub fn text_or_null<const MAX: usize>(text: &Option<Text<MAX>>) -> Shown<'_>
     ensures { shown_data result ≡ text_or_null text.now }
 {
@@ -33,7 +33,7 @@ pub fn text_or_null<const MAX: usize>(text: &Option<Text<MAX>>) -> Shown<'_>
     }
 }
 
-/// A moment that may be none, which is null.
+/// Returns this moment, or null if there is none.
 pub fn count_or_null(count: Option<u64>) -> Shown<'static>
     ensures { shown_data result ≡ count_or_null count }
 {
@@ -54,7 +54,7 @@ fn shown_value(alloc: Global, shown: Shown<'_>) -> Result<Value, OutOfMemory>
     }
 }
 
-/// An object of these members.
+/// Makes an object of these members.
 pub fn object_value(alloc: Global, members: &[(&str, Shown<'_>)]) -> Result<Value, OutOfMemory>
     ensures { IfOk result (λ value. view value ≡ object (shown_members members.now)) }
 {
@@ -62,7 +62,7 @@ pub fn object_value(alloc: Global, members: &[(&str, Shown<'_>)]) -> Result<Valu
     Ok(Value::Object(members))
 }
 
-/// These members, to which more are added.
+/// Makes a map of these members, to which more can be added.
 pub fn members_of(
     alloc: Global,
     members: &[(&str, Shown<'_>)],
@@ -76,7 +76,7 @@ pub fn members_of(
     Ok(made)
 }
 
-/// An object of these members and one more.
+/// Makes an object of these members and one more.
 pub fn object_with(
     alloc: Global,
     mut members: Map<String, Value>,
@@ -90,7 +90,7 @@ pub fn object_with(
     Ok(Value::Object(members))
 }
 
-/// An object of one member.
+/// Makes an object of one member.
 pub fn one(alloc: Global, name: &str, value: Value) -> Result<Value, OutOfMemory>
     ensures { IfOk result (λ made. view made ≡ one name.now (view value)) }
 {

@@ -15,16 +15,16 @@ use serde_json::{Map, Value, put};
 use std::alloc::{AllocError, Global};
 use std::cmp::Ordering;
 
-/// The object of texts that the member `parameters` is, which may be left out; `None` if it is
-/// there and no such object.
+/// Returns the object of texts of the member `parameters`, which may be left out. Returns `None` if
+/// it is there and no such object.
 pub fn parameters_at<'v, 't>(value: Look<'v, 't>) -> Option<Option<Texts<'v, 't>>>
     ensures { option_map pairs_in result ≡ parameters_at (shown value.entry) }
 {
     value.optional_texts("parameters")
 }
 
-/// The parameters that an object of texts gives; `None` where a key, a value or their number is
-/// above its bound.
+/// Returns the parameters in an object of texts. Returns `None` if a key, a value or their number
+/// is above its bound.
 pub fn parameters_within(
     alloc: Global,
     object: Option<Texts<'_, '_>>,
@@ -42,7 +42,7 @@ pub fn parameters_within(
     }
 }
 
-/// The keys and values that an object gives.
+/// Returns the keys and values of an object.
 fn given_pairs(alloc: Global, object: Texts<'_, '_>) -> Result<Vec<(String, String)>, OutOfMemory>
     ensures { IfOk result (λ pairs. pairs_of pairs.items ≡ given_pairs (texts_data object.entry)) }
 {
@@ -52,7 +52,7 @@ fn given_pairs(alloc: Global, object: Texts<'_, '_>) -> Result<Vec<(String, Stri
     }
 }
 
-/// The name and the text of each member.
+/// Returns the name and the text of each member.
 fn text_pairs(
     alloc: Global,
     members: &Map<String, Value>,
@@ -68,7 +68,7 @@ fn text_pairs(
     Ok(pairs)
 }
 
-/// The same of members that are lent: each name once, with its last text, by rising names.
+/// Like `text_pairs`, for borrowed members: each name once, with its last text, by rising names.
 fn lent_text_pairs(
     alloc: Global,
     members: &[(&str, Scalar<'_>)],
@@ -104,8 +104,8 @@ fn put_text(
     Ok(())
 }
 
-/// Where this name is among pairs by rising names, or where it would stand, by halving. One above all
-/// of them takes one comparison.
+/// Returns the place of this name among pairs by rising names, or else the place at which to insert
+/// it, by halving. A name above all of them takes one comparison.
 fn place_of(pairs: &[(String, String)], name: &str) -> Result<usize, usize>
     requires { IsRising (pairs_of pairs.now) }
     ensures held { IfOk result (λ at. (at < length pairs.now)
@@ -131,7 +131,7 @@ fn place_of(pairs: &[(String, String)], name: &str) -> Result<usize, usize>
     Err(low)
 }
 
-/// Whether a name is above those of all pairs, which stand by rising names.
+/// Checks whether a name is above those of all pairs, which are in rising order of their names.
 fn is_above_all(name: &str, pairs: &[(String, String)]) -> bool
     requires { IsRising (pairs_of pairs.now) }
     ensures { result ≡ true → (text : List ℕ) → with_pair (pairs_of pairs.now) (name.now, text)
@@ -143,7 +143,7 @@ fn is_above_all(name: &str, pairs: &[(String, String)]) -> bool
     }
 }
 
-/// Parameters as they are written: an object of texts, by rising keys.
+/// Returns parameters as they are written: an object of texts, by rising keys.
 pub fn parameters_value(alloc: Global, parameters: &Parameters) -> Result<Value, OutOfMemory>
     ensures { IfOk result (λ value. view value ≡ parameters_data parameters.now) }
 {

@@ -1,4 +1,4 @@
-// The queries of a script, a row of the table each.
+// The queries of a script, one function for each entry of the table.
 ghost use Rattle.std.specs.Prelude.{◌≡◌, Some, None, option_map, if◌then◌else◌};
 ghost use Rattle.lent_json.specs.Looks.{shown};
 ghost use Rattle.script_text.specs.Queries.{is_alone, job_asked, execution_asked, instance_asked, job_instances_of, query_named};
@@ -7,7 +7,7 @@ ghost use Rattle.script_text.specs.RawCommands.{query_in};
 use crate::raw::RawQuery;
 use lent_json::Look;
 
-/// The query of a line whose `ask` is this word.
+/// Reads the query of a line whose `ask` is this word.
 #[tactic(auto, unfolding(crate::specs::Queries::query_named))]
 pub fn query_named<'v>(word: &str, value: Look<'v, '_>) -> Option<RawQuery<'v>>
     ensures { option_map query_in result ≡ query_named word.now (shown value.entry) }
@@ -41,7 +41,7 @@ pub fn query_named<'v>(word: &str, value: Look<'v, '_>) -> Option<RawQuery<'v>>
     }
 }
 
-/// A query that has nothing more.
+/// Returns the query if the line has no other members.
 fn alone<'v>(value: Look<'_, '_>, query: RawQuery<'v>) -> Option<RawQuery<'v>>
     ensures { option_map query_in result ≡ (if is_alone (shown value.entry) then Some (query_in query.entry) else None) }
 {
@@ -61,14 +61,14 @@ fn job_instances_of<'v>(value: Look<'v, '_>) -> Option<RawQuery<'v>>
     Some(RawQuery::JobInstances { job, start, count })
 }
 
-/// Whether a query has nothing more.
+/// Checks whether a query has no other members than `ask`.
 fn is_alone(value: Look<'_, '_>) -> bool
     ensures { result ≡ is_alone (shown value.entry) }
 {
     value.has_only(&["ask"])
 }
 
-/// The name of the job that is asked about.
+/// Reads the name of the job that the query is about.
 fn job_asked<'v>(value: Look<'v, '_>) -> Option<&'v str>
     ensures { option_map (λ job. job.now) result ≡ job_asked (shown value.entry) }
 {
@@ -78,7 +78,7 @@ fn job_asked<'v>(value: Look<'v, '_>) -> Option<&'v str>
     value.text_at("job")
 }
 
-/// The job execution that is asked about.
+/// Reads the job execution that the query is about.
 fn execution_asked(value: Look<'_, '_>) -> Option<u64>
     ensures { result ≡ execution_asked (shown value.entry) }
 {
@@ -88,7 +88,7 @@ fn execution_asked(value: Look<'_, '_>) -> Option<u64>
     value.number_at("execution")
 }
 
-/// The job instance that is asked about.
+/// Reads the job instance that the query is about.
 fn instance_asked(value: Look<'_, '_>) -> Option<u64>
     ensures { result ≡ instance_asked (shown value.entry) }
 {

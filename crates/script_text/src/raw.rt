@@ -8,7 +8,7 @@ use crate::queries::query_named;
 use batch_ids::{MetricStep, Moment, WorkOutcome};
 use lent_json::{Look, Texts};
 
-/// A command as its line spells it. Its texts are those of the line, and may be of any length.
+/// A command as its line spells it. Its texts are those of the line, of any length.
 #[derive(Clone, Copy)]
 pub enum RawCommand<'a, 't> {
     Act {
@@ -89,7 +89,7 @@ pub enum RawQuery<'a> {
     StatusCounts,
 }
 
-/// The command that a value is, if it is one of the table.
+/// Reads the raw command of a value, if it is one of the table.
 #[tactic(auto, unfolding(crate::specs::Commands::raw_command_of))]
 pub fn raw_command_of<'v, 't>(value: Look<'v, 't>) -> Option<RawCommand<'v, 't>>
     ensures { option_map command_in result ≡ raw_command_of (shown value.entry) }
@@ -120,7 +120,7 @@ fn query_of<'v, 't>(value: Look<'v, 't>) -> Option<RawCommand<'v, 't>>
     Some(RawCommand::Ask(query))
 }
 
-/// The session that gives a command: a number from 1.
+/// Reads the session that gives a command: a number from 1.
 fn session_at(value: Look<'_, '_>) -> Option<u64>
     ensures { result ≡ session_at (shown value.entry) }
 {

@@ -10,18 +10,19 @@ use batch_ids::{OutOfMemory, Refusal, T256};
 use json::Writer;
 use std::alloc::Global;
 
-/// The line that replies to a call, with its line feed: compact JSON, the members of each object in
-/// rising order of their names.
+/// Writes the line of the reply to a call, with its line feed. It is compact JSON, the members of
+/// each object in rising order of their names.
 ///
 /// It is `{"execution":N}`, `{"work":{..}}`, `{"closed":N}`, `{"nothing":true}`, `{"done":true}`,
-/// `{"go":true}`, `{"stop":true}` or `{"refused":NAME}`. A work item has the members `element`,
-/// `execution`, `kind`, `work` and, for a batchlet or a decision, `ref`; for a chunk `checkpoint` and
-/// `processor` (null for none), `item-count`, `reader` and `writer`. That of a partitioned step has
-/// `partition`, too.
+/// `{"go":true}`, `{"stop":true}` or `{"refused":NAME}`.
+///
+/// A work item has the members `element`, `execution`, `kind` and `work`. For a batchlet or a
+/// decision it also has `ref`. For a chunk it also has `checkpoint` and `processor` (null for
+/// none), `item-count`, `reader` and `writer`. For a partitioned step it also has `partition`.
 ///
 /// # Errors
 ///
-/// `OutOfMemory` where memory is refused.
+/// Returns `OutOfMemory` if memory is refused.
 pub fn reply_text(alloc: Global, reply: &Result<Reply, Refusal>) -> Result<Vec<u8>, OutOfMemory>
     ensures { IfOk result (λ text. text.items ≡ reply_text reply.now) }
 {
@@ -30,11 +31,11 @@ pub fn reply_text(alloc: Global, reply: &Result<Reply, Refusal>) -> Result<Vec<u
     line_from(out)
 }
 
-/// The line that replies to what is no command.
+/// Writes the line of the reply to a line that is no command.
 ///
 /// # Errors
 ///
-/// `OutOfMemory` where memory is refused.
+/// Returns `OutOfMemory` if memory is refused.
 pub fn bad_line_text(alloc: Global) -> Result<Vec<u8>, OutOfMemory>
     ensures { IfOk result (λ text. text.items ≡ bad_line_text) }
 {

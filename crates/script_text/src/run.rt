@@ -1,4 +1,4 @@
-// The lines in which a run tells of its job executions.
+// The lines in which a run reports its job executions.
 ghost use Rattle.std.specs.Prelude.{◌≡◌, map, IfOk};
 ghost use Rattle.serde_json.specs.Data.{array, no_members};
 ghost use Rattle.serde_json.specs.View.{view, members_view};
@@ -12,14 +12,14 @@ use batch_ids::OutOfMemory;
 use serde_json::{Map, Value, put};
 use std::alloc::Global;
 
-/// The line in which a run tells of a job execution, with its line feed: compact JSON with the members
-/// `execution`, `exit`, `status` and `steps`, a list of objects with the members `exit`, `metrics`,
-/// `status` and `step`, by rising ids of the steps. An exit status of none is null; metrics of 0 are
-/// left out.
+/// Writes the line in which a run reports a job execution, with its line feed. It is compact JSON
+/// with the members `execution`, `exit`, `status` and `steps`. `steps` is a list of objects with
+/// the members `exit`, `metrics`, `status` and `step`, by rising ids of the steps. A missing exit
+/// status is null. Metrics of 0 are left out.
 ///
 /// # Errors
 ///
-/// `OutOfMemory` where memory is refused.
+/// Returns `OutOfMemory` if memory is refused.
 #[tactic(auto, using(crate::proofs::Floats::run_has_no_float))]
 pub fn execution_text(
     alloc: Global,
@@ -50,7 +50,7 @@ fn execution_value(
     object_with(alloc, members, "steps", steps_value(alloc, steps)?)
 }
 
-/// The step executions, by the ids of their steps.
+/// Returns the list of step executions, by rising ids of their steps.
 fn steps_value(alloc: Global, steps: &[StepExecution]) -> Result<Value, OutOfMemory>
     ensures { IfOk result (λ value. view value ≡ run_steps_data steps.now) }
 {
@@ -58,7 +58,7 @@ fn steps_value(alloc: Global, steps: &[StepExecution]) -> Result<Value, OutOfMem
     values_of(alloc, by_id)
 }
 
-/// The step executions by the ids of their steps.
+/// Returns the step executions by the ids of their steps.
 fn steps_by_id(alloc: Global, steps: &[StepExecution]) -> Result<Map<String, Value>, OutOfMemory>
     ensures { IfOk result (λ by_id. members_view by_id.entries ≡ with_members no_members (map step_by_id steps.now)) }
 {
@@ -74,7 +74,7 @@ fn steps_by_id(alloc: Global, steps: &[StepExecution]) -> Result<Map<String, Val
     Ok(by_id)
 }
 
-/// The values of members, in the order of their names.
+/// Returns the values of members, in the order of their names.
 fn values_of(alloc: Global, members: Map<String, Value>) -> Result<Value, OutOfMemory>
     ensures { IfOk result (λ value. view value ≡ array (values_of (members_view members.entries))) }
 {

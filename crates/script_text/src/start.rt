@@ -14,7 +14,7 @@ use serde_json::Value;
 use std::alloc::{AllocError, Global};
 use thiserror::Error;
 
-/// A job to be started.
+/// A job to start.
 #[derive(Debug, PartialEq, Eq, Drop)]
 pub struct StartLine {
     /// The name of the job.
@@ -23,13 +23,14 @@ pub struct StartLine {
     pub parameters: Parameters,
 }
 
-/// Why a line starts no job.
+/// The reason why a line starts no job.
 #[derive(Clone, Copy, Debug, PartialEq, Eq, Error)]
 pub enum StartFault {
-    /// No JSON, or no start of a job: a member that is missing, not listed or of another kind.
+    /// The line is no JSON, or no start of a job: a member is missing, not listed or of another
+    /// kind.
     #[error("the line is no start of a job")]
     BadLine,
-    /// A start of a job with a text above its bound, or too many parameters.
+    /// The line is a start of a job with a text above its bound, or too many parameters.
     #[error("a text is too long")]
     TextTooLong,
     /// Memory was refused.
@@ -52,16 +53,16 @@ struct RawStart<'a> {
     parameters: Option<Texts<'a, 'a>>,
 }
 
-/// The start of a job that a line is, the line feed left out: an object with the member `job`, a text
-/// of at most 256 bytes, and `parameters`, an object of at most 64 texts, with keys of at most 256
-/// bytes and values of at most 4,096, which may be left out.
+/// Reads the start of a job from a line, without its line feed. The line is an object with the
+/// member `job`, a text of at most 256 bytes, and `parameters`, which may be left out. `parameters`
+/// is an object of at most 64 texts, with keys of at most 256 bytes and values of at most 4,096.
 ///
 /// # Errors
 ///
-/// - `BadLine` where the line is anything else. It is decided over the whole line before any text's
+/// - `BadLine` if the line is anything else. This is decided over the whole line before any text's
 ///   length.
-/// - `TextTooLong` where a text is above its bound, or there are too many parameters.
-/// - `OutOfMemory` where memory is refused.
+/// - `TextTooLong` if a text is above its bound, or there are too many parameters.
+/// - `OutOfMemory` if memory is refused.
 #[tactic(auto, unfolding(crate::specs::Starts::start_of_line))]
 pub fn read_start(alloc: Global, line: &[u8]) -> Result<StartLine, StartFault>
     ensures { IsStart (start_of_line line.now) result }

@@ -17,7 +17,7 @@ use batch_ids::{BatchStatus, ExecutionId, Listed, Metric, Metrics, OutOfMemory, 
 use json::Writer;
 use std::alloc::Global;
 
-/// What is written token by token.
+/// A value that is written token by token.
 pub trait Told {
     // the value as it is written
     ghost told: { Self → Data };
@@ -67,7 +67,7 @@ fn tell_items<T: Told>(out: &mut Writer, items: &[T]) -> Result<(), OutOfMemory>
     out.end_array()
 }
 
-/// Writes what a member shows.
+/// Writes the value of a member.
 #[tactic(auto, unfolding(crate::specs::Telling::told_after))]
 fn tell_shown(out: &mut Writer, shown: Shown<'_>) -> Result<(), OutOfMemory>
     ensures { OnOk result (Adds (shown_data shown.entry) out.old out.new) }
@@ -101,7 +101,7 @@ fn tell_members(out: &mut Writer, members: &[(&str, Shown<'_>)]) -> Result<(), O
     out.end_object()
 }
 
-/// Writes an object of these members, which stand in rising order of their names.
+/// Writes an object of these members, which the caller gives in rising order of their names.
 #[tactic(auto, unfolding(crate::specs::Telling::told_after))]
 pub fn tell_object(out: &mut Writer, members: &[(&str, Shown<'_>)]) -> Result<(), OutOfMemory>
     ensures { OnOk result (Adds (object (told_members members.now)) out.old out.new) }
@@ -134,8 +134,8 @@ fn tell_each_count(out: &mut Writer, counts: &[(&str, u64)]) -> Result<(), OutOf
     out.end_object()
 }
 
-/// Writes an object of these counts, which stand in rising order of their names; a count of 0 is left
-/// out.
+/// Writes an object of these counts, which the caller gives in rising order of their names. A count
+/// of 0 is left out.
 #[tactic(auto, unfolding(crate::specs::Telling::told_after))]
 pub fn tell_counts(out: &mut Writer, counts: &[(&str, u64)]) -> Result<(), OutOfMemory>
     ensures { OnOk result
@@ -145,7 +145,7 @@ pub fn tell_counts(out: &mut Writer, counts: &[(&str, u64)]) -> Result<(), OutOf
     tell_each_count(out, counts)
 }
 
-/// The counts of metrics, in rising order of the metrics' names.
+/// Returns the counts of metrics, in rising order of the metrics' names.
 fn rising_counts(metrics: &Metrics) -> [(&'static str, u64); 8]
     ensures { map (λ named. (named.0.now, named.1)) result ≡ rising_counts metrics.now }
 {
@@ -168,7 +168,7 @@ fn tell_metrics(out: &mut Writer, metrics: &Metrics) -> Result<(), OutOfMemory>
     tell_counts(out, &rising_counts(metrics))
 }
 
-/// The counts of job executions, in rising order of the names of their statuses.
+/// Returns the counts of job executions, in rising order of the names of their statuses.
 fn rising_statuses(counts: &CountsByStatus) -> [(&'static str, u64); 7]
     ensures { map (λ named. (named.0.now, named.1)) result ≡ rising_statuses counts.now }
 {
@@ -183,7 +183,7 @@ fn rising_statuses(counts: &CountsByStatus) -> [(&'static str, u64); 7]
     ]
 }
 
-/// How many job executions have each batch status.
+/// The number of job executions with each batch status.
 impl Told for CountsByStatus {
     ghost told = { λ counts. counts_data (status_counts counts) };
 
@@ -221,7 +221,7 @@ pub fn tell_refused(out: &mut Writer, name: &str) -> Result<(), OutOfMemory>
     tell_object(out, &[("refused", Shown::Text(name))])
 }
 
-/// A writer of a line, of which nothing is written.
+/// Makes a writer of a new line.
 pub fn new_line(alloc: Global) -> Result<Writer, OutOfMemory>
     ensures before { IfOk result (λ out. out.before ≡ []) }
     ensures tokens { IfOk result (λ out. out.tokens ≡ []) }
@@ -229,7 +229,7 @@ pub fn new_line(alloc: Global) -> Result<Writer, OutOfMemory>
     Ok(Writer::new(Vec::with_capacity(alloc, 128)?))
 }
 
-/// The line that was written, with its line feed.
+/// Returns the written line, with its line feed.
 #[tactic(auto, unfolding(crate::specs::Written::line_of, crate::specs::Telling::told_after))]
 pub fn line_from(out: Writer) -> Result<Vec<u8>, OutOfMemory>
     requires { out.before ≡ [] }

@@ -7,7 +7,7 @@ use batch_ids::OutOfMemory;
 use serde_json::{Map, Value, put};
 use std::alloc::Global;
 
-/// The line of a value, with its line feed.
+/// Returns the line of a value, with its line feed.
 #[tactic(auto, unfolding(crate::specs::Written::line_of))]
 pub fn line_of(alloc: Global, value: &Value) -> Result<Vec<u8>, OutOfMemory>
     requires { has_float (view value.now) ≡ false }
@@ -18,7 +18,7 @@ pub fn line_of(alloc: Global, value: &Value) -> Result<Vec<u8>, OutOfMemory>
     Ok(text)
 }
 
-/// An object of counts by their names; a count of 0 is left out.
+/// Makes an object of counts by their names. A count of 0 is left out.
 pub fn counts_value(alloc: Global, counts: &[(&str, u64)]) -> Result<Value, OutOfMemory>
     ensures { IfOk result (λ value. view value ≡ counts_data (map (λ named. (named.0.now, named.1)) counts.now)) }
 {
