@@ -1,20 +1,20 @@
-// Starts that are all made before the first claim.
+// A workload that starts all its job executions before the first claim.
 use crate::dice::Dice;
 use crate::script::Script;
 use std::alloc::{AllocError, Global};
 
-/// A work item that is claimed, and whether another step follows its own.
+/// A claimed work item, and whether another step follows its step.
 #[derive(Clone, Copy)]
 struct Busy {
     work: u64,
     goes_on: bool,
 }
 
-/// A job of two steps, and one of one.
+/// A catalogue of a job of one step and a job of two.
 const CATALOGUE: &str =
     "{\"jobs\":[{\"id\":\"job-0\",\"elements\":[{\"kind\":\"step\",\"id\":\"only\",\"batchlet\":{\"ref\":\"only\"}}]},{\"id\":\"job-1\",\"elements\":[{\"kind\":\"step\",\"id\":\"first\",\"next\":\"second\",\"batchlet\":{\"ref\":\"first\"}},{\"kind\":\"step\",\"id\":\"second\",\"batchlet\":{\"ref\":\"second\"}}]}]}";
 
-/// Starts so many job executions. Gives for each whether its job has two steps.
+/// Starts `count` job executions. Returns for each whether its job has two steps.
 fn start_all(
     alloc: Global,
     script: &mut Script,
@@ -30,7 +30,7 @@ fn start_all(
     Ok(pairs)
 }
 
-/// Claims the first work item of each.
+/// Claims the first work item of each job execution.
 fn claim_all(alloc: Global, script: &mut Script, pairs: &[bool]) -> Result<Vec<Busy>, AllocError> {
     let mut busy = Vec::new(alloc);
     for goes_on in pairs {
@@ -43,7 +43,7 @@ fn claim_all(alloc: Global, script: &mut Script, pairs: &[bool]) -> Result<Vec<B
     Ok(busy)
 }
 
-/// Reports a work item, and claims the one behind it, or that of a job execution that is started now.
+/// Finishes a work item and claims the next one, which may be that of a new job execution.
 fn turn(script: &mut Script, dice: &mut Dice, one: &mut Busy) -> Result<(), AllocError> {
     script.finish(one.work, "COMPLETED", "")?;
     if one.goes_on {
@@ -57,7 +57,7 @@ fn turn(script: &mut Script, dice: &mut Dice, one: &mut Busy) -> Result<(), Allo
     Ok(())
 }
 
-/// A fifth of the lines are starts, a fifth claims; then reports come in any order.
+/// A fifth of the lines are starts, and another fifth are claims. Then reports come in any order.
 pub(crate) fn backlog(
     alloc: Global,
     script: &mut Script,

@@ -1,30 +1,30 @@
-// Job executions of jobs of about a thousand elements, one after another.
+// A workload that runs jobs of about a thousand elements, one after another.
 use crate::deep_jobs::catalogue;
 use crate::dice::Dice;
 use crate::script::Script;
 use std::alloc::{AllocError, Global};
 
-/// A list of steps that is being run.
+/// A list of steps that is under way.
 #[derive(Clone, Copy)]
 struct Track {
     work: u64,
     left: u64,
 }
 
-/// So many lists at a time, each of so many steps.
+/// A part of a job: lists that run at a time, each of `steps` steps.
 #[derive(Clone, Copy)]
 struct Stage {
     tracks: u64,
     steps: u64,
 }
 
-/// Nothing is run.
+/// A stage that runs nothing.
 const NONE: Stage = Stage {
     tracks: 0,
     steps: 0,
 };
 
-/// What is run of a job, one stage after another.
+/// Returns the stages of a job, in order.
 fn stages_of(job: u64) -> [Stage; 2] {
     let stage = |tracks, steps| Stage { tracks, steps };
     match job {
@@ -49,7 +49,7 @@ fn claim_all(alloc: Global, script: &mut Script, stage: Stage) -> Result<Vec<Tra
     Ok(tracks)
 }
 
-/// Reports a step of one of the lists, and claims the one behind it.
+/// Finishes a step of one of the lists, and claims the next one.
 fn turn(script: &mut Script, dice: &mut Dice, tracks: &mut Vec<Track>) -> Result<(), AllocError> {
     let place = dice.below(tracks.len() as u64) as usize;
     let Some(track) = tracks.get_mut(place) else {
@@ -65,7 +65,7 @@ fn turn(script: &mut Script, dice: &mut Dice, tracks: &mut Vec<Track>) -> Result
     Ok(())
 }
 
-/// Runs lists of a job to their ends, taking turns by chance.
+/// Runs all lists of a stage to their ends, in an order drawn by chance.
 fn run_stage(
     alloc: Global,
     script: &mut Script,

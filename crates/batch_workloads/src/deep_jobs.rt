@@ -2,22 +2,23 @@
 use crate::script::Script;
 use std::alloc::AllocError;
 
-/// Adds a step whose id is a prefix and two numbers. It goes on to another of the list, to one of another
-/// list, or ends it.
+/// Adds the beginning of a step whose id is a prefix and two numbers. The caller adds the next
+/// element, or closes the brace.
 fn step(script: &mut Script, prefix: &str, list: u64, place: u64) -> Result<(), AllocError> {
     script.part("{\"kind\":\"step\",\"id\":\"")?;
     script.id(prefix, list, place)?;
     script.part("\",\"batchlet\":{\"ref\":\"ok\"}")
 }
 
-/// Adds where an element goes on.
+/// Adds the id of the next element.
 fn next(script: &mut Script, prefix: &str, list: u64, place: u64) -> Result<(), AllocError> {
     script.part(",\"next\":\"")?;
     script.id(prefix, list, place)?;
     script.part("\"")
 }
 
-/// Adds a list of steps, the last of which goes on nowhere yet: its brace is open.
+/// Adds a list of steps. The last one's brace is left open, so that the caller can add its next
+/// element.
 fn open_steps(script: &mut Script, prefix: &str, list: u64, count: u64) -> Result<(), AllocError> {
     for place in 0..count {
         if place > 0 {
@@ -35,7 +36,7 @@ fn steps(script: &mut Script, prefix: &str, list: u64, count: u64) -> Result<(),
     script.part("}")
 }
 
-/// Begins an element that holds others.
+/// Begins an element that has other elements inside.
 fn open(script: &mut Script, kind: &str, prefix: &str, list: u64) -> Result<(), AllocError> {
     script.part("{\"kind\":\"")?;
     script.part(kind)?;
@@ -51,14 +52,14 @@ fn open_job(script: &mut Script, job: u64) -> Result<(), AllocError> {
     script.part("\",\"elements\":[")
 }
 
-/// A job that is one list.
+/// Adds a job of one long list.
 fn linear(script: &mut Script) -> Result<(), AllocError> {
     open_job(script, 0)?;
     steps(script, "l", 0, 1_000)?;
     script.part("]}")
 }
 
-/// A job of sixteen levels of lists, each in a flow in the middle of the one above.
+/// Adds a job of sixteen nested lists, each in a flow in the middle of the list around it.
 fn nested(script: &mut Script) -> Result<(), AllocError> {
     open_job(script, 1)?;
     for level in 0..15 {
@@ -77,7 +78,7 @@ fn nested(script: &mut Script) -> Result<(), AllocError> {
     script.part("]}")
 }
 
-/// Flows of a split, numbered from this number on, each of so many steps.
+/// Adds flows of a split, numbered from `first`, each of `length` steps.
 fn flows(script: &mut Script, first: u64, count: u64, length: u64) -> Result<(), AllocError> {
     for flow in 0..count {
         if flow > 0 {
@@ -92,7 +93,7 @@ fn flows(script: &mut Script, first: u64, count: u64, length: u64) -> Result<(),
     Ok(())
 }
 
-/// A job of a split of 60 flows, with a list behind it.
+/// Adds a job of a split of 60 flows, and a list after it.
 fn wide(script: &mut Script) -> Result<(), AllocError> {
     open_job(script, 2)?;
     open(script, "split", "w", 0)?;
@@ -104,7 +105,7 @@ fn wide(script: &mut Script) -> Result<(), AllocError> {
     script.part("]}")
 }
 
-/// A job of a split of 249 flows.
+/// Adds a job of a split of 249 flows.
 fn fan(script: &mut Script) -> Result<(), AllocError> {
     open_job(script, 3)?;
     open(script, "split", "w", 0)?;
@@ -113,7 +114,7 @@ fn fan(script: &mut Script) -> Result<(), AllocError> {
     script.part("]}]}")
 }
 
-/// A job of a split of 16 flows, in each of which stands a split of 14 flows.
+/// Adds a job of a split of 16 flows, each of which has a split of 14 flows.
 fn grid(script: &mut Script) -> Result<(), AllocError> {
     open_job(script, 4)?;
     open(script, "split", "w", 0)?;
@@ -133,7 +134,7 @@ fn grid(script: &mut Script) -> Result<(), AllocError> {
     script.part("]}]}")
 }
 
-/// Five jobs, `deep-0` to `deep-4`.
+/// Adds five jobs, `deep-0` to `deep-4`.
 pub(crate) fn catalogue(script: &mut Script) -> Result<(), AllocError> {
     script.part("{\"jobs\":[")?;
     linear(script)?;

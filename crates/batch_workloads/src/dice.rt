@@ -1,7 +1,7 @@
-// Numbers that look as if drawn by chance, the same for the same seed (splitmix64).
+// Pseudorandom numbers, equal for equal seeds (splitmix64).
 ghost use Rattle.std.specs.Prelude.{◌≤◌};
 
-/// What the next numbers are made from.
+/// The generator's state.
 #[derive(Drop)]
 pub(crate) struct Dice {
     state: u64,
@@ -19,14 +19,14 @@ impl Dice {
         b ^ (b >> 31)
     }
 
-    /// A number below this one; 0 below 0.
+    /// Returns a number below `bound`, or 0 if `bound` is 0.
     pub(crate) fn below(&mut self, bound: u64) -> u64
         ensures { result ≤ bound }
     {
         self.next().checked_rem(bound).unwrap_or(0)
     }
 
-    /// True so many times in a hundred.
+    /// Returns true with a probability of `share` percent.
     pub(crate) fn percent(&mut self, share: u64) -> bool {
         self.below(100) < share
     }

@@ -2,7 +2,7 @@
 use std::io;
 use std::io::Write;
 
-/// How many bytes were written, and their digest.
+/// The number of bytes written, and their digest.
 #[derive(Drop)]
 pub(crate) struct Digest {
     bytes: u64,
@@ -10,7 +10,7 @@ pub(crate) struct Digest {
 }
 
 impl Digest {
-    /// The digest of nothing.
+    /// Returns the digest of no bytes.
     pub(crate) fn new() -> Digest {
         Digest {
             bytes: 0,
@@ -31,7 +31,7 @@ impl Digest {
     }
 }
 
-/// A writer that keeps the digest of what it takes.
+/// A writer that adds its bytes to a digest.
 #[derive(Drop)]
 pub(crate) struct DigestWriter<'d> {
     digest: &'d mut Digest,

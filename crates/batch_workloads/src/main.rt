@@ -1,13 +1,16 @@
-//! Runs workloads: for each of its triples of words (the workload's name, a number that its input is made from, and its size)
-//! it makes the input of a run of `batchctl`, runs that, and prints a digest of all that the run wrote.
+//! Runs workloads. Its words come in threes: a workload's name, a seed and a size. For each three
+//! it makes an input for `batchctl`, runs `batchctl` on it, and prints a digest of the output.
 //!
-//! - `nights`: jobs of five steps, eight at a time, with checkpoints, failures, restarts and some queries.
+//! - `nights`: jobs of five steps, eight at a time, with checkpoints, failures, restarts and some
+//!   queries.
 //! - `consoles`: the same, but seven lines in ten are queries.
-//! - `backlog`: a fifth of the lines are starts, all made before the first claim; reports come in any order.
-//! - `deep`: jobs of about a thousand elements: long lists, flows in flows, wide splits, splits in splits.
+//! - `backlog`: a fifth of the lines are starts, all before the first claim; reports come in any
+//!   order.
+//! - `deep`: jobs of about a thousand elements: long lists, flows in flows, wide splits, splits in
+//!   splits.
 //! - `pool`: a run of chunks, partitions and splits by two workers with built-in artifacts.
 //!
-//! The size is the number of lines, of `pool` the number of job executions.
+//! The size is the number of lines, or for `pool` the number of job executions.
 #![tactic(auto)]
 
 mod backlog;
@@ -35,7 +38,7 @@ use std::rt::Env;
 use std::sync::Wait;
 use std::thread::Threads;
 
-/// The input of a workload.
+/// Returns a workload's input.
 fn input_of(alloc: Global, name: &str, seed: u64, size: u64) -> Result<Script> {
     let mut script = Script::new(alloc);
     let mut dice = Dice::new(seed);
@@ -50,7 +53,7 @@ fn input_of(alloc: Global, name: &str, seed: u64, size: u64) -> Result<Script> {
     Ok(script)
 }
 
-/// The words that `batchctl` is called with.
+/// Returns the words that `batchctl` is called with.
 fn words_of(name: &str) -> &[&str] {
     match name {
         "pool" => &["run", "--workers", "2"],

@@ -1,18 +1,18 @@
-// Nights of jobs, and the consoles that look on.
+// Nights of jobs, and the consoles that watch them.
 use crate::dice::Dice;
 use crate::script::Script;
 use std::alloc::AllocError;
 
-/// How many jobs the catalogue has.
+/// The number of jobs in the catalogue.
 const JOBS: u64 = 20;
 
-/// How many steps a job has. The third from the end is a chunk.
+/// The number of steps of a job. The third from the end is a chunk.
 const STEPS: u64 = 5;
 
-/// How many job executions go on at a time.
+/// The number of job executions that run at a time.
 const WIDTH: usize = 8;
 
-/// A job execution that goes on, and how many steps it has left.
+/// A job execution that is under way, and the number of steps left.
 #[derive(Clone, Copy)]
 struct Member {
     execution: u64,
@@ -21,7 +21,7 @@ struct Member {
     has_failed: bool,
 }
 
-/// What lies before the first night.
+/// The state before the first night.
 const NONE: Member = Member {
     execution: 0,
     left: 0,
@@ -29,7 +29,7 @@ const NONE: Member = Member {
     has_failed: false,
 };
 
-/// The steps of a job, from their braces on.
+/// The steps of a job, from `elements` to the closing braces.
 const JOB: &str =
     "\"elements\":[{\"kind\":\"step\",\"id\":\"extract\",\"next\":\"validate\",\"batchlet\":{\"ref\":\"extract\"}},{\"kind\":\"step\",\"id\":\"validate\",\"next\":\"load\",\"transitions\":[{\"kind\":\"next\",\"on\":\"REDO*\",\"to\":\"load\"},{\"kind\":\"fail\",\"on\":\"BAD?\",\"exit-status\":\"bad input\"}],\"batchlet\":{\"ref\":\"validate\"}},{\"kind\":\"step\",\"id\":\"load\",\"next\":\"reconcile\",\"chunk\":{\"item-count\":100,\"reader\":{\"ref\":\"reader\"},\"processor\":{\"ref\":\"processor\"},\"writer\":{\"ref\":\"writer\"}}},{\"kind\":\"step\",\"id\":\"reconcile\",\"next\":\"report\",\"batchlet\":{\"ref\":\"reconcile\"}},{\"kind\":\"step\",\"id\":\"report\",\"batchlet\":{\"ref\":\"report\"}}]}";
 
@@ -49,7 +49,7 @@ fn catalogue(script: &mut Script) -> Result<(), AllocError> {
     script.end()
 }
 
-/// Starts a job, or restarts the one that failed in this place.
+/// Starts a job, or restarts the job execution that failed before.
 fn begin(script: &mut Script, dice: &mut Dice, member: &mut Member) -> Result<(), AllocError> {
     if member.has_failed {
         member.execution = script.restart(member.execution)?;
@@ -67,7 +67,7 @@ fn begin(script: &mut Script, dice: &mut Dice, member: &mut Member) -> Result<()
     Ok(())
 }
 
-/// Asks a query, of a recent job execution half of the time.
+/// Adds a query. Half of the queries are about a recent job execution.
 fn ask(script: &mut Script, dice: &mut Dice) -> Result<(), AllocError> {
     let recent = if dice.percent(50) {
         200
@@ -94,7 +94,7 @@ fn ask(script: &mut Script, dice: &mut Dice) -> Result<(), AllocError> {
     }
 }
 
-/// Asks queries, until one is not asked with this share.
+/// Adds queries. After each, another one follows with a probability of `share` percent.
 fn ask_some(script: &mut Script, dice: &mut Dice, share: u64) -> Result<(), AllocError> {
     for _query in 0..50 {
         if !dice.percent(share) {
@@ -105,7 +105,7 @@ fn ask_some(script: &mut Script, dice: &mut Dice, share: u64) -> Result<(), Allo
     Ok(())
 }
 
-/// Reports what a work item came to; before that, that of a chunk has up to nine checkpoints.
+/// Reports the end of a work item. Before that, a chunk gets up to nine checkpoints.
 fn report(script: &mut Script, dice: &mut Dice, member: &mut Member) -> Result<(), AllocError> {
     if member.left == 3 {
         for row in 0..dice.below(10) {
@@ -125,7 +125,8 @@ fn report(script: &mut Script, dice: &mut Dice, member: &mut Member) -> Result<(
     script.finish(member.work, "COMPLETED", exit)
 }
 
-/// One step of each job execution that goes on: all are claimed, and then reported from a chosen place on.
+/// Runs one step of each job execution: claims all work items, then reports them from a random one
+/// on.
 fn round(
     script: &mut Script,
     dice: &mut Dice,
@@ -148,7 +149,7 @@ fn round(
     Ok(())
 }
 
-/// Eight job executions, each to its end.
+/// Runs eight job executions to their ends.
 fn night(
     script: &mut Script,
     dice: &mut Dice,
@@ -186,7 +187,7 @@ pub(crate) fn nights(script: &mut Script, dice: &mut Dice, size: u64) -> Result<
     nights_with(script, dice, size, 10)
 }
 
-/// Nights with seven queries in ten lines.
+/// Nights in which seven lines of ten are queries.
 pub(crate) fn consoles(script: &mut Script, dice: &mut Dice, size: u64) -> Result<(), AllocError> {
     nights_with(script, dice, size, 87)
 }

@@ -3,10 +3,10 @@ use crate::dice::Dice;
 use crate::script::Script;
 use std::alloc::AllocError;
 
-/// How many jobs the catalogue has.
+/// The number of jobs in the catalogue.
 const JOBS: u64 = 8;
 
-/// Adds a job of a chunk that filters, a split of two partitioned steps, and a step that ends it.
+/// Adds a job: a chunk that filters items, a split of two partitioned steps, and a last step.
 fn job(script: &mut Script, dice: &mut Dice, number: u64) -> Result<(), AllocError> {
     script.part("{\"id\":\"run-")?;
     script.number(number)?;
@@ -44,7 +44,7 @@ fn catalogue(script: &mut Script, dice: &mut Dice) -> Result<(), AllocError> {
     script.end()
 }
 
-/// Starts so many job executions.
+/// Starts `size` job executions.
 pub(crate) fn pool(script: &mut Script, dice: &mut Dice, size: u64) -> Result<(), AllocError> {
     catalogue(script, dice)?;
     for _start in 0..size {

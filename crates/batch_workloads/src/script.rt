@@ -1,10 +1,10 @@
-// A script that grows line by line, and the numbers that its calls are answered.
+// A script that grows line by line, and the numbers that its calls return.
 use std::alloc::{AllocError, Global};
 
-/// How many sessions take turns.
+/// The number of sessions, which take turns.
 const SESSIONS: u64 = 16;
 
-/// A script, with how many lines, job instances, job executions and work items it has made.
+/// A script, with the numbers of its lines, job instances, job executions and work items.
 #[derive(Drop)]
 pub(crate) struct Script {
     text: String,
@@ -31,7 +31,7 @@ impl Script {
         self.text.as_bytes()
     }
 
-    /// How many lines it has.
+    /// Returns the number of lines.
     pub(crate) fn lines(&self) -> u64 {
         self.lines
     }
@@ -46,7 +46,7 @@ impl Script {
         write!(self.text, "{number}")
     }
 
-    /// Adds an id of a prefix and two numbers to a line.
+    /// Adds an id, made of a prefix and two numbers, to a line.
     pub(crate) fn id(&mut self, prefix: &str, list: u64, place: u64) -> Result<(), AllocError> {
         write!(self.text, "{prefix}{list}-{place}")
     }
@@ -57,14 +57,14 @@ impl Script {
         self.text.push_str("\n")
     }
 
-    /// Begins a call by one of the sessions.
+    /// Begins a call in the name of one of the sessions.
     fn call(&mut self, name: &str, turn: u64) -> Result<(), AllocError> {
         self.at = self.at.wrapping_add(7);
         let (by, at) = (1 + turn % SESSIONS, self.at);
         write!(self.text, "{{\"do\":\"{name}\",\"by\":{by},\"at\":{at}")
     }
 
-    /// Starts a job whose id is a word and a number, and gives the number of the job execution.
+    /// Starts a job whose id is a word and a number. Returns the job execution's number.
     pub(crate) fn start(&mut self, word: &str, job: u64, day: u64) -> Result<u64, AllocError> {
         self.instances = self.instances.wrapping_add(1);
         self.executions = self.executions.wrapping_add(1);
@@ -81,13 +81,13 @@ impl Script {
         Ok(self.executions)
     }
 
-    /// Starts a job whose id is a word and a number, as a run has it.
+    /// Adds a start line of `batchctl run`, for a job whose id is a word and a number.
     pub(crate) fn start_line(&mut self, word: &str, job: u64) -> Result<(), AllocError> {
         write!(self.text, "{{\"job\":\"{word}{job}\"}}")?;
         self.end()
     }
 
-    /// Restarts a job execution, and gives the number of the new one.
+    /// Restarts a job execution. Returns the new job execution's number.
     pub(crate) fn restart(&mut self, execution: u64) -> Result<u64, AllocError> {
         self.executions = self.executions.wrapping_add(1);
         self.call("restart", self.executions)?;
@@ -96,7 +96,7 @@ impl Script {
         Ok(self.executions)
     }
 
-    /// Claims what is there to claim, and gives the number of the work item.
+    /// Claims a work item. Returns its number.
     pub(crate) fn claim(&mut self) -> Result<u64, AllocError> {
         self.works = self.works.wrapping_add(1);
         self.call("claim", self.works)?;
@@ -115,7 +115,7 @@ impl Script {
         self.end()
     }
 
-    /// Reports an end, with an exit status unless it is empty.
+    /// Reports the end of a work item, with its exit status unless that is empty.
     pub(crate) fn finish(
         &mut self,
         work: u64,
@@ -131,25 +131,25 @@ impl Script {
         self.end()
     }
 
-    /// Asks for what is known by a number.
+    /// Adds a query with a number.
     pub(crate) fn ask(&mut self, query: &str, key: &str, number: u64) -> Result<(), AllocError> {
         write!(self.text, "{{\"ask\":\"{query}\",\"{key}\":{number}}}")?;
         self.end()
     }
 
-    /// Asks for what is known of all.
+    /// Adds a query without a key.
     pub(crate) fn ask_alone(&mut self, query: &str) -> Result<(), AllocError> {
         write!(self.text, "{{\"ask\":\"{query}\"}}")?;
         self.end()
     }
 
-    /// Asks for what is known of a job.
+    /// Adds a query about a job.
     pub(crate) fn ask_job(&mut self, query: &str, word: &str, job: u64) -> Result<(), AllocError> {
         write!(self.text, "{{\"ask\":\"{query}\",\"job\":\"{word}{job}\"}}")?;
         self.end()
     }
 
-    /// Asks for ten job instances of a job.
+    /// Adds a query for ten job instances of a job.
     pub(crate) fn ask_page(&mut self, word: &str, job: u64, start: u64) -> Result<(), AllocError> {
         write!(
             self.text,

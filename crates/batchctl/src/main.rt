@@ -1,4 +1,4 @@
-//! `batchctl`: drives a job repository from the command line.
+//! The program `batchctl`: runs a job repository from the command line.
 #![tactic(auto)]
 
 use batch_commands::{program, refuse_words};
@@ -10,7 +10,7 @@ use std::sync::Wait;
 use std::thread::Threads;
 use std::{env, io};
 
-/// The words of the command line, without the program's name.
+/// Returns the words of the command line, without the program's name.
 fn words_of(rt: &(impl Env + AllocGlobal)) -> io::Result<Vec<String>> {
     let mut words = Vec::new(rt.alloc());
     for word in env::args(rt)?.skip(1) {
@@ -19,7 +19,7 @@ fn words_of(rt: &(impl Env + AllocGlobal)) -> io::Result<Vec<String>> {
     Ok(words)
 }
 
-/// The root folder, if it can be opened: neither a read nor a write of it succeeds.
+/// Opens the root folder, if possible. Reads and writes of it fail.
 fn open_root<R: Files<File = File>>(rt: &R) -> Option<File> {
     File::open(rt, "/").ok()
 }
@@ -34,8 +34,8 @@ fn run_words<
     for word in &owned {
         words.push(word.as_str())?;
     }
-    // A file takes the place of a standard stream that is closed. A folder there fails as the closed stream does; a log
-    // there would be written over by replies.
+    // If a standard stream is closed, the next file that is opened takes its descriptor. A folder
+    // there fails as the closed stream does, but replies would overwrite a log there.
     let (input, output, others) = (open_root(rt), open_root(rt), open_root(rt));
     let status = program(rt, words.as_slice(), rt.reader(), io::writer(rt), faults);
     drop((input, output, others));

@@ -1,8 +1,8 @@
--- What the bytes of a file stand for.
+-- The records of a file.
 use Rattle.std.specs.Prelude.{ℕ, ◌≡◌, ◌==◌, ◌&&◌, List, [], ◌∷◌, ◌++◌, Bool, true, false}
 use Rattle.durable_log.specs.Format.{LogRecord, read, prepended, whole}
 
--- how a file begins: a log of this version, of a later one, or none
+-- the beginning of a file: that of a log of this version, of a log of another version, or of no log
 pub data Opening : Type 0 where
   Ours : List ℕ → Opening
   Later : Opening
@@ -25,10 +25,10 @@ opening (a ∷ b ∷ c ∷ d ∷ e ∷ f ∷ g ∷ h ∷ rest) =
     version_of (is_known a b c d e f h) (g == 49) rest
 opening short = Foreign
 
--- THE FILE STANDS FOR THESE RECORDS: it is a log of this version, and nothing behind an open gate is damaged
+-- THE FILE HAS THESE RECORDS: it is a log of this version, and nothing after an open gate is damaged
 abbrev pub StandsFor : List LogRecord → List ℕ → Type 0
 StandsFor records file = (rest : List ℕ) × (opening file ≡ Ours rest) × (read rest ≡ whole records)
 
--- a front of a file that has these records, whatever stands behind it
+-- a front of a file that has these records, whatever bytes follow it
 abbrev pub Holding : List LogRecord → List ℕ → Type 0
 Holding records front = (x : List ℕ) → (rest : List ℕ) × (opening (front ++ x) ≡ Ours rest) × (read rest ≡ prepended records (read x))

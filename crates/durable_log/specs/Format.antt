@@ -1,4 +1,4 @@
--- What stands behind the header of a file: records, each on a line of its own behind a gate.
+-- The bytes of a file after its header: records, each on a line of its own after a gate.
 use Rattle.std.specs.Prelude.{ℕ, zero, suc, ◌+◌, ◌*◌, ◌/◌, ◌%◌, ◌==◌, ◌&&◌, ◌||◌, nat_lt, List, [], ◌∷◌, ◌++◌, length, get_or, take, drop, Bool, true, false, if◌then◌else◌}
 
 -- A RECORD: its mark, which is one byte, its line, and the check of the reply to that line
@@ -9,7 +9,7 @@ pub record LogRecord : Type 0 where
 
 -- Numbers
 
--- a hexadecimal digit as it is written, in lower case
+-- a written hexadecimal digit, in lower case
 abbrev pub digit : ℕ → ℕ
 digit d = if nat_lt d 10 then 48 + d else 87 + d
 
@@ -21,13 +21,13 @@ half_digits n = digit (n / 4096 % 16) ∷ digit (n / 256 % 16) ∷ digit (n / 16
 abbrev pub digits : ℕ → List ℕ
 digits n = half_digits (n / 65536) ++ half_digits (n % 65536)
 
--- a column: a number, a space, and what stands behind them
+-- a column: a number and a space, with the bytes after them
 abbrev pub column : ℕ → List ℕ → List ℕ
 column n rest = digits n ++ 32 ∷ rest
 
 -- Checks
 
--- THE CHECK OF BYTES: Adler-32 (RFC 1950), by the two sums so far
+-- THE CHECK OF BYTES: Adler-32 (RFC 1950), from the two sums so far
 abbrev pub check_from : ℕ → ℕ → List ℕ → ℕ
 check_from low high [] = high * 65536 + low
 check_from low high (b ∷ bytes) = check_from ((low + b) % 65521) ((high + (low + b) % 65521) % 65521) bytes
@@ -35,40 +35,40 @@ check_from low high (b ∷ bytes) = check_from ((low + b) % 65521) ((high + (low
 unfoldable pub check_of : List ℕ → ℕ
 check_of bytes = check_from 1 0 bytes
 
--- what the check of a record covers: its mark, the check of its reply as it is written, and its line
+-- the bytes that the check of a record covers: its mark, the written check of its reply, and its line
 abbrev pub covered : LogRecord → List ℕ
 covered r = r.mark ∷ (digits r.reply_check ++ r.line)
 
 -- Writing
 
--- the columns of a record: its mark, the length of its line twice, its check, the check of its reply
+-- the columns of a record: its mark, the length of its line twice, its check, and the check of its reply
 abbrev pub columns : ℕ → ℕ → ℕ → ℕ → List ℕ → List ℕ
 columns mark n check reply_check rest = 32 ∷ mark ∷ 32 ∷ column n (column n (column check (column reply_check rest)))
 
--- a record as it stands behind its gate: its columns, its line and a line feed
+-- the bytes of a record after its gate: its columns, its line and a line feed
 abbrev pub frame : LogRecord → List ℕ
 frame r = columns r.mark (length r.line) (check_of (covered r)) r.reply_check (r.line ++ 10 ∷ [])
 
--- a gate is open if two of its bytes are 1's, so that one changed byte shuts none
+-- a gate is open if two of its bytes are 1's, so that one changed byte shuts no gate
 abbrev pub is_open : ℕ → ℕ → ℕ → Bool
 is_open a b c = if a == 49 then b == 49 || c == 49 else b == 49 && c == 49
 
--- records behind open gates
+-- records, each after an open gate
 abbrev pub blocks : List LogRecord → List ℕ
 blocks [] = []
 blocks (r ∷ records) = 49 ∷ 49 ∷ 49 ∷ (frame r ++ blocks records)
 
--- a gate that is shut
+-- a shut gate
 abbrev pub shut : List ℕ
 shut = 48 ∷ 48 ∷ 48 ∷ []
 
 -- Reading
 
--- what a byte counts as a digit; a byte that is no digit counts as something, too
+-- the value of a byte as a digit; a byte that is no digit has some value, too
 abbrev pub value : ℕ → ℕ
 value b = if nat_lt b 97 then b % 16 else (b + 9) % 16
 
--- what four bytes count as
+-- the value of four bytes
 abbrev pub half : ℕ → ℕ → ℕ → ℕ → ℕ
 half a b c d = ((value a * 16 + value b) * 16 + value c) * 16 + value d
 
@@ -76,11 +76,11 @@ half a b c d = ((value a * 16 + value b) * 16 + value c) * 16 + value d
 abbrev pub is_half : ℕ → ℕ → ℕ → ℕ → ℕ → Bool
 is_half n a b c d = a == digit (n / 4096 % 16) && (b == digit (n / 256 % 16) && (c == digit (n / 16 % 16) && d == digit (n % 16)))
 
--- whether these are eight digits, which count as these numbers, and a space
+-- whether these are eight digits with these values, and a space
 abbrev pub is_column : ℕ → ℕ → ℕ → ℕ → ℕ → ℕ → ℕ → ℕ → ℕ → ℕ → ℕ → Bool
 is_column high low a b c d e f g h space = is_half high a b c d && (is_half low e f g h && space == 32)
 
--- a column, if one stands there
+-- a column, if there is one
 pub data Column : Type 0 where
   Absent : Column
   Number : ℕ → List ℕ → Column
@@ -92,7 +92,8 @@ abbrev pub column_of : List ℕ → Column
 column_of (a ∷ b ∷ c ∷ d ∷ e ∷ f ∷ g ∷ h ∷ space ∷ rest) = column_by (half a b c d) (half e f g h) a b c d e f g h space rest
 column_of short = Absent
 
--- what stands at a place: the end, what is no record though its gate is open, or a record and what stands behind it
+-- the contents of a place: the end; or bytes after an open gate that are no record; or a record and the bytes
+-- after it
 pub data Next : Type 0 where
   End : Next
   Damaged : Next
@@ -101,7 +102,7 @@ pub data Next : Type 0 where
 abbrev pub record_by : ℕ → List ℕ → ℕ → LogRecord
 record_by mark line reply_check = record { mark = mark; line = line; reply_check = reply_check }
 
--- whether the line is there with its line feed, its length twice and its check
+-- whether the line has its line feed, its length twice and its check
 abbrev pub fits : ℕ → ℕ → ℕ → ℕ → ℕ → List ℕ → Bool
 fits mark n again check reply_check body =
     n == again && (nat_lt n (length body) && (get_or body n 0 == 10 && check_of (covered (record_by mark (take n body) reply_check)) == check))
@@ -127,7 +128,7 @@ abbrev pub with_length : ℕ → Column → Next
 with_length mark Absent = Damaged
 with_length mark (Number n rest) = with_again mark n (column_of rest)
 
--- an open gate with nothing behind it is none: so a crash may leave it
+-- an open gate with nothing after it counts as the end, since a crash may leave it
 abbrev pub after_front : List ℕ → Next
 after_front [] = End
 after_front (space ∷ mark ∷ also ∷ rest) = if space == 32 && also == 32 then with_length mark (column_of rest) else Damaged
@@ -150,7 +151,7 @@ after_gate (Behind true rest) = after_front rest
 unfoldable pub next : List ℕ → Next
 next bytes = after_gate (gate_of bytes)
 
--- the records up to the first gate that is not open, and whether all behind open gates are whole
+-- the records up to the first gate that is not open, and whether all records after open gates are whole
 pub record Reading : Type 0 where
   pub records : List LogRecord
   pub sound : Bool
@@ -166,15 +167,15 @@ then_read more End = whole []
 then_read more Damaged = record { records = []; sound = false }
 then_read more (Found r rest) = with_record r (more rest)
 
--- by so many records at most
+-- the reading of at most `n` records
 abbrev pub read_within : ℕ → List ℕ → Reading
 read_within zero bytes = whole []
 read_within (suc n) bytes = then_read (read_within n) (next bytes)
 
--- WHAT BYTES BEHIND THE HEADER STAND FOR
+-- THE READING OF BYTES AFTER THE HEADER
 unfoldable pub read : List ℕ → Reading
 read bytes = read_within (length bytes) bytes
 
--- records read before others
+-- a reading, with records before it
 abbrev pub prepended : List LogRecord → Reading → Reading
 prepended records reading = record { records = records ++ reading.records; sound = reading.sound }

@@ -1,19 +1,19 @@
--- What was read of what stands behind a header.
+-- The part of the bytes after a header that was read.
 use Rattle.std.specs.Prelude.{ℕ, ◌≡◌, ◌+◌, List, ◌++◌, length}
 use Rattle.durable_log.specs.Format.{LogRecord, read, prepended, next, End, Damaged}
 
--- so far these records were read, and this is left
+-- these records were read so far, and these bytes are left
 pub record IsRead (bytes : List ℕ) (records : List LogRecord) (rest : List ℕ) : Type 0 where
   pub base : List ℕ
   pub split : bytes ≡ base ++ rest
   pub reads : (x : List ℕ) → read (base ++ x) ≡ prepended records (read x)
 
--- all records were read, and what is left is the end
+-- all records were read, and the bytes that are left are the end
 pub record IsPart (bytes : List ℕ) (records : List LogRecord) (rest : List ℕ) : Type 0 where
   pub so_far : IsRead bytes records rest
   pub ends : next rest ≡ End
 
--- behind so many records, as many bytes before the end of the file, stands what is no record
+-- after this number of records, at this byte of the file, the bytes after an open gate are no record
 pub record IsPartDamaged (bytes : List ℕ) (number byte : ℕ) : Type 0 where
   pub records : List LogRecord
   pub rest : List ℕ

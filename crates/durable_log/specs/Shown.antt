@@ -1,4 +1,4 @@
--- What the reader returns, as the format has it.
+-- The results of the reader, in terms of the format.
 use Rattle.std.specs.Prelude.{ℕ, ◌≡◌, ◌↔◌, IsTrue, List, map}
 use Rattle.durable_log.specs.Format.{LogRecord, Column, Absent, Number, Next, End, Damaged, Found}
 use Rattle.durable_log.specs.Files.{Later, Foreign, opening}
@@ -13,7 +13,7 @@ use Rattle.durable_log.specs.declared.reading.End.{End as LogEnd}
 use Rattle.durable_log.specs.declared.reading.ReadFault.{ReadFault}
 use Rattle.durable_log.specs.declared.reading.ReadFault.TheVariants as faults
 
--- a record that lends its line
+-- a record that borrows its line
 abbrev pub record_shown : Record → LogRecord
 record_shown r = record { mark = r.mark; line = r.line.now; reply_check = r.reply_check }
 
@@ -26,19 +26,19 @@ next_shown places.End = End
 next_shown places.Damaged = Damaged
 next_shown (places.Found r rest) = Found (record_shown r) rest.now
 
--- the records of a file end there, and it is clean if it ends right after a gate that is shut
+-- the records of a file end there, and it is clean if it ends right after a shut gate
 pub record IsEnd (file : List ℕ) (end : LogEnd) : Type 0 where
   pub ends : EndsAt file end.byte
   pub clean : IsTrue end.is_clean ↔ IsAtRest file end.byte
 
--- what is wrong with a file
+-- a fault of a file
 abbrev pub HasFault : List ℕ → ReadFault → Type 0
 HasFault file faults.Foreign = opening file ≡ Foreign
 HasFault file faults.Later = opening file ≡ Later
 HasFault file (faults.Damaged number byte) = IsDamagedAt file number byte
 HasFault file faults.OutOfMemory = Unit {0}
 
--- what is wrong behind a header
+-- a fault after a header
 abbrev pub HasPartFault : List ℕ → ReadFault → Type 0
 HasPartFault bytes faults.Foreign = ⊥
 HasPartFault bytes faults.Later = ⊥

@@ -1,4 +1,4 @@
-// Adler-32, over bytes that come in parts.
+// Adler-32, over bytes that are given in parts.
 ghost use Rattle.std.specs.Prelude.{◌≡◌, ◌<◌, ◌∷◌, ◌++◌, List, ℕ};
 ghost use Rattle.durable_log.specs.Format.{check_from, check_of, covered};
 ghost use Rattle.durable_log.specs.Shown.{record_shown};
@@ -15,7 +15,7 @@ pub struct Sums {
     ghost high_small: { high < 65521 },
 }
 
-// The sums with eight bytes more, by one division each.
+// Returns the sums with eight more bytes, with one division for each sum.
 fn add_eight(sums: Sums, bytes: [u8; 8]) -> Sums
     ensures { (rest : List ℕ) → check_from result.low result.high rest ≡ check_from sums.low sums.high (bytes ++ rest) }
 {
@@ -33,7 +33,7 @@ fn add_eight(sums: Sums, bytes: [u8; 8]) -> Sums
     }
 }
 
-// The sums with more bytes, by eights, and the bytes that are left.
+// Returns the sums with more bytes, eight at a time, and the bytes that are left.
 fn add_eights(sums: Sums, bytes: &[u8]) -> (Sums, &[u8])
     ensures { (rest : List ℕ) → check_from result.0.low result.0.high (result.1.now ++ rest)
         ≡ check_from sums.low sums.high (bytes.now ++ rest) }
@@ -47,7 +47,7 @@ fn add_eights(sums: Sums, bytes: &[u8]) -> (Sums, &[u8])
     (now, left)
 }
 
-// The sums with more bytes, one after another.
+// Returns the sums with more bytes, one after another.
 fn add_each(sums: Sums, bytes: &[u8]) -> Sums
     ensures { (rest : List ℕ) → check_from result.low result.high rest ≡ check_from sums.low sums.high (bytes.now ++ rest) }
 {
@@ -60,7 +60,7 @@ fn add_each(sums: Sums, bytes: &[u8]) -> Sums
     Sums { low, high }
 }
 
-// The sums with more bytes.
+// Returns the sums with more bytes.
 fn add(sums: Sums, bytes: &[u8]) -> Sums
     ensures { (rest : List ℕ) → check_from result.low result.high rest ≡ check_from sums.low sums.high (bytes.now ++ rest) }
 {
@@ -68,7 +68,7 @@ fn add(sums: Sums, bytes: &[u8]) -> Sums
     add_each(begun, left)
 }
 
-/// The check of bytes: Adler-32 (RFC 1950).
+/// Returns the check of bytes: Adler-32 (RFC 1950).
 #[tactic(auto, unfolding(crate::specs::Format::check_of))]
 pub fn check_of(bytes: &[u8]) -> u32
     ensures { result ≡ check_of bytes.now }
@@ -77,7 +77,7 @@ pub fn check_of(bytes: &[u8]) -> u32
     sums.high * 65536 + sums.low
 }
 
-// The check of a record.
+// Returns the check of a record.
 #[tactic(auto, unfolding(crate::specs::Format::check_of))]
 pub(crate) fn check_of_record(given: Record<'_>) -> u32
     ensures { result ≡ check_of (covered (record_shown given.entry)) }

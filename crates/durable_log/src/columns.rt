@@ -1,11 +1,11 @@
-// Numbers as columns of text: eight digits and a space.
+// Numbers as columns of text: eight digits and a space each.
 ghost use Rattle.std.specs.Prelude.{◌≡◌, ◌<◌, ◌+◌, ◌*◌, ◌++◌, [], OnOk};
 ghost use Rattle.durable_log.specs.Format.{digit, digits, column, value, half, is_half, column_of};
 ghost use Rattle.durable_log.specs.Shown.{column_shown};
 
 use std::alloc::AllocError;
 
-// A column, if one stands there, and what stands behind it.
+// A column, if there is one, and the bytes after it.
 #[derive(Clone, Copy)]
 pub enum ColumnRead<'a> {
     Absent,
@@ -19,7 +19,7 @@ fn digit(d: u32) -> u8
     if d < 10 { 48 + d as u8 } else { 87 + d as u8 }
 }
 
-// A number as eight digits, the highest first.
+// Returns a number as eight digits, the highest first.
 pub(crate) fn digits(n: u32) -> [u8; 8]
     ensures { result ≡ digits n }
 {
@@ -64,7 +64,7 @@ fn half(a: u8, b: u8, c: u8, d: u8) -> u32
     ((value(a) * 16 + value(b)) * 16 + value(c)) * 16 + value(d)
 }
 
-// Whether these are the digits of the number.
+// Checks whether these are the digits of the number.
 fn is_half(n: u32, a: u8, b: u8, c: u8, d: u8) -> bool
     ensures { result ≡ is_half n a b c d }
 {

@@ -1,4 +1,4 @@
-// How records are written.
+// The written form of records.
 ghost use Rattle.std.specs.Prelude.{◌≡◌, ◌⊎◌, ◌<◌, ◌≤◌, ◌+◌, ◌^◌, ◌∷◌, ◌++◌, List, ℕ, [], length, take, drop, IfOk, OnOk, OnErr};
 ghost use Rattle.durable_log.specs.Format.{frame, shut};
 ghost use Rattle.durable_log.specs.Shown.{record_shown};
@@ -10,7 +10,7 @@ use std::alloc::{AllocError, Global};
 
 const OPEN: [u8; 3] = *b"111";
 
-// A record, and a shut gate behind it.
+// Returns the bytes of a record, and of a shut gate after it.
 pub(crate) fn frame(alloc: Global, added: Record<'_>) -> Result<Vec<u8>, AllocError>
     requires { length added.line.now < 2 ^ 32 }
     ensures { IfOk result (λ bytes. bytes.items ≡ frame (record_shown added.entry) ++ shut) }
@@ -34,7 +34,8 @@ fn open_gate(bytes: &mut Vec<u8>, at: usize)
     bytes[at..at + 3].copy_from_slice(&OPEN);
 }
 
-// Adds a record to what stands behind a gate: nothing, or records that end with a shut gate. That gate is opened.
+// Adds a record to the bytes after a gate. These are none, or they are records that end with a shut
+// gate, which is then opened.
 pub(crate) fn push_record(
     alloc: Global,
     bytes: &mut Vec<u8>,

@@ -12,7 +12,7 @@ use std::alloc::{AllocError, Global};
 // The header, and an open gate.
 const BEGINNING: [u8; 11] = *b"bctlog1\n111";
 
-/// The bytes of a new log with one record. It is clean: [`crate::open`] takes it as it is.
+/// Returns the bytes of a new log with one record. It is clean: [`crate::open`] takes it unchanged.
 ///
 /// # Errors
 ///

@@ -4,8 +4,9 @@ ghost use Rattle.durable_log.specs.Files.{header, StandsFor};
 ghost use Rattle.durable_log.specs.Logs.{AreSmall};
 ghost use Rattle.durable_log.specs.Damage.{OneOff, IsRefused};
 
-/// A law: a file in which one byte was changed is refused, or has the same records. It holds wherever the byte stands: in
-/// the header, a gate, a space, a mark, a length, a check, a line or a line feed.
+/// A law: if one byte of a file was changed, the file is refused, or it has the same records. It
+/// holds for each byte: of the header, a gate, a space, a mark, a length, a check, a line or a line
+/// feed.
 pub fn one_changed_byte_is_found()
     ensures { (records : List LogRecord) (file : List ℕ) → AreSmall records → OneOff (header ++ (blocks records ++ shut)) file
         → StandsFor records file ⊎ IsRefused file }

@@ -1,4 +1,4 @@
-//! A log of records in a file of text, each on the disk before the reply to it is told.
+//! A log of records in a text file. Each record is on the disk before its reply is sent.
 #![tactic(auto)]
 
 mod adler;

@@ -13,16 +13,16 @@ use std::alloc::{AllocError, Global};
 use std::error::Error;
 use std::fmt;
 
-// A gate that is open.
+// An open gate.
 const OPEN: [u8; 3] = *b"111";
 
-// A gate that is shut.
+// A shut gate.
 const SHUT: [u8; 3] = *b"000";
 
-// The most bytes of a file.
+// The most bytes that a file may have.
 const MAX_FILE: usize = 1 << 62;
 
-/// Why a commit failed. The log is of no more use then: open the file again.
+/// The reason why a commit failed. The log is of no more use then: open the file again.
 #[derive(Clone, Copy, Debug, PartialEq, Eq)]
 pub enum CommitFault {
     /// The host failed.
@@ -50,16 +50,16 @@ impl From<HostFault> for CommitFault {
     }
 }
 
-/// A file of records, all of them on the disk, and records that wait to be.
+/// A file of records, all of them on the disk, and records that wait to be written.
 #[derive(Drop)]
 pub struct Log<H: Host> {
     pub(crate) host: H,
     pub(crate) end: usize,
-    // What is to stand behind the gate at the end: it is written as it is.
+    // The bytes to be written after the gate at the end, as they are.
     pub(crate) waiting: Vec<u8>,
 }
 
-// Puts a batch behind the gate at the end, and opens that gate after the batch is on the disk.
+// Writes a batch after the gate at the end, and opens that gate after the batch is on the disk.
 fn put_batch<H: Host>(host: &mut H, end: usize, batch: &[u8]) -> Result<(), HostFault>
     requires rest { IsAtRest (H.seen host.old) end }
     requires batch { IsBatch batch.now }
@@ -75,12 +75,13 @@ fn put_batch<H: Host>(host: &mut H, end: usize, batch: &[u8]) -> Result<(), Host
     ensures failed { OnErr result (H.faults host.old < H.faults host.new) }
 {
     write_and_sync(host, end + 3, batch)?;
-    // The batch has to be on the disk first: a gate that is torn open would count what is not whole.
+    // The batch must be on the disk first. Otherwise a crash could leave an open gate before a part
+    // of it.
     write_and_sync(host, end, &OPEN)?;
     Ok(())
 }
 
-// Cuts off what stands behind the last record, and shuts the gate there.
+// Cuts off the bytes after the last record, and writes a shut gate there.
 fn shut_end<H: Host>(host: &mut H, end: usize) -> Result<(), HostFault>
     requires ends { EndsAt (H.seen host.old) end }
     requires durable { Only (H.seen host.old) (H.heard host.old) (H.may_leave host.old) }
@@ -94,18 +95,20 @@ fn shut_end<H: Host>(host: &mut H, end: usize) -> Result<(), HostFault>
     ensures failed { OnErr result (H.faults host.old < H.faults host.new) }
 {
     cut_and_sync(host, end)?;
-    // The cut has to be on the disk first: behind a gate that is torn open, what was there would count.
+    // The cut must be on the disk first. Otherwise a crash could leave an open gate, after which
+    // the old bytes would count.
     write_and_sync(host, end, &SHUT)?;
     Ok(())
 }
 
 impl<H: Host> Log<H> {
-    /// Adds a record to those that wait to be on the disk. It asks nothing of the host. All memory that a commit needs
-    /// is asked for here.
+    /// Adds a record to the waiting records. It makes no call of the host. It takes all memory that
+    /// a commit needs.
     ///
     /// # Errors
     ///
-    /// `AllocError` if memory is refused. Nothing is added then, and what waits can still be committed.
+    /// `AllocError` if memory is refused. Nothing is added then, and the waiting records can still
+    /// be committed.
     pub fn append(&mut self, alloc: Global, added: Record<'_>) -> Result<(), AllocError>
         requires settled { IsSettled H.seen H.heard H.may_leave self.old }
         requires small { length added.line.now < 2 ^ 32 }
@@ -118,12 +121,13 @@ impl<H: Host> Log<H> {
         Ok(())
     }
 
-    /// Puts all records that wait on the disk. If none waits, it asks nothing of the host. It asks for no memory.
+    /// Puts all waiting records on the disk. If none waits, it makes no call of the host. It takes
+    /// no memory.
     ///
     /// # Errors
     ///
-    /// `Failed` if the host failed, `Full` if the file would be larger than 2^62 bytes. The log is of no more use then:
-    /// open the file again.
+    /// `Failed` if the host failed, and `Full` if the file would be larger than 2^62 bytes. The log
+    /// is of no more use then: open the file again.
     pub fn commit(&mut self) -> Result<(), CommitFault>
         requires { IsSettled H.seen H.heard H.may_leave self.old }
 
@@ -133,7 +137,8 @@ impl<H: Host> Log<H> {
         ensures idle { waiting_in self.old ≡ [] → self.new.host ≡ self.old.host }
         ensures heard { H.heard self.new.host ≡ H.heard self.old.host }
 
-        // A crash at any moment of the call leaves the records from before it, with all that waited or with none of it.
+        // A crash at any moment of the call leaves the records from before it, with all waiting
+        // records or with none of them.
         ensures any_moment { LeavesOnly H.moment H.left_since self.old.host self.new.host
             (BeforeOrAfter (records_of (H.seen self.old.host)) (waiting_in self.old) (H.heard self.old.host)) }
 
@@ -153,8 +158,8 @@ impl<H: Host> Log<H> {
         Ok(())
     }
 
-    /// Tells the listener a front of a piece, and returns how many bytes. No record may wait: what is told replies to
-    /// records that are on the disk.
+    /// Sends the listener a front of a piece, and returns its number of bytes. No record may wait,
+    /// so that a reply is sent only after its record is on the disk.
     ///
     /// # Errors
     ///
@@ -169,7 +174,8 @@ impl<H: Host> Log<H> {
         ensures seen { H.seen self.new.host ≡ H.seen self.old.host }
         ensures nothing_waits { waiting_in self.new ≡ [] }
 
-        // A crash at any moment of the call leaves the same records, and a front of the piece was heard.
+        // A crash at any moment of the call leaves the same records, and the listener has heard a
+        // front of the piece.
         ensures any_moment { LeavesOnly H.moment H.left_since self.old.host self.new.host
             (Told (records_of (H.seen self.old.host)) (H.heard self.old.host) piece.now) }
 
@@ -179,7 +185,8 @@ impl<H: Host> Log<H> {
         self.host.tell(piece)
     }
 
-    /// Tells the listener why nothing more is to come, also if the log is of no more use. It replies to no record.
+    /// Sends the listener a front of a last piece, which says why nothing more follows. It is no
+    /// reply to a record. It may be called even if the log is of no more use.
     ///
     /// # Errors
     ///
@@ -192,7 +199,7 @@ impl<H: Host> Log<H> {
         self.host.tell(piece)
     }
 
-    /// The host, as the calls left it.
+    /// Returns the host, as the calls left it.
     pub fn into_host(self) -> H
         ensures { result ≡ self.host }
     {
@@ -200,15 +207,16 @@ impl<H: Host> Log<H> {
     }
 }
 
-/// Opens a file whose records were read and end there. A clean file is taken as it is. Any other is cut at the end of its
-/// records, and its gate is shut there. That may crash, too: a crash at any moment leaves the same records.
+/// Opens a file whose records were read and end at `end`. A clean file is taken unchanged. Any
+/// other file is cut at the end of its records, and a shut gate is written there. A crash at any
+/// moment of this leaves the same records.
 ///
 /// # Errors
 ///
 /// `HostFault` if the host failed, with the host. A clean file never fails.
 pub fn open<H: Host>(alloc: Global, mut host: H, end: End) -> Result<Log<H>, (HostFault, H)>
     requires ends { IsEnd (H.seen host) end }
-    // After a restart, what is read is what is on the disk.
+    // After a restart, a read returns the bytes that are on the disk.
     requires durable { Only (H.seen host) (H.heard host) (H.may_leave host) }
 
     ensures ok { IfOk result (λ log. IsSettled H.seen H.heard H.may_leave log

@@ -1,4 +1,4 @@
-// What stands at a place of a file.
+// The contents of a place in a file.
 ghost use Rattle.std.specs.Prelude.{◌≡◌, length};
 ghost use Rattle.durable_log.specs.Format.{is_open, next, after_front, with_length, with_again, with_check, with_reply_check, record_in, column_of};
 ghost use Rattle.durable_log.specs.Shown.{next_shown};
@@ -7,7 +7,7 @@ use crate::adler::check_of_record;
 use crate::columns::{ColumnRead, column};
 use crate::record::Record;
 
-// The end, what is no record though its gate is open, or a record and what stands behind it.
+// The end; or bytes after an open gate that are no record; or a record, and the bytes after it.
 #[derive(Clone, Copy)]
 pub enum Place<'a> {
     End,
@@ -98,7 +98,7 @@ fn behind_gate(bytes: &[u8]) -> Place<'_>
     }
 }
 
-// What stands at the front of the bytes.
+// Reads the place at the front of the bytes.
 #[tactic(auto, unfolding(crate::specs::Format::next))]
 pub(crate) fn next(bytes: &[u8]) -> Place<'_>
     ensures { next_shown result ≡ next bytes.now }

@@ -1,4 +1,4 @@
-// How the bytes of a file are read.
+// Reading the bytes of a file.
 ghost use Rattle.std.specs.Prelude.{◌≡◌, ◌↔◌, ◌∷◌, List, length, map, drop, IsTrue, IfOk, IfErr};
 ghost use Rattle.durable_log.specs.Format.{shut};
 ghost use Rattle.durable_log.specs.Files.{opening, Ours, is_known, StandsFor};
@@ -12,7 +12,7 @@ use std::alloc::{AllocError, AllocFailed, Global};
 use std::error::Error;
 use std::fmt;
 
-/// What is wrong with a file.
+/// A fault of a file.
 #[derive(Clone, Copy, Debug, PartialEq, Eq)]
 pub enum ReadFault {
     /// It is no log: another file, or an empty one.
@@ -21,9 +21,9 @@ pub enum ReadFault {
     Later,
     /// A record is damaged.
     Damaged {
-        /// Its number. Records count from 0.
+        /// The number of the record, counted from 0.
         number: usize,
-        /// The byte at which its gate stands. Bytes count from 0.
+        /// The byte at which its gate begins, counted from 0.
         byte: usize,
     },
     /// Memory was refused.
@@ -61,25 +61,25 @@ impl<T: Drop> From<AllocFailed<T>> for ReadFault {
     }
 }
 
-/// Where the records of a file end.
+/// The end of the records of a file.
 #[derive(Clone, Copy, Debug, PartialEq, Eq)]
 pub struct End {
-    /// The byte at which the gate behind the last record stands, or would stand.
+    /// The byte at which the gate after the last record begins, or would begin.
     pub byte: usize,
-    /// Whether the file ends right after that gate, and the gate is shut.
+    /// Whether the gate is shut, and the file ends right after it.
     pub is_clean: bool,
 }
 
-/// The records of a file, and where they end.
+/// The records of a file, and their end.
 #[derive(Drop)]
 pub struct Contents<'a> {
     /// The records, in their order.
     pub records: Vec<Record<'a>>,
-    /// Where they end.
+    /// The end of the records.
     pub end: End,
 }
 
-// The records of a part of a file, and what stands behind them.
+// The records of a part of a file, and the bytes after them.
 #[derive(Drop)]
 pub struct Part<'a> {
     records: Vec<Record<'a>>,
@@ -116,7 +116,7 @@ fn is_header(a: u8, b: u8, c: u8, d: u8, e: u8, f: u8, h: u8) -> bool
         && (b == b'c' && (c == b't' && (d == b'l' && (e == b'o' && (f == b'g' && h == b'\n')))))
 }
 
-// What stands behind the header.
+// Returns the bytes after the header.
 fn behind_header(file: &[u8]) -> Result<&[u8], ReadFault>
     ensures ours { IfOk result (λ rest. (opening file.now ≡ Ours rest.now) × (rest.now ≡ drop 8 file.now)) }
     ensures fault { IfErr result (HasFault file.now) }
@@ -145,15 +145,15 @@ fn is_shut(bytes: &[u8]) -> bool
     }
 }
 
-/// Reads a file that a crash may have left. It asks nothing of a host, so a file that is refused stays as it was.
-/// The records lend their lines from `file`.
+/// Reads a file that a crash may have left. It makes no call of a host, so a file that is refused
+/// doesn't change. The records borrow their lines from `file`.
 ///
 /// # Errors
 ///
 /// - `Foreign` if the file is no log: its first 8 bytes are no header, or it is shorter.
 /// - `Later` if its header has another version digit.
-/// - `Damaged` if what stands behind an open gate is no record. All records before it are whole.
-/// - `OutOfMemory` if memory is refused, in place of any answer.
+/// - `Damaged` if the bytes after an open gate are no record. All records before it are whole.
+/// - `OutOfMemory` if memory is refused, instead of any result.
 pub fn read_log(alloc: Global, file: &[u8]) -> Result<Contents<'_>, ReadFault>
     ensures records { IfOk result (λ found. StandsFor (map record_shown found.records.items) file.now) }
     ensures end { IfOk result (λ found. IsEnd file.now found.end) }

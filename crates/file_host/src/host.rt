@@ -1,4 +1,4 @@
-// A file of the system and a writer, as a host.
+// A host made from a file of the system and a writer.
 ghost use Rattle.std.specs.Prelude.{◌≡◌, ◌≤◌, [], length, IfOk, IfSome};
 ghost use Rattle.log_host.specs.Host.{Only};
 ghost use Rattle.log_host.specs.Past.{seen_after, heard_after, leaves_after, left_after, faults_after};
@@ -10,8 +10,9 @@ use log_host::{Asked, Host, HostFault, Tape};
 use std::alloc::Global;
 use std::io::Write;
 
-/// A file of the system, and a writer that hears the replies. After a call of the file failed, each later call of it fails,
-/// since a sync behind a failed one says nothing. The same holds for the writer.
+/// A file of the system, and a writer that hears the replies. After a call of the file has failed,
+/// each later call of it fails, since a sync after a failed one proves nothing. The same holds for
+/// the writer.
 #[derive(Drop)]
 pub struct FileHost<F: FileCalls + Drop, W: Write + Drop> {
     file: F,
@@ -25,12 +26,14 @@ impl<F: FileCalls + Drop, W: Write + Drop> FileHost<F, W> {
     ghost use Rattle.log_host.specs.Past.{seen_after, heard_after, leaves_after};
     ghost use Rattle.log_host.specs.Host.{Only};
 
-    /// A host over a file and a writer, and the bytes that the file has. The file is synced first: a program that was
-    /// killed may have left bytes that are not on the disk yet. So what was read counts as being on the disk.
+    /// Opens a host over a file and a writer, and returns it with the bytes of the file. It syncs
+    /// the file first: a program that was killed may have left bytes that are not on the disk yet.
+    /// So the bytes that were read count as being on the disk.
     ///
     /// # Errors
     ///
-    /// `Unavailable` if the file cannot be synced or read, `OutOfMemory` if memory for its bytes is refused.
+    /// `Unavailable` if the file cannot be synced or read, and `OutOfMemory` if memory for its
+    /// bytes is refused.
     pub fn open(
         alloc: Global,
         mut file: F,
@@ -55,22 +58,23 @@ impl<F: FileCalls + Drop, W: Write + Drop> FileHost<F, W> {
     }
 }
 
-// Whether the bytes were written.
+// Writes the bytes, and returns whether it succeeded.
 fn writes<F: FileCalls>(file: &mut F, broken: bool, at: usize, bytes: &[u8]) -> bool {
     !broken && file.write_all_at(at, bytes).is_ok()
 }
 
-// Whether the file was cut.
+// Cuts the file, and returns whether it succeeded.
 fn cuts<F: FileCalls>(file: &mut F, broken: bool, len: usize) -> bool {
     !broken && file.set_size(len).is_ok()
 }
 
-// Whether the file was synced.
+// Syncs the file, and returns whether it succeeded.
 fn syncs<F: FileCalls>(file: &mut F, broken: bool) -> bool {
     !broken && file.sync_all_data().is_ok()
 }
 
-// How many bytes of the piece were told. To take none of a piece that is not empty is a failure.
+// Sends a front of the piece, and returns its number of bytes. If the writer takes no byte of a
+// piece that is not empty, this is a failure.
 fn tells<W: Write>(listener: &mut W, silent: bool, piece: &[u8]) -> Option<usize>
     ensures bound { IfSome result (λ n. n ≤ length piece.now) }
     ensures nothing { IfSome result (λ n. n ≡ 0 → length piece.now ≡ 0) }

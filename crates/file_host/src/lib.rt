@@ -1,7 +1,7 @@
-//! A file of the system and a writer, as a host. The calls that were made are kept for proofs alone.
+//! A host made from a file of the system and a writer. It records its calls for proofs only.
 //!
-//! What a contract cannot say stands in the module `system`: that a file of the system does what is asked of it, and how
-//! a file is opened, locked and made.
+//! No contract can say that a file of the system does what is asked of it, or how a file is opened,
+//! locked and made. The module `system` has these parts.
 #![tactic(auto)]
 
 mod file_fault;

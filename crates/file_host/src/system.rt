@@ -1,4 +1,4 @@
-// All that is asked of the system's files. No contract says what it does.
+// All calls of the system's files. No contract describes their effect.
 use crate::file_fault::FileFault;
 use std::alloc::Global;
 use std::error::Error;
@@ -18,34 +18,35 @@ impl fmt::Display for CallFault {
 
 impl Error for CallFault {}
 
-/// What is asked of a file.
+/// The calls of a file.
 pub trait FileCalls {
     /// Reads all bytes, from the first.
     ///
     /// # Errors
     ///
-    /// `Unavailable` if the file cannot be read, `OutOfMemory` if memory for the bytes is refused.
+    /// `Unavailable` if the file cannot be read, and `OutOfMemory` if memory for the bytes is
+    /// refused.
     fn read_all(&mut self, alloc: Global) -> Result<Vec<u8>, FileFault>;
 
     /// Writes all of the bytes at a place.
     ///
     /// # Errors
     ///
-    /// `CallFault` if that failed. Some may be written then.
+    /// `CallFault` if the write failed. Some of the bytes may have been written then.
     fn write_all_at(&mut self, at: usize, bytes: &[u8]) -> Result<(), CallFault>;
 
     /// Cuts the file to a length, in bytes.
     ///
     /// # Errors
     ///
-    /// `CallFault` if that failed.
+    /// `CallFault` if the cut failed.
     fn set_size(&mut self, len: usize) -> Result<(), CallFault>;
 
-    /// Waits until all is on the disk.
+    /// Waits until all bytes are on the disk.
     ///
     /// # Errors
     ///
-    /// `CallFault` if that failed.
+    /// `CallFault` if the sync failed.
     fn sync_all_data(&mut self) -> Result<(), CallFault>;
 }
 
@@ -88,7 +89,7 @@ impl FileCalls for File {
     }
 }
 
-// Takes the lock on a file, which lasts as long as the file is open.
+// Takes the lock on a file. The lock lasts as long as the file is open.
 fn lock(file: &File) -> Result<(), FileFault> {
     match file.try_lock() {
         Ok(()) => Ok(()),
@@ -97,8 +98,8 @@ fn lock(file: &File) -> Result<(), FileFault> {
     }
 }
 
-/// Opens a file for reading and writing, and takes its lock. It follows a link. Two programs that open a file so never have
-/// it at once.
+/// Opens a file for reading and writing, and takes its lock. It follows a link. Two programs that
+/// open a file in this way never have it at the same time.
 ///
 /// # Errors
 ///
@@ -116,7 +117,7 @@ pub fn open_file<R: Files<File = File>>(files: &R, path: &str) -> Result<File, F
     Ok(file)
 }
 
-// Opens the file in which a new one is made, and takes its lock. One that a crash left is taken.
+// Opens the draft of a new file, and takes its lock. A draft that a crash left is used.
 fn open_draft<R: Files<File = File>>(files: &R, draft: &str) -> Result<File, FileFault> {
     let opened = OpenOptions::new()
         .read(true)
@@ -130,7 +131,7 @@ fn open_draft<R: Files<File = File>>(files: &R, draft: &str) -> Result<File, Fil
     Ok(file)
 }
 
-// The folder of a file.
+// Returns the folder of a file.
 fn folder(path: &str) -> &str {
     match path.rfind('/') {
         Some(0) => "/",
@@ -150,7 +151,7 @@ fn sync_folder<R: Files<File = File>>(files: &R, path: &str) -> Result<(), FileF
     }
 }
 
-// Writes the bytes in place of what stands there, and waits until they are on the disk.
+// Replaces the contents of a file by these bytes, and waits until they are on the disk.
 fn fill(file: &mut File, bytes: &[u8]) -> Result<(), FileFault> {
     let filled = match file.set_size(0) {
         Ok(()) => file.write_all_at(0, bytes).is_ok(),
@@ -163,9 +164,9 @@ fn fill(file: &mut File, bytes: &[u8]) -> Result<(), FileFault> {
     }
 }
 
-/// Makes a file with these bytes, and takes its lock. The bytes go into a file `PATH.new`, which is renamed after they are on
-/// the disk; then the folder is synced. So a crash leaves no file `PATH`, or all of it. A `PATH.new` that a crash left is
-/// replaced.
+/// Makes a file with these bytes, and takes its lock. The bytes are written to a file `PATH.new`,
+/// which is renamed after they are on the disk. Then the folder is synced. So a crash leaves either
+/// no file `PATH`, or all of it. A `PATH.new` that a crash left is replaced.
 ///
 /// # Errors
 ///
@@ -180,7 +181,8 @@ pub fn create_file<R: Files<File = File>>(
 ) -> Result<File, FileFault> {
     let draft = format!(in alloc; "{path}.new")?;
     let mut file = open_draft(files, &draft)?;
-    // Whoever makes the file has this lock. So if there is a file now, it was made before, and this may be it.
+    // The program that makes the file has this lock. So if there is a file now, it was made before,
+    // and the draft may be this file.
     if files.symlink_metadata(path).is_ok() {
         return Err(FileFault::InUse);
     }

@@ -509,8 +509,9 @@ impl Records {
 
     /// Returns the numbers of the unfinished job executions of a job, in ascending order.
     ///
-    /// Costs time proportional to their number. After memory for their index was refused, it looks
-    /// at every job execution.
+    /// Costs time proportional to their number. Without their index, it looks at every job
+    /// execution. The index is dropped if memory for it is refused, or if a job instance with an
+    /// unfinished job execution is removed.
     ///
     /// # Errors
     ///
@@ -525,8 +526,8 @@ impl Records {
         }
     }
 
-    /// Checks whether a job instance has an unfinished job execution, in constant time. After
-    /// memory for the index was refused, it looks at each job execution of the job instance.
+    /// Checks whether a job instance has an unfinished job execution, in constant time. Without the
+    /// index, it looks at each job execution of the job instance.
     pub fn has_unfinished(&self, i: InstanceId) -> bool
         ensures { result ≡ list_any (is_running_in i) self.now.executions }
     {

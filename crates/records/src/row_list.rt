@@ -140,7 +140,8 @@ impl<T: Numbered> RowList<T> {
         }
     }
 
-    /// Removes the rows with these numbers. Allocates nothing, and costs a binary search for each.
+    /// Removes the rows with these numbers. Allocates nothing, and costs at most a binary search for
+    /// each.
     pub(crate) fn remove_all(&mut self, numbers: &[u64])
         ensures { self.new.rows ≡ filter
             (λ row. not (list_any (λ n. n == T.number row) numbers.now)) self.old.rows }

@@ -32,7 +32,7 @@ abbrev pub IsLastCatalogue : List LogRecord → Option (ℕ × List ℕ) → Typ
 IsLastCatalogue records None = HasNoCatalogue records
 IsLastCatalogue records (Some found) = IsCatalogueAt records found.0 found.1
 
--- a number and a text that is lent
+-- a number and a borrowed text
 abbrev pub last_shown : Option (ℕ × Bor (List ℕ)) → Option (ℕ × List ℕ)
 last_shown None = None
 last_shown (Some found) = Some (found.0, found.1.now)

@@ -1,4 +1,4 @@
--- How the lines of a log are answered again.
+-- Replying to the lines of a log again.
 use Rattle.std.specs.Prelude.{ℕ, ◌≡◌, ◌<◌, List, [], ◌∷◌, ◌++◌, length, Bool, true, false, if◌then◌else◌}
 use Rattle.log_host.specs.Host.{Outcomes, LeavesOnly}
 use Rattle.durable_log.specs.Format.{LogRecord, check_of}
@@ -7,7 +7,8 @@ use Rattle.script_log.specs.Runs.{History, is_catalogue, kept_lines}
 use Rattle.script_log.specs.declared.opening.OpenFault.{OpenFault}
 use Rattle.script_log.specs.declared.opening.OpenFault.TheVariants as faults
 
--- the line of a record is kept after a history, and its reply has the check; a catalogue is no such line
+-- a record matches a history: its line is recorded after the history, and its reply has the check; a
+-- catalogue always matches
 abbrev pub IsAlikeBy : Bool → (History → List ℕ → Bool) → (History → List ℕ → List ℕ) → History → LogRecord → Type 0
 IsAlikeBy true keeps reply h r = Unit {0}
 IsAlikeBy false keeps reply h r = (keeps h r.line ≡ true) × (check_of (reply h r.line) ≡ r.reply_check)
@@ -15,25 +16,25 @@ IsAlikeBy false keeps reply h r = (keeps h r.line ≡ true) × (check_of (reply 
 abbrev pub IsAlike : (History → List ℕ → Bool) → (History → List ℕ → List ℕ) → History → LogRecord → Type 0
 IsAlike keeps reply h r = IsAlikeBy (is_catalogue r) keeps reply h r
 
--- the history with the line of a record; a catalogue is no such line
+-- the history with the line of a record; a catalogue adds no line
 abbrev pub with_line : History → LogRecord → History
 with_line h r = if is_catalogue r then h else record { catalogue = h.catalogue; lines = h.lines ++ r.line ∷ [] }
 
--- the history of the lines of records, for an engine that was made of this catalogue
+-- the history of the lines of records, for an engine that was made from this catalogue
 abbrev pub replayed : List ℕ → List LogRecord → History
 replayed catalogue records = record { catalogue = catalogue; lines = kept_lines records }
 
--- each record is answered alike after those before it
+-- each record matches the history of those before it
 abbrev pub AreAlike : (History → List ℕ → Bool) → (History → List ℕ → List ℕ) → History → List LogRecord → Type 0
 AreAlike keeps reply h [] = Unit {0}
 AreAlike keeps reply h (r ∷ records) = IsAlike keeps reply h r × AreAlike keeps reply (with_line h r) records
 
--- what it means that a record was answered alike, or not
+-- the meaning of the result whether a record matches
 abbrev pub AnswersAlike : (History → List ℕ → Bool) → (History → List ℕ → List ℕ) → History → LogRecord → (History → Type 0) → Bool → Type 0
 AnswersAlike keeps reply h r stands true = IsAlike keeps reply h r × stands (with_line h r)
 AnswersAlike keeps reply h r stands false = IsAlike keeps reply h r → ⊥
 
--- the record with this number, counted from 0, is the first that is not answered alike
+-- the record with this number, counted from 0, is the first that doesn't match
 pub record IsOtherReply (keeps : History → List ℕ → Bool) (reply : History → List ℕ → List ℕ) (catalogue : List ℕ) (records : List LogRecord) (number : ℕ) : Type 0 where
   pub before : List LogRecord
   pub entry : LogRecord
@@ -43,13 +44,14 @@ pub record IsOtherReply (keeps : History → List ℕ → Bool) (reply : History
   pub alike : AreAlike keeps reply (replayed catalogue []) before
   pub differs : IsAlike keeps reply (replayed catalogue before) entry → ⊥
 
--- why records were not answered again
+-- the reason why the lines of records could not be replied to again
 abbrev pub IsReplayFault : (History → List ℕ → Bool) → (History → List ℕ → List ℕ) → List ℕ → List LogRecord → OpenFault → Type 0
 IsReplayFault keeps reply catalogue records (faults.OtherReply number) = IsOtherReply keeps reply catalogue records number
 IsReplayFault keeps reply catalogue records faults.OutOfMemory = Unit {0}
 IsReplayFault keeps reply catalogue records faults.Failed = ⊥
 
--- why a log was not opened: nothing was written; or the host failed, and a crash leaves the same records
+-- the reason why a log was not opened: nothing was written; or the host failed, and a crash leaves the same
+-- records
 abbrev pub IsRefusal : {D : Type 0} (moment : D → ℕ) (left_since : D → ℕ → Outcomes) (counts : D → ℕ) (keeps : History → List ℕ → Bool) (reply : History → List ℕ → List ℕ) (catalogue : List ℕ) (records : List LogRecord) (heard : List ℕ) (old new : D) → OpenFault → Type 0
 IsRefusal moment left_since counts keeps reply catalogue records heard old new (faults.OtherReply number) = IsOtherReply keeps reply catalogue records number × (new ≡ old)
 IsRefusal moment left_since counts keeps reply catalogue records heard old new faults.OutOfMemory = new ≡ old

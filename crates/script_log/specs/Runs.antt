@@ -1,14 +1,14 @@
--- What an engine answers to lines, and the records that its log keeps of them.
+-- The replies of an engine to lines, and the records of these lines in its log.
 use Rattle.std.specs.Prelude.{ℕ, ◌==◌, List, [], ◌∷◌, ◌++◌, Bool, if◌then◌else◌}
 use Rattle.durable_log.specs.Format.{LogRecord, check_of}
 use Rattle.script_log.specs.declared.mark.TheConstants.{CATALOGUE_MARK, OPERATION_MARK}
 
--- what an engine stands for: the catalogue's line, and the lines that were kept
+-- the history that an engine represents: the catalogue's line, and the recorded lines
 pub record History : Type 0 where
   pub catalogue : List ℕ
   pub lines : List (List ℕ)
 
--- the history after a line: it grows by a line that is kept
+-- the history after a line: it grows if the line is recorded
 abbrev pub after : (History → List ℕ → Bool) → History → List ℕ → History
 after keeps h line = if keeps h line then record { catalogue = h.catalogue; lines = h.lines ++ line ∷ [] } else h
 
@@ -22,15 +22,15 @@ abbrev pub replies : (History → List ℕ → Bool) → (History → List ℕ �
 replies keeps reply h [] = []
 replies keeps reply h (line ∷ lines) = reply h line ++ replies keeps reply (after keeps h line) lines
 
--- the record of a catalogue, to which no reply belongs
+-- the record of a catalogue, which has no reply
 abbrev pub catalogue_record : List ℕ → LogRecord
 catalogue_record text = record { mark = CATALOGUE_MARK; line = text; reply_check = 0 }
 
--- the record of a line that was kept, with the check of its reply
+-- the record of a line, with the check of its reply
 abbrev pub line_record : List ℕ → List ℕ → LogRecord
 line_record line reply = record { mark = OPERATION_MARK; line = line; reply_check = check_of reply }
 
--- the record of a line, if it is kept
+-- the record of a line, if the line is recorded
 abbrev pub records_of_line : (History → List ℕ → Bool) → (History → List ℕ → List ℕ) → History → List ℕ → List LogRecord
 records_of_line keeps reply h line = if keeps h line then line_record line (reply h line) ∷ [] else []
 
@@ -43,16 +43,16 @@ records_of_lines keeps reply h (line ∷ lines) = records_of_line keeps reply h 
 abbrev pub is_catalogue : LogRecord → Bool
 is_catalogue r = r.mark == CATALOGUE_MARK
 
--- the lines that records keep: those of all records but catalogues
+-- the recorded lines: those of all records except catalogues
 abbrev pub kept_lines : List LogRecord → List (List ℕ)
 kept_lines [] = []
 kept_lines (r ∷ records) = if is_catalogue r then kept_lines records else r.line ∷ kept_lines records
 
--- the text of the last catalogue among records, or the one that is known before
+-- the text of the last catalogue among records, or the given text if there is none
 abbrev pub last_catalogue : List ℕ → List LogRecord → List ℕ
 last_catalogue known [] = known
 last_catalogue known (r ∷ records) = last_catalogue (if is_catalogue r then r.line else known) records
 
--- the history that records have: the last catalogue, and the lines of all other records
+-- the history of records: the last catalogue, and the lines of all other records
 abbrev pub history_of : List LogRecord → History
 history_of records = record { catalogue = last_catalogue [] records; lines = kept_lines records }

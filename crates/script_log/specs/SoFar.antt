@@ -1,4 +1,4 @@
--- A run before what waits at its end is passed on.
+-- A run before the waiting records and replies at its end are passed on.
 use Rattle.std.specs.Prelude.{ℕ, ◌≡◌, ◌≤◌, ◌⊎◌, List, ◌++◌, Bool, true, Result, OnOk, IfErr}
 use Rattle.log_host.specs.Host.{Outcomes, LeavesOnly}
 use Rattle.durable_log.specs.Logs.{records_of, waiting_in, IsSettled}
@@ -13,7 +13,7 @@ use Rattle.script_log.specs.Passing.{standing, Passing}
 use Rattle.script_log.specs.Outcomes.{HasAnswered}
 use Rattle.script_log.specs.declared.fault.RunFault.{RunFault}
 
--- the lines that were told are answered once what waits is passed on
+-- the lines that were delivered have had their replies after the waiting records and replies are passed on
 pub record RanSoFar {D E : Type 0} (seen heard : D → List ℕ) (may_leave : D → Outcomes) (moment : D → ℕ) (left_since : D → ℕ → Outcomes) (counts : D → ℕ) (stands : E → History → Type 0) (keeps : History → List ℕ → Bool) (reply : History → List ℕ → List ℕ) (r r' : Told) (p p' : Unread) (log log' : Log D) (output : List ℕ) (engine : E) (result : Result Unit RunFault) : Type 0 where
   pub read : LinesRead r r' p p'
   pub any_moment : LeavesOnly moment left_since log.host log'.host (Covered keeps reply (records_of (seen log.host)) (lines_since r r' p) (heard log.host))

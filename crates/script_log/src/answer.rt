@@ -1,4 +1,4 @@
-// How a line is answered.
+// The reply to a line.
 ghost use Rattle.std.specs.Prelude.{◌≡◌, ◌++◌, List, ℕ, IfOk, OnErr};
 ghost use Rattle.durable_log.specs.Logs.{IsSettled, waiting_in};
 ghost use Rattle.script_lines.specs.Lines.{Shows};
@@ -10,7 +10,7 @@ use durable_log::{Host, Log, Record, check_of};
 use script_lines::Line;
 use std::alloc::{AllocError, Global};
 
-// Answers a line, and returns its reply. If the line is kept, its record waits in the log.
+// Returns the reply to a line. If the line is to be recorded, its record then waits in the log.
 pub(crate) fn answer_line<H: Host, E: Engine>(
     alloc: Global,
     log: &mut Log<H>,

@@ -1,4 +1,4 @@
-// The catalogues that a log has among its records.
+// The catalogues among the records of a log.
 ghost use Rattle.std.specs.Prelude.{◌≡◌, ◌<◌, ◌^◌, ◌↔◌, ◌++◌, ◌∷◌, [], length, map, IsTrue, OnOk, IfErr};
 ghost use Rattle.log_host.specs.Host.{LeavesOnly};
 ghost use Rattle.durable_log.specs.Logs.{records_of, IsSettled, waiting_in, BeforeOrAfter};
@@ -12,16 +12,16 @@ use crate::mark::CATALOGUE_MARK;
 use durable_log::{Host, Log, Record};
 use std::alloc::Global;
 
-/// The catalogues of a log, which lends the text of the last.
+/// The catalogues of a log. It borrows the text of the last one.
 #[derive(Clone, Copy, Debug, PartialEq, Eq)]
 pub struct LogCatalogues<'a> {
     /// Whether record 0 is a catalogue.
     pub begins: bool,
-    /// The number of the last catalogue among the records, which count from 0, and its text.
+    /// The number of the last catalogue among the records, counted from 0, and its text.
     pub last: Option<(usize, &'a [u8])>,
 }
 
-// Whether record 0 is a catalogue.
+// Checks whether record 0 is a catalogue.
 fn begins_with_catalogue(records: &[Record<'_>]) -> bool
     ensures { IsTrue result ↔ BeginsWithCatalogue (map record_shown records.now) }
 {
@@ -31,7 +31,7 @@ fn begins_with_catalogue(records: &[Record<'_>]) -> bool
     }
 }
 
-/// Finds the catalogues among the records of a log, in the time of one walk over them.
+/// Finds the catalogues among the records of a log, in one walk over them.
 pub fn find_catalogues<'a>(records: &[Record<'a>]) -> LogCatalogues<'a>
     ensures begins { IsTrue result.begins ↔ BeginsWithCatalogue (map record_shown records.now) }
     ensures last { IsLastCatalogue (map record_shown records.now) (last_shown result.last) }
@@ -48,11 +48,12 @@ pub fn find_catalogues<'a>(records: &[Record<'a>]) -> LogCatalogues<'a>
     LogCatalogues { begins, last }
 }
 
-/// Adds a catalogue to the records of a log, and commits it: for a catalogue that grew. The text has fewer than 2^32 bytes.
+/// Adds a catalogue to the records of a log, and commits it. It is for a catalogue that grew. The
+/// text has fewer than 2^32 bytes.
 ///
 /// # Errors
 ///
-/// - `OutOfMemory` if memory was refused. The log is as it was.
+/// - `OutOfMemory` if memory was refused. The log doesn't change.
 /// - `Log` if the file failed or is full. Open the file again.
 pub fn append_catalogue<H: Host>(
     alloc: Global,

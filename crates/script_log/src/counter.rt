@@ -1,4 +1,4 @@
-// An engine that only counts: a proof that the trait can be met.
+// An engine that only counts. It proves that the trait can be implemented.
 ghost use Rattle.std.specs.Prelude.{◌≡◌};
 ghost use Rattle.script_log.specs.Counts.{Counted, is_some_line, digit_reply};
 
@@ -6,15 +6,15 @@ use crate::engine::{Answered, Engine};
 use script_lines::MAX_LINE;
 use std::alloc::{AllocError, Global};
 
-/// An engine for trials. It keeps each line that is neither empty nor too long, and replies with how many lines were kept
-/// before, modulo 10, as one byte.
+/// An engine for trials. It records each line that is neither empty nor too long. Its reply is the
+/// number of lines that were recorded before, modulo 10, as one byte.
 #[derive(Drop)]
 pub struct Counter {
     pub(crate) digit: u8,
 }
 
 impl Counter {
-    /// A counter that kept no line.
+    /// Creates a counter that has recorded no line.
     pub fn new() -> Counter
         ensures { result.digit ≡ 0 }
     {

@@ -1,46 +1,48 @@
-// What answers lines.
+// Engines that reply to lines.
 ghost use Rattle.std.specs.Prelude.{◌≡◌, ◌<◌, List, ℕ, Bool, false, length, IfOk};
 ghost use Rattle.script_log.specs.Runs.{History, after};
 ghost use Rattle.script_lines.specs.declared.line.TheConstants.{MAX_LINE};
 
 use std::alloc::{AllocError, Global};
 
-/// The reply to a line, and whether the line is kept.
+/// The reply to a line, and whether the line is recorded.
 #[derive(Drop)]
 pub struct Answered {
     /// The bytes of the reply, with the line feed if it has one.
     pub text: Vec<u8>,
-    /// Whether the line is kept: whether it changed what later lines are answered.
+    /// Whether the line is recorded. It is recorded if it changed the replies to later lines.
     pub kept: bool,
 }
 
-/// What answers lines after a history: a catalogue, and lines that were kept. It need not hold the lines: it may stand for several
-/// histories, and answers as is due after each of them.
+/// An engine, which replies to lines after a history: a catalogue, and recorded lines. It need not
+/// store the lines. It may represent several histories, and its replies are due after each of them.
 pub trait Engine {
-    /// Whether it stands for this history.
+    /// Whether the engine represents this history.
     ghost stands: { Self → History → Type 0 };
 
-    /// Whether a line is kept after a history.
+    /// Whether a line is recorded after a history.
     ghost keeps: { History → List ℕ → Bool };
 
     /// The reply to a line after a history.
     ghost reply: { History → List ℕ → List ℕ };
 
-    /// Answers a line.
+    /// Returns the reply to a line, and whether the line is recorded.
     ///
     /// # Errors
     ///
-    /// `AllocError` if memory is refused. What the engine stands for is open then.
+    /// `AllocError` if memory is refused. It isn't specified then which history the engine
+    /// represents.
     fn answer(&mut self, alloc: Global, line: &[u8]) -> Result<Answered, AllocError>
         ensures { IfOk result (λ answered. (h : History) → stands self.old h
             → (answered.text.items ≡ reply h line.now) × (answered.kept ≡ keeps h line.now) × stands self.new (after keeps h line.now)) };
 
-    /// Answers a line of more than [`MAX_LINE`](script_lines::MAX_LINE) bytes, of which nothing was read into memory. Such a
-    /// line is never kept.
+    /// Returns the reply to a line of more than [`MAX_LINE`](script_lines::MAX_LINE) bytes, of
+    /// which nothing was read into memory. Such a line is never recorded.
     ///
     /// # Errors
     ///
-    /// `AllocError` if memory is refused. What the engine stands for is open then.
+    /// `AllocError` if memory is refused. It isn't specified then which history the engine
+    /// represents.
     fn answer_too_long(&mut self, alloc: Global) -> Result<Vec<u8>, AllocError>
         ensures { IfOk result (λ text. (h : History) (line : List ℕ) → MAX_LINE < length line → stands self.old h
             → (text.items ≡ reply h line) × (keeps h line ≡ false) × stands self.new h) };

@@ -1,4 +1,4 @@
-// Why a run ended early.
+// The reasons why a run ended early.
 ghost use Rattle.std.specs.Prelude.{◌≡◌};
 ghost use Rattle.script_log.specs.declared.fault.AppendFault.TheVariants.{OutOfMemory as WantOfMemory};
 ghost use Rattle.script_log.specs.declared.fault.RunFault.TheVariants.{OutOfMemory};
@@ -10,21 +10,21 @@ use std::alloc::AllocError;
 use std::error::Error;
 use std::fmt;
 
-/// Why a run ended before the end of its lines.
+/// The reason why a run ended before the end of its lines.
 #[derive(Clone, Copy, Debug, PartialEq, Eq)]
 pub enum RunFault {
-    /// The reader failed, or may not be called again. All complete lines were answered, and their replies told.
+    /// The reader failed, or may not be called again. The replies to all complete lines were sent.
     Read,
-    /// The listener failed. It heard a beginning of the replies to lines that are on the disk.
+    /// The listener failed. It has heard a beginning of the replies to lines that are on the disk.
     Write,
-    /// The file failed or is full. No reply to what wasn't committed was told.
+    /// The file failed or is full. No reply to an uncommitted record was sent.
     Log(CommitFault),
-    /// Memory was refused. The lines before were answered, and their replies told.
+    /// Memory was refused. The replies to the lines before were sent.
     OutOfMemory,
 }
 
 impl RunFault {
-    // Whether the file or the listener failed, so that the log is of no more use.
+    // Checks whether the file or the listener failed, so that the log is of no more use.
     pub(crate) fn is_broken(self) -> bool
         ensures { result ≡ is_broken self }
     {
@@ -71,12 +71,12 @@ impl From<LineFault> for RunFault {
     }
 }
 
-/// Why a catalogue was not added to a log.
+/// The reason why a catalogue was not added to a log.
 #[derive(Clone, Copy, Debug, PartialEq, Eq)]
 pub enum AppendFault {
     /// The file failed or is full. Open the file again.
     Log(CommitFault),
-    /// Memory was refused. The log is as it was.
+    /// Memory was refused. The log doesn't change.
     OutOfMemory,
 }
 

@@ -1,4 +1,5 @@
-//! Answers the lines of a reader over a log on the disk: a reply is told after the record of its line is on the disk.
+//! Replies to the lines of a reader, over a log on the disk. A reply is sent after the record of
+//! its line is on the disk.
 #![tactic(auto)]
 
 mod answer;

@@ -1,5 +1,5 @@
 /// The mark of a record that is a catalogue.
 pub const CATALOGUE_MARK: u8 = b'c';
 
-/// The mark of a record that is a line which was kept: an operation.
+/// The mark of a record that is a line: an operation.
 pub const OPERATION_MARK: u8 = b'o';

@@ -1,4 +1,4 @@
-// How a log is opened, and its lines are answered again.
+// Opening a log, and replying to its lines again.
 ghost use Rattle.std.specs.Prelude.{◌≡◌, ◌<◌, ◌++◌, [], List, ℕ, Bool, true, false, map, IsTrue, IfOk, IfErr, OnOk};
 ghost use Rattle.log_host.specs.Host.{Only, LeavesOnly};
 ghost use Rattle.durable_log.specs.Files.{StandsFor};
@@ -13,12 +13,13 @@ use crate::mark::CATALOGUE_MARK;
 use durable_log::{Contents, Host, Log, Record, check_of};
 use std::alloc::{AllocError, Global};
 
-/// Why a log was not opened.
+/// The reason why a log was not opened.
 #[derive(Clone, Copy, Debug, PartialEq, Eq)]
 pub enum OpenFault {
-    /// The line of this record is not kept any more, or its reply has another check. Nothing was written.
+    /// The line of this record would not be recorded any more, or its reply has another check.
+    /// Nothing was written.
     OtherReply {
-        /// The number of the record. Records count from 0.
+        /// The number of the record, counted from 0.
         number: usize,
     },
     /// Memory was refused. Nothing was written.
@@ -35,7 +36,9 @@ impl From<AllocError> for OpenFault {
     }
 }
 
-// Answers the line of a record again, and returns whether it is answered alike. A catalogue is passed over.
+// Replies to the line of a record again, and returns whether the record matches: the line is
+// recorded again, and the reply has the same check. A catalogue always matches, and no reply is
+// made.
 fn is_alike<E: Engine>(alloc: Global, engine: &mut E, asked: Record<'_>) -> Result<bool, AllocError>
     ensures { IfOk result (λ alike. (h : History) → E.stands engine.old h
         → AnswersAlike E.keeps E.reply h (record_shown asked.entry) (E.stands engine.new) alike) }
@@ -47,7 +50,7 @@ fn is_alike<E: Engine>(alloc: Global, engine: &mut E, asked: Record<'_>) -> Resu
     Ok(answered.kept && check_of(&answered.text) == asked.reply_check)
 }
 
-// Answers the lines of records again.
+// Replies to the lines of records again.
 fn replay<E: Engine>(
     alloc: Global,
     engine: &mut E,
@@ -70,15 +73,17 @@ fn replay<E: Engine>(
     Ok(())
 }
 
-/// Opens a log whose contents were read, and brings a fresh engine to the history of its lines. Each line is answered
-/// again. The engine was made of `catalogue`: the log's last one, or one that grew. A clean file is taken as it is; the end
-/// of any other is repaired. A crash meanwhile leaves the same records.
+/// Opens a log whose contents were read, and brings a fresh engine to the history of its lines. The
+/// engine replies to each line again. It was made from `catalogue`: the log's last one, or one that
+/// grew. A clean file is taken unchanged, and the end of any other file is repaired. A crash during
+/// this leaves the same records.
 ///
 /// # Errors
 ///
 /// With the host:
 ///
-/// - `OtherReply` if a line is not kept any more, or its reply has another check: the first such record.
+/// - `OtherReply` if a line is not recorded any more, or its reply has another check: the first
+///   such record.
 /// - `OutOfMemory` if memory was refused.
 /// - `Failed` if the host failed.
 pub fn open<H: Host, E: Engine>(
@@ -88,7 +93,7 @@ pub fn open<H: Host, E: Engine>(
     engine: &mut E,
     catalogue: &[u8],
 ) -> Result<Log<H>, (OpenFault, H)>
-    // After a restart, what is read is what is on the disk.
+    // After a restart, a read returns the bytes that are on the disk.
     requires records { StandsFor (map record_shown contents.now.records.items) (H.seen host) }
     requires end { IsEnd (H.seen host) contents.now.end }
     requires durable { Only (H.seen host) (H.heard host) (H.may_leave host) }

@@ -1,4 +1,4 @@
-// How what waits is passed on: records to the disk, then replies to the listener.
+// Passing on the waiting records to the disk, and then the waiting replies to the listener.
 ghost use Rattle.std.specs.Prelude.{◌≡◌, ◌<◌, ◌≤◌, ◌++◌, [], true, OnOk, OnErr, IfErr};
 ghost use Rattle.log_host.specs.Host.{LeavesOnly};
 ghost use Rattle.durable_log.specs.Logs.{records_of, IsSettled, waiting_in, Told};
@@ -10,7 +10,7 @@ use crate::fault::RunFault;
 use durable_log::{Host, Log};
 use script_lines::OutputBuffer;
 
-// Tells all of a text.
+// Sends all of a text.
 fn tell_all<H: Host>(log: &mut Log<H>, text: &[u8]) -> Result<(), RunFault>
     requires settled { IsSettled H.seen H.heard H.may_leave log.old }
     requires nothing_waits { waiting_in log.old ≡ [] }
@@ -39,7 +39,7 @@ fn tell_all<H: Host>(log: &mut Log<H>, text: &[u8]) -> Result<(), RunFault>
     Ok(())
 }
 
-// Commits the records that wait, then tells the replies that wait. It asks for no memory.
+// Commits the waiting records, then sends the waiting replies. It takes no memory.
 pub(crate) fn commit_and_tell<H: Host>(
     log: &mut Log<H>,
     output: &mut OutputBuffer,
@@ -64,7 +64,8 @@ pub(crate) fn commit_and_tell<H: Host>(
     Ok(())
 }
 
-// Puts a reply behind those that wait. If there is no room for it, what waits is passed on first.
+// Adds a reply after the waiting replies. If there is no room for it, the waiting records and
+// replies are passed on first.
 pub(crate) fn put_reply<H: Host>(
     log: &mut Log<H>,
     output: &mut OutputBuffer,

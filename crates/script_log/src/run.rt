@@ -18,7 +18,7 @@ use durable_log::{Host, Log};
 use script_lines::{InputBuffer, OutputBuffer, Source};
 use std::alloc::Global;
 
-// Answers all lines, and leaves the last records and replies waiting.
+// Replies to all lines, and leaves the last records and replies waiting.
 fn answer_all<S: Source, H: Host, E: Engine>(
     alloc: Global,
     input: &mut InputBuffer,
@@ -53,17 +53,20 @@ fn has_broken(outcome: &Result<(), RunFault>) -> bool
     }
 }
 
-/// Answers the lines at hand in `input`, then those that `source` tells, to its end. A line that is kept is a record of the
-/// log, with the check of its reply. Replies are collected, 65,536 bytes at most. Before the reader is asked for more, and at
-/// the end, the records that wait are committed, all at once, and then the replies are told. Nothing is committed if no line
-/// was kept.
+/// Replies to the lines at hand in `input`, then to those that `source` delivers, up to its end. A
+/// recorded line is a record of the log, with the check of its reply. Replies are collected, up to
+/// 65,536 bytes. Before the reader is asked for more, and at the end, the waiting records are
+/// committed, all at once. Then the replies are sent. Nothing is committed if no line was recorded.
 ///
 /// # Errors
 ///
-/// - `Read` if the reader failed, or may not be called again: all complete lines were answered and their replies told.
-/// - `Write` if the listener failed. It heard a beginning of the replies to what is on the disk.
-/// - `Log` if the file failed or is full. No reply to what was not committed was told. Open the file again.
-/// - `OutOfMemory` if memory was refused: the lines before were answered and their replies told.
+/// - `Read` if the reader failed, or may not be called again. The replies to all complete lines
+///   were sent.
+/// - `Write` if the listener failed. It has heard a beginning of the replies to lines that are on
+///   the disk.
+/// - `Log` if the file failed or is full. No reply to an uncommitted record was sent. Open the file
+///   again.
+/// - `OutOfMemory` if memory was refused. The replies to the lines before were sent.
 pub fn answer_lines<S: Source, H: Host, E: Engine>(
     alloc: Global,
     input: &mut InputBuffer,
@@ -75,8 +78,9 @@ pub fn answer_lines<S: Source, H: Host, E: Engine>(
     requires nothing_waits { waiting_in log.old ≡ [] }
     requires stands { E.stands engine.old (history_of (records_of (H.seen log.old.host))) }
 
-    // A crash at any moment leaves the records as they were and those of some of the lines told, each with the check of its
-    // reply. What was heard is a beginning of the replies to those lines.
+    // A crash at any moment leaves the records from before, and those of a beginning of the lines,
+    // each with the check of its reply. The listener has heard a beginning of the replies to those
+    // lines.
     ensures any_moment { LeavesOnly H.moment H.left_since log.old.host log.new.host
         (Covered E.keeps E.reply (records_of (H.seen log.old.host)) (lines_since (S.tape source.old) (S.tape source.new) input.old) (H.heard log.old.host)) }
 

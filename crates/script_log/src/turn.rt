@@ -1,4 +1,4 @@
-// The next line, read in turn: nobody waits for a reply or a record while the reader is asked for more.
+// The next line, read in turn: no reply and no record waits while the reader is asked for more.
 ghost use Rattle.std.specs.Prelude.{◌≡◌, ◌<◌, [], IsSome, IfOk};
 ghost use Rattle.durable_log.specs.Logs.{IsSettled, waiting_in};
 ghost use Rattle.script_lines.specs.Unread.{weight};
@@ -26,7 +26,7 @@ fn fill_in_turn<S: Source, H: Host>(
     input.fill(source)
 }
 
-// The next line. Before each read, what waits is passed on.
+// Returns the next line. Before each read, the waiting records and replies are passed on.
 pub(crate) fn next_line<S: Source, H: Host>(
     alloc: Global,
     input: &mut InputBuffer,

@@ -1,14 +1,14 @@
--- What an artifact means that reads the items that it was given, and keeps each.
+-- The meaning of an artifact that reads the given items, and filters out none.
 use Rattle.std.specs.Prelude.{ℕ, zero, suc, map, drop, slice_get, string_bytes, List, [], Option, Some, None, String}
 use Rattle.std.specs.declared.alloc.Global.{Global}
 use Rattle.job_threads.specs.Meaning.{Coming, Told, Meaning}
 use Rattle.job_threads.specs.Past.{Past}
 
--- an item is its own mark
+-- an item is its own checkpoint
 abbrev pub coming : String Global → Coming
 coming item = record { item = string_bytes item; mark = string_bytes item }
 
--- the mark of the item that was read last
+-- the checkpoint after the item that was read last
 abbrev pub mark_of : Option (String Global) → List ℕ
 mark_of None = []
 mark_of (Some item) = string_bytes item
@@ -17,11 +17,11 @@ abbrev pub mark_at : List (String Global) → ℕ → List ℕ
 mark_at items zero = []
 mark_at items (suc before) = mark_of (slice_get items before)
 
--- whatever its partition
+-- the description of the artifact, for any partition
 abbrev pub told_of : List (String Global) → Told
 told_of items = record { opens = λ _. map coming items; gives = λ item. Some item; exit = None }
 
--- so many of these items were read, and this was written
+-- the meaning after this many items were read, and with this past
 abbrev pub staged : List (String Global) → ℕ → Past → Meaning
 staged items at past =
     record {

@@ -40,7 +40,7 @@ pub(crate) fn make_call<N: Site>(
     }
 }
 
-/// Asks a query by the operator's method for it.
+/// Makes a query by the operator's method for it.
 pub(crate) fn ask_query<N: Site>(
     rt: &impl Wait,
     operator: &Operator<N>,

@@ -16,12 +16,12 @@ use std::marker::Brand;
 use std::sync::Wait;
 use std::thread::Threads;
 
-/// A job of built-in artifacts: a chunk that filters five items, then a batchlet with an exit status,
-/// and then one of no name that is known.
+/// A job of built-in artifacts: a chunk that filters five items, then a batchlet with an exit
+/// status, and then a batchlet with an unknown name.
 const NAMED: &[u8] =
     b"{\"jobs\":[{\"id\":\"a\",\"elements\":[{\"kind\":\"step\",\"id\":\"s\",\"next\":\"t\",\"chunk\":{\"item-count\":2,\"reader\":{\"ref\":\"count:5\"},\"processor\":{\"ref\":\"odd\"},\"writer\":{\"ref\":\"sink\"}}},{\"kind\":\"step\",\"id\":\"t\",\"next\":\"u\",\"batchlet\":{\"ref\":\"exit:T\"}},{\"kind\":\"step\",\"id\":\"u\",\"batchlet\":{\"ref\":\"other\"}}]}]}";
 
-/// The exit status of a step.
+/// Returns the exit status of a step.
 fn exit_in(step: &StepExecution) -> &str {
     match &step.exit {
         None => "no exit status",
@@ -29,7 +29,7 @@ fn exit_in(step: &StepExecution) -> &str {
     }
 }
 
-/// Says how a step ended, and what was counted.
+/// Prints the status and the metrics of a step.
 fn print_step(rt: &impl Print, step: &StepExecution) -> Result<()> {
     println!(rt;
         "built in: {} {}, {}: {} read, {} filtered, {} written, {} committed",
@@ -44,12 +44,12 @@ fn print_step(rt: &impl Print, step: &StepExecution) -> Result<()> {
     Ok(())
 }
 
-/// The catalogue of that job.
+/// Returns the catalogue of that job.
 fn catalogue_of(alloc: Global) -> Result<Catalogue> {
     Ok(read_catalogue(alloc, NAMED)?)
 }
 
-/// Says how each step of the first job execution ended.
+/// Prints the result of each step of the first job execution.
 fn print_steps<N: Site, R: Wait + Print + AllocGlobal>(
     rt: &R,
     operator: &Operator<N>,
@@ -63,7 +63,7 @@ fn print_steps<N: Site, R: Wait + Print + AllocGlobal>(
     printed
 }
 
-/// Says how each of these step executions ended.
+/// Prints the result of each of these step executions.
 fn print_answer(rt: &impl Print, answer: &Answer) -> Result<()> {
     let Answer::StepExecutions(steps) = answer else {
         bail!("the step executions are of another kind");
@@ -74,7 +74,8 @@ fn print_answer(rt: &impl Print, answer: &Answer) -> Result<()> {
     Ok(())
 }
 
-/// Starts the job `a`, and runs it by two workers that have built-in artifacts of the names in it.
+/// Starts the job `a`, and runs it by two workers that have built-in artifacts with the names in
+/// it.
 fn run_by_two<N: Site + Send + Sync, R: Threads + Wait + AllocGlobal + Sync>(
     rt: &R,
     operator: &Operator<N>,
@@ -84,7 +85,7 @@ fn run_by_two<N: Site + Send + Sync, R: Threads + Wait + AllocGlobal + Sync>(
     Ok(pool_with_built_ins(rt, rt.alloc(), operator, &names, 2, &Open)?)
 }
 
-/// Runs the job `a` of a catalogue, and says what came of it.
+/// Runs the job `a` of a catalogue, and prints its result.
 fn run_named<N: Site + Send + Sync, R: Threads + Wait + Print + AllocGlobal + Sync>(
     rt: &R,
     table: SeatTable,
@@ -101,7 +102,7 @@ fn run_named<N: Site + Send + Sync, R: Threads + Wait + Print + AllocGlobal + Sy
     ran
 }
 
-/// The same on an operator.
+/// Runs the job `a` on an operator, and prints its result.
 fn run_on<N: Site + Send + Sync, R: Threads + Wait + Print + AllocGlobal + Sync>(
     rt: &R,
     operator: &Operator<N>,
@@ -111,7 +112,7 @@ fn run_on<N: Site + Send + Sync, R: Threads + Wait + Print + AllocGlobal + Sync>
     print_steps(rt, operator)
 }
 
-/// Says what two workers report.
+/// Prints the report of two workers.
 fn print_pool(rt: &impl Print, report: PoolReport) -> Result<()> {
     println!(rt;
         "built in: {} work items, {} gave up",
@@ -120,7 +121,7 @@ fn print_pool(rt: &impl Print, report: PoolReport) -> Result<()> {
     Ok(())
 }
 
-/// Two workers run a job of built-in artifacts.
+/// Runs a job of built-in artifacts by two workers.
 pub(crate) fn print_built_ins<R: Threads + Wait + Print + AllocGlobal + Sync>(
     rt: &R,
 ) -> Result<()> {

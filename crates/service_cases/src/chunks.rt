@@ -9,7 +9,8 @@ use std::alloc::Global;
 use std::sync::Arc;
 use std::sync::atomic::Ordering;
 
-/// Where each artifact of a chunk faults, and how long the mark of the fourth item is.
+/// The place at which each artifact of a chunk faults, and whether the checkpoint of the fourth
+/// item is too long.
 #[derive(Clone, Copy)]
 struct Faults {
     reader: Place,
@@ -26,7 +27,7 @@ const CALM: Faults = Faults {
     long_mark: false,
 };
 
-/// A text of 65,537 bytes, which is one too many for a mark.
+/// Returns a text of 65,537 bytes, which is one too many for a checkpoint.
 fn long_text(alloc: Global) -> Result<String> {
     let mut text = String::new(alloc);
     for _byte in 0..65_537 {
@@ -35,7 +36,7 @@ fn long_text(alloc: Global) -> Result<String> {
     Ok(text)
 }
 
-/// Five items, the fourth of which may be too long for a mark.
+/// Returns five items, the fourth of which may be too long for a checkpoint.
 fn five_items(alloc: Global, long_mark: bool) -> Result<Vec<String>> {
     let mut items = Vec::new(alloc);
     for number in 1..6 {
@@ -48,7 +49,7 @@ fn five_items(alloc: Global, long_mark: bool) -> Result<Vec<String>> {
     Ok(items)
 }
 
-/// An artifact that faults at this place.
+/// Returns an artifact that faults at this place.
 pub(crate) fn staged(
     alloc: Global,
     place: Place,
@@ -88,7 +89,7 @@ fn run_chunk(
     Ok(reported)
 }
 
-/// Adds what a report counts.
+/// Adds the counts of a report.
 fn add_step(metrics: &mut Metrics, step: &MetricStep) {
     metrics.read_count = metrics
         .read_count
@@ -104,7 +105,7 @@ fn add_step(metrics: &mut Metrics, step: &MetricStep) {
         .saturating_add(u64::from(step.rollback_count));
 }
 
-/// What is reported of the work item: its counts together, and its end.
+/// Prints the reports of the work item: the sum of its counts, and its end.
 fn print_reports(rt: &impl Print, name: &str, reports: &[Report]) -> Result<()> {
     let mut metrics = Metrics::zero();
     for report in reports {
@@ -123,7 +124,7 @@ fn print_reports(rt: &impl Print, name: &str, reports: &[Report]) -> Result<()> 
     Ok(())
 }
 
-/// Runs this work item by a worker whose kit has `r`, `p` and `w`, and prints what came of it.
+/// Runs this work item by a worker whose kit has `r`, `p` and `w`, and prints the result.
 fn print_task(
     rt: &(impl Print + AllocGlobal),
     name: &str,
@@ -139,7 +140,7 @@ fn print_task(
     printed
 }
 
-/// Runs what the port hands out, and prints what came of it.
+/// Runs the work item of the port, and prints the result.
 fn print_run(
     rt: &(impl Print + AllocGlobal),
     name: &str,
@@ -155,7 +156,7 @@ fn print_run(
     print_reports(rt, name, port.reports.as_slice())
 }
 
-/// Says what was written.
+/// Prints the number of groups and items that were written.
 fn print_written(rt: &impl Print, name: &str, written: &Written) -> Result<()> {
     println!(rt;
         "{name}: {} groups of {} items written",
@@ -165,7 +166,7 @@ fn print_written(rt: &impl Print, name: &str, written: &Written) -> Result<()> {
     Ok(())
 }
 
-/// Runs the chunk, and prints what came of it.
+/// Runs the chunk, and prints the result.
 fn print_chunk(
     rt: &(impl Print + AllocGlobal),
     name: &str,
@@ -176,7 +177,8 @@ fn print_chunk(
     print_task(rt, name, task, faults, answers)
 }
 
-/// A chunk of five items, in groups of two, each of whose artifacts faults at each of its places.
+/// Runs a chunk of five items, in groups of two. Each of its artifacts faults at each of its
+/// places.
 pub(crate) fn print_faults(rt: &(impl Print + AllocGlobal)) -> Result<()> {
     print_chunk(rt, "no fault", CALM, ROOMY)?;
     let mut faults = CALM;
@@ -201,8 +203,8 @@ pub(crate) fn print_faults(rt: &(impl Print + AllocGlobal)) -> Result<()> {
     print_chunk(rt, "long mark", faults, ROOMY)
 }
 
-/// A stop that is seen before the second group, and a second checkpoint that is refused, where the
-/// loss is accepted and where it is not.
+/// Runs a chunk whose stop is seen before the second group. Then runs one whose second checkpoint
+/// is refused, first with an accepted loss and then with a refused one.
 pub(crate) fn print_ended_early(rt: &(impl Print + AllocGlobal)) -> Result<()> {
     let mut answers = ROOMY;
     answers.stop_after = Some(1);
@@ -214,7 +216,7 @@ pub(crate) fn print_ended_early(rt: &(impl Print + AllocGlobal)) -> Result<()> {
     print_chunk(rt, "refused twice", CALM, answers)
 }
 
-/// Work items that name an artifact which the kit lacks.
+/// Runs work items that name an artifact that the kit lacks.
 pub(crate) fn print_unknown_names(rt: &(impl Print + AllocGlobal)) -> Result<()> {
     let alloc = rt.alloc();
     let reader = chunk(alloc, "other", "w")?;

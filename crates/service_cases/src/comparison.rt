@@ -2,7 +2,7 @@ ghost use Rattle.std.specs.Prelude.{◌≡◌, ◌↔◌, IsNone};
 
 use std::io;
 
-/// The line, counted from 1, in which two texts begin to differ, if they do.
+/// Returns the first line, counted from 1, in which two texts differ, if they do.
 fn first_difference(written: &[u8], wanted: &[u8]) -> Option<usize>
     ensures { IsNone result ↔ (written.now ≡ wanted.now) }
 {
@@ -21,7 +21,7 @@ fn first_difference(written: &[u8], wanted: &[u8]) -> Option<usize>
     Some(line)
 }
 
-/// Says whether replies are the wanted ones.
+/// Prints whether replies are the expected ones.
 pub(crate) fn print_comparison(
     rt: &impl Print,
     names: (&str, &str),

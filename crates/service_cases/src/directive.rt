@@ -3,38 +3,41 @@ use json_members::{number_at, read_value, text_at};
 use serde_json::Value;
 use std::alloc::Global;
 
-/// What an operator is asked by a line that is neither a call nor a query. Sessions are named by their numbers.
+/// A line for an operator that is neither a call nor a query. It names sessions by their numbers.
 #[derive(Clone, Copy)]
 pub(crate) enum Directive {
     /// `{"operator":"meet","one":1,"other":2}`: two sessions meet. The reply is `{"met":true}`.
     Meet {
-        /// One of them.
+        /// The number of one session.
         one: u64,
-        /// The other.
+        /// The number of the other session.
         other: u64,
     },
-    /// `{"operator":"stop_seen","by":1,"execution":65}`: whether a session finds that a job execution was asked to stop. The
-    /// reply is `{"stop_seen":false}`.
+    /// `{"operator":"stop_seen","by":1,"execution":65}`: a session looks whether a job execution
+    /// was asked to stop. The reply is `{"stop_seen":false}`.
     StopSeen {
         /// The session.
         by: u64,
         /// The job execution.
         execution: ExecutionId,
     },
-    /// `{"operator":"operations_at_least","by":2}`: the count of operations that a session is shown. The reply is
-    /// `{"operations_at_least":3}`.
+    /// `{"operator":"operations_at_least","by":2}`: a session reads the count of operations. The
+    /// reply is `{"operations_at_least":3}`.
     OperationsAtLeast {
         /// The session.
         by: u64,
     },
-    /// `{"operator":"open"}`: one more session is opened. The reply is `{"session":4}`, its number.
+    /// `{"operator":"open"}`: one more session is opened. The reply is `{"session":4}`, with its
+    /// number.
     Open,
-    /// `{"operator":"ask_by","by":2}`: the next query is a session's. The reply is `{"asks":2}`.
+    /// `{"operator":"ask_by","by":2}`: this session makes the next query. The reply is
+    /// `{"asks":2}`.
     AskBy {
         /// The session.
         by: u64,
     },
-    /// `{"operator":"publish","copy":0}`: a read copy is brought to the history. The reply is `{"published":true}`.
+    /// `{"operator":"publish","copy":0}`: a read copy is brought up to date with the history. The
+    /// reply is `{"published":true}`.
     Publish {
         /// The copy.
         copy: u64,
@@ -42,7 +45,7 @@ pub(crate) enum Directive {
 }
 
 impl Directive {
-    /// The greatest number of a session that it names.
+    /// Returns the highest session number that it names.
     pub(crate) fn greatest(self) -> u64 {
         match self {
             Directive::Meet { one, other } => one.max(other),
@@ -55,7 +58,7 @@ impl Directive {
     }
 }
 
-/// What an operator is asked by this line, if the line is one of these.
+/// Parses a line, and returns its directive, if it is one.
 pub(crate) fn read_directive(alloc: Global, line: &[u8]) -> Result<Option<Directive>, OutOfMemory> {
     match read_value(alloc, line)? {
         Some(value) => Ok(directive_of(&value)),
@@ -83,7 +86,7 @@ fn publish_of(value: &Value) -> Option<Directive> {
     Some(Directive::Publish { copy })
 }
 
-/// What an operator is asked by a line that names one session.
+/// Returns the directive of a line that names one session, if it is one.
 fn directive_by(name: &str, value: &Value, by: u64) -> Option<Directive> {
     match name {
         "stop_seen" => stop_seen_of(value, by),

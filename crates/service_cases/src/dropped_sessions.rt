@@ -16,7 +16,7 @@ use std::sync::Wait;
 const STEP: &[u8] =
     b"{\"jobs\":[{\"id\":\"a\",\"elements\":[{\"kind\":\"step\",\"id\":\"s\",\"batchlet\":{\"ref\":\"ok\"}}]}]}";
 
-/// The work item that a claim was handed.
+/// Returns the work item of a claim's reply.
 fn work_in(reply: &Reply) -> Result<WorkId> {
     match reply {
         Reply::Work(item) => Ok(item.work),
@@ -24,7 +24,7 @@ fn work_in(reply: &Reply) -> Result<WorkId> {
     }
 }
 
-/// Starts the job and claims its work, by this session, which is dropped then.
+/// Starts the job and claims its work by this session, and then drops the session.
 fn claim_and_drop<N: Site>(
     rt: &(impl Wait + AllocGlobal),
     operator: &Operator<N>,
@@ -64,7 +64,7 @@ fn print_loss<N: Site>(
     Ok(())
 }
 
-/// Makes the operator.
+/// Creates the operator.
 fn run_dropped<N: Site>(
     rt: &(impl Wait + Print + AllocGlobal),
     table: SeatTable,
@@ -81,7 +81,8 @@ fn run_dropped<N: Site>(
     printed
 }
 
-/// A session claims work and is dropped: another, which was opened before, gives its work up, and no number is used twice.
+/// Lets a session claim work, and drops it. Another, opened before, gives its work up, and no
+/// number is used twice.
 pub(crate) fn print_dropped_session(rt: &(impl Wait + Print + AllocGlobal)) -> Result<()> {
     let catalogue = read_catalogue(rt.alloc(), STEP)?;
     let (table, seat) = SeatTable::new(rt.alloc(), &catalogue)?;

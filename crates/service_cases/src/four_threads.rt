@@ -1,6 +1,7 @@
-//! Four threads share one job repository: two start jobs, one claims work and finishes it, and one looks on and asks a job
-//! execution to stop. Each opens a session of its own and ends after so many turns. What is printed does not depend on which
-//! thread came first. It stands by itself, as an example of how a program embeds an operator.
+//! Four threads share one job repository. Two start jobs, one claims work and finishes it, and one
+//! observes and asks a job execution to stop. Each opens a session of its own, and ends after a
+//! number of turns. The output doesn't depend on the order of the threads. This file stands alone,
+//! as an example of a program with an operator.
 ghost use Rattle.std.specs.Prelude.{◌≡◌};
 
 use anyhow::{Result, bail};
@@ -19,16 +20,16 @@ use std::thread::Threads;
 const CATALOGUE: &[u8] =
     b"{\"jobs\":[{\"id\":\"report\",\"elements\":[{\"kind\":\"step\",\"id\":\"print\",\"batchlet\":{\"ref\":\"printer\"}}]}]}";
 
-/// How many job executions each of two threads starts.
+/// The number of job executions that each of two threads starts.
 const STARTS: u64 = 100;
 
-/// How often work is claimed, or the repository looked at.
+/// The number of claims, and of looks at the repository.
 const TURNS: u64 = 100;
 
-/// The numbers of the job executions that a thread has started, or what its last call was refused for.
+/// The numbers of the job executions that a thread has started, or the refusal of its last call.
 type Started = Result<Vec<u64>, Refusal>;
 
-/// How many operations the session of a thread had accepted, or what its last call was refused for.
+/// The number of accepted operations of a thread's session, or the refusal of its last call.
 type Ended = Result<u64, Refusal>;
 
 /// Starts job executions.
@@ -43,7 +44,7 @@ fn start_jobs<N: Site>(rt: &(impl Wait + AllocGlobal), operator: &Operator<N>) -
     Ok(started)
 }
 
-/// The job execution that a session has started.
+/// Starts a job execution, and returns its number.
 fn start<N: Site>(
     rt: &(impl Wait + AllocGlobal),
     operator: &Operator<N>,
@@ -71,7 +72,7 @@ fn work<N: Site>(rt: &impl Wait, operator: &Operator<N>) -> Ended {
     Ok(session.accepted())
 }
 
-/// The work item that a session has claimed, unless there is no work.
+/// Claims a work item. Returns `None` if there is no work.
 fn claim<N: Site>(
     rt: &impl Wait,
     operator: &Operator<N>,
@@ -100,7 +101,8 @@ fn finish<N: Site>(
     Ok(())
 }
 
-/// Looks on, and asks the first job execution to stop, unless it is finished by then.
+/// Observes the repository, and asks the first job execution to stop, unless it is finished by
+/// then.
 fn look_on<N: Site>(rt: &impl Wait, operator: &Operator<N>) -> Ended {
     let mut session = operator.open_session(rt)?;
     for turn in 0..TURNS {
@@ -110,7 +112,7 @@ fn look_on<N: Site>(rt: &impl Wait, operator: &Operator<N>) -> Ended {
     Ok(session.accepted())
 }
 
-/// Brings the read copy to the history, and looks at what there is.
+/// Brings the read copy up to date with the history, and queries it.
 fn look<N: Site>(
     rt: &impl Wait,
     operator: &Operator<N>,
@@ -137,7 +139,8 @@ fn stop_first<N: Site>(
     }
 }
 
-/// Lets two threads start job executions, and gives the numbers of all of them, rising.
+/// Lets two threads start job executions, and returns the numbers of all of them, in ascending
+/// order.
 fn two_start<N: Site + Send + Sync, R: Threads + Wait + AllocGlobal + Sync>(
     rt: &R,
     operator: &Operator<N>,
@@ -147,7 +150,7 @@ fn two_start<N: Site + Send + Sync, R: Threads + Wait + AllocGlobal + Sync>(
     rising(of_one?, of_other?)
 }
 
-/// These numbers and those, rising.
+/// Returns the numbers of both lists, in ascending order.
 fn rising(numbers: Vec<u64>, others: Vec<u64>) -> Started {
     let mut all = numbers;
     all.extend_from_slice(others.as_slice())?;
@@ -155,7 +158,8 @@ fn rising(numbers: Vec<u64>, others: Vec<u64>) -> Started {
     Ok(all)
 }
 
-/// Lets one thread work and another look on, and gives the number of operations that their sessions had accepted.
+/// Lets one thread work and another observe. Returns the number of accepted operations of their
+/// sessions.
 fn one_works<N: Site + Send + Sync, R: Threads + Wait + Sync>(
     rt: &R,
     operator: &Operator<N>,
@@ -164,7 +168,7 @@ fn one_works<N: Site + Send + Sync, R: Threads + Wait + Sync>(
     Ok(of_one?.saturating_add(of_other?))
 }
 
-/// Lets four threads run to their end, and gives the number of operations that their sessions had accepted.
+/// Runs four threads to their end. Returns the number of accepted operations of their sessions.
 fn run_threads<N: Site + Send + Sync, R: Threads + Wait + Print + AllocGlobal + Sync>(
     rt: &R,
     operator: &Operator<N>,
@@ -178,7 +182,8 @@ fn run_threads<N: Site + Send + Sync, R: Threads + Wait + Print + AllocGlobal + 
     Ok(count.saturating_add(accepted?))
 }
 
-/// Says how many job executions were started, and whether their numbers are those from 1 on, each once.
+/// Prints how many job executions were started, and whether their numbers are those from 1 on, each
+/// once.
 fn print_started(rt: &impl Print, started: Vec<u64>) -> Result<u64> {
     let count = started.len() as u64;
     let are_from_one = started.iter().copied().eq(1..=count);
@@ -189,7 +194,7 @@ fn print_started(rt: &impl Print, started: Vec<u64>) -> Result<u64> {
     Ok(count)
 }
 
-/// Makes the operator, and lends it to all that use it.
+/// Creates the operator, and lends it to all its users.
 fn run<N: Site + Send + Sync, R: Threads + Wait + Print + AllocGlobal + Sync>(
     rt: &R,
     table: SeatTable,
@@ -209,7 +214,7 @@ fn run<N: Site + Send + Sync, R: Threads + Wait + Print + AllocGlobal + Sync>(
     shown
 }
 
-/// Runs the threads, and says what a session that is opened behind them sees.
+/// Runs the threads, and prints the counts that a session opened after them sees.
 fn show<N: Site + Send + Sync, R: Threads + Wait + Print + AllocGlobal + Sync>(
     rt: &R,
     operator: &Operator<N>,
@@ -222,7 +227,7 @@ fn show<N: Site + Send + Sync, R: Threads + Wait + Print + AllocGlobal + Sync>(
     Ok(())
 }
 
-/// Says whether a session is shown all accepted operations.
+/// Prints whether a session is shown all accepted operations.
 fn print_shown<N: Site>(
     rt: &impl Print,
     operator: &Operator<N>,
@@ -238,7 +243,7 @@ fn print_shown<N: Site>(
     Ok(())
 }
 
-/// How many job instances the job has.
+/// Returns the number of job instances of the job.
 fn job_instances<N: Site>(
     rt: &(impl Wait + AllocGlobal),
     operator: &Operator<N>,
@@ -257,7 +262,7 @@ fn job_instances<N: Site>(
     }
 }
 
-/// Makes the table, names it, and lets four threads share the operator over it.
+/// Creates the table, names it, and lets four threads share the operator over it.
 pub(crate) fn print_four_threads<R: Threads + Wait + Print + AllocGlobal + Sync>(
     rt: &R,
 ) -> Result<()> {

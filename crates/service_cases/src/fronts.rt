@@ -16,8 +16,8 @@ use std::sync::Wait;
 const STEP: &[u8] =
     b"{\"jobs\":[{\"id\":\"a\",\"elements\":[{\"kind\":\"step\",\"id\":\"s\",\"batchlet\":{\"ref\":\"ok\"}}]}]}";
 
-/// Has a session ask a repository and then counts of the same number, and gives how many operations it
-/// has seen then.
+/// Lets a session query a repository copy, and then the counts copy with the same index. Returns
+/// the number of operations that it has then seen.
 fn front_after<N: Site>(
     rt: &(impl Wait + AllocGlobal),
     operator: &Operator<N>,
@@ -29,7 +29,7 @@ fn front_after<N: Site>(
     Ok(session.front())
 }
 
-/// The sessions from number 1 on, one more than there are copies.
+/// Opens sessions from number 1 on, one more than there are copies.
 fn open_sessions<N: Site>(
     rt: &(impl Wait + AllocGlobal),
     operator: &Operator<N>,
@@ -42,7 +42,7 @@ fn open_sessions<N: Site>(
     Ok(sessions)
 }
 
-/// Says what each session has seen after a query.
+/// Prints the number of operations that each session has seen after a query.
 fn print_row<N: Site>(
     rt: &(impl Wait + Print + AllocGlobal),
     operator: &Operator<N>,
@@ -57,7 +57,7 @@ fn print_row<N: Site>(
     Ok(())
 }
 
-/// Starts a job ahead of each publication, so that copy j has absorbed j + 1 operations after it.
+/// Starts a job before each publication, so that copy j has absorbed j + 1 operations after it.
 fn print_rows<N: Site>(
     rt: &(impl Wait + Print + AllocGlobal),
     operator: &Operator<N>,
@@ -71,7 +71,7 @@ fn print_rows<N: Site>(
     Ok(())
 }
 
-/// The same on an operator with so many copies of each kind.
+/// Prints these rows for an operator with this many copies of each kind.
 fn run_rows<N: Site>(
     rt: &(impl Wait + Print + AllocGlobal),
     table: SeatTable,
@@ -89,7 +89,8 @@ fn run_rows<N: Site>(
     printed
 }
 
-/// What sessions have seen that ask operators with three and with eight copies of each kind.
+/// Prints the numbers of operations that sessions have seen, for operators with three and with
+/// eight copies of each kind.
 pub(crate) fn print_fronts(rt: &(impl Wait + Print + AllocGlobal)) -> Result<()> {
     for copies in &[3, 8] {
         let catalogue = read_catalogue(rt.alloc(), STEP)?;

@@ -14,7 +14,7 @@ use std::marker::Brand;
 const CATALOGUE: &[u8] =
     b"{\"jobs\":[{\"id\":\"a\",\"elements\":[{\"kind\":\"step\",\"id\":\"s\",\"batchlet\":{\"ref\":\"ok\"}}]}]}";
 
-/// Tells what sessions are answered by a desk of at most two operations.
+/// Prints the replies of a desk of at most two operations to sessions.
 pub(crate) fn print_full_desk<R: Print + AllocGlobal>(rt: &R) -> Result<()> {
     let catalogue = read_catalogue(rt.alloc(), CATALOGUE)?;
     let (table, seat) = SeatTable::new(rt.alloc(), &catalogue)?;
@@ -51,7 +51,7 @@ fn fill_desk<N: Site, R: Print + AllocGlobal>(
     print_counts(rt, desk, &mut one, table)
 }
 
-/// Tells what each of two sessions is answered to its first start, and to its second.
+/// Prints the replies to the first and to the second start of two sessions.
 fn print_starts<N: Site, R: Print + AllocGlobal>(
     rt: &R,
     desk: &mut Desk<N, 2>,
@@ -71,7 +71,7 @@ fn print_starts<N: Site, R: Print + AllocGlobal>(
     Ok(())
 }
 
-/// Tells what the desk holds then.
+/// Prints the counts of the desk.
 fn print_counts<N: Site, R: Print + AllocGlobal>(
     rt: &R,
     desk: &mut Desk<N, 2>,
@@ -87,7 +87,7 @@ fn print_counts<N: Site, R: Print + AllocGlobal>(
     Ok(())
 }
 
-/// What a start of the job is answered.
+/// Starts the job, and returns the name of the result.
 fn start<N: Site>(
     alloc: Global,
     desk: &mut Desk<N, 2>,
@@ -111,7 +111,7 @@ fn start<N: Site>(
     said
 }
 
-/// How many job instances the job has.
+/// Returns the number of job instances of the job.
 fn count<N: Site>(
     alloc: Global,
     desk: &mut Desk<N, 2>,

@@ -1,4 +1,4 @@
-// Operators of the cases.
+// The operators of the cases.
 ghost use Rattle.std.specs.Prelude.{◌≡◌};
 
 use anyhow::{Result, bail};
@@ -9,7 +9,7 @@ use seat_rules::{BookSeat, SeatTable, Site};
 use std::alloc::Global;
 use std::sync::Wait;
 
-/// An operator with one read copy of each kind.
+/// Returns an operator with one read copy of each kind.
 pub(crate) fn operator_of<N: Site>(
     alloc: Global,
     table: SeatTable,
@@ -23,7 +23,7 @@ pub(crate) fn operator_of<N: Site>(
     operator_with::<N>(alloc, table, seat, catalogue, 1)
 }
 
-/// An operator with so many read copies of each kind.
+/// Returns an operator with `copies` read copies of each kind.
 pub(crate) fn operator_with<N: Site>(
     alloc: Global,
     table: SeatTable,
@@ -41,7 +41,7 @@ pub(crate) fn operator_with<N: Site>(
     Ok(Operator::<N>::new(alloc, table, seat, catalogue, copies)?)
 }
 
-/// Starts the job of this name, by a session of its own.
+/// Starts the job with this name, by a session of its own.
 pub(crate) fn start_job<N: Site>(
     rt: &(impl Wait + AllocGlobal),
     operator: &Operator<N>,

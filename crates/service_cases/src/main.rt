@@ -1,14 +1,16 @@
-//! Runs scripts, scripts on an operator, and workers, one after another. Each line of output is written in `stdout`.
+//! Runs scripts, scripts on an operator, and workers, one after another. The file `stdout` has each
+//! line of output.
 //!
-//! - Scripts: says of each whether its replies are those of a file, and where they begin to differ. The scripts, the replies
-//!   and the list of both lie in `data/`.
-//! - Scripts on an operator: the same of those in `data/operator/`; then four threads on one operator, a full desk, what
-//!   sessions see of several read copies, and a session that is dropped.
-//! - Workers with an operator, and with a port that refuses: two of them at once, a step in partitions, a job of built-in
-//!   artifacts, what a worker and a pool report, a work item that is given up, a chunk whose artifacts fault at each of
-//!   their places, names that the kit lacks, stops that are seen or told, workers that give up, what a
-//!   session finds unfinished, a worker that is idle, and
-//!   pools of which each worker is refused.
+//! - Scripts: reports for each whether its replies are those of a file, and the first line in which
+//!   they differ. The scripts, the replies and the list of both are in `data/`.
+//! - Scripts on an operator: reports the same for those in `data/operator/`. Then it runs four
+//!   threads on one operator, a full desk, sessions that read several read copies, and a session
+//!   that is dropped.
+//! - Workers with an operator, and with a port that refuses. Two workers run at once, then a step
+//!   in partitions, and a job of built-in artifacts. A worker and a pool report, and a work item is
+//!   given up. A chunk's artifacts fault at each of their places, and the kit lacks names. Stops
+//!   are seen, or asked for in a reply. Workers give up, and a session looks for unfinished job
+//!   executions. A worker is idle, and each worker of a pool is refused.
 #![tactic(auto)]
 
 mod asking;
@@ -55,7 +57,7 @@ use std::thread::Threads;
 use stops::print_stops;
 use turns::print_all_turns;
 
-/// What workers do.
+/// Runs the cases of workers.
 fn print_workers<R: Threads + Wait + Print + AllocGlobal + Sync>(rt: &R) -> Result<()> {
     print_together(rt)?;
     print_partitions(rt)?;

@@ -3,22 +3,22 @@ use batch_ids::{ExecutionId, MetricStep, Moment, Refusal, T256, Text, WorkId, Wo
 use job_threads::{Claimed, Onward, Port, Report};
 use std::alloc::Global;
 
-/// What a port in memory answers otherwise than a repository with room.
+/// The differences between a port in memory and a repository with room.
 #[derive(Clone, Copy)]
 pub(crate) struct Answers {
-    /// At which checkpoint, counted from 1, memory is refused.
+    /// The checkpoint, counted from 1, at which memory is refused.
     pub(crate) refused_checkpoint: Option<u64>,
     /// Whether a loss is refused.
     pub(crate) refuses_loss: bool,
-    /// After how many checkpoints a stop is seen.
+    /// The number of checkpoints after which a stop is seen.
     pub(crate) stop_after: Option<u64>,
-    /// At which checkpoint, counted from 1, a stop is told.
+    /// The checkpoint, counted from 1, whose reply asks for a stop.
     pub(crate) told_at: Option<u64>,
     /// Whether a job execution is unfinished.
     pub(crate) unfinished: bool,
 }
 
-/// A port that answers as a repository with room, and sees no stop.
+/// A port that behaves like a repository with room, and sees no stop.
 pub(crate) const ROOMY: Answers = Answers {
     refused_checkpoint: None,
     refuses_loss: false,
@@ -27,8 +27,7 @@ pub(crate) const ROOMY: Answers = Answers {
     unfinished: false,
 };
 
-/// A port that hands out one work item at most, keeps what is reported of it, and counts what it is
-/// asked.
+/// A port that hands out one work item at most, stores its reports, and counts its calls.
 #[derive(Drop)]
 pub(crate) struct Memory {
     answers: Answers,
@@ -46,7 +45,7 @@ pub(crate) struct Memory {
     refused_loss: Option<Refusal>,
 }
 
-/// A work item with this to run.
+/// Returns a work item with this task.
 pub(crate) fn item_of(alloc: Global, task: WorkTask) -> Result<WorkItem, Refusal> {
     Ok(WorkItem {
         work: WorkId::new(1),
@@ -57,7 +56,7 @@ pub(crate) fn item_of(alloc: Global, task: WorkTask) -> Result<WorkItem, Refusal
     })
 }
 
-/// A chunk in groups of two items, with these names of its reader and its writer.
+/// Returns a chunk in groups of two items, with these names for its reader and its writer.
 pub(crate) fn chunk(alloc: Global, reader: &str, writer: &str) -> Result<WorkTask, Refusal> {
     Ok(WorkTask::Chunk {
         reader: T256::new(alloc, reader)?,
@@ -87,7 +86,7 @@ impl Memory {
         }
     }
 
-    /// Whether a stop is seen by now.
+    /// Checks whether a stop is seen by now.
     fn is_stopped(&self) -> bool {
         match self.answers.stop_after {
             None => false,
@@ -95,7 +94,7 @@ impl Memory {
         }
     }
 
-    /// What this checkpoint is answered.
+    /// Returns the reply to this checkpoint.
     fn reply(&self) -> Onward {
         if self.answers.told_at == Some(self.checkpoints) {
             Onward::StopAsked

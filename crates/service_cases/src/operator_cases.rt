@@ -1,10 +1,13 @@
-//! Scripts on an operator, each of which is to have the replies of a file.
+//! Scripts on an operator, each compared with the replies in a file.
 //!
-//! A file holds scripts, each parted from the next by an empty line, and their replies are parted so too; each has an operator
-//! of its own. The first line of a script is the catalogue. A call is made by the session that its line names, a query by
-//! session 1, and what only an operator can be asked has lines of its own. A session that makes no call is shown at the end how
-//! many operations there are, and one more is opened: so it shows where the operator made an operation that nobody asked for,
-//! or opened a session of its own.
+//! A file has scripts with an empty line between two of them, and their replies are separated in
+//! the same way. Each script has an operator of its own. Its first line is the catalogue. The
+//! session that a line names makes a call, and session 1 makes a query. Directives that only an
+//! operator has are lines of their own.
+//!
+//! A session that makes no call is shown the number of operations at the end, and one more session
+//! is opened. So a case shows whether the operator made an operation or opened a session without
+//! being asked.
 use crate::comparison::print_comparison;
 use crate::script::{Ending, run_script};
 use anyhow::Result;
@@ -12,23 +15,24 @@ use std::fs;
 use std::rt::Files;
 use std::sync::Wait;
 
-/// Names in each line a file of scripts, and the file of the replies that they want. The last line names the replies of others,
-/// so that a comparison which finds all alike shows.
+/// Each line names a file of scripts, and the file of their expected replies. The last line names
+/// the replies of other scripts. So a comparison that finds everything equal would be noticed.
 const CASES: &str = "operator/cases";
 
-/// The bytes of a file among those for an operator.
+/// Returns the bytes of a file for an operator.
 fn read_file(rt: &(impl Files + AllocGlobal), name: &str) -> Result<Vec<u8>> {
     let path = format!(in rt.alloc(); "operator/{name}")?;
     Ok(fs::read(rt, path.as_str())?)
 }
 
-/// The text of a file among those for an operator.
+/// Returns the text of a file for an operator.
 fn read_text(rt: &(impl Files + AllocGlobal), name: &str) -> Result<String> {
     let path = format!(in rt.alloc(); "operator/{name}")?;
     Ok(fs::read_to_string(rt, path.as_str())?)
 }
 
-/// Runs the scripts of a file, and says how they ended and whether their replies are the wanted ones.
+/// Runs the scripts of a file, and prints how they ended and whether their replies are the expected
+/// ones.
 fn run_case<R: Files + Print + Wait + AllocGlobal>(
     rt: &R,
     scripts: &str,
@@ -47,7 +51,7 @@ fn run_case<R: Files + Print + Wait + AllocGlobal>(
     print_ending(rt, sum)
 }
 
-/// Runs scripts with an empty line between two of them, and writes their replies so.
+/// Runs scripts with an empty line between two of them, and writes their replies in the same way.
 fn run_scripts<R: Wait + AllocGlobal>(
     rt: &R,
     scripts: &str,
@@ -64,7 +68,7 @@ fn run_scripts<R: Wait + AllocGlobal>(
     Ok(sum)
 }
 
-/// Says how scripts ended.
+/// Prints how scripts ended.
 fn print_ending(rt: &impl Print, sum: Ending) -> Result<()> {
     println!(rt;
         "scripts {}, operations accepted {} and shown {}, hidden sessions {}",

@@ -26,21 +26,21 @@ const SPLIT: &[u8] =
 const PARTITIONS: &[u8] =
     b"{\"jobs\":[{\"id\":\"a\",\"elements\":[{\"kind\":\"step\",\"id\":\"s\",\"partitions\":5,\"batchlet\":{\"ref\":\"ok\"}}]}]}";
 
-/// How many workers a pool has.
+/// The number of workers of a pool.
 const WORKERS: u64 = 2;
 
-/// A job of a step ahead of a split with a step in each of two flows.
+/// A job of a step, followed by a split with a step in each of two flows.
 const AHEAD: &[u8] =
     b"{\"jobs\":[{\"id\":\"a\",\"elements\":[{\"kind\":\"step\",\"id\":\"r\",\"next\":\"p\",\"batchlet\":{\"ref\":\"ok\"}},{\"kind\":\"split\",\"id\":\"p\",\"flows\":[{\"kind\":\"flow\",\"id\":\"f\",\"elements\":[{\"kind\":\"step\",\"id\":\"s\",\"batchlet\":{\"ref\":\"ok\"}}]},{\"kind\":\"flow\",\"id\":\"g\",\"elements\":[{\"kind\":\"step\",\"id\":\"t\",\"batchlet\":{\"ref\":\"ok\"}}]}]}]}]}";
 
-/// How often a worker looks for what it waits for.
+/// The maximum number of looks for a condition that a worker waits for.
 const LOOKS: u64 = 100_000;
 
-/// How long it pauses after a look in vain, in turns of an empty loop.
+/// The length of the pause after a look without success, in turns of an empty loop.
 const PAUSES: u64 = 10_000;
 
-/// Holds the first work items, so many of them as are `ahead`, until a worker is idle, and each other
-/// until so many have begun as are `wanted`. It counts those that saw it.
+/// A gate that delays work items. The first `ahead` of them wait until a worker is idle, and each
+/// other one until `wanted` have begun. It counts those that saw their condition.
 #[derive(Drop)]
 struct Together {
     ahead: u64,
@@ -51,7 +51,7 @@ struct Together {
 }
 
 impl Together {
-    /// Whether the work item that began after so many others may go on.
+    /// Checks whether the work item that began after this many others may continue.
     fn may_go(&self, others: u64) -> bool {
         if others < self.ahead {
             self.idle.load(Ordering::SeqCst) > 0
@@ -101,15 +101,15 @@ fn gate_of(ahead: u64, wanted: u64) -> Together {
     }
 }
 
-/// What two workers did with a job execution.
+/// The result of two workers with a job execution.
 #[derive(Clone, Copy)]
 struct Ran {
     report: PoolReport,
     completed: u64,
 }
 
-/// Starts the job `a` of a catalogue, runs it by two workers, and counts the job executions that are
-/// COMPLETED then.
+/// Starts the job `a` of a catalogue, runs it by two workers, and then counts the job executions
+/// that are COMPLETED.
 fn run_by_two<N: Site + Send + Sync, R: Threads + Wait + AllocGlobal + Sync>(
     rt: &R,
     gate: &Together,
@@ -127,7 +127,7 @@ fn run_by_two<N: Site + Send + Sync, R: Threads + Wait + AllocGlobal + Sync>(
     ran
 }
 
-/// The same on an operator.
+/// Runs the job `a` on an operator, and counts the job executions that are COMPLETED.
 fn run_on<N: Site + Send + Sync, R: Threads + Wait + AllocGlobal + Sync>(
     rt: &R,
     gate: &Together,
@@ -139,7 +139,7 @@ fn run_on<N: Site + Send + Sync, R: Threads + Wait + AllocGlobal + Sync>(
     Ok(Ran { report, completed })
 }
 
-/// What a pool of two reports whose kits have the batchlet `ok`.
+/// Runs a pool of two workers whose kits have the batchlet `ok`, and returns its report.
 fn work_together<N: Site + Send + Sync, R: Threads + Wait + AllocGlobal + Sync>(
     rt: &R,
     gate: &Together,
@@ -155,7 +155,7 @@ fn work_together<N: Site + Send + Sync, R: Threads + Wait + AllocGlobal + Sync>(
     Ok(pool(rt, alloc, operator, kits, gate)?)
 }
 
-/// How many job executions are COMPLETED.
+/// Returns the number of job executions that are COMPLETED.
 fn completed<N: Site, R: Wait>(rt: &R, operator: &Operator<N>) -> Result<u64> {
     let mut session = operator.open_session(rt)?;
     let answer = operator.status_counts(rt, &mut session);
@@ -166,7 +166,7 @@ fn completed<N: Site, R: Wait>(rt: &R, operator: &Operator<N>) -> Result<u64> {
     completed
 }
 
-/// How many of the job executions that were counted are COMPLETED.
+/// Returns the number of COMPLETED job executions in an answer.
 fn completed_in(answer: &Answer) -> Result<u64> {
     match answer {
         Answer::StatusCounts(counts) => Ok(counts.completed),
@@ -174,7 +174,8 @@ fn completed_in(answer: &Answer) -> Result<u64> {
     }
 }
 
-/// Says what the workers did, and how many saw so many work items begun.
+/// Prints the report of the workers, and how many of them saw the wanted number of work items
+/// begin.
 fn print_ran(rt: &impl Print, name: &str, gate: &Together, ran: Ran) -> Result<()> {
     let seen = gate.seen.load(Ordering::SeqCst);
     println!(rt;
@@ -185,7 +186,7 @@ fn print_ran(rt: &impl Print, name: &str, gate: &Together, ran: Ran) -> Result<(
     Ok(())
 }
 
-/// Two workers run the two steps of a split at the same time.
+/// Lets two workers run the two steps of a split at the same time.
 pub(crate) fn print_together<R: Threads + Wait + Print + AllocGlobal + Sync>(rt: &R) -> Result<()> {
     let catalogue = read_catalogue(rt.alloc(), SPLIT)?;
     let (table, seat) = SeatTable::new(rt.alloc(), &catalogue)?;
@@ -194,8 +195,8 @@ pub(crate) fn print_together<R: Threads + Wait + Print + AllocGlobal + Sync>(rt:
     print_ran(rt, "together", &gate, ran)
 }
 
-/// Two workers run a step, while one of them is idle, and then the two steps of a split at the same
-/// time.
+/// Lets two workers run a step, while one of them is idle, and then the two steps of a split at the
+/// same time.
 pub(crate) fn print_ahead<R: Threads + Wait + Print + AllocGlobal + Sync>(rt: &R) -> Result<()> {
     let catalogue = read_catalogue(rt.alloc(), AHEAD)?;
     let (table, seat) = SeatTable::new(rt.alloc(), &catalogue)?;
@@ -204,7 +205,7 @@ pub(crate) fn print_ahead<R: Threads + Wait + Print + AllocGlobal + Sync>(rt: &R
     print_ran(rt, "ahead", &gate, ran)
 }
 
-/// Two workers run a step in five partitions.
+/// Lets two workers run a step in five partitions.
 pub(crate) fn print_partitions<R: Threads + Wait + Print + AllocGlobal + Sync>(
     rt: &R,
 ) -> Result<()> {

@@ -15,7 +15,7 @@ use std::sync::Wait;
 const STEP: &[u8] =
     b"{\"jobs\":[{\"id\":\"a\",\"elements\":[{\"kind\":\"step\",\"id\":\"s\",\"batchlet\":{\"ref\":\"ok\"}}]}]}";
 
-/// Whether the port of a new session finds a job execution that is unfinished.
+/// Checks whether the port of a new session finds an unfinished job execution.
 fn finds_unfinished<N: Site>(
     rt: &impl Wait,
     operator: &Operator<N>,
@@ -25,7 +25,8 @@ fn finds_unfinished<N: Site>(
     port.unfinished()
 }
 
-/// Says what a port finds while a job execution is none yet, STARTING, STARTED, STOPPING, and STOPPED.
+/// Prints whether a port finds an unfinished job execution: before a start, and while one is
+/// STARTING, STARTED, STOPPING and STOPPED.
 fn print_unfinished_ones<N: Site>(
     rt: &(impl Wait + Print + AllocGlobal),
     operator: &Operator<N>,
@@ -67,7 +68,7 @@ fn print_unfinished_ones<N: Site>(
     Ok(())
 }
 
-/// The same on an operator.
+/// Prints these lines for an operator.
 fn run_unfinished<N: Site>(
     rt: &(impl Wait + Print + AllocGlobal),
     table: SeatTable,
@@ -84,7 +85,7 @@ fn run_unfinished<N: Site>(
     printed
 }
 
-/// A job execution of each unfinished status, as the port of a session finds it.
+/// Prints whether the port of a session finds a job execution of each unfinished status.
 pub(crate) fn print_unfinished(rt: &(impl Wait + Print + AllocGlobal)) -> Result<()> {
     let catalogue = read_catalogue(rt.alloc(), STEP)?;
     let (table, seat) = SeatTable::new(rt.alloc(), &catalogue)?;

@@ -2,7 +2,7 @@ use batch_ids::T256;
 use job_threads::{Artifact, ArtifactFault};
 use std::alloc::Global;
 
-/// An artifact that completes, reads no item, keeps none, and takes each group.
+/// An artifact that completes, reads no item, filters out every item, and takes each group.
 #[derive(Drop)]
 pub(crate) struct Quiet {
     pub(crate) alloc: Global,

@@ -21,11 +21,11 @@ use std::thread::Threads;
 const STEP: &[u8] =
     b"{\"jobs\":[{\"id\":\"a\",\"elements\":[{\"kind\":\"step\",\"id\":\"s\",\"batchlet\":{\"ref\":\"ok\"}}]}]}";
 
-/// How often a worker looks whether the other has begun.
+/// The maximum number of looks by a worker whether the other has begun.
 const LOOKS: u64 = 10_000;
 
-/// Takes its work item from each of two workers once both have one: the work item is given up, and
-/// that of one of the workers is purged.
+/// A gate that takes the work item away from each of two workers, after both have one. It gives the
+/// work item up, and purges that of one worker.
 #[derive(Drop)]
 struct Taking<'a, R: Wait, N: Site> {
     rt: &'a R,
@@ -46,7 +46,8 @@ impl<R: Wait, N: Site> Taking<'_, R, N> {
         }
     }
 
-    /// Takes the work item of a worker away. Each job instance has one job execution of its number.
+    /// Takes the work item of a worker away. Each job instance has one job execution, with the same
+    /// number.
     fn take(&self, worker: u64, item: &WorkItem) {
         let Ok(mut session) = self.operator.open_session(self.rt) else {
             return;
@@ -74,7 +75,7 @@ impl<R: Wait, N: Site> Gate for Taking<'_, R, N> {
     }
 }
 
-/// Runs two job executions by a pool of two, and says what it answers.
+/// Runs two job executions by a pool of two workers, and prints its result.
 fn print_pool<N: Site + Send + Sync, R: Threads + Wait + Print + AllocGlobal + Sync>(
     rt: &R,
     operator: &Operator<N>,
@@ -95,7 +96,7 @@ fn print_pool<N: Site + Send + Sync, R: Threads + Wait + Print + AllocGlobal + S
     Ok(())
 }
 
-/// Makes the operator.
+/// Creates the operator.
 fn run_pool<N: Site + Send + Sync, R: Threads + Wait + Print + AllocGlobal + Sync>(
     rt: &R,
     table: SeatTable,
@@ -113,8 +114,8 @@ fn run_pool<N: Site + Send + Sync, R: Threads + Wait + Print + AllocGlobal + Syn
     printed
 }
 
-/// Pools of two workers with different refusals: the answer is that of the worker with the least
-/// number.
+/// Runs pools of two workers with different refusals. The result is the refusal of the
+/// lowest-numbered worker.
 pub(crate) fn print_refused_pools<R: Threads + Wait + Print + AllocGlobal + Sync>(
     rt: &R,
 ) -> Result<()> {

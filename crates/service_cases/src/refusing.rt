@@ -7,7 +7,7 @@ use batch_ids::{
 use job_threads::{Claimed, Gate, Kit, Onward, Port, WorkerReport, worker};
 use std::alloc::Global;
 
-/// A port that hands out one batchlet, and refuses what is reported of it.
+/// A port that hands out one batchlet, and refuses its reports.
 #[derive(Drop)]
 struct Refusing {
     alloc: Global,
@@ -104,7 +104,8 @@ impl Gate for Open {
     }
 }
 
-/// A worker whose finish is refused gives its work item up once, and answers the first refusal.
+/// Runs a worker whose finish is refused. It gives its work item up once, and returns the first
+/// refusal.
 pub(crate) fn print_given_up(rt: &(impl Print + AllocGlobal)) -> Result<()> {
     let alloc = rt.alloc();
     let mut kit = Kit::new(alloc);
@@ -122,7 +123,7 @@ pub(crate) fn print_given_up(rt: &(impl Print + AllocGlobal)) -> Result<()> {
     print_port(rt, &port)
 }
 
-/// Says how a worker ended.
+/// Prints how a worker ended.
 fn print_ended(rt: &impl Print, ended: &std::result::Result<WorkerReport, Refusal>) -> Result<()> {
     match ended {
         Ok(report) => println!(rt; "given up: {} work items", report.items)?,
@@ -131,7 +132,7 @@ fn print_ended(rt: &impl Print, ended: &std::result::Result<WorkerReport, Refusa
     Ok(())
 }
 
-/// Says how often the port was asked.
+/// Prints how often the port was called.
 fn print_port(rt: &impl Print, port: &Refusing) -> Result<()> {
     println!(rt;
         "given up: {} claims, {} losses",

@@ -14,19 +14,19 @@ use std::marker::Brand;
 use std::sync::Wait;
 use std::thread::Threads;
 
-/// A job of one chunk, of built-in artifacts.
+/// A job of one chunk, with built-in artifacts.
 const CHUNK: &[u8] =
     b"{\"jobs\":[{\"id\":\"c\",\"elements\":[{\"kind\":\"step\",\"id\":\"s\",\"chunk\":{\"item-count\":2,\"reader\":{\"ref\":\"count:5\"},\"processor\":{\"ref\":\"odd\"},\"writer\":{\"ref\":\"sink\"}}}]}]}";
 
 /// The names of these artifacts.
 const NAMES: [&str; 3] = ["count:5", "odd", "sink"];
 
-/// The catalogue of that job.
+/// Returns the catalogue of that job.
 fn catalogue_of(alloc: Global) -> Result<Catalogue> {
     Ok(read_catalogue(alloc, CHUNK)?)
 }
 
-/// Runs the chunk by one worker, and says what it reports.
+/// Runs the chunk by one worker, and prints its report.
 fn run_by_a_worker<N: Site, R: Wait + Print + AllocGlobal>(
     rt: &R,
     table: SeatTable,
@@ -43,7 +43,7 @@ fn run_by_a_worker<N: Site, R: Wait + Print + AllocGlobal>(
     ran
 }
 
-/// The same on an operator.
+/// Runs the chunk by one worker on an operator, and prints its report.
 fn print_worker<N: Site, R: Wait + Print + AllocGlobal>(
     rt: &R,
     operator: &Operator<N>,
@@ -57,7 +57,7 @@ fn print_worker<N: Site, R: Wait + Print + AllocGlobal>(
     Ok(())
 }
 
-/// What one worker reports that has the built-in artifacts of the chunk.
+/// Runs one worker that has the built-in artifacts of the chunk, and returns its report.
 fn work_alone<N: Site, R: Wait + AllocGlobal>(
     rt: &R,
     operator: &Operator<N>,
@@ -75,7 +75,7 @@ fn work_alone<N: Site, R: Wait + AllocGlobal>(
     Ok(worker(alloc, &mut port, &mut kit, &Open, 0, 3)?)
 }
 
-/// Runs the chunk by a pool of one worker, and says what it reports.
+/// Runs the chunk by a pool of one worker, and prints its report.
 fn run_by_a_pool<N: Site + Send + Sync, R: Threads + Wait + Print + AllocGlobal + Sync>(
     rt: &R,
     table: SeatTable,
@@ -92,7 +92,7 @@ fn run_by_a_pool<N: Site + Send + Sync, R: Threads + Wait + Print + AllocGlobal 
     ran
 }
 
-/// The same on an operator.
+/// Runs the chunk by a pool of one worker on an operator, and prints its report.
 fn print_pool<N: Site + Send + Sync, R: Threads + Wait + Print + AllocGlobal + Sync>(
     rt: &R,
     operator: &Operator<N>,
@@ -106,7 +106,7 @@ fn print_pool<N: Site + Send + Sync, R: Threads + Wait + Print + AllocGlobal + S
     Ok(())
 }
 
-/// What a worker reports of a chunk, and what a pool does.
+/// Prints the report of a worker for a chunk, and that of a pool.
 pub(crate) fn print_reports<R: Threads + Wait + Print + AllocGlobal + Sync>(rt: &R) -> Result<()> {
     let catalogue = catalogue_of(rt.alloc())?;
     let (table, seat) = SeatTable::new(rt.alloc(), &catalogue)?;

@@ -14,24 +14,24 @@ use std::alloc::Global;
 use std::marker::Brand;
 use std::sync::Wait;
 
-/// How many sessions a script has at least, and at most.
+/// The minimum and the maximum number of sessions of a script.
 const SESSIONS: (u64, u64) = (2, 64);
 
-/// How scripts ended.
+/// The end of scripts.
 #[derive(Clone, Copy, Default)]
 pub(crate) struct Ending {
-    /// How many scripts there were.
+    /// The number of scripts.
     pub(crate) scripts: u64,
-    /// How many of their calls were accepted as operations.
+    /// The number of their calls that were accepted as operations.
     pub(crate) accepted: u64,
-    /// How many operations sessions were shown at the end that had made no call.
+    /// The number of operations that sessions without a call were shown at the end.
     pub(crate) shown: u64,
-    /// How many sessions were opened that nobody asked for.
+    /// The number of sessions that were opened without being asked for.
     pub(crate) hidden: u64,
 }
 
 impl Ending {
-    /// How these scripts and those ended.
+    /// Adds the end of other scripts.
     pub(crate) fn with(self, other: Ending) -> Ending {
         Ending {
             scripts: self.scripts.saturating_add(other.scripts),
@@ -42,7 +42,7 @@ impl Ending {
     }
 }
 
-/// Runs a script on an operator of its own, and adds the replies to its lines to those that were written.
+/// Runs a script on an operator of its own, and appends the replies to its lines to `written`.
 pub(crate) fn run_script<R: Wait + AllocGlobal>(
     rt: &R,
     script: &str,
@@ -72,7 +72,7 @@ fn run_lines<N: Site, R: Wait + AllocGlobal>(
     ending
 }
 
-/// The same on an operator, of which no session is open.
+/// Runs a script on an operator that has no open session.
 fn run_on<N: Site, R: Wait + AllocGlobal>(
     rt: &R,
     operator: &Operator<N>,
@@ -86,7 +86,7 @@ fn run_on<N: Site, R: Wait + AllocGlobal>(
     ending
 }
 
-/// Adds the replies to these lines.
+/// Appends the replies to these lines.
 fn answer_lines<N: Site>(
     rt: &impl Wait,
     stage: &mut Stage<'_, N>,
@@ -102,7 +102,7 @@ fn answer_lines<N: Site>(
     stage.end(rt)
 }
 
-/// How many sessions the lines of a script want.
+/// Returns the number of sessions that the lines of a script need.
 fn sessions_in(alloc: Global, lines: &[u8]) -> Result<u64, OutOfMemory> {
     let (mut count, most) = SESSIONS;
     for line in lines.split(|byte| *byte == b'\n') {
@@ -111,7 +111,7 @@ fn sessions_in(alloc: Global, lines: &[u8]) -> Result<u64, OutOfMemory> {
     Ok(count.min(most))
 }
 
-/// The greatest number of a session that a line names.
+/// Returns the highest session number that a line names.
 fn session_in(alloc: Global, line: &[u8]) -> Result<u64, OutOfMemory> {
     if let Some(directive) = read_directive(alloc, line)? {
         return Ok(directive.greatest());

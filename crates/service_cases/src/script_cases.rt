@@ -1,16 +1,17 @@
-//! Scripts, each of which is to have the replies of a file. A file whose name ends in `.scripts` holds many scripts, each
-//! parted from the next by an empty line, and their replies are parted so too.
+//! Scripts, each compared with the replies in a file. A file whose name ends in `.scripts` has many
+//! scripts, with an empty line between two of them. Their replies are separated in the same way.
 use crate::comparison::print_comparison;
 use script_engine::{EngineFault, Summary, answer_script};
 use std::alloc::Global;
 use std::rt::Files;
 use std::{fs, io};
 
-/// Names in each line a script, or a file of scripts, and the file of the replies that it wants. The last two lines name the
-/// replies of others, so that a comparison which finds all alike shows.
+/// Each line names a script, or a file of scripts, and the file of its expected replies. The last
+/// two lines name the replies of other scripts. So a comparison that finds everything equal would
+/// be noticed.
 const CASES: &str = "cases";
 
-/// Says how a script ended.
+/// Prints how a script ended.
 fn print_ending(rt: &impl Print, outcome: &Result<Summary, EngineFault>) -> io::Result<()> {
     match outcome {
         Ok(summary) => println!(rt;
@@ -21,7 +22,7 @@ fn print_ending(rt: &impl Print, outcome: &Result<Summary, EngineFault>) -> io::
     }
 }
 
-/// Runs a script, and says how it ended and whether its replies are the wanted ones.
+/// Runs a script, and prints how it ended and whether its replies are the expected ones.
 fn run_case(
     rt: &(impl Files + Print + AllocGlobal),
     script: &str,
@@ -34,7 +35,8 @@ fn run_case(
     print_ending(rt, &outcome)
 }
 
-/// Runs many scripts, and says how many there are and whether their replies are the wanted ones.
+/// Runs many scripts, and prints how many there are and whether their replies are the expected
+/// ones.
 fn run_cases(
     rt: &(impl Files + Print + AllocGlobal),
     scripts: &str,
@@ -53,7 +55,8 @@ fn run_cases(
     println!(rt; "{count} scripts")
 }
 
-/// Adds the replies to these scripts, with an empty line between two of them, and gives the number of scripts.
+/// Appends the replies to these scripts, with an empty line between two of them, and returns the
+/// number of scripts.
 fn answer_all(alloc: Global, scripts: &str, written: &mut Vec<u8>) -> io::Result<usize> {
     let mut count: usize = 0;
     for script in scripts.split("\n\n") {
@@ -66,7 +69,7 @@ fn answer_all(alloc: Global, scripts: &str, written: &mut Vec<u8>) -> io::Result
     Ok(count)
 }
 
-/// Adds the replies to this script.
+/// Appends the replies to this script.
 fn answer_one(alloc: Global, script: &str, written: &mut Vec<u8>) -> io::Result<()> {
     let (text, outcome) = answer_script(alloc, script.as_bytes());
     drop(outcome);

@@ -14,10 +14,10 @@ use std::alloc::Global;
 use std::fmt::Display;
 use std::sync::Wait;
 
-/// What a call is answered.
+/// The result of a call.
 type Replied = Result<Reply, Refusal>;
 
-/// What a query is answered.
+/// The result of a query.
 type Answered = Result<Answer, Refusal>;
 
 /// An operator with its sessions, numbered from 1, and one more that makes no call.
@@ -27,16 +27,16 @@ pub(crate) struct Stage<'a, N: Site> {
     operator: &'a Operator<N>,
     sessions: Vec<Session<N>>,
     watcher: Session<N>,
-    /// Which session asks the next query.
+    /// The number of the session that makes the next query.
     asker: u64,
-    /// How many operations were accepted.
+    /// The number of accepted operations.
     accepted: u64,
-    /// The number that a session has that is opened next.
+    /// The number of the session that is opened next.
     next: u64,
 }
 
 impl<'a, N: Site> Stage<'a, N> {
-    /// Opens so many sessions, and the one that makes no call.
+    /// Opens `count` sessions, and the one that makes no call.
     pub(crate) fn open(
         rt: &impl Wait,
         alloc: Global,
@@ -59,7 +59,7 @@ impl<'a, N: Site> Stage<'a, N> {
         })
     }
 
-    /// The reply to a line of a script.
+    /// Returns the reply to a line of a script.
     pub(crate) fn answer(&mut self, rt: &impl Wait, line: &[u8]) -> Result<Vec<u8>> {
         match read_directive(self.alloc, line)? {
             Some(directive) => self.follow(rt, directive),
@@ -79,7 +79,7 @@ impl<'a, N: Site> Stage<'a, N> {
         Ok(text?)
     }
 
-    /// What a session's call is answered.
+    /// Makes a session's call, and returns its result.
     fn reply_to(&mut self, rt: &impl Wait, by: u64, call: Call, at: Moment) -> Result<Replied> {
         match session_of(&mut self.sessions, by) {
             Ok(session) => Ok(make_call(rt, self.operator, session, call, at)),
@@ -90,7 +90,7 @@ impl<'a, N: Site> Stage<'a, N> {
         }
     }
 
-    /// The text of a reply, which is counted where it is an operation's.
+    /// Returns the text of a reply. Counts the reply if it is an operation's.
     fn tell(&mut self, reply: &Replied) -> Result<Vec<u8>, OutOfMemory> {
         if is_operation(reply) {
             self.accepted = self.accepted.saturating_add(1);
@@ -106,7 +106,7 @@ impl<'a, N: Site> Stage<'a, N> {
         Ok(text?)
     }
 
-    /// What the session that asks is answered.
+    /// Makes a query by the session that is to make the next one, and returns its result.
     fn answer_to(&mut self, rt: &impl Wait, query: Query) -> Result<Answered> {
         match session_of(&mut self.sessions, self.asker) {
             Ok(session) => Ok(ask_query(rt, self.operator, session, query)),
@@ -166,7 +166,8 @@ impl<'a, N: Site> Stage<'a, N> {
         reply_of(self.alloc, "met", true)
     }
 
-    /// What the session that made no call is shown, and how many sessions were opened that nobody asked for.
+    /// Returns the count that the session without calls is shown, and the number of sessions that
+    /// were opened without being asked for.
     pub(crate) fn end(&mut self, rt: &impl Wait) -> Result<Ending> {
         let shown = self.operator.operations_at_least(&mut self.watcher);
         let next = self.operator.open_session(rt)?;
@@ -179,7 +180,7 @@ impl<'a, N: Site> Stage<'a, N> {
     }
 }
 
-/// The session of this number.
+/// Returns the session with this number.
 fn session_of<N: Site>(sessions: &mut [Session<N>], number: u64) -> Result<&mut Session<N>> {
     let place = number
         .checked_sub(1)
@@ -189,12 +190,12 @@ fn session_of<N: Site>(sessions: &mut [Session<N>], number: u64) -> Result<&mut 
         .ok_or_else(|| anyhow!("there is no session {number}"))
 }
 
-/// The reply to a directive, which has one member.
+/// Returns the reply to a directive, which has one member.
 fn reply_of(alloc: Global, name: &str, value: impl Display + Drop) -> Result<String> {
     Ok(format!(in alloc; "{{\"{name}\":{value}}}\n")?)
 }
 
-/// Lets the sessions of two numbers meet.
+/// Lets the sessions with two numbers meet.
 fn meet_of<N: Site>(
     sessions: &mut [Session<N>],
     one: u64,
@@ -212,7 +213,7 @@ fn meet_of<N: Site>(
     Ok(())
 }
 
-/// The sessions of two numbers, of which the first is the lesser.
+/// Returns the sessions with two numbers, of which the first is the lower.
 fn two_of<N: Site>(
     sessions: &mut [Session<N>],
     one: u64,
@@ -225,7 +226,7 @@ fn two_of<N: Site>(
     Ok((session_of(before, one)?, session_of(behind, 1)?))
 }
 
-/// Whether a call was accepted as an operation.
+/// Checks whether a call was accepted as an operation.
 fn is_operation(reply: &Replied) -> bool {
     match reply {
         Ok(reply) => !reply.is_nothing(),

@@ -7,7 +7,7 @@ use std::alloc::{AllocError, Global};
 use std::sync::Arc;
 use std::sync::atomic::{AtomicU64, Ordering};
 
-/// Where an artifact faults.
+/// The place at which an artifact faults.
 #[derive(Clone, Copy, PartialEq, Eq)]
 pub(crate) enum Place {
     Nowhere,
@@ -20,16 +20,16 @@ pub(crate) enum Place {
     SecondMark,
 }
 
-/// What was written, as the case sees it.
+/// The counts of a writer, as the case sees them.
 #[derive(Drop)]
 pub(crate) struct Written {
     pub(crate) groups: AtomicU64,
     pub(crate) items: AtomicU64,
-    /// The items of one digit, a 0 after each group.
+    /// The items of one digit, with a 0 after each group.
     pub(crate) digits: AtomicU64,
 }
 
-/// Nothing was written.
+/// Returns the counts of a writer that has written nothing.
 pub(crate) fn nothing_written(alloc: Global) -> Result<Arc<Written>, AllocError> {
     let written = Written {
         groups: AtomicU64::new(0),
@@ -56,8 +56,8 @@ impl Written {
     }
 }
 
-/// An artifact that reads the items that it was given, keeps each, takes each group, and faults where
-/// it is told to. An item is its own mark.
+/// An artifact that reads the given items, filters out none, takes each group, and faults at the
+/// given place. An item is its own checkpoint.
 #[derive(Drop)]
 pub(crate) struct Staged {
     pub(crate) alloc: Global,
@@ -69,7 +69,7 @@ pub(crate) struct Staged {
     pub(crate) tape: Tape,
 }
 
-/// An equal text.
+/// Returns a copy of a text.
 fn copy_of(alloc: Global, text: &str) -> Result<String, ArtifactFault>
     ensures { IfOk result (λ copy. string_bytes copy ≡ text.now) }
 {
@@ -79,7 +79,7 @@ fn copy_of(alloc: Global, text: &str) -> Result<String, ArtifactFault>
     }
 }
 
-/// The mark once so many of these items were read.
+/// Returns the checkpoint after `at` of these items were read.
 #[tactic(auto, using(crate::proofs::Staging::mark_behind))]
 fn last_mark(items: &[String], at: usize) -> &str
     ensures { result.now ≡ mark_at items.now at }
@@ -94,7 +94,7 @@ fn last_mark(items: &[String], at: usize) -> &str
 }
 
 impl Staged {
-    /// Whether it faults here.
+    /// Checks whether the artifact faults here.
     fn faults_at(&self, place: Place, here: bool) -> bool {
         self.place == place && here
     }

@@ -13,7 +13,8 @@ use std::sync::atomic::Ordering;
 /// A stop that never comes.
 const NEVER: u64 = 99;
 
-/// Names, readers, after how many reports a stop is seen, and at which it is told.
+/// The cases: a name, a reader, the number of reports after which a stop is seen, and the report
+/// whose reply asks for a stop.
 const STOPS: [(&str, &str, u64, u64); 12] = [
     ("no stop", "count:5", NEVER, NEVER),
     ("seen before the first read", "count:5", 0, NEVER),
@@ -29,7 +30,8 @@ const STOPS: [(&str, &str, u64, u64); 12] = [
     ("told of a full last group", "count:4", NEVER, 2),
 ];
 
-/// A chunk in groups of two items with this reader, a processor if one is named, and the writer `w`.
+/// Returns a chunk in groups of two items with this reader, a processor if one is named, and the
+/// writer `w`.
 fn chunk_of(alloc: Global, reader: &str, processor: Option<&str>) -> Result<WorkTask, Refusal> {
     let processor = match processor {
         None => None,
@@ -44,7 +46,8 @@ fn chunk_of(alloc: Global, reader: &str, processor: Option<&str>) -> Result<Work
     })
 }
 
-/// Runs a work item with built-in artifacts of these names, and a writer that counts what it takes.
+/// Runs a work item with built-in artifacts with these names, and a writer that counts its groups
+/// and items.
 fn run_with(
     alloc: Global,
     port: &mut Memory,
@@ -67,7 +70,7 @@ fn run_with(
     Ok(outcome?)
 }
 
-/// Tells a report.
+/// Appends the text of a report.
 fn tell(told: &mut String, report: &Report) -> Result<(), AllocError> {
     match report {
         Report::Checkpoint { mark, step, .. } => write!(
@@ -83,8 +86,8 @@ fn tell(told: &mut String, report: &Report) -> Result<(), AllocError> {
     }
 }
 
-/// What was reported: of a group its mark, and how many items were read, dropped, written and how
-/// often it committed; of the end the outcome, and how many rollbacks.
+/// Returns the text of reports. A group has its checkpoint, and the number of items read, filtered
+/// and written, and of commits. The end has the outcome, and the number of rollbacks.
 fn told(alloc: Global, reports: &[Report]) -> Result<String, AllocError> {
     let mut told = String::new(alloc);
     for report in reports {
@@ -93,7 +96,7 @@ fn told(alloc: Global, reports: &[Report]) -> Result<String, AllocError> {
     Ok(told)
 }
 
-/// Says what was reported, how often the port looked for a stop, and what was written.
+/// Prints the reports, how often the port looked for a stop, and the items that were written.
 fn print_told(
     rt: &(impl Print + AllocGlobal),
     name: &str,
@@ -110,7 +113,7 @@ fn print_told(
     Ok(())
 }
 
-/// Runs a chunk with this reader and processor, and prints what came of it.
+/// Runs a chunk with this reader and processor, and prints the result.
 fn print_item(
     rt: &(impl Print + AllocGlobal),
     name: &str,
@@ -130,8 +133,8 @@ fn print_item(
     printed
 }
 
-/// Chunks whose job execution is asked to stop: the port sees it at a look, or is told by the reply to
-/// a report. Then chunks that drop the even items.
+/// Runs chunks whose job execution is asked to stop. The port sees it at a look, or the reply to a
+/// report asks for it. Then runs chunks that filter out the even items.
 pub(crate) fn print_stops(rt: &(impl Print + AllocGlobal)) -> Result<()> {
     for (name, reader, seen_after, told_at) in &STOPS {
         let mut answers = ROOMY;

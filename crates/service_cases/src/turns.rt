@@ -10,7 +10,7 @@ use std::sync::atomic::{AtomicU64, Ordering};
 /// The number of each worker.
 const NUMBER: u64 = 7;
 
-/// Counts what a worker says to it, and adds up the numbers that it names.
+/// A gate that counts a worker's calls, and adds up the worker numbers in them.
 #[derive(Drop)]
 struct Counting {
     before: AtomicU64,
@@ -34,13 +34,13 @@ impl Gate for Counting {
     }
 }
 
-/// One batchlet that completes.
+/// Returns a work item of one batchlet that completes.
 fn batchlet(alloc: Global) -> Result<WorkItem> {
     let artifact = T256::new(alloc, "ok")?;
     Ok(item_of(alloc, WorkTask::Batchlet { artifact })?)
 }
 
-/// What a worker with the batchlet `ok` reports that gives up after so many turns.
+/// Runs a worker with the batchlet `ok` that gives up after `turns` turns, and returns its report.
 fn work(
     alloc: Global,
     port: &mut Memory,
@@ -54,7 +54,7 @@ fn work(
     Ok(reported)
 }
 
-/// Says what a worker did, and how often it called its port and its gate.
+/// Prints the report of a worker, and how often it called its port and its gate.
 fn print_worker(
     rt: &(impl Print + AllocGlobal),
     name: &str,
@@ -94,7 +94,8 @@ fn print_turns(
     printed
 }
 
-/// Workers that find nothing while a job execution is unfinished, and then one that finds that none is.
+/// Runs workers that find no work while a job execution is unfinished, and then one that finds that
+/// none is.
 pub(crate) fn print_all_turns(rt: &(impl Print + AllocGlobal)) -> Result<()> {
     let mut answers = ROOMY;
     answers.unfinished = true;

@@ -1,11 +1,11 @@
-//! Logs that are full.
+//! Full logs.
 use crate::copies::{CALLS, catalogue};
 use op_log::Book;
 use script_text::{Command, answer_text, read_command, reply_text};
 use std::alloc::Global;
 use std::test::Fail;
 
-// The text that a line is replied to.
+// Returns the text of the reply to a line.
 fn reply_to<const LIMIT: u64>(
     alloc: Global,
     book: &mut Book<LIMIT>,
@@ -41,7 +41,7 @@ fn reply_to_all<const LIMIT: u64>(
     Ok(())
 }
 
-// The replies of this log, and how many operations it then has.
+// Returns the replies of this log, and its number of operations after them.
 fn replies_of<const LIMIT: u64>(
     alloc: Global,
     mut book: Book<LIMIT>,
@@ -55,7 +55,8 @@ fn replies_of<const LIMIT: u64>(
     Ok((replies, len))
 }
 
-// A claim that finds nothing makes no entry. Each other call is refused for what it is before the log is found to be full.
+// A claim that finds nothing adds no entry. Each other call checks its own refusals first, and then
+// whether the log is full.
 const OF_ONE: &str = r#"{"nothing":true}
 {"execution":1}
 {"refused":"RepositoryFull"}

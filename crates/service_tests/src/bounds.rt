@@ -1,4 +1,4 @@
-//! Lines and checkpoints of the most bytes that they may have.
+//! Lines and checkpoints of the largest size.
 use script_engine::answer_script;
 use std::alloc::{AllocError, Global};
 use std::test::Fail;
@@ -9,13 +9,13 @@ const CATALOGUE: &str = "{\"jobs\":[]}";
 
 const QUERY: &str = "{\"ask\":\"job_names\"}";
 
-/// A line of so many bytes: a JSON text, and spaces behind it.
+/// Returns a line of `length` bytes: a JSON text, and spaces after it.
 fn padded(alloc: Global, text: &str, length: usize) -> Result<String, AllocError> {
     let spaces = " ".repeat(alloc, length.saturating_sub(text.len()))?;
     format!(in alloc; "{text}{spaces}\n")
 }
 
-/// Whether a script is answered so.
+/// Checks whether a script has these replies.
 fn is_answered(alloc: Global, script: &str, wanted: &str) -> bool {
     let (replies, outcome) = answer_script(alloc, script.as_bytes());
     drop(outcome);
@@ -24,14 +24,14 @@ fn is_answered(alloc: Global, script: &str, wanted: &str) -> bool {
     is_wanted
 }
 
-/// Whether a query behind a catalogue line of so many bytes is answered so.
+/// Checks the reply to a query after a catalogue line of `length` bytes.
 fn is_answered_behind(alloc: Global, length: usize, wanted: &str) -> Result<bool, AllocError> {
     let mut script = padded(alloc, CATALOGUE, length)?;
     script.push_str(QUERY)?;
     Ok(is_answered(alloc, script.as_str(), wanted))
 }
 
-/// Catalogue lines of so many bytes, and what is answered behind them.
+/// Lengths of catalogue lines, and the replies to a query after them.
 const CATALOGUE_LINES: [(usize, &str); 2] = [
     (MOST_OF_A_LINE, "{\"names\":[]}\n"),
     (MOST_OF_A_LINE + 1, "{\"fault\":\"NotACatalogue\"}\n"),
@@ -48,7 +48,7 @@ fn a_catalogue_line_has_at_most_16_777_216_bytes(rt: HostRuntime) -> Result<(), 
     Ok(())
 }
 
-// The rest of a longer line is passed over.
+// The rest of a longer line is skipped.
 #[test]
 fn a_later_line_has_at_most_16_777_216_bytes(rt: HostRuntime) -> Result<(), Fail> {
     let alloc = rt.alloc();

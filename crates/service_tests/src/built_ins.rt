@@ -4,7 +4,7 @@ use job_threads::{Artifact, ArtifactFault};
 use std::alloc::{AllocError, Global};
 use std::test::Fail;
 
-/// Names, and what they are names of.
+/// Names, and the built-in artifacts with these names.
 const NAMES: [(&str, &str); 26] = [
     ("ok", "ok"),
     ("fail", "fail"),
@@ -34,7 +34,7 @@ const NAMES: [(&str, &str); 26] = [
     ("sink:1", "none"),
 ];
 
-/// What a name is the name of.
+/// Returns a built-in artifact in words.
 fn told(alloc: Global, built_in: &Option<BuiltIn>) -> Result<String, AllocError> {
     match built_in {
         None => String::from_str(alloc, "none"),
@@ -61,7 +61,7 @@ fn names(rt: HostRuntime) -> Result<(), Fail> {
     Ok(())
 }
 
-/// Whether an exit status of so many bytes stands in the name of a built-in artifact.
+/// Checks whether the name of a built-in artifact may have an exit status of `length` bytes.
 fn is_exit_of(alloc: Global, length: usize) -> Result<bool, Fail> {
     let status = "T".repeat(alloc, length)?;
     let name = format!(in alloc; "exit:{status}")?;
@@ -75,7 +75,7 @@ fn an_exit_status_has_256_bytes_at_most(rt: HostRuntime) -> Result<(), Fail> {
     Ok(())
 }
 
-/// The artifact of this name, ahead of its first call.
+/// Returns the artifact with this name, before its first call.
 fn artifact_of(alloc: Global, name: &str) -> Result<BuiltInArtifact, Fail> {
     let built_in = BuiltIn::of(alloc, name)?.ok_or("not the name of a built-in artifact")?;
     Ok(BuiltInArtifact::new(alloc, built_in))
@@ -89,7 +89,7 @@ fn word<T: Drop>(answer: Result<T, ArtifactFault>) -> &'static str {
     }
 }
 
-/// What a run, an open, a read, a process, a write and a checkpoint come to.
+/// Names, and the results of a run, an open, a read, a process, a write and a checkpoint.
 const USES: [(&str, &str); 6] = [
     ("ok", "answers faults faults faults faults faults"),
     ("fail", "faults faults faults faults faults faults"),
@@ -99,7 +99,7 @@ const USES: [(&str, &str); 6] = [
     ("sink", "faults answers faults faults answers faults"),
 ];
 
-/// What each use of an artifact comes to.
+/// Returns the result of each use of an artifact.
 fn came_of(artifact: &mut BuiltInArtifact) -> [&'static str; 6] {
     [
         word(artifact.run()),
@@ -111,7 +111,7 @@ fn came_of(artifact: &mut BuiltInArtifact) -> [&'static str; 6] {
     ]
 }
 
-/// Whether an artifact begins, and its uses come to this.
+/// Checks whether an artifact begins, and whether its uses have these results.
 fn is_used(alloc: Global, name: &str, wanted: &str) -> Result<bool, Fail> {
     let mut artifact = artifact_of(alloc, name)?;
     let begins = artifact.begin(Some(1)).is_ok();
@@ -129,8 +129,8 @@ fn uses(rt: HostRuntime) -> Result<(), Fail> {
     Ok(())
 }
 
-/// Readers with a checkpoint, or with none where it is empty, and what they read from there, with
-/// the checkpoint after each item.
+/// Readers, each with a checkpoint or none if it is empty, and the items that they read from there.
+/// Each item has the checkpoint after it.
 const READ: [(&str, &str, &str); 6] = [
     ("count:3", "", "0 1@1 2@2 3@3 end"),
     ("count:9", "0007", "7 8@8 9@9 end"),
@@ -140,13 +140,13 @@ const READ: [(&str, &str, &str); 6] = [
     ("count:5", "12", "12 end"),
 ];
 
-/// Tells the checkpoint of a reader.
+/// Adds a reader's checkpoint to a text.
 fn tell_checkpoint(reader: &mut BuiltInArtifact, told: &mut String) -> Result<(), Fail> {
     let checkpoint = reader.checkpoint()?;
     Ok(told.push_str(checkpoint.as_str())?)
 }
 
-/// Tells the next item, with the checkpoint after it; whether there is one.
+/// Adds the next item and the checkpoint after it to a text. Returns whether there was an item.
 fn tell_next(reader: &mut BuiltInArtifact, told: &mut String) -> Result<bool, Fail> {
     let Some(item) = reader.read()? else {
         return Ok(false);
@@ -220,7 +220,7 @@ fn an_exit_status(rt: HostRuntime) -> Result<(), Fail> {
     Ok(())
 }
 
-/// Items, and whether each is kept.
+/// Items, and whether `odd` returns each of them.
 const ITEMS: [(&str, bool); 14] = [
     ("1", true),
     ("13", true),
@@ -238,7 +238,7 @@ const ITEMS: [(&str, bool); 14] = [
     ("a8", false),
 ];
 
-/// Whether an item is kept as it is, or is dropped.
+/// Checks whether an item is returned unchanged, or filtered out.
 fn is_processed(odd: &mut BuiltInArtifact, item: &str, is_kept: bool) -> bool {
     match odd.process(item) {
         Ok(Some(kept)) => is_kept && kept.as_str() == item,

@@ -9,11 +9,11 @@ use std::thread::Threads;
 
 const SCRIPT: &[u8] = b"{\"jobs\":[]}\n{\"do\":\"start\",\"by\":1,\"at\":0,\"job\":\"a\"}\n";
 
-/// A job of one chunk that filters, and its start.
+/// A job of one chunk that filters items, and its start.
 const CHUNK: &[u8] =
     b"{\"jobs\":[{\"id\":\"c\",\"elements\":[{\"kind\":\"step\",\"id\":\"s\",\"chunk\":{\"item-count\":2,\"reader\":{\"ref\":\"count:5\"},\"processor\":{\"ref\":\"odd\"},\"writer\":{\"ref\":\"sink\"}}}]}]}\n{\"job\":\"c\"}\n";
 
-/// What is told of it.
+/// The output of this run.
 const CHUNK_RUN: &str =
     "{\"execution\":1}\n{\"execution\":1,\"exit\":\"COMPLETED\",\"status\":\"COMPLETED\",\"steps\":[{\"exit\":\"COMPLETED\",\"metrics\":{\"COMMIT_COUNT\":3,\"FILTER_COUNT\":2,\"READ_COUNT\":5,\"WRITE_COUNT\":3},\"status\":\"COMPLETED\",\"step\":\"s\"}]}\n";
 
@@ -21,18 +21,18 @@ const CHUNK_RUN: &str =
 const STARTS: &[u8] =
     b"{\"jobs\":[{\"id\":\"a\",\"elements\":[{\"kind\":\"step\",\"id\":\"t\",\"next\":\"s\",\"batchlet\":{\"ref\":\"ok\"}},{\"kind\":\"step\",\"id\":\"s\",\"batchlet\":{\"ref\":\"fail\"}}]}]}\n{\"job\":\"zz\"}\n\n{\"job\":\"a\",\"by\":1}\n{\"job\":\"a\",\"parameters\":{\"k\":\"v\"}}";
 
-/// What they are answered, and what is told of the job execution: its steps by their ids.
+/// Their replies, and the line of the job execution, which lists steps by their ids.
 const STARTS_RUN: &str =
     "{\"refused\":\"JobStartException\"}\n{\"refused\":\"BadLine\"}\n{\"execution\":1}\n{\"execution\":1,\"exit\":\"FAILED\",\"status\":\"FAILED\",\"steps\":[{\"exit\":\"FAILED\",\"metrics\":{},\"status\":\"FAILED\",\"step\":\"s\"},{\"exit\":\"COMPLETED\",\"metrics\":{},\"status\":\"COMPLETED\",\"step\":\"t\"}]}\n";
 
-/// What the program writes, and what it tells on standard error.
+/// The program's output, and its text on standard error.
 #[derive(Drop)]
 struct Written {
     out: Vec<u8>,
     faults: Vec<u8>,
 }
 
-/// Runs the program on these bytes; its exit status.
+/// Runs the program on these bytes. Returns its exit status.
 fn run<R: Threads + Wait + AllocGlobal + Files<File = File> + Sync>(
     rt: &R,
     words: &[&str],
@@ -42,7 +42,8 @@ fn run<R: Threads + Wait + AllocGlobal + Files<File = File> + Sync>(
     program(rt, words, input, &mut written.out, &mut written.faults)
 }
 
-/// Whether the program ends with this status, writes this, and tells nothing on standard error.
+/// Checks whether the program ends with this status and this output, with nothing on standard
+/// error.
 fn writes<R: Threads + Wait + AllocGlobal + Files<File = File> + Sync>(
     rt: &R,
     words: &[&str],
@@ -75,8 +76,8 @@ fn a_catalogue_is_run(rt: HostRuntime) {
     assert!(rt; writes(&rt, &["run", "--workers=1"], b"", 3, wanted));
 }
 
-/// A command, its input of two lines, and the pieces that it writes: the reply to the second line, and what a run tells
-/// of its job executions.
+/// A command, its input of two lines, and the pieces of its output: the reply to the second line,
+/// and the line of a run's job execution.
 const COMMANDS: [(&str, &[u8], &[&str]); 2] = [
     ("script", SCRIPT, &["{\"refused\":\"JobStartException\"}\n"]),
     (
@@ -89,7 +90,7 @@ const COMMANDS: [(&str, &[u8], &[&str]); 2] = [
     ),
 ];
 
-/// The first so many of these pieces.
+/// Returns the first `count` of these pieces.
 fn joined(alloc: Global, pieces: &[&str], count: usize) -> Result<String, AllocError> {
     let mut text = String::new(alloc);
     for piece in pieces.iter().take(count) {
@@ -98,7 +99,8 @@ fn joined(alloc: Global, pieces: &[&str], count: usize) -> Result<String, AllocE
     Ok(text)
 }
 
-/// Whether the program ends by a fault of a device, tells it by this line, and has written this.
+/// Checks whether a fault of a device ends the program with this line on standard error and with
+/// this output.
 fn tells<R: Threads + Wait + AllocGlobal + Files<File = File> + Sync, D: Read + Drop>(
     rt: &R,
     word: &str,
@@ -117,7 +119,8 @@ fn tells<R: Threads + Wait + AllocGlobal + Files<File = File> + Sync, D: Read + 
     found == 4 && is_told && is_written
 }
 
-/// Whether the program tells a fault of the reader behind so many bytes, and has written this.
+/// Checks whether the program reports a reader that fails after `good_calls` calls, with this
+/// output.
 fn tells_read_fault<R: Threads + Wait + AllocGlobal + Files<File = File> + Sync>(
     rt: &R,
     word: &str,
@@ -136,8 +139,8 @@ fn tells_read_fault<R: Threads + Wait + AllocGlobal + Files<File = File> + Sync>
     tells(rt, word, reader, writer, "batchctl: read fault\n", wanted)
 }
 
-/// Whether the program tells a fault of the writer behind so many calls, each of which takes at most so many bytes, and has
-/// written this.
+/// Checks whether the program reports a writer that fails after some calls, with this output. Each
+/// call takes a limited number of bytes.
 fn tells_write_fault<R: Threads + Wait + AllocGlobal + Files<File = File> + Sync>(
     rt: &R,
     word: &str,
@@ -158,7 +161,8 @@ fn tells_write_fault<R: Threads + Wait + AllocGlobal + Files<File = File> + Sync
         && tells(rt, word, input, fails(true), line, wanted)
 }
 
-/// Whether the program tells a fault of the reader at each call. The reply to the last line is written once it was told.
+/// Checks whether the program reports a fault of the reader at each call. The reply to the last
+/// line is written after the reader has reported it whole.
 fn tells_each_read_fault<R: Threads + Wait + AllocGlobal + Files<File = File> + Sync>(
     rt: &R,
     word: &str,
@@ -173,7 +177,8 @@ fn tells_each_read_fault<R: Threads + Wait + AllocGlobal + Files<File = File> + 
     tells_read_fault(rt, word, input, input.len(), reply)
 }
 
-/// Whether the program tells a fault of the writer at each call, where each takes one byte.
+/// Checks whether the program reports a fault of the writer at each call, if each call takes one
+/// byte.
 fn tells_each_write_fault<R: Threads + Wait + AllocGlobal + Files<File = File> + Sync>(
     rt: &R,
     word: &str,
@@ -189,7 +194,8 @@ fn tells_each_write_fault<R: Threads + Wait + AllocGlobal + Files<File = File> +
     true
 }
 
-/// The same, where each call takes a whole piece.
+/// Checks whether the program reports a fault of the writer at each call, if each call takes a
+/// whole piece.
 fn tells_each_lost_piece<R: Threads + Wait + AllocGlobal + Files<File = File> + Sync>(
     rt: &R,
     word: &str,
@@ -235,7 +241,7 @@ fn a_failed_device_is_told_where_help_was_asked_for(rt: HostRuntime) {
     assert!(rt; tells_write_fault(&rt, "--help", b"", usize::MAX, 0, b""));
 }
 
-/// Whether the program writes some help, and tells nothing on standard error.
+/// Checks whether the program writes help, and nothing on standard error.
 fn helps<R: Threads + Wait + AllocGlobal + Files<File = File> + Sync>(rt: &R) -> bool {
     let mut written = Written {
         out: Vec::new(rt.alloc()),
@@ -253,7 +259,7 @@ fn help_goes_to_the_writer(rt: HostRuntime) {
     assert!(rt; writes(&rt, &["--version"], SCRIPT, 0, "batchctl 1.0.0-rc.1\n"));
 }
 
-/// Command lines, and what they ask for.
+/// Command lines, and the arguments that they give.
 const COMMAND_LINES: [(&[&str], Arguments<'static>); 10] = [
     (&["script"], Arguments::Script),
     (
@@ -314,7 +320,8 @@ fn mistakes_go_to_standard_error(rt: HostRuntime) {
     }
 }
 
-/// Whether the program refuses a command line: it writes nothing, and tells why on standard error.
+/// Checks whether the program refuses a command line: with no output, and with the reason on
+/// standard error.
 fn refuses<R: Threads + Wait + AllocGlobal + Files<File = File> + Sync>(
     rt: &R,
     words: &[&str],
@@ -329,7 +336,7 @@ fn refuses<R: Threads + Wait + AllocGlobal + Files<File = File> + Sync>(
     found == 2 && is_so
 }
 
-/// What becomes of the words, with the exit status and what is told.
+/// Faults of reading the words, with the exit status and the line on standard error.
 const REFUSED_WORDS: [(ErrorKind, u8, &str); 2] = [
     (
         ErrorKind::InvalidData,

@@ -1,4 +1,4 @@
-//! Copies equal what they copy, where memory is ample.
+//! Clones are equal to their originals if memory is ample.
 use batch_history::Call;
 use jsl_json::read_catalogue;
 use jsl_model::Catalogue;
@@ -15,7 +15,8 @@ pub(crate) fn catalogue(alloc: Global) -> Result<Catalogue, Fail> {
     Ok(read_catalogue(alloc, CATALOGUE)?)
 }
 
-// A job that is started, handed out and finished, and then each other call, with all that it may hold.
+// A job that is started, claimed and finished; then each other call, with each member that it may
+// have.
 pub(crate) const CALLS: [&str; 10] = [
     r#"{"do":"start","by":1,"at":0,"job":"a","parameters":{"to":"1"}}"#,
     r#"{"do":"claim","by":1,"at":0}"#,
@@ -29,7 +30,7 @@ pub(crate) const CALLS: [&str; 10] = [
     r#"{"do":"purge","by":1,"at":0,"instance":1}"#,
 ];
 
-// The call that a line is.
+// Returns the call on a line.
 pub(crate) fn call_of(alloc: Global, line: &str) -> Result<Call, Fail> {
     match read_command(alloc, line.as_bytes())? {
         Command::Act { call, .. } => Ok(call),
@@ -54,13 +55,13 @@ fn is_copied(alloc: Global, line: &str) -> Result<bool, Fail> {
     Ok(is_same)
 }
 
-// A copy of the catalogue.
+// Returns a clone of the catalogue.
 fn copied(alloc: Global) -> Result<Catalogue, Fail> {
     let catalogue = catalogue(alloc)?;
     Ok(catalogue.try_clone()?)
 }
 
-// How many of the calls are entered by a log over this catalogue that has room for three.
+// Returns the number of calls that a log with room for three operations accepts.
 fn entries_of(alloc: Global, catalogue: Catalogue) -> Result<usize, Fail> {
     let mut book = Book::<3>::new(alloc, catalogue)?;
     let entered = enter(alloc, &mut book);
@@ -79,7 +80,7 @@ fn enter(alloc: Global, book: &mut Book<3>) -> Result<(), Fail> {
     Ok(())
 }
 
-// The copy has the job: it is started, handed out and finished, and the log is full then.
+// The clone has the job, which can be started, claimed and finished. Then the log is full.
 #[test]
 fn a_catalogue_is_copied(rt: HostRuntime) -> Result<(), Fail> {
     let copy = copied(rt.alloc())?;

@@ -1,8 +1,8 @@
 //! Threads that wait for one another at one operator, many times.
 //!
-//! A call of an operator waits for the lock of its book directly. This test fails only by hanging, if a thread that waits is
-//! never woken. It can't show how long a thread waits, nor whether a call tries the lock before it waits: an operator that
-//! never tries passes as well as one that does.
+//! A call of an operator waits for the lock of its book. If a thread that waits were never woken,
+//! this test would hang, and it fails in no other way. It shows neither how long a thread waits nor
+//! whether a call tries the lock before it waits.
 ghost use Rattle.std.specs.Prelude.{◌≡◌};
 
 use crate::copies::catalogue;
@@ -17,10 +17,11 @@ use std::test::Fail;
 use std::thread;
 use std::thread::Threads;
 
-/// How often each thread claims work.
+/// The number of claims of each thread.
 const TURNS: u64 = 2_000;
 
-/// Claims work where there is none, and gives how often it was told so: each claim waits for the lock of the book.
+/// Claims work although there is none. Returns the number of claims with the reply Nothing. Each
+/// claim waits for the lock of the book.
 fn claim_in_vain<N: Site>(rt: &impl Wait, operator: &Operator<N>) -> Result<u64, Refusal> {
     let mut session = operator.open_session(rt)?;
     let mut told = 0u64;
@@ -34,7 +35,7 @@ fn claim_in_vain<N: Site>(rt: &impl Wait, operator: &Operator<N>) -> Result<u64,
     Ok(told)
 }
 
-/// Has eight threads claim work, and gives how often they were told that there is none.
+/// Lets eight threads claim work. Returns the number of claims with the reply Nothing.
 fn eight_claim<N: Site + Send + Sync, R: Threads + Wait + AllocGlobal + Sync>(
     rt: &R,
     operator: &Operator<N>,

@@ -19,7 +19,7 @@ const REPLIES: [&str; 4] = [
     "{\"job_execution\":{\"create\":10,\"end\":30,\"execution\":1,\"exit\":\"COMPLETED\",\"instance\":1,\"job\":\"a\",\"start\":20,\"status\":\"COMPLETED\",\"updated\":30}}\n",
 ];
 
-/// The first so many replies, and a line behind them.
+/// Returns the first `count` replies, and a line after them.
 fn replies_and(alloc: Global, count: usize, last: &str) -> Result<String, AllocError> {
     let mut text = String::new(alloc);
     for reply in REPLIES.iter().take(count) {
@@ -29,13 +29,14 @@ fn replies_and(alloc: Global, count: usize, last: &str) -> Result<String, AllocE
     Ok(text)
 }
 
-/// How many lines of these bytes have a reply: all that are whole but for the catalogue.
+/// Returns the number of lines with a reply: all whole lines except the catalogue.
 fn replies_due(bytes: &[u8]) -> usize {
     let feeds = bytes.iter().filter(|byte| **byte == b'\n').count();
     feeds.saturating_sub(1)
 }
 
-/// What the script is answered that ends behind so many bytes. A last line is whole where a line feed comes next.
+/// Returns the output for the first `length` bytes of the script. A last line without its line feed
+/// is whole if the line feed is the next byte.
 fn replies_to_cut(alloc: Global, cut: usize) -> Result<String, AllocError> {
     let (script, rest) = SCRIPT
         .as_bytes()
@@ -57,7 +58,7 @@ fn replies_to_cut(alloc: Global, cut: usize) -> Result<String, AllocError> {
     }
 }
 
-/// Whether the script that ends behind so many bytes is answered as it is to be.
+/// Checks the output for the first bytes of the script.
 fn is_answered_to(alloc: Global, cut: usize) -> Result<bool, Fail> {
     let wanted = replies_to_cut(alloc, cut)?;
     let script = SCRIPT.as_bytes().get(..cut).unwrap_or(b"");
@@ -89,7 +90,8 @@ fn a_script_is_summed_up(rt: HostRuntime) {
     assert!(rt; outcome == Ok(summary));
 }
 
-/// Whether a run whose read fails behind so many bytes says so, and has written the replies to the lines before.
+/// Checks a run whose reader fails after some bytes: it says so, after the replies to the lines
+/// before.
 fn is_broken_behind(alloc: Global, calls: usize) -> Result<bool, Fail> {
     let told = SCRIPT.as_bytes().get(..calls).unwrap_or(b"");
     let wanted = replies_and(alloc, replies_due(told), "")?;
@@ -102,7 +104,7 @@ fn is_broken_behind(alloc: Global, calls: usize) -> Result<bool, Fail> {
     Ok(is_told && written.as_slice() == wanted.as_bytes())
 }
 
-// The last call is the one that would have told the end.
+// The last call is the one that would have reported the end.
 #[test]
 fn each_read_may_fail(rt: HostRuntime) -> Result<(), Fail> {
     for calls in 0..=SCRIPT.len() {
@@ -111,7 +113,7 @@ fn each_read_may_fail(rt: HostRuntime) -> Result<(), Fail> {
     Ok(())
 }
 
-/// Whether a run by this writer, which fails, says so, and these are the bytes that the writer has taken.
+/// Checks a run whose writer fails: it says so, and the writer has taken these bytes.
 fn is_cut_by(alloc: Global, writer: FlakyWriter, wanted: &[u8]) -> bool {
     let mut reader = Counted::new(FlakyReader::new(SCRIPT.as_bytes(), usize::MAX));
     let mut writer = Counted::new(writer);
@@ -122,7 +124,8 @@ fn is_cut_by(alloc: Global, writer: FlakyWriter, wanted: &[u8]) -> bool {
     is_told && taken.as_slice() == wanted
 }
 
-/// The same, behind so many calls that take pieces of at most so many bytes, whatever the failure is.
+/// Checks a run whose writer fails after some calls, for each kind of failure. Each call takes a
+/// piece of limited size.
 fn is_cut_behind(alloc: Global, most: usize, good_calls: usize, wanted: &[u8]) -> bool {
     let fails = |is_silent| FlakyWriter {
         taken: Vec::new(alloc),

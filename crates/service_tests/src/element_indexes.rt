@@ -1,4 +1,4 @@
-//! The index of a job has each element where an ordered map of their ids has it.
+//! A job's index of elements agrees with an ordered map of their ids.
 use batch_ids::{OutOfMemory, T256};
 use jsl_json::read_catalogue;
 use jsl_model::{Body, Catalogue, Element, Job, Outer};
@@ -7,14 +7,14 @@ use std::collections::BTreeMap;
 use std::hash::{FoldHasher, Hash, Hasher};
 use std::test::Fail;
 
-/// Where to look for an element.
+/// The position of an element.
 #[derive(Debug, Drop)]
 pub(crate) struct Spot {
-    /// Its place in its list.
+    /// Its index in its list.
     place: usize,
-    /// The place of its first work key, among those of the job.
+    /// The index of its first work key, among the job's work keys.
     first: usize,
-    /// Inside what its list stands; nothing, where that is the job's own.
+    /// The element around its list; `None` for the job's own list.
     outer: Option<Outer>,
 }
 
@@ -25,7 +25,7 @@ fn copy_of(outer: &Outer) -> Result<Outer, OutOfMemory> {
     })
 }
 
-/// What the list of this flow of an element stands in.
+/// Returns the element and the flow around a list.
 fn outer_at(element: &Element, flow: usize) -> Result<Outer, OutOfMemory> {
     Ok(Outer {
         id: element.id.try_clone()?,
@@ -33,7 +33,7 @@ fn outer_at(element: &Element, flow: usize) -> Result<Outer, OutOfMemory> {
     })
 }
 
-/// Adds an element that stands there.
+/// Adds an element with this position.
 fn add_spot(spots: &mut BTreeMap<T256, Spot>, id: T256, spot: Spot) -> Result<(), OutOfMemory> {
     match spots.insert(id, spot) {
         Ok(_) => Ok(()),
@@ -41,8 +41,8 @@ fn add_spot(spots: &mut BTreeMap<T256, Spot>, id: T256, spot: Spot) -> Result<()
     }
 }
 
-/// Adds the elements of a list and those inside them, of which the first work key has this place;
-/// the place of the next one.
+/// Adds the elements of a list and those inside them. Takes the index of the first work key, and
+/// returns that of the next one.
 #[cycle(indexing)]
 pub(crate) fn add_all(
     spots: &mut BTreeMap<T256, Spot>,
@@ -67,7 +67,7 @@ pub(crate) fn add_all(
     Ok(next)
 }
 
-/// Adds the elements inside one; the place of the next work key.
+/// Adds the elements inside an element. Returns the index of the next work key.
 #[cycle(indexing)]
 fn add_inside(
     spots: &mut BTreeMap<T256, Spot>,
@@ -103,13 +103,13 @@ fn is_same_outer(one: Option<&Outer>, other: Option<&Outer>) -> bool {
     }
 }
 
-/// The place in its list of the element that the list of another stands in.
+/// Returns the index of the element around a list, in its own list.
 fn outer_place(spots: &BTreeMap<T256, Spot>, spot: &Spot) -> Option<usize> {
     let outer = spot.outer.as_ref()?;
     Some(spots.get(&outer.id)?.place)
 }
 
-/// Whether the job's index has an element where this spot says.
+/// Checks whether the job's index has an element at this position.
 fn is_found(job: &Job, spots: &BTreeMap<T256, Spot>, id: &T256, spot: &Spot) -> bool {
     let index = job.index();
     let with_place = index.outer_with_place(id);
@@ -120,7 +120,7 @@ fn is_found(job: &Job, spots: &BTreeMap<T256, Spot>, id: &T256, spot: &Spot) -> 
         && with_place.map(|found| found.1) == outer_place(spots, spot)
 }
 
-/// Whether the job's index has each element where the map has it.
+/// Checks whether the job's index agrees with the map at each element.
 fn are_found(job: &Job, spots: &BTreeMap<T256, Spot>) -> bool {
     for (id, spot) in spots.iter() {
         if !is_found(job, spots, id, spot) {
@@ -130,7 +130,7 @@ fn are_found(job: &Job, spots: &BTreeMap<T256, Spot>) -> bool {
     true
 }
 
-/// Whether the job's index has no element of this id.
+/// Checks whether the job's index has no element with this id.
 fn is_nowhere(job: &Job, id: &T256) -> bool {
     let index = job.index();
     index.outer_of(id).is_none()
@@ -139,7 +139,7 @@ fn is_nowhere(job: &Job, id: &T256) -> bool {
         && index.key_place_of(id, 2) == 0
 }
 
-/// How many elements a job has, if its index has each where the map has it, and nothing else.
+/// Returns the number of a job's elements, if its index agrees with the map and has nothing else.
 fn count_of_found(alloc: Global, job: &Job) -> Result<Option<usize>, Fail> {
     let mut spots = BTreeMap::new(alloc);
     add_all(&mut spots, job.elements(), None, 0)?;
@@ -151,14 +151,14 @@ fn count_of_found(alloc: Global, job: &Job) -> Result<Option<usize>, Fail> {
     })
 }
 
-/// A step in three partitions.
+/// Returns a step of three partitions.
 fn step_of(alloc: Global, id: &str) -> Result<String, AllocError> {
     format!(in alloc;
         "{{\"kind\":\"step\",\"id\":\"{id}\",\"partitions\":3,\"batchlet\":{{\"ref\":\"ok\"}}}}"
     )
 }
 
-/// So many steps in three partitions, with the numbers from this one on.
+/// Returns steps of three partitions, numbered from `first` on.
 pub(crate) fn steps(alloc: Global, first: usize, count: usize) -> Result<String, AllocError> {
     let mut text = String::new(alloc);
     for step in 0..count {
@@ -173,7 +173,7 @@ pub(crate) fn steps(alloc: Global, first: usize, count: usize) -> Result<String,
     Ok(text)
 }
 
-/// A split of so many flows of two steps.
+/// Returns a split whose flows have two steps each.
 pub(crate) fn split(alloc: Global, count: usize) -> Result<String, AllocError> {
     let mut text = String::from_str(alloc, "{\"kind\":\"split\",\"id\":\"k\",\"flows\":[")?;
     for flow in 0..count {
@@ -188,7 +188,7 @@ pub(crate) fn split(alloc: Global, count: usize) -> Result<String, AllocError> {
     Ok(text)
 }
 
-/// So many flows, each inside the one before, behind a step.
+/// Returns nested flows, each after a step.
 pub(crate) fn nest(alloc: Global, depth: usize) -> Result<String, AllocError> {
     let mut text = steps(alloc, 0, 3)?;
     for level in 0..depth {
@@ -200,13 +200,14 @@ pub(crate) fn nest(alloc: Global, depth: usize) -> Result<String, AllocError> {
     Ok(text)
 }
 
-/// The catalogue of a job `j` with these elements.
+/// Returns a catalogue of a job `j` with these elements.
 pub(crate) fn catalogue_of(alloc: Global, elements: &str) -> Result<Catalogue, Fail> {
     let text = format!(in alloc; "{{\"jobs\":[{{\"id\":\"j\",\"elements\":[{elements}]}}]}}")?;
     Ok(read_catalogue(alloc, text.as_bytes())?)
 }
 
-/// How many elements the job with these has, if its index has each where the map has it, and no other.
+/// Returns the number of elements of this job, if its index agrees with the map and has nothing
+/// else.
 fn found_in(alloc: Global, elements: &str) -> Result<Option<usize>, Fail> {
     let catalogue = catalogue_of(alloc, elements)?;
     let found = match catalogue.job("j") {
@@ -241,17 +242,18 @@ fn each_element_of_flows_is_found(rt: HostRuntime) -> Result<(), Fail> {
     Ok(())
 }
 
-/// An id of 48 bytes with this number. The hashes of all these ids meet.
+/// Returns an id of 48 bytes with this number. All such ids have the same hash.
 ///
-/// The index takes them by a `FoldHasher`, which folds 16 bytes at a time. It joins the first 8 with its state by exclusive or,
-/// the next 8 with a constant, and multiplies both. Here the first 16 bytes lead to the state whose bytes are the next 8. So
-/// the second product is 0 whatever the number is, and the last 16 bytes are the same in each id.
+/// The index hashes by a `FoldHasher`, which folds 16 bytes at a time. It combines the first 8 with
+/// its state by exclusive or and the next 8 with a constant, and multiplies both. Here the first 16
+/// bytes lead to a state that is equal to the next 8 bytes. So the second product is 0 for every
+/// number, and the last 16 bytes are the same in each id.
 fn meeting_id(alloc: Global, number: usize) -> Result<T256, Fail> {
     let id = format!(in alloc; "id-8715350726942n[F*{{'(d{number:08}................")?;
     Ok(T256::new(alloc, id.as_str())?)
 }
 
-/// So many steps with such ids, whose numbers are even and fall.
+/// Returns steps with such ids, whose numbers are even and fall.
 fn meeting_steps(alloc: Global, count: usize) -> Result<String, Fail> {
     let mut text = String::new(alloc);
     for place in 0..count {
@@ -266,7 +268,7 @@ fn meeting_steps(alloc: Global, count: usize) -> Result<String, Fail> {
     Ok(text)
 }
 
-/// Whether a job's index has no element with such an id of the first odd numbers, so many.
+/// Checks whether a job's index has no element with such an id of an odd number.
 fn has_no_odd(alloc: Global, job: &Job, count: usize) -> Result<bool, Fail> {
     for place in 0..count {
         let number = place.saturating_mul(2).saturating_add(1);
@@ -278,7 +280,7 @@ fn has_no_odd(alloc: Global, job: &Job, count: usize) -> Result<bool, Fail> {
     Ok(true)
 }
 
-/// The same of the job with these elements.
+/// Checks the same of the job with these elements.
 fn has_no_odd_in(alloc: Global, elements: &str, count: usize) -> Result<bool, Fail> {
     let catalogue = catalogue_of(alloc, elements)?;
     let has_none = match catalogue.job("j") {
@@ -302,20 +304,20 @@ fn elements_whose_ids_meet_are_told_apart(rt: HostRuntime) -> Result<(), Fail> {
     Ok(())
 }
 
-/// The hash by which the index finds an id.
+/// Returns the index's hash of an id.
 fn hash_of(id: &T256) -> u64 {
     let mut hasher = FoldHasher::default();
     id.hash(&mut hasher);
     hasher.finish()
 }
 
-/// The hash of the id of this number.
+/// Returns the hash of the id with this number.
 fn meeting_hash(alloc: Global, number: usize) -> Result<u64, Fail> {
     let id = meeting_id(alloc, number)?;
     Ok(hash_of(&id))
 }
 
-/// The test above would pass as well if the hashes didn't meet.
+/// Without equal hashes the test above would show nothing.
 #[test]
 fn hashes_of_these_ids_meet(rt: HostRuntime) -> Result<(), Fail> {
     let hash = meeting_hash(rt.alloc(), 0)?;

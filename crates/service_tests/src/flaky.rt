@@ -1,10 +1,10 @@
-//! A reader and a writer that fail once, at a call of the test's choice, and would go on.
+//! A reader and a writer that fail once, at a call of the test's choice, and then work again.
 ghost use Rattle.std.specs.Prelude.{◌≡◌, IfOk};
 
 use std::io;
 use std::io::{Error, ErrorKind, Read, Write};
 
-/// Tells one byte a call, and fails once, behind so many calls.
+/// A reader that returns one byte a call, and fails once after some calls.
 #[derive(Drop)]
 pub(crate) struct FlakyReader<'a> {
     rest: &'a [u8],
@@ -40,7 +40,8 @@ impl Read for FlakyReader<'_> {
     }
 }
 
-/// Takes pieces of at most so many bytes, and fails once, behind so many calls: it says so, or takes no byte.
+/// A writer that takes pieces of limited size, and fails once after some calls: with an error, or
+/// by taking no byte.
 #[derive(Drop)]
 pub(crate) struct FlakyWriter {
     pub(crate) taken: Vec<u8>,

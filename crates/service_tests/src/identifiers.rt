@@ -5,7 +5,7 @@ use batch_ids::{
 use std::alloc::{AllocError, Global};
 use std::test::Fail;
 
-/// Whether this is a text of at most four bytes.
+/// Checks whether this is a text of at most four bytes.
 fn is_of_four(alloc: Global, text: &str) -> Result<bool, Refusal> {
     let of_four = Text::<4>::new(alloc, text)?;
     Ok(of_four.as_str() == text)
@@ -23,7 +23,7 @@ fn a_text_has_its_bound_in_bytes(rt: HostRuntime) {
     assert!(rt; is_empty_copied(rt.alloc()) == Ok(true));
 }
 
-// Each refusal, and what it prints as.
+// Each refusal, and its printed name.
 const PRINTED: [(Refusal, &str); 17] = [
     (Refusal::JobStartException, "JobStartException"),
     (Refusal::NoSuchJobException, "NoSuchJobException"),
@@ -75,7 +75,7 @@ fn is_printed(alloc: Global, refusal: Refusal, name: &str) -> Result<bool, Alloc
     Ok(text.as_str() == name)
 }
 
-/// The parameters of these keys with these values.
+/// Returns the parameters with these keys and values.
 fn parameters_of(alloc: Global, pairs: &[(&str, &str)]) -> Result<Parameters, Fail> {
     let mut given = Vec::new(alloc);
     for (key, value) in pairs {
@@ -87,7 +87,7 @@ fn parameters_of(alloc: Global, pairs: &[(&str, &str)]) -> Result<Parameters, Fa
     Ok(Parameters::new(alloc, given)?)
 }
 
-/// Whether these are two parameters, `from` and then `to` with its last value.
+/// Checks whether there are two parameters, `from` and then `to` with its last value.
 fn is_last_kept(parameters: &Parameters) -> bool {
     parameters.len() == 2
         && parameters.get("to") == Some("3")
@@ -105,7 +105,7 @@ fn the_last_value_of_a_key_counts(rt: HostRuntime) -> Result<(), Fail> {
     Ok(())
 }
 
-// What is answered to so many parameters, the first of them with a key and a value of so many bytes.
+// Returns the result for a number of parameters, the first with a key and a value of these lengths.
 fn refused(
     alloc: Global,
     count: u32,
@@ -117,12 +117,12 @@ fn refused(
     for number in 1..count {
         given.push((format!(in alloc; "{number}")?, String::new(alloc)))?;
     }
-    // A key given twice is one key.
+    // A key given twice counts as one key.
     given.push(("x".repeat(alloc, key)?, String::new(alloc)))?;
     Ok(Parameters::new(alloc, given).err())
 }
 
-// A number of parameters, and the bytes of a key and of a value: one of the three is too large.
+// A number of parameters, and the lengths of a key and of a value. One of the three is too large.
 const TOO_LONG: [(u32, usize, usize); 3] = [(65, 1, 1), (1, 257, 1), (1, 1, 4097)];
 
 #[test]
@@ -149,7 +149,7 @@ fn a_step_is_added_to_the_metrics(rt: HostRuntime) {
     assert!(rt; Metric::FilterCount.name() == "FILTER_COUNT");
 }
 
-// Each status, and what it prints as.
+// Each batch status, and its printed name.
 const STATUSES: [(BatchStatus, &str); 7] = [
     (BatchStatus::Starting, "STARTING"),
     (BatchStatus::Started, "STARTED"),
@@ -274,7 +274,7 @@ fn parameters_are_walked_over_by_rising_keys(rt: HostRuntime) -> Result<(), Fail
     Ok(())
 }
 
-/// Whether a walk over these parameters goes over three, by rising keys.
+/// Checks whether the iterator of these parameters returns three, by rising keys.
 fn walk_over(alloc: Global, parameters: &Parameters) -> Result<bool, AllocError> {
     let mut walked = String::new(alloc);
     for parameter in parameters {

@@ -3,8 +3,8 @@ use jsl_model::{BodyParts, ElementParts, Job, JobFault, JobParts, StepParts, Tas
 use std::alloc::{AllocError, Global};
 use std::test::Fail;
 
-/// A job of one chunk with this item count and so many partitions: no catalogue in JSON gives an item
-/// count of 0, nor a step of 0 or more than 64 partitions.
+/// Returns a job of one chunk with this item count and number of partitions. No catalogue in JSON
+/// can give an item count of 0, or a step of 0 or more than 64 partitions.
 fn chunk(alloc: Global, item_count: u32, partitions: Option<u32>) -> Result<JobParts, AllocError> {
     let id = String::from_str(alloc, "j")?;
     let step = StepParts {
@@ -38,7 +38,7 @@ fn chunk_task(alloc: Global, item_count: u32) -> Result<TaskParts, AllocError> {
     })
 }
 
-/// What is wrong with such a job, if anything is.
+/// Returns the fault of such a job, if it has one.
 fn fault_of(
     alloc: Global,
     item_count: u32,
@@ -55,7 +55,7 @@ fn a_chunk_has_an_item_count_from_1(rt: HostRuntime) -> Result<(), Fail> {
     Ok(())
 }
 
-/// Numbers of partitions, and what is wrong with them.
+/// Numbers of partitions, and their faults.
 const PARTITIONS: [(u32, Option<JobFault>); 4] = [
     (0, Some(JobFault::Empty)),
     (1, None),

@@ -1,7 +1,9 @@
-//! Tests that no script in a file can be. Of what lies below the repository: identifiers, jobs, graphs, members of JSON
-//! objects, transition elements, indexes of elements and walks. Of the service: copies, what a book prints, full logs, lines
-//! of a reader and at their bound, scripts that are cut off, readers and writers that fail, a list of events, built-in artifacts, threads that
-//! wait for one another, and the words of a command line.
+//! Tests of properties that no script in a file can show.
+//!
+//! Below the repository: identifiers, jobs, graphs, members of JSON objects, transition elements,
+//! indexes of elements and walks. Of the service: clones, printed forms of a book, full logs, lines
+//! at their limit, scripts that are cut off, readers and writers that fail, a list of events,
+//! built-in artifacts, threads that wait for one another, and the words of a command line.
 #![tactic(auto)]
 
 #[cfg(test)]

@@ -1,10 +1,10 @@
-//! Lines of a reader, as a host of its own reads them.
+//! Lines of a reader, in the way of a host that reads them itself.
 use crate::flaky::FlakyReader;
 use script_engine::{Counted, EngineFault, Line, Lines, Source};
 use std::alloc::Global;
 use std::test::Fail;
 
-// Adds a line and a mark behind it.
+// Adds a line and a mark after it.
 fn tell(told: &mut String, line: &Line) -> Result<(), Fail> {
     match line {
         Line::Whole(bytes) => told.push_str(str::from_utf8(bytes)?)?,
@@ -14,7 +14,7 @@ fn tell(told: &mut String, line: &Line) -> Result<(), Fail> {
     Ok(())
 }
 
-// What comes next, told. Whether more may come.
+// Adds the next line or fault to a text. Returns whether more lines may come.
 fn tell_next<S: Source + Drop>(lines: &mut Lines<S>, told: &mut String) -> Result<bool, Fail> {
     if lines.has_failed() {
         told.push_str("failed")?;
@@ -37,7 +37,7 @@ fn tell_next<S: Source + Drop>(lines: &mut Lines<S>, told: &mut String) -> Resul
     }
 }
 
-// All lines, told: at most eight.
+// Returns all lines as a text, at most eight.
 fn tell_all<S: Source + Drop>(alloc: Global, lines: &mut Lines<S>) -> Result<String, Fail> {
     let mut told = String::new(alloc);
     for _line in 0..8_u64 {
@@ -48,7 +48,7 @@ fn tell_all<S: Source + Drop>(alloc: Global, lines: &mut Lines<S>) -> Result<Str
     Ok(told)
 }
 
-// Texts, after how many bytes their reader fails, and the lines that are told.
+// Texts, the number of bytes after which their reader fails, and the lines that are read.
 const READERS: [(&str, usize, &str); 5] = [
     ("", 100, "end"),
     ("a\n\nbc", 100, "a||bc|end"),

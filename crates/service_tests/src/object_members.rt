@@ -15,7 +15,7 @@ fn what_is_no_number(rt: HostRuntime) -> Result<(), Fail> {
     Ok(())
 }
 
-/// Whether the one number is found, and nothing else as a number.
+/// Checks whether the number is found, and nothing else is found as a number.
 fn are_numbers_found(value: &Value) -> bool {
     ["a", "b", "c", "d", "f", "g"]
         .iter()
@@ -35,7 +35,7 @@ fn names_and_texts(rt: HostRuntime) -> Result<(), Fail> {
     Ok(())
 }
 
-/// Whether each member is found by its name, and is what it is.
+/// Checks whether each member is found by its name, with its kind.
 fn are_members_found(value: &Value) -> bool {
     is_text(value, "do", "start")
         && has_only(value, &["in", "on", "list", "do", "at"])

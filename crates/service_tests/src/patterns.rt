@@ -28,7 +28,7 @@ fn patterns_match_by_pieces(rt: HostRuntime) {
     }
 }
 
-/// Transition elements with these patterns, which fail the job.
+/// Returns transition elements with these patterns, which fail the job.
 fn transitions_on(alloc: Global, patterns: &[&str]) -> Result<Listed<Transition>, Refusal> {
     let mut transitions = Listed::new(alloc);
     for pattern in patterns {
@@ -52,7 +52,7 @@ fn the_first_written_match_counts(rt: HostRuntime) -> Result<(), Fail> {
     Ok(())
 }
 
-/// Whether the first of the four that matches is told by its place.
+/// Checks whether the index of the first match of four is returned.
 fn are_placed(transitions: &[Transition]) -> bool {
     transitions.len() == 4
         && [("ABC", 1), ("B", 0), ("", 3), ("CAB", 3)].iter().all(|(exit, place)| first_match(
@@ -62,7 +62,7 @@ fn are_placed(transitions: &[Transition]) -> bool {
         && first_match(&transitions[..3], "CAB").is_none()
 }
 
-/// Whether the second of them is found, and nothing where it is left out.
+/// Checks whether the second of them is found, and nothing is found without it.
 fn is_second_found(transitions: &[Transition], exit: &T256) -> bool {
     matches!(find_match(transitions, exit), Some(second) if second.on.as_str() == "A*")
         && find_match(&transitions[..1], exit).is_none()

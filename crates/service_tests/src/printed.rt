@@ -1,9 +1,9 @@
-//! What is printed of the unfinished job executions and the walks that a book keeps, and of the index of a job.
+//! The printed forms of a book's unfinished job executions and walks, and of a job's index.
 //!
-//! Once, `Debug` was derived of the types that keep them. Their fields have changed since, and what they print is to stay. The
-//! structs of this file have the names and fields of that time, and `Debug` is derived of them. So a wanted text is what the
-//! derived forms print, and none is taken from what is printed now. What the structs hold is worked out from the calls, and
-//! from the elements of a job.
+//! `Debug` was once derived for these types. Their fields have changed since, but their printed
+//! forms must not. This file's structs have the names and fields of that time, and derive `Debug`.
+//! So an expected text is the derived form, and never the present output. The tests work out the
+//! values of the structs from the calls and from the job's elements.
 use crate::copies::call_of;
 use crate::element_indexes::{Spot, add_all, catalogue_of, nest, split, steps};
 use crate::walks::{key_of, report, take};
@@ -18,14 +18,14 @@ use std::collections::BTreeMap;
 use std::fmt::{self, Debug, Formatter};
 use std::test::Fail;
 
-/// The numbers of job executions, which were kept in the `Items` of a vector.
+/// The numbers of job executions, which were in the `Items` of a vector.
 #[derive(Debug, Drop)]
 struct Items<'a> {
     items: &'a [u64],
 }
 
-/// Numbers under names, in this order. They were kept in an `IndexMap`, whose `swap_remove` puts the last name into the place of
-/// the one that goes.
+/// Numbers under names, in this order. They were in an `IndexMap`, whose `swap_remove` moves the
+/// last name into the place of the removed one.
 #[derive(Drop)]
 struct Lists<'a> {
     lists: &'a [(&'a str, &'a [u64])],
@@ -41,20 +41,20 @@ impl<'a> Debug for Lists<'a> {
     }
 }
 
-/// The unfinished job executions of each job, in what a book kept at that time.
+/// The unfinished job executions of each job, as a book had them at that time.
 #[derive(Debug, Drop)]
 struct NameLists<'a> {
     alloc: Global,
     lists: Lists<'a>,
 }
 
-/// The index of a job at that time: a map, which prints by rising ids.
+/// A job's index at that time: a map, which prints by rising ids.
 #[derive(Debug, Drop)]
 struct ElementIndex {
     spots: BTreeMap<T256, Spot>,
 }
 
-/// What a value prints, on one line and on many.
+/// The printed forms of a value, on one line and on many.
 #[derive(Drop)]
 struct Texts {
     line: String,
@@ -80,14 +80,15 @@ fn margin(alloc: Global, depth: usize) -> Result<String, AllocError> {
     Ok(margin)
 }
 
-/// A field on many lines, which stands so deep in a whole.
+/// Returns a field on many lines, at this depth of a whole.
 fn deep_field(alloc: Global, name: &str, lines: &str, depth: usize) -> Result<String, AllocError> {
     let margin = margin(alloc, depth)?;
     let lines = lines.replace(alloc, "\n", margin.as_str())?;
     format!(in alloc; "{margin}{name}: {lines}")
 }
 
-/// Whether a whole prints a field of this name and value so deep in it, on one line and on many.
+/// Checks whether the printed forms of a whole have a field of this name and value at this depth,
+/// on one line and on many.
 fn has_field(
     alloc: Global,
     whole: &Texts,
@@ -101,7 +102,7 @@ fn has_field(
     Ok(has_line && whole.lines.as_str().contains(lines.as_str()))
 }
 
-/// Three jobs of a step `a` and then a step `b`.
+/// Three jobs, each of a step `a` and then a step `b`.
 const CATALOGUE: &[u8] = br#"{"jobs":[
     {"id":"j","elements":[{"kind":"step","id":"a","next":"b","batchlet":{"ref":"ok"}},
         {"kind":"step","id":"b","batchlet":{"ref":"ok"}}]},
@@ -113,7 +114,7 @@ const CATALOGUE: &[u8] = br#"{"jobs":[
 /// The steps of each job, in the order in which they run.
 const STEPS: [&str; 2] = ["a", "b"];
 
-/// The walk of a job by a plan.
+/// Returns the walk of a job by a plan.
 fn walk_by(alloc: Global, job: &Job, plan: &Plan) -> Result<Cursor, Fail> {
     if !plan.begins_in(job) {
         return Err("the walk begins at no element".into());
@@ -121,7 +122,7 @@ fn walk_by(alloc: Global, job: &Job, plan: &Plan) -> Result<Cursor, Fail> {
     Ok(Cursor::new(alloc, job, plan)?)
 }
 
-/// The walk of a job in its first job execution.
+/// Returns the walk of a job in its first job execution.
 fn begun(alloc: Global, job: &Job) -> Result<Cursor, Fail> {
     let plan = Plan {
         from: T256::new(alloc, "a")?,
@@ -134,7 +135,7 @@ fn begun(alloc: Global, job: &Job) -> Result<Cursor, Fail> {
     cursor
 }
 
-/// Takes a step, and reports it COMPLETED if it is over.
+/// Takes a step, and reports it as COMPLETED if it is to be over.
 fn go_on(
     cursor: &mut Cursor,
     key: &WorkKey,
@@ -148,7 +149,7 @@ fn go_on(
     Ok(())
 }
 
-/// Takes so many steps, of which so many are over.
+/// Takes the first `taken` steps, of which the first `over` are reported.
 fn go_through(alloc: Global, cursor: &mut Cursor, taken: usize, over: usize) -> Result<(), Fail> {
     let exit = T256::new(alloc, "COMPLETED")?;
     for (place, id) in STEPS.iter().enumerate() {
@@ -160,14 +161,14 @@ fn go_through(alloc: Global, cursor: &mut Cursor, taken: usize, over: usize) -> 
     Ok(())
 }
 
-/// The walk of a job, of which so many steps are taken, and so many of these are over.
+/// Returns the walk of a job with some steps taken, and some of these reported.
 fn walk_of(alloc: Global, job: &Job, taken: usize, over: usize) -> Result<Cursor, Fail> {
     let mut cursor = begun(alloc, job)?;
     go_through(alloc, &mut cursor, taken, over)?;
     Ok(cursor)
 }
 
-/// Keeps the walk of the job execution with this number.
+/// Adds the walk of the job execution with this number.
 fn keep_walk(
     walks: &mut BTreeMap<u64, Cursor>,
     number: u64,
@@ -179,7 +180,8 @@ fn keep_walk(
     }
 }
 
-/// The walks of job executions: their numbers, their jobs, and how many steps are taken and over.
+/// Job executions with walks: their numbers, their jobs, and the numbers of steps taken and
+/// reported.
 fn walks_of(
     alloc: Global,
     catalogue: &Catalogue,
@@ -194,14 +196,15 @@ fn walks_of(
     Ok(walks)
 }
 
-/// A call, and what a book is to keep after it.
+/// A call, and the book's state after it.
 #[derive(Drop)]
 struct Turn {
     call: &'static str,
     is_refused: bool,
     /// The unfinished job executions of each job.
     lists: &'static [(&'static str, &'static [u64])],
-    /// The walks by the numbers of their job executions: of which job, and how many steps are taken and over.
+    /// The walks by the numbers of their job executions: their jobs, and the numbers of steps taken
+    /// and reported.
     walks: &'static [(u64, &'static str, usize, usize)],
 }
 
@@ -304,7 +307,7 @@ const TURNS: [Turn; 16] = [
     },
 ];
 
-/// Whether a book prints the lists and the walks of a turn.
+/// Checks whether a book prints the lists and the walks of a turn.
 fn prints(alloc: Global, book: &Texts, catalogue: &Catalogue, turn: &Turn) -> Result<bool, Fail> {
     let lists = Lists { lists: turn.lists };
     let lists = texts_of(alloc, &NameLists { alloc, lists })?;
@@ -315,7 +318,7 @@ fn prints(alloc: Global, book: &Texts, catalogue: &Catalogue, turn: &Turn) -> Re
     Ok(has_lists && has_field(alloc, book, "cursors", &cursors, 2)?)
 }
 
-/// Whether a call is refused.
+/// Checks whether a call is refused.
 fn refuses(book: &mut Book<16>, call: Call) -> bool {
     let reply = book.act(1, call, 0);
     let is_refused = reply.is_err();
@@ -323,8 +326,8 @@ fn refuses(book: &mut Book<16>, call: Call) -> bool {
     is_refused
 }
 
-/// Whether a book refuses the call of a turn only if it is to, and then prints what it is to keep. What it prints changes unless
-/// the call is refused.
+/// Checks whether a book refuses a turn's call exactly if it should, and prints the right state
+/// after it. A refused call leaves the printed form unchanged.
 fn is_as_wanted(
     alloc: Global,
     book: &mut Book<16>,
@@ -339,7 +342,7 @@ fn is_as_wanted(
     Ok(is_answered && prints(alloc, &after, catalogue, turn)?)
 }
 
-/// How many turns come out as wanted, up to the first that doesn't.
+/// Returns the number of turns before the first failure.
 fn turns_as_wanted(
     alloc: Global,
     book: &mut Book<16>,
@@ -353,7 +356,7 @@ fn turns_as_wanted(
     Ok(TURNS.len())
 }
 
-/// The same of a book over this catalogue.
+/// Returns the same number for a book over this catalogue.
 fn book_turns_as_wanted(alloc: Global, catalogue: &Catalogue) -> Result<usize, Fail> {
     let mut book = Book::<16>::new(alloc, catalogue.try_clone()?)?;
     let turns = turns_as_wanted(alloc, &mut book, catalogue);
@@ -371,7 +374,7 @@ fn a_book_prints_unfinished_job_executions_and_walks(rt: HostRuntime) -> Result<
     Ok(())
 }
 
-/// Whether a job prints the index that its elements give.
+/// Checks whether a job prints the index of its elements.
 fn prints_index(alloc: Global, job: &Job) -> Result<bool, Fail> {
     let mut spots = BTreeMap::new(alloc);
     add_all(&mut spots, job.elements(), None, 0)?;
@@ -381,7 +384,7 @@ fn prints_index(alloc: Global, job: &Job) -> Result<bool, Fail> {
     Ok(is_same(&index, &wanted) && has_field(alloc, &whole, "index", &wanted, 2)?)
 }
 
-/// The same of the job with these elements.
+/// Checks the same of the job with these elements.
 fn prints_index_of(alloc: Global, elements: &str) -> Result<bool, Fail> {
     let catalogue = catalogue_of(alloc, elements)?;
     let as_wanted = match catalogue.job("j") {

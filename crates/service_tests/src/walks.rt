@@ -12,11 +12,11 @@ const CATALOGUE: &[u8] = br#"{"jobs":[{"id":"j","elements":[
         {"kind":"flow","id":"f","elements":[{"kind":"step","id":"s","batchlet":{"ref":"ok"}}]},
         {"kind":"flow","id":"g","elements":[{"kind":"step","id":"t","batchlet":{"ref":"ok"}}]}]}]}]}"#;
 
-/// A step `p` in three partitions.
+/// A step `p` of three partitions.
 const PARTITIONED: &[u8] = br#"{"jobs":[{"id":"j","elements":[
     {"kind":"step","id":"p","partitions":3,"batchlet":{"ref":"ok"}}]}]}"#;
 
-/// The walk of the job of a catalogue by a plan that begins in it.
+/// Returns the walk of a catalogue's job by a plan that begins in it.
 fn walk_by(alloc: Global, catalogue: &Catalogue, plan: &Plan) -> Result<Cursor, Fail> {
     let job = catalogue.job("j").ok_or("no job")?;
     if !plan.begins_in(job) {
@@ -25,7 +25,7 @@ fn walk_by(alloc: Global, catalogue: &Catalogue, plan: &Plan) -> Result<Cursor, 
     Ok(Cursor::new(alloc, job, plan)?)
 }
 
-/// A walk of the job, whose step `a` was completed by an earlier job execution.
+/// Returns a walk of the job whose step `a` was completed by an earlier job execution.
 fn begun(alloc: Global) -> Result<Cursor, Fail> {
     let mut carried = Listed::new(alloc);
     carried.push((T256::new(alloc, "a")?, T256::empty()))?;
@@ -41,8 +41,8 @@ fn begun(alloc: Global) -> Result<Cursor, Fail> {
     cursor
 }
 
-/// A walk of the job with the partitioned step, whose partition 1 was completed by an earlier job
-/// execution.
+/// Returns a walk of the job with the partitioned step, whose partition 1 was completed by an
+/// earlier job execution.
 fn begun_in_partitions(alloc: Global) -> Result<Cursor, Fail> {
     let mut kept = Listed::new(alloc);
     kept.push(partition_of(alloc, "p", 1)?)?;
@@ -58,7 +58,7 @@ fn begun_in_partitions(alloc: Global) -> Result<Cursor, Fail> {
     cursor
 }
 
-/// The walk by a plan of the job of the catalogue that a text is.
+/// Returns the walk of a job, from the text of its catalogue, by a plan.
 fn walked(alloc: Global, text: &[u8], plan: &Plan) -> Result<Cursor, Fail> {
     let catalogue = read_catalogue(alloc, text)?;
     let cursor = walk_by(alloc, &catalogue, plan);
@@ -71,7 +71,7 @@ fn partition_of(alloc: Global, id: &str, partition: u32) -> Result<WorkKey, Fail
     Ok(WorkKey { element, partition })
 }
 
-/// The work key of a step that isn't partitioned.
+/// Returns the work key of a step that isn't partitioned.
 pub(crate) fn key_of(alloc: Global, id: &str) -> Result<WorkKey, Fail> {
     partition_of(alloc, id, 0)
 }
@@ -84,7 +84,7 @@ pub(crate) fn take(cursor: &mut Cursor, key: &WorkKey) -> Result<(), OutOfMemory
     Ok(())
 }
 
-/// Reports a work key, if it is being run.
+/// Reports a work key, if it is busy.
 pub(crate) fn report(
     cursor: &mut Cursor,
     key: &WorkKey,
@@ -97,14 +97,15 @@ pub(crate) fn report(
     Ok(())
 }
 
-/// Whether a walk is over, and has failed.
+/// Checks whether a walk has ended as FAILED.
 fn has_failed(cursor: &Cursor) -> bool {
     let failed = BatchStatus::Failed;
     matches!(cursor.value(), Value::Ended { status, .. } if *status == failed)
 }
 
-/// Takes and reports the steps `s` and `t` of a walk. Whether both are ready at first; then `s` is busy and `t` is ready; then
-/// both are busy; once `s` has failed, `t` alone is busy; and in the end the walk has failed.
+/// Takes and reports the steps `s` and `t` of a walk. Returns whether both are ready at first;
+/// whether `s` is busy and `t` ready then; whether both are busy; whether `t` alone is busy after
+/// `s` has failed; and whether the walk has failed at the end.
 fn walk_both(
     cursor: &mut Cursor,
     s: &WorkKey,
@@ -128,7 +129,7 @@ fn walk_both(
     ])
 }
 
-/// The same of these steps by their ids.
+/// Does the same with these steps by their ids.
 fn walk_s_and_t(alloc: Global, cursor: &mut Cursor) -> Result<[bool; 5], Fail> {
     let s = key_of(alloc, "s")?;
     let t = key_of(alloc, "t")?;
@@ -144,7 +145,7 @@ fn a_walk_is_told_what_is_taken_and_reported(rt: HostRuntime) -> Result<(), Fail
     Ok(())
 }
 
-/// A walk whose step `s` is taken.
+/// Returns a walk whose step `s` is busy.
 fn begun_and_taken(alloc: Global) -> Result<Cursor, Fail> {
     let s = key_of(alloc, "s")?;
     let mut cursor = begun(alloc)?;
@@ -152,15 +153,15 @@ fn begun_and_taken(alloc: Global) -> Result<Cursor, Fail> {
     Ok(cursor)
 }
 
-/// Whether two walks print alike.
+/// Checks whether two walks print alike.
 fn print_alike(alloc: Global, one: &Cursor, other: &Cursor) -> Result<bool, Fail> {
     let printed = format!(in alloc; "{one:?}")?;
     let wanted = format!(in alloc; "{other:?}")?;
     Ok(printed == wanted)
 }
 
-/// Walks a copy to its end: `s` fails before `t` is taken. Whether none is ready once `t` is taken, and the copy has failed
-/// then.
+/// Walks a clone to its end: `s` fails before `t` is taken. Returns whether nothing is ready after
+/// `t` is taken, and whether the clone has failed at the end.
 fn walk_copy(copy: &mut Cursor, s: &WorkKey, t: &WorkKey, exit: &T256) -> Result<[bool; 2], Fail> {
     report(copy, s, WorkOutcome::Failed, exit)?;
     take(copy, t)?;
@@ -169,7 +170,8 @@ fn walk_copy(copy: &mut Cursor, s: &WorkKey, t: &WorkKey, exit: &T256) -> Result
     Ok([none_ready, has_failed(copy)])
 }
 
-/// Whether a copy prints as its walk does, and is walked to its end, while `s` stays busy and `t` ready in the walk.
+/// Returns whether a clone prints like its walk, the results of walking it to its end, and whether
+/// `s` is still busy and `t` still ready in the walk.
 fn goes_on(alloc: Global, cursor: &Cursor, copy: &mut Cursor) -> Result<[bool; 4], Fail> {
     let alike = print_alike(alloc, copy, cursor)?;
     let s = key_of(alloc, "s")?;
@@ -188,7 +190,7 @@ fn a_copied_walk_goes_on_by_itself(rt: HostRuntime) -> Result<(), Fail> {
     Ok(())
 }
 
-/// The same of a copy that is made here.
+/// Does the same with a clone that is made here.
 fn copy_goes_on(alloc: Global, cursor: &Cursor) -> Result<[bool; 4], Fail> {
     let mut copy = cursor.try_clone()?;
     let came = goes_on(alloc, cursor, &mut copy);
@@ -196,8 +198,8 @@ fn copy_goes_on(alloc: Global, cursor: &Cursor) -> Result<[bool; 4], Fail> {
     came
 }
 
-/// Takes and reports two partitions of a walk. Whether two are ready at first; `last` is ready once `first` has failed; and
-/// in the end the walk has failed.
+/// Takes and reports two partitions of a walk. Returns whether two are ready at first, whether
+/// `last` is ready after `first` has failed, and whether the walk has failed at the end.
 fn walk_partitions(
     cursor: &mut Cursor,
     first: &WorkKey,
@@ -213,7 +215,7 @@ fn walk_partitions(
     Ok([two_ready, last_ready, has_failed(cursor)])
 }
 
-/// The same of the partitions 0 and 2 of the step `p`.
+/// Does the same with the partitions 0 and 2 of the step `p`.
 fn walk_first_and_last(alloc: Global, cursor: &mut Cursor) -> Result<[bool; 3], Fail> {
     let exit = T256::new(alloc, "not shown")?;
     let first = partition_of(alloc, "p", 0)?;
@@ -230,13 +232,13 @@ fn a_step_waits_for_its_partitions_and_is_failed_if_one_is(rt: HostRuntime) -> R
     Ok(())
 }
 
-/// How many partitions the step has that a work key is of, in the job of a catalogue.
+/// Returns the number of partitions of a work key's step, in the job of a catalogue.
 fn partitions_in(catalogue: &Catalogue, key: &WorkKey) -> Result<Option<u32>, Fail> {
     let job = catalogue.job("j").ok_or("no job")?;
     Ok(find_partitions(job, key))
 }
 
-/// How many partitions are found by this partition of the step `p`.
+/// Returns the number of partitions that is found by this partition of the step `p`.
 fn partitions_by(alloc: Global, partition: u32) -> Result<Option<u32>, Fail> {
     let key = partition_of(alloc, "p", partition)?;
     let catalogue = read_catalogue(alloc, PARTITIONED)?;
@@ -250,7 +252,7 @@ fn partitions_of_a_step_are_found(rt: HostRuntime) -> Result<(), Fail> {
     Ok(())
 }
 
-/// The first partitions of a step, so many.
+/// Returns the first `count` partitions of a step.
 fn first_partitions(alloc: Global, id: &str, count: u32) -> Result<Listed<WorkKey>, Fail> {
     let mut partitions = Listed::new(alloc);
     for partition in 0..count {
@@ -259,7 +261,8 @@ fn first_partitions(alloc: Global, id: &str, count: u32) -> Result<Listed<WorkKe
     Ok(partitions)
 }
 
-/// A walk that begins at a step, which may be barred, and whose first partitions are kept, so many.
+/// Returns a walk that begins at a step. The step's first partitions are kept, and the step may be
+/// barred.
 fn begun_with_kept(
     alloc: Global,
     text: &[u8],
@@ -282,7 +285,7 @@ fn begun_with_kept(
     cursor
 }
 
-/// Whether a walk whose step `p` keeps so many of its partitions, and is barred, has failed.
+/// Checks whether a walk has failed if its step `p` is barred and has `count` kept partitions.
 fn fails_barred(alloc: Global, count: u32) -> Result<bool, Fail> {
     let cursor = begun_with_kept(alloc, PARTITIONED, "p", count, true)?;
     let failed = has_failed(&cursor);
@@ -297,7 +300,8 @@ fn a_barred_step_fails_the_job_though_its_partitions_are_kept(rt: HostRuntime) -
     Ok(())
 }
 
-/// Whether the step `a` is ready where a plan keeps its work key, though it isn't partitioned.
+/// Checks whether the step `a`, which isn't partitioned, is ready although a plan keeps its work
+/// key.
 fn is_ready_though_kept(alloc: Global) -> Result<bool, Fail> {
     let a = key_of(alloc, "a")?;
     let cursor = begun_with_kept(alloc, CATALOGUE, "a", 1, false)?;

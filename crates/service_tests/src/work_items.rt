@@ -6,7 +6,7 @@ use job_threads::{Claimed, Kit, Onward, Port, Report, run_item};
 use std::alloc::{AllocError, Global};
 use std::test::Fail;
 
-/// Keeps the reports, and has no work.
+/// A port that stores the reports, and has no work.
 #[derive(Drop)]
 struct Memory {
     reports: Vec<Report>,
@@ -88,7 +88,7 @@ impl Port for Memory {
     }
 }
 
-/// What was reported of a work item, a word for each report.
+/// Returns the reports as a text, a word for each.
 fn told(alloc: Global, reports: &[Report]) -> Result<String, Fail> {
     let mut told = String::new(alloc);
     for report in reports {
@@ -97,7 +97,7 @@ fn told(alloc: Global, reports: &[Report]) -> Result<String, Fail> {
     Ok(told)
 }
 
-/// Tells a report.
+/// Adds a report to a text.
 fn tell(told: &mut String, report: &Report) -> Result<(), AllocError> {
     match report {
         Report::Checkpoint { mark, step, .. } => write!(
@@ -123,7 +123,7 @@ fn tell(told: &mut String, report: &Report) -> Result<(), AllocError> {
     }
 }
 
-/// What is reported of a task that runs with these artifacts.
+/// Returns the reports of a task that runs with these artifacts.
 fn run(alloc: Global, names: &[&str], task: WorkTask) -> Result<String, Fail> {
     let item = item_of(alloc, task)?;
     let told = run_with(alloc, names, &item);
@@ -172,7 +172,7 @@ fn chunk(alloc: Global, reader: &str, processor: &str, writer: &str) -> Result<W
     })
 }
 
-/// Names of artifacts, and what is reported of a batchlet and of a decision by each.
+/// Names of artifacts, and the reports of a batchlet and of a decision by each.
 const BATCHLETS: [(&str, &str); 5] = [
     ("ok", "COMPLETED - 0"),
     ("exit:T", "COMPLETED T 0"),
@@ -195,13 +195,13 @@ fn batchlets_and_decisions(rt: HostRuntime) -> Result<(), Fail> {
     Ok(())
 }
 
-/// Whether this is reported of a task.
+/// Checks the reports of a task.
 fn is_told(alloc: Global, names: &[&str], task: WorkTask, wanted: &str) -> Result<bool, Fail> {
     let told = run(alloc, names, task)?;
     Ok(told.as_str() == wanted)
 }
 
-/// Readers, processors and writers, and what is reported of a chunk of them.
+/// Readers, processors and writers, and the reports of a chunk of them.
 const CHUNKS: [(&str, &str, &str, &str); 11] = [
     (
         "count:5",

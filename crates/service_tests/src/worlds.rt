@@ -1,4 +1,4 @@
-//! A list of events over two sessions and a copy, with what each is answered.
+//! A list of events over two sessions and a copy, with the outcome of each.
 use crate::copies::catalogue;
 use batch_history::{Call, Query};
 use batch_ids::{OutOfMemory, Parameters, T256};
@@ -7,7 +7,7 @@ use script_text::{answer_text, reply_text};
 use std::alloc::Global;
 use std::test::Fail;
 
-// What the events below are answered.
+// The outcomes of the events below.
 const LINES: &[u8] = br#"{"execution":1}
 {"names":[]}
 {"names":["a"]}
@@ -18,7 +18,8 @@ count 1
 skipped
 "#;
 
-// Session 1 starts a job. Session 2 learns of it from session 1, and not from the copy, which has nothing yet.
+// Session 1 starts a job. Session 2 learns of it from session 1, and not from the copy, which is
+// still empty.
 fn events(alloc: Global) -> Result<Vec<Event>, Fail> {
     let job = T256::new(alloc, "a")?;
     let parameters = Parameters::none();
@@ -39,7 +40,7 @@ fn events(alloc: Global) -> Result<Vec<Event>, Fail> {
     ]?)
 }
 
-// A session asks the copy for the names of jobs.
+// Returns the event that a session asks the copy for the names of jobs.
 fn names_read_by(who: u64) -> Event {
     Event::Read {
         who,
@@ -48,7 +49,7 @@ fn names_read_by(who: u64) -> Event {
     }
 }
 
-// An outcome as a line.
+// Returns an outcome as a line.
 fn line(alloc: Global, outcome: &Outcome) -> Result<Vec<u8>, OutOfMemory> {
     let text = match outcome {
         Outcome::Replied(replied) => return reply_text(alloc, replied),
@@ -61,7 +62,7 @@ fn line(alloc: Global, outcome: &Outcome) -> Result<Vec<u8>, OutOfMemory> {
     Ok(text.into_bytes())
 }
 
-// Outcomes as lines.
+// Returns outcomes as lines.
 fn lines(alloc: Global, outcomes: &[Outcome]) -> Result<Vec<u8>, Fail> {
     let mut lines = Vec::new(alloc);
     for outcome in outcomes {
@@ -70,7 +71,7 @@ fn lines(alloc: Global, outcomes: &[Outcome]) -> Result<Vec<u8>, Fail> {
     Ok(lines)
 }
 
-// What comes of the events over two sessions and a copy.
+// Returns the outcomes of the events over two sessions and a copy.
 fn outcomes(alloc: Global) -> Result<Vec<Outcome>, Fail> {
     let events = events(alloc)?;
     let catalogue = catalogue(alloc)?;
