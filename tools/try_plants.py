@@ -17,8 +17,8 @@ Where the check names only what the function calls, which may hold another plant
 the plant is tried again by itself, and the whole crate decides. So it is where an answer no longer fits because its goal
 became trivial: a plant against which nothing else is said counts as proved.
 
-The copy has nothing of `out/`. It is checked once with no plant, and has to be proved: that takes as long as a first check of the
-crate and of those below it, or less if checks in other copies on this machine kept them.
+The copy has nothing of `out/`. Each crate is checked once with no plant, and has to be proved: that takes as long as a first check of
+the crate and of those below it, or less if checks in other copies on this machine kept them.
 
 Verdicts are kept in `plants/verdicts.json`, and all of them are printed as a table in the end. Each names what it was tried on,
 by a checksum of the file that the plant is in and of the crate's specs/, without lines that are comments. If any of these was
@@ -212,28 +212,26 @@ def try_group(crate: Path, group: list[Plant], sources: dict[str, str]) -> dict[
     return verdicts
 
 
-def proved_copy(name: str, folder: Path) -> Path:
-    """A copy of the crate in which each function is proved."""
-    crate = copy_of({name}, folder) / name
+def prove(crate: Path) -> None:
+    """Proves each function of a crate in the copy, with no plant in it."""
     said = subprocess.run(FIRST_CHECK, cwd=crate, stdout=subprocess.PIPE, stderr=subprocess.STDOUT, text=True).stdout
     if "\nlogic=proved" not in said:
-        sys.exit(f"{said}\n{name}: it is not proved with no plant in it")
-    return crate
+        sys.exit(f"{said}\n{crate.name}: it is not proved with no plant in it")
 
 
-def try_plants(name: str, plants: list[Plant], folder: Path) -> dict[str, str]:
-    crate = proved_copy(name, folder)
+def try_plants(crate: Path, plants: list[Plant]) -> None:
+    """Tries plants in a copy of their crate, and keeps the verdicts group by group, so that a run that is cut off has those so far."""
+    prove(crate)
     sources = {plant.file: (crate / plant.file).read_text() for plant in plants}
     stale = [plant.name for plant in plants if plant.put(sources[plant.file]) is None]
     for plant in stale:
-        print(f"{name}: {plant}: its text does not stand there once", flush=True)
-    verdicts = dict.fromkeys(stale, "stale")
+        print(f"{crate.name}: {plant}: its text does not stand there once", flush=True)
+    keep(crate.name, dict.fromkeys(stale, "stale"))
     left = [plant for plant in plants if plant.name not in stale]
     while left:
         group = group_of(left, sources)
-        verdicts |= try_group(crate, group, sources)
+        keep(crate.name, try_group(crate, group, sources))
         left = [plant for plant in left if plant not in group]
-    return verdicts
 
 
 @cache
@@ -292,11 +290,14 @@ def wanted_of(said: dict[Plant, str], only_new: bool, names: list[str]) -> list[
     return [plant for plant in named if not only_new or said[plant] in ("old", "not tried", "stale")]
 
 
-def try_crate(name: str, only_new: bool, names: list[str]) -> None:
-    wanted = wanted_of(verdicts_of(name, plants_of(name)), only_new, names)
+def try_crates(crates: list[str], only_new: bool, names: list[str]) -> None:
+    """Tries the plants of these crates in one copy of all of them."""
+    wanted = {name: wanted_of(verdicts_of(name, plants_of(name)), only_new, names) for name in crates}
     with tempfile.TemporaryDirectory(prefix="plants-") as folder:
-        found = try_plants(name, wanted, Path(folder)) if wanted else {}
-    keep(name, found)
+        copied = copy_of({name for name in crates if wanted[name]}, Path(folder))
+        for name in crates:
+            if wanted[name]:
+                try_plants(copied / name, wanted[name])
 
 
 def row_of(name: str) -> tuple[list[int], list[str]]:
@@ -335,8 +336,7 @@ def main() -> int:
     parser.add_argument("--only", action="append", default=[], metavar="NAME", help="only the plant of this name")
     parser.add_argument("crates", nargs="*")
     words = parser.parse_args()
-    for name in words.crates:
-        try_crate(name, words.new, words.only)
+    try_crates(words.crates, words.new, words.only)
     lines, gaps = table()
     print("\n".join(lines))
     for gap in gaps:
