@@ -1,6 +1,6 @@
-ghost use Rattle.std.specs.Prelude.{◌≡◌, true, IfOk, OnOk};
+ghost use Rattle.std.specs.Prelude.{◌≡◌, true, Some, IfOk, OnOk};
 ghost use Rattle.serde_json.specs.Data.{object};
-ghost use Rattle.script_text.specs.Replies.{item_data, single_members, with_partition, reply_data, reply_text, bad_line_text};
+ghost use Rattle.script_text.specs.Replies.{item_data, single_members, task_members, with_partition, reply_data, reply_text, bad_line_text};
 ghost use Rattle.script_text.specs.Telling.{Adds, is_chunk};
 
 use crate::objects::{Shown, text_or_null};
@@ -112,6 +112,17 @@ fn tell_chunk(out: &mut Writer, item: &WorkItem) -> Result<(), OutOfMemory>
     requires { is_chunk item.now.task ≡ true }
     ensures { OnOk result (Adds (item_data item.now) out.old out.new) }
 {
+    match item.partition {
+        None => tell_whole_chunk(out, item),
+        Some(partition) => tell_partition(out, item, partition),
+    }
+}
+
+/// Writes a work item of a chunk in a step without partitions.
+fn tell_whole_chunk(out: &mut Writer, item: &WorkItem) -> Result<(), OutOfMemory>
+    requires { is_chunk item.now.task ≡ true }
+    ensures { OnOk result (Adds (object (task_members item.now.task item.now)) out.old out.new) }
+{
     let WorkTask::Chunk {
         reader,
         processor,
@@ -122,35 +133,52 @@ fn tell_chunk(out: &mut Writer, item: &WorkItem) -> Result<(), OutOfMemory>
     else {
         unreachable!()
     };
-    match item.partition {
-        None => tell_object(
-            out,
-            &[
-                ("checkpoint", text_or_null(checkpoint)),
-                ("element", Shown::Text(item.element.as_str())),
-                ("execution", Shown::Count(item.execution.value())),
-                ("item-count", Shown::Count(u64::from(*item_count))),
-                ("kind", Shown::Text("chunk")),
-                ("processor", text_or_null(processor)),
-                ("reader", Shown::Text(reader.as_str())),
-                ("work", Shown::Count(item.work.value())),
-                ("writer", Shown::Text(writer.as_str())),
-            ],
-        ),
-        Some(partition) => tell_object(
-            out,
-            &[
-                ("checkpoint", text_or_null(checkpoint)),
-                ("element", Shown::Text(item.element.as_str())),
-                ("execution", Shown::Count(item.execution.value())),
-                ("item-count", Shown::Count(u64::from(*item_count))),
-                ("kind", Shown::Text("chunk")),
-                ("partition", Shown::Count(u64::from(partition))),
-                ("processor", text_or_null(processor)),
-                ("reader", Shown::Text(reader.as_str())),
-                ("work", Shown::Count(item.work.value())),
-                ("writer", Shown::Text(writer.as_str())),
-            ],
-        ),
-    }
+    tell_object(
+        out,
+        &[
+            ("checkpoint", text_or_null(checkpoint)),
+            ("element", Shown::Text(item.element.as_str())),
+            ("execution", Shown::Count(item.execution.value())),
+            ("item-count", Shown::Count(u64::from(*item_count))),
+            ("kind", Shown::Text("chunk")),
+            ("processor", text_or_null(processor)),
+            ("reader", Shown::Text(reader.as_str())),
+            ("work", Shown::Count(item.work.value())),
+            ("writer", Shown::Text(writer.as_str())),
+        ],
+    )
+}
+
+/// Writes a work item of a chunk in this partition of a step.
+fn tell_partition(out: &mut Writer, item: &WorkItem, partition: u32) -> Result<(), OutOfMemory>
+    requires { is_chunk item.now.task ≡ true }
+    ensures { OnOk result (Adds
+        (object (with_partition (Some partition) (task_members item.now.task item.now)))
+        out.old out.new) }
+{
+    let WorkTask::Chunk {
+        reader,
+        processor,
+        writer,
+        item_count,
+        checkpoint,
+    } = &item.task
+    else {
+        unreachable!()
+    };
+    tell_object(
+        out,
+        &[
+            ("checkpoint", text_or_null(checkpoint)),
+            ("element", Shown::Text(item.element.as_str())),
+            ("execution", Shown::Count(item.execution.value())),
+            ("item-count", Shown::Count(u64::from(*item_count))),
+            ("kind", Shown::Text("chunk")),
+            ("partition", Shown::Count(u64::from(partition))),
+            ("processor", text_or_null(processor)),
+            ("reader", Shown::Text(reader.as_str())),
+            ("work", Shown::Count(item.work.value())),
+            ("writer", Shown::Text(writer.as_str())),
+        ],
+    )
 }
