@@ -2,11 +2,12 @@
 
     python3 tools/refuse_each_call.py [--program PATH] [--by-case] [WORD..]
 
-The program `refused_calls` has cases: one call each, in a state made for it. Its sources stand in `benches/refused_calls`,
-outside the gate; `benches/refused_calls.py` proves and builds it, and runs this tool on it. WORD.. runs those cases alone
-whose names begin so. A small library, refuse_a_request.c, is loaded ahead of the program, which marks where its call begins
-and ends. Each case runs twice with no refusal, and must write the same and make as many requests both times. Then each
-request of the call is refused, one in each run. The call must answer that it was refused memory, and then:
+Each case (tools/single_calls.py) is one call, in a state made for it. WORD.. runs those cases alone whose names begin so. The
+program `refused_calls` runs the script of a case, and marks where the call begins and ends. Its sources stand in
+`benches/refused_calls`, outside the gate; `benches/refused_calls.py` proves and builds it, and runs this tool on it. A small
+library, refuse_a_request.c, is loaded ahead of it. Each case runs twice with no refusal, and must write the same and make as
+many requests both times. Then each request of the call is refused, one in each run. The call must answer that it was refused
+memory, and then:
 
 - What can be read of its object is as it was before the call, but that a walk which was kept may be dropped.
 - The call is made again, with memory. Its answer, what can be read then, and all later answers are those of the whole run.
@@ -31,12 +32,10 @@ from dataclasses import dataclass, field
 from pathlib import Path
 from threading import get_ident
 
-ROOT = Path(__file__).resolve().parent.parent
+from single_calls import ROOT, Case, cases
+
 PROGRAM = ROOT / "crates" / "refused_calls" / "out" / "refused_calls"
 LIBRARY = ROOT / "tools" / "refuse_a_request.c"
-
-# The script of `batchctl`, of which the data of the program have a copy.
-SCRIPT = ROOT / "crates" / "batchctl" / "stdin"
 
 # A request of so many bytes is a mark.
 MARK = 1_000_003
@@ -44,7 +43,11 @@ MARK = 1_000_003
 # A program that never ends is ended after so many seconds.
 MOST_SECONDS = 120
 
-REFUSED = "refused"
+# How the program echoes a line.
+ECHO = "> "
+
+# What a call answers that was refused memory.
+REFUSED = ('{"refused":"OutOfMemory"}', "Err(OutOfMemory)", "OutOfMemory, to standard error true")
 
 
 class Wrong(Exception):
@@ -52,69 +55,73 @@ class Wrong(Exception):
 
 
 @dataclass(frozen=True)
+class Part:
+    """A line of a script, and what the program wrote for it. The line is empty for what it wrote ahead of the first one."""
+
+    line: str
+    said: tuple[str, ...]
+
+
+def parts_of(output: str) -> list[Part]:
+    parts: list[Part] = [Part("", ())]
+    for line in output.replace("Err(AllocError)", "Err(OutOfMemory)").splitlines():
+        if line.startswith(ECHO):
+            parts.append(Part(line.removeprefix(ECHO).removeprefix("! "), ()))
+        else:
+            parts[-1] = Part(parts[-1].line, (*parts[-1].said, line))
+    return parts
+
+
+@dataclass(frozen=True)
 class Run:
-    """What a run of the program wrote, how it ended, and how many requests its call made."""
+    """What a run of the program wrote, by the lines of the script, how it ended, and how many requests its call made."""
 
     status: int
-    lines: tuple[str, ...]
+    parts: tuple[Part, ...]
     faults: str
     requests: int
 
-    def told(self, word: str) -> list[str]:
-        """The lines that begin with this word, without it."""
-        return [line.removeprefix(f"{word}: ") for line in self.lines if line.startswith(f"{word}: ")]
+    def lines(self) -> list[str]:
+        """All that it wrote."""
+        return [line for part in self.parts for line in part.said]
 
 
 @dataclass(frozen=True)
 class Program:
-    """The program, the library that counts and refuses its requests for memory, and a folder for the counts."""
+    """The program, the library that counts and refuses its requests for memory, and a folder for scripts and counts."""
 
     path: Path
     library: Path
     folder: Path
 
-    def data(self) -> Path:
-        """The folder of the program's data, beside the one that it was built in."""
-        return self.path.parent.parent / "data"
-
-    def run(self, case: str | None = None, number: int = 0) -> Run:
-        """A run of a case in which the request of this number is refused (none, if it is 0)."""
-        counted = self.folder / f"requests-{get_ident()}"
+    def run(self, script: str, number: int = 0) -> Run:
+        """A run of a script in which the request of this number is refused (none, if it is 0)."""
+        counted, written = (self.folder / f"{name}-{get_ident()}" for name in ("requests", "script"))
+        written.write_text(script)
         settings = {
             "LD_PRELOAD": str(self.library),
             "REFUSE_AT": str(number),
             "REFUSE_COUNT": str(counted),
             "REFUSE_MARK": str(MARK),
         }
-        words = [str(self.path)] if case is None else [str(self.path), case]
-        ended = subprocess.run(
-            words, cwd=self.data() if self.data().is_dir() else None, capture_output=True, env=settings, timeout=MOST_SECONDS
-        )
+        ended = subprocess.run([self.path, written], capture_output=True, env=settings, timeout=MOST_SECONDS)
         requests = int.from_bytes(counted.read_bytes(), sys.byteorder)
-        return Run(ended.returncode, tuple(ended.stdout.decode().splitlines()), ended.stderr.decode(), requests)
+        return Run(ended.returncode, tuple(parts_of(ended.stdout.decode())), ended.stderr.decode(), requests)
 
-    def cases(self) -> list[str]:
-        """The names of all cases, in their order."""
-        run = self.run()
-        if run.status != 0 or run.faults or REFUSED in run.lines:
-            raise Wrong(f"all cases, with all memory: status {run.status}, {run.faults!r}")
-        names = [found[1] for line in run.lines if (found := re.match(r"([\w.]+): ", line))]
-        return list(dict.fromkeys(names))
-
-    def whole(self, case: str) -> Run:
+    def whole(self, case: Case) -> Run:
         """A run with no refusal."""
-        whole, again = self.run(case), self.run(case)
-        if whole.status != 0 or whole.faults or REFUSED in whole.lines or not whole.told(case):
-            raise Wrong(f"{case}, with all memory: status {whole.status}, {whole.faults!r}")
+        whole, again = self.run(case.script(False)), self.run(case.script(False))
+        if whole.status != 0 or whole.faults or len(whole.parts) + len(whole.lines()) < 2:
+            raise Wrong(f"{case.name}, with all memory: status {whole.status}, {whole.faults!r}")
         if again != whole:
-            raise Wrong(f"{case}, with all memory: {whole.requests} requests, then {again.requests}, or other lines")
+            raise Wrong(f"{case.name}, with all memory: {whole.requests} requests, then {again.requests}, or other lines")
         return whole
 
 
 def program_in(path: Path, folder: Path) -> Program:
     """The program at this path, with the library, which is compiled in this folder."""
     if not os.access(path, os.X_OK):
-        raise Wrong(f"there is no program {path}: `rt ci`, or `rt run` in crates/refused_calls, makes it")
+        raise Wrong(f"there is no program {path}: benches/refused_calls.py makes it")
     if not shutil.which("cc"):
         raise Wrong("there is no C compiler `cc`")
     library = folder / "refuse.so"
@@ -166,56 +173,84 @@ def are_as_before(now: Iterable[str], before: Iterable[str]) -> bool:
     return len(lines) == len(others) and all(map(is_as_before, lines, others))
 
 
-@dataclass(frozen=True)
-class Parted:
-    """A run that was refused memory: the lines before that, what could be read then, and the lines from the answer on."""
-
-    head: tuple[str, ...]
-    now: tuple[str, ...]
-    rest: tuple[str, ...]
-
-
-def parted(run: Run) -> Parted:
-    place = run.lines.index(REFUSED)
-    behind = run.lines[place + 1 :]
-    count = next((number for number, line in enumerate(behind) if not line.startswith("now: ")), len(behind))
-    # A call without an object shows ().
-    now = tuple(line.removeprefix("now: ") for line in behind[:count] if line != "now: ()")
-    return Parted(run.lines[:place], now, behind[count:])
+def alike(now: Iterable[Part], before: Iterable[Part]) -> bool:
+    """Whether parts tell the same of the same lines, but that walks may be dropped."""
+    some, others = list(now), list(before)
+    return len(some) == len(others) and all(
+        one.line == other.line and are_as_before(one.said, other.said) for one, other in zip(some, others)
+    )
 
 
 @dataclass(frozen=True)
 class Refusal:
-    """A case, its whole run, and the run in which one request was refused."""
+    """A case, its whole run, and the number of a request. `run` refuses it, in a script that makes the call once more."""
 
     program: Program
-    case: str
+    case: Case
     whole: Run
     number: int
     run: Run
 
     def fail(self, what: str) -> Wrong:
-        return Wrong(f"{self.case}, request {self.number} of {self.whole.requests}: {what}")
+        return Wrong(f"{self.case.name}, request {self.number} of {self.whole.requests}: {what}")
 
-    def goes_on_alike(self, part: Parted) -> None:
-        """What stands ahead of the refusal, and from the answer on, is as in the whole run."""
-        place = len(part.head)
-        if part.head != self.whole.lines[:place]:
+    def place(self) -> int:
+        """The place of the call among the parts of a run."""
+        return 1 + len(self.case.before) + len(self.case.looks) if self.case.line else 0
+
+    def answer(self) -> Part:
+        """What the call answered that was refused memory."""
+        return self.run.parts[min(self.place(), len(self.run.parts) - 1)]
+
+    def is_refused(self) -> bool:
+        return any(line in REFUSED for line in self.answer().said)
+
+    def now(self) -> list[str]:
+        """What could be read behind the refusal."""
+        looks = self.run.parts[self.place() + 1 :][: len(self.case.looks)]
+        return [line for part in looks for line in part.said]
+
+    def before(self) -> list[str]:
+        """What could be read before the call."""
+        looks = self.whole.parts[self.place() - len(self.case.looks) : self.place()]
+        return [line for part in looks for line in part.said]
+
+    def after(self) -> list[str]:
+        """What could be read behind the call that was not refused."""
+        looks = self.whole.parts[self.place() + 1 :][: len(self.case.looks)]
+        return [line for part in looks for line in part.said]
+
+    def once(self) -> Run:
+        """A run of the script that makes the call once, in which the same request is refused."""
+        run = self.program.run(self.case.script(False), self.number)
+        if run.status != 0 or run.faults:
+            raise self.fail(f"status {run.status}, {run.faults!r}")
+        return run
+
+    def goes_on_alike(self) -> None:
+        """What stands ahead of the refusal, and from the call that is made again on, is as in the whole run."""
+        place = self.place()
+        if self.run.parts[:place] != self.whole.parts[:place]:
             raise self.fail("other lines before the refusal")
-        if not are_as_before(part.rest, self.whole.lines[place:]):
-            pairs = zip(part.rest, self.whole.lines[place:])
-            differ = next((pair for pair in pairs if not is_as_before(*pair)), "a count of lines")
+        again = self.run.parts[place + 1 + len(self.case.looks) :]
+        if not alike(again, self.whole.parts[place:]):
+            pairs = zip(again, self.whole.parts[place:])
+            differ = next((pair for pair in pairs if not alike(pair[:1], pair[1:])), "a count of lines")
             raise self.fail(f"it goes on otherwise: {differ}")
 
 
 def leaves_all(refusal: Refusal) -> None:
     """What can be read is as before the call."""
-    part = parted(refusal.run)
-    before = refusal.whole.told("before")
-    if not are_as_before(part.now, before[-len(part.now) :] if part.now else []):
-        differ = next((pair for pair in zip(part.now, before) if not is_as_before(*pair)), (part.now, before))
-        raise refusal.fail(f"what can be read then is not as before: {differ}")
-    refusal.goes_on_alike(part)
+    if not are_as_before(refusal.now(), refusal.before()):
+        raise refusal.fail(f"what can be read then is not as before: {refusal.now()}, {refusal.before()}")
+    refusal.goes_on_alike()
+
+
+def is_made_again(refusal: Refusal) -> None:
+    """An object that could not be made is made from the beginning, and all goes on as in the whole run."""
+    first, whole = refusal.run.parts[0], refusal.whole.parts
+    if first.said != ("Err(OutOfMemory)", *whole[0].said) or refusal.run.parts[1:] != whole[1:]:
+        raise refusal.fail(f"it goes on otherwise: {first}")
 
 
 # What is told if there is nothing to count.
@@ -238,49 +273,86 @@ def has_between(now: str, before: str, after: str) -> bool:
 
 def has_a_beginning(refusal: Refusal) -> None:
     """A read copy has at least what it had and at most what it was to have; all else is as before."""
-    part = parted(refusal.run)
-    before, after = refusal.whole.told("before"), refusal.whole.told("after")
-    if not len(part.now) == len(before) == len(after) or not all(map(has_between, part.now, before, after)):
-        raise refusal.fail(f"{part.now}, which is not between {before} and {after}")
-    refusal.goes_on_alike(part)
+    now, before, after = refusal.now(), refusal.before(), refusal.after()
+    if not len(now) == len(before) == len(after) or not all(map(has_between, now, before, after)):
+        raise refusal.fail(f"{now}, which is not between {before} and {after}")
+    refusal.goes_on_alike()
 
 
 def has_a_step(refusal: Refusal) -> None:
     """A world is as before, or as once its copy has taken in some of the operations, one by one."""
-    part = parted(refusal.run)
-    steps = [f"world.step_by_step.{number}" for number in range(6, 11)]
-    states = refusal.whole.told("before") + [state for step in steps for state in refusal.program.run(step).told("after")]
-    if len(part.now) != 1 or not any(is_as_before(part.now[0], state) for state in states):
-        raise refusal.fail(f"a world that no publish of single operations comes to: {part.now}")
-    refusal.goes_on_alike(part)
+    shown = [
+        part.said
+        for case in cases()
+        if re.fullmatch(r"world\.step_by_step\.([6-9]|10)", case.name)
+        for part in refusal.program.run(case.script(False)).parts
+        if part.line == "show"
+    ]
+    states = refusal.before() + [line for said in shown for line in said]
+    now = refusal.now()
+    if len(now) != 1 or not any(is_as_before(now[0], state) for state in states):
+        raise refusal.fail(f"a world that no publish of single operations comes to: {now}")
+    refusal.goes_on_alike()
 
 
 def wrote_a_beginning(refusal: Refusal) -> None:
     """A script answers that memory was refused, after the replies to some lines; then it runs anew."""
-    part, name = parted(refusal.run), refusal.case
-    wanted = refusal.whole.told(name)
-    found = [line.removeprefix(f"{name}: ") for line in part.head]
-    if found[0] != "Err(OutOfMemory)" or found[1:] != wanted[1 : len(found)]:
-        raise refusal.fail(f"{found} is not the replies to the lines before")
-    if part.rest != refusal.whole.lines:
-        raise refusal.fail("it runs otherwise then")
+    found, wanted = refusal.run.lines(), refusal.whole.lines()
+    rest = found[len(found) - len(wanted) :]
+    head = found[: len(found) - len(wanted)]
+    if rest != wanted or head[:1] != ["Err(OutOfMemory)"] or head[1:] != wanted[1 : len(head)]:
+        raise refusal.fail(f"{head} is not the replies to the lines before, or it runs otherwise then")
+
+
+def read_a_beginning(refusal: Refusal) -> None:
+    """A reader of lines answers so behind the lines before; then they are read anew."""
+    found, wanted = refusal.run.lines(), refusal.whole.lines()
+    number = int(refusal.case.first)
+    head = [*wanted[: max(number - 1, 0)], "Err(OutOfMemory)"]
+    if found != head + wanted:
+        raise refusal.fail(f"{found} is not the lines before, and then all of them")
 
 
 def ended_rightly(refusal: Refusal) -> None:
     """The program ends with 2 if the command line was refused memory, and with 5 if its script was."""
-    part = parted(refusal.run)
-    of_words = refusal.program.run("arguments.script").requests
-    status, faults, written = (line.removeprefix("program: ") for line in part.head)
-    whole = refusal.whole.told("program")[2]
+    of_words = refusal.program.run(Case("", "arguments", "script").script(False)).requests
+    found, wanted = refusal.run.lines(), refusal.whole.lines()
+    rest = found[len(found) - len(wanted) :]
+    status, fault, *written = found[: len(found) - len(wanted)]
     if refusal.number <= of_words:
-        if (status, faults, written) != ("status 2", r'"error: out of memory\n"', '""'):
-            raise refusal.fail(f"a refused command line ends with {status}, {faults}, {written}")
-    elif (status, faults) != ("status 5", r'"batchctl: out of memory\n"'):
-        raise refusal.fail(f"it ends with {status}, {faults}")
-    elif not whole.startswith(written[:-1]) or not (r"\n" + written).endswith((r'\n"', r'\n""')):
-        raise refusal.fail(f"{written} is not the replies to the lines before")
-    if part.rest != refusal.whole.lines:
+        if (status, fault, written) != ("status 2", "error: out of memory", []):
+            raise refusal.fail(f"a refused command line ends with {status}, {fault}, {written}")
+    elif (status, fault) != ("status 5", "batchctl: out of memory") or written != wanted[1 : 1 + len(written)]:
+        raise refusal.fail(f"it ends with {status}, {fault}, and {written}, which is not the replies to the lines before")
+    if rest != wanted:
         raise refusal.fail("it runs otherwise then")
+
+
+def is_added_again(refusal: Refusal) -> None:
+    """Rows are as before the call, and then as in the whole run."""
+    found, wanted = refusal.run.parts[1].said, list(refusal.whole.parts[1].said)
+    place = next(number for number, line in enumerate(wanted) if line.startswith("Ok("))
+    before = wanted[:place]
+    if not are_as_before(found, [*before, "Err(OutOfMemory)", *before, *wanted[place:]]):
+        raise refusal.fail(f"it left {found}, and not {wanted}")
+
+
+def is_stored_again(refusal: Refusal) -> None:
+    """A checkpoint stays as it was, and is stored by the next call."""
+    found, wanted = refusal.run.parts[1].said, list(refusal.whole.parts[1].said)
+    anew = refusal.case.line.endswith("11")
+    shown = 2 if anew else 1
+    before, size = wanted[:shown], len(wanted)
+    if found[:shown] != tuple(before) or found[shown] != "Err(OutOfMemory)":
+        raise refusal.fail(f"it left {found}")
+    if found[shown + 1] != before[-1] or list(found[shown + 2 :]) != wanted[shown + 2 : size]:
+        raise refusal.fail(f"it left {found}, and not {wanted}")
+
+
+def is_added_to_the_kit_again(refusal: Refusal) -> None:
+    """A kit has no artifact of the name, and then it has."""
+    if refusal.run.parts[1].said != ("Err(OutOfMemory)", "Ok(Failed)", "Ok(Completed)"):
+        raise refusal.fail(f"it left {refusal.run.parts[1].said}")
 
 
 def reports_in(lines: Iterable[str]) -> list[str]:
@@ -297,25 +369,24 @@ def failed_finish(rolled_back: int) -> str:
 
 def reported_a_beginning(refusal: Refusal) -> None:
     """Some groups were reported and no more, or the work item is FAILED since an artifact was refused memory."""
-    name, wanted = refusal.case, reports_in(refusal.whole.told(refusal.case))
-    if REFUSED in refusal.run.lines:
-        part = parted(refusal.run)
-        found = reports_in(part.now)
-        if found != wanted[: len(found)] or part.rest != refusal.whole.lines or part.head:
-            raise refusal.fail(f"reported were {found}, and then {part.rest}")
+    said, whole = refusal.answer().said, refusal.whole.parts[1].said
+    found, wanted = reports_in(said), reports_in(whole)
+    if refusal.run.parts[2:] != refusal.whole.parts[1:]:
+        raise refusal.fail(f"it runs otherwise then: {refusal.run.parts[2:]}")
+    if refusal.is_refused():
+        if found != wanted[: len(found)]:
+            raise refusal.fail(f"reported were {found}")
         return
-    found = reports_in(refusal.run.told(name))
     groups = len(found) - 1
     ends = {failed_finish(0), failed_finish(1)} if groups == 0 else {failed_finish(1)}
-    if refusal.run.told(name)[:2] != ["Ok(Failed)", "0 losses"] or found[:-1] != wanted[:groups] or found[-1] not in ends:
-        raise refusal.fail(f"it went on to {refusal.run.told(name)}")
+    if said[:2] != ("Ok(Failed)", "0 losses") or found[:-1] != wanted[:groups] or found[-1] not in ends:
+        raise refusal.fail(f"it went on to {said}")
 
 
 def gave_up_its_work(refusal: Refusal) -> None:
     """A worker gives up a work item that it has claimed, once; nothing else is reported."""
-    part = parted(refusal.run)
-    if part.now != ("1 losses",) or part.head or part.rest != refusal.whole.lines:
-        raise refusal.fail(f"it left {part.now}, and then {part.rest}")
+    if refusal.answer().said != ("Err(OutOfMemory)", "1 losses") or refusal.run.parts[2:] != refusal.whole.parts[1:]:
+        raise refusal.fail(f"it left {refusal.run.parts[1:]}")
 
 
 def counts(**some: int) -> str:
@@ -326,35 +397,48 @@ def counts(**some: int) -> str:
 
 def left_to_the_next_pool(refusal: Refusal) -> None:
     """A pool has claimed nothing, or has lost its work item. The next one runs what is left, and the job started since."""
-    part = parted(refusal.run)
-    ways = {
-        counts(starting=1): ("pool: Ok(PoolReport { items: 2, gave_up: 0 })", f"pool: {counts(completed=2)}"),
-        counts(failed=1): ("pool: Ok(PoolReport { items: 1, gave_up: 0 })", f"pool: {counts(failed=1, completed=1)}"),
-    }
-    if len(part.now) != 1 or ways.get(part.now[0]) != part.rest:
-        raise refusal.fail(f"it left {part.now}, and then {part.rest}")
+    said = refusal.once().lines()
+    ways = [
+        ["Err(OutOfMemory)", counts(starting=1), "Ok(PoolReport { items: 2, gave_up: 0 })", counts(completed=2)],
+        ["Err(OutOfMemory)", counts(failed=1), "Ok(PoolReport { items: 1, gave_up: 0 })", counts(failed=1, completed=1)],
+    ]
+    if said not in ways:
+        raise refusal.fail(f"it left {said}")
 
 
 # Cases of which more is allowed than that all is left, with the reason.
 EXCEPTIONS: list[tuple[str, Callable[[Refusal], None]]] = [
+    # Nothing can be read of an object that was not made.
+    (r"\w+\.\w+\.new|events\.\w+", is_made_again),
     # A publish takes in one operation after the other, and keeps what it took in.
-    (r"operator\.three_starts\.4|operator\.copies\.5|copies\.lagging\.(3|4|5|10|11|12)", has_a_beginning),
+    (r"operator\.three_starts\.4|operator\.copies\.5|copies\.lagging\.(3|4|5|12|13|14|20|23)", has_a_beginning),
     (r"world\.at_once\.6", has_a_step),
-    # A script writes the replies to its lines as it goes.
+    # A script writes the replies to its lines as it goes, and a reader of lines that failed reads no more.
     (r"run_script|answer_script", wrote_a_beginning),
+    (r"lines\.\d+", read_a_beginning),
     (r"program", ended_rightly),
+    # These cases show what can be read, and make the call again, of their own.
+    (r"rows\.add_\w+", is_added_again),
+    (r"rows\.set_checkpoint.*", is_stored_again),
+    (r"workers\.kit\.add.*", is_added_to_the_kit_again),
     # Each report of a work item is an operation of its own; an artifact that is refused memory faults.
-    (r"run_item\.\w+", reported_a_beginning),
-    (r"worker", gave_up_its_work),
+    (r"workers\.run_\w+\.\w+", reported_a_beginning),
+    (r"workers\.worker\..*", gave_up_its_work),
     (r"pool", left_to_the_next_pool),
 ]
+
+# Rules of cases whose script makes the call again by itself, or begins anew.
+OF_ONE_CALL = (
+    *(is_made_again, wrote_a_beginning, read_a_beginning, ended_rightly, is_added_again, is_stored_again),
+    *(is_added_to_the_kit_again, left_to_the_next_pool),
+)
 
 # Calls that do without some requests, with the reason.
 SWALLOWED = [
     # A repository gives up its lists of unfinished job executions, and goes over all rows from then on; or it doesn't keep a
     # walk, and walks anew the next time.
-    r"(full_)?(book|repository|desk)\.\w+\.\d+|(operator|world|copies)\.\w+\.\d+",
-    r"records\.add_(instance|execution)",
+    r"(full_)?(book|repository|desk)\.\w+\.\d+|(operator|world|copies|preview)\.\w+\.\d+",
+    r"events\.\w+|rows\.add_(instance|execution)",
 ]
 
 
@@ -369,26 +453,30 @@ def without_lists(line: str) -> str:
 
 def goes_on_without(refusal: Refusal) -> None:
     """The call does without a request: its answer and all later ones are as in the whole run."""
-    if not any(re.fullmatch(pattern, refusal.case) for pattern in SWALLOWED):
-        raise refusal.fail("the call doesn't say that it was refused memory")
+    if not any(re.fullmatch(pattern, refusal.case.name) for pattern in SWALLOWED):
+        raise refusal.fail(f"the call doesn't say that it was refused memory: {refusal.answer()}")
+    found, wanted = refusal.once().lines(), refusal.whole.lines()
     # What a book, a repository or a world gave up can be read.
-    if re.match(r"(full_)?(book|repository)|world|records", refusal.case) and refusal.run.lines == refusal.whole.lines:
+    if re.match(r"(full_)?(book|repository)|world|rows", refusal.case.name) and found == wanted:
         raise refusal.fail("the call doesn't say that it was refused memory, and gave up nothing")
-    if not are_as_before(map(without_lists, refusal.run.lines), map(without_lists, refusal.whole.lines)):
+    if not are_as_before(map(without_lists, found), map(without_lists, wanted)):
         raise refusal.fail("the call goes on without a request, and otherwise")
+
+
+def rule_of(case: Case) -> Callable[[Refusal], None]:
+    return next((rule for pattern, rule in EXCEPTIONS if re.fullmatch(pattern, case.name)), leaves_all)
 
 
 def judge(refusal: Refusal) -> None:
     """Says whether a run is as it may be whose request was refused."""
-    run = refusal.run
+    run, rule = refusal.run, rule_of(refusal.case)
     if run.status != 0 or run.faults:
         raise refusal.fail(f"status {run.status}, {run.faults!r}")
     if run.requests < refusal.number:
         raise refusal.fail(f"there were {run.requests} requests")
-    rule = next((rule for pattern, rule in EXCEPTIONS if re.fullmatch(pattern, refusal.case)), leaves_all)
-    if REFUSED not in run.lines and rule is not reported_a_beginning:
-        return goes_on_without(refusal)
-    return rule(refusal)
+    if rule in (reported_a_beginning, ended_rightly) or refusal.is_refused():
+        return rule(refusal)
+    return goes_on_without(refusal)
 
 
 @dataclass
@@ -411,27 +499,25 @@ class Sums:
         return f"{refused}; {self.silent} calls asked for none"
 
 
-def check(program: Program, case: str, pool: ThreadPoolExecutor) -> int:
+def check(program: Program, case: Case, pool: ThreadPoolExecutor) -> int:
     """Refuses each request of a case, and says how many there were."""
     whole = program.whole(case)
+    script = case.script(rule_of(case) not in OF_ONE_CALL)
     numbers = range(1, whole.requests + 1)
-    for number, run in zip(numbers, pool.map(lambda number: program.run(case, number), numbers)):
+    for number, run in zip(numbers, pool.map(lambda number: program.run(script, number), numbers)):
         judge(Refusal(program, case, whole, number, run))
     return whole.requests
 
 
 def check_all(program: Program, words: list[str], by_case: bool, pool: ThreadPoolExecutor) -> None:
-    copied = program.data() / "batchctl"
-    if copied.read_bytes() != SCRIPT.read_bytes():
-        raise Wrong(f"{copied} is not {SCRIPT}")
     sums: dict[str, Sums] = {}
-    for case in program.cases():
-        if words and not case.startswith(tuple(words)):
+    for case in cases():
+        if words and not case.name.startswith(tuple(words)):
             continue
         requests = check(program, case, pool)
-        sums.setdefault(case.rpartition(".")[0] or case, Sums()).add(requests)
+        sums.setdefault(case.group(), Sums()).add(requests)
         if by_case:
-            print(f"{case}: {requests}")
+            print(f"{case.name}: {requests}")
     for group, each in sums.items():
         print(f"{group}: {each.told()}")
     print(

@@ -1,4 +1,4 @@
-"""Tests of tools/refuse_each_call.py, with a program that has one case.
+"""Tests of tools/refuse_each_call.py, with a program that answers one script.
 
     python3 tools/test_refuse_each_call.py
 """
@@ -11,28 +11,36 @@ from concurrent.futures import ThreadPoolExecutor
 from pathlib import Path
 
 from refuse_each_call import Wrong, check, has_between, is_as_before, program_in
+from single_calls import Case, cases
 
-# A program whose call makes two requests. What it does if one of them is refused is written in place of @@.
+# A program whose call `act` makes two requests. What it does if one of them is refused is written in place of @@: it has the
+# functions `refused STATE` and `acted`. A script that makes the call again has a line `act` without a mark.
 PROGRAM = """#!/bin/sh
 printf '\\2\\0\\0\\0\\0\\0\\0\\0' >"$REFUSE_COUNT"
-echo 'before: { cursors: {1: Cursor { at: 2 }}, count: 3 }'
-if [ "$REFUSE_AT" != 0 ]; then
-@@
+show() { echo '> show'; echo "$1"; }
+before='{ cursors: {1: Cursor { at: 2 }}, count: 3 }'
+refused() { echo '> ! act'; echo 'Err(OutOfMemory)'; show "$1"; }
+acted() { echo "> ${1}act"; echo 'Ok(7)'; show '{ cursors: {1: Cursor { at: 3 }}, count: 4 }'; }
+ended() { echo '> next'; echo next; show '{ cursors: {}, count: 5 }'; }
+show "$before"
+if [ "$REFUSE_AT" = 0 ]; then
+    acted '! '
+else
+    @@
 fi
-echo 'book.night.1: done'
-echo 'after: { cursors: {1: Cursor { at: 3 }}, count: 4 }'
-echo 'book.night.2: next'
+ended
 """
 
-KEEPS = "echo refused; echo 'now: { cursors: {1: Cursor { at: 2 }}, count: 3 }'"
-DROPS_A_WALK = "echo refused; echo 'now: { cursors: {}, count: 3 }'"
+KEEPS = 'refused "$before"; acted ""'
+DROPS_A_WALK = "refused '{ cursors: {}, count: 3 }'; acted ''"
+DOES_WITHOUT = "acted '! '; LD_PRELOAD= grep -q '^act$' \"$1\" && acted ''"
 
-# What a wrong body writes, and what is said of it.
+# What a wrong body does, and what is said of it.
 WRONG = {
-    "changes before it gives up": ("echo refused; echo 'now: { cursors: {}, count: 4 }'", "not as before"),
-    "keeps an empty slot": ("echo refused; echo 'now: { cursors: {1: None}, count: 3 }'", "no map of kept walks"),
-    "keeps another walk": ("echo refused; echo 'now: { cursors: {1: Cursor { at: 3 }}, count: 3 }'", "not as before"),
-    "answers otherwise then": (KEEPS + "; echo 'book.night.1: refused'; exit", "it goes on otherwise"),
+    "changes before it gives up": ("refused '{ cursors: {}, count: 4 }'; acted ''", "not as before"),
+    "keeps an empty slot": ("refused '{ cursors: {1: None}, count: 3 }'; acted ''", "no map of kept walks"),
+    "keeps another walk": ("refused '{ cursors: {1: Cursor { at: 3 }}, count: 3 }'; acted ''", "not as before"),
+    "answers otherwise then": ('refused "$before"; echo "> act"; echo "Ok(8)"; exit', "it goes on otherwise"),
     "says more then": (KEEPS + "; echo more", "it goes on otherwise"),
     "ends": ("exit 1", "status 1"),
 }
@@ -47,21 +55,22 @@ class RefusedCalls(unittest.TestCase):
     def requests_of(self, refused: str, kind: str = "book") -> int:
         """How many requests the call makes, if it does this where one is refused."""
         path = self.folder / "program"
-        path.write_text(PROGRAM.replace("@@", refused).replace("book.", f"{kind}."))
+        path.write_text(PROGRAM.replace("@@", refused))
         path.chmod(0o700)
+        case = Case(f"{kind}.night.1", kind, "act", "", (), ("next",), ("show",))
         with ThreadPoolExecutor(2) as pool:
-            return check(program_in(path, self.folder), f"{kind}.night.1", pool)
+            return check(program_in(path, self.folder), case, pool)
 
     def test_a_call_that_leaves_all_is_right(self) -> None:
         self.assertEqual(self.requests_of(KEEPS), 2)
         self.assertEqual(self.requests_of(DROPS_A_WALK), 2)
 
     def test_a_request_is_done_without_where_it_may_be(self) -> None:
-        self.assertEqual(self.requests_of(":", "desk"), 2)
+        self.assertEqual(self.requests_of(DOES_WITHOUT, "desk"), 2)
         with self.assertRaisesRegex(Wrong, "gave up nothing"):
-            self.requests_of(":")
+            self.requests_of(DOES_WITHOUT)
         with self.assertRaisesRegex(Wrong, "doesn't say that it was refused"):
-            self.requests_of(":", "texts")
+            self.requests_of(DOES_WITHOUT, "texts")
 
     def test_each_wrong_body_is_noticed(self) -> None:
         for name, (refused, said) in WRONG.items():
@@ -81,6 +90,15 @@ class Lines(unittest.TestCase):
         self.assertFalse(has_between("copy of 4", "copy of 0", "copy of 3"))
         self.assertFalse(has_between("book of 2", "copy of 0", "copy of 3"))
         self.assertTrue(has_between('{"count":1}', '{"refused":"NoSuchJobException"}', '{"count":3}'))
+
+
+class Cases(unittest.TestCase):
+    def test_each_case_has_a_name_of_its_own_and_one_call(self) -> None:
+        names = [case.name for case in cases()]
+        self.assertEqual(len(names), len(set(names)))
+        for case in cases():
+            marked = [line for line in case.script(True).splitlines() if line.startswith("! ")]
+            self.assertEqual(len(marked), 1, case.name)
 
 
 if __name__ == "__main__":

@@ -1,0 +1,241 @@
+"""The cases of tools/refuse_each_call.py: single calls of the library, each in a state made for it.
+
+A case is a script for the program `refused_calls` (benches/refused_calls). Its lines make the object's state, show it, make the
+call, show the state again, and go on using the object. `tools/refused_calls/` has what the scripts are made of: `histories.txt`
+(scripts of calls and queries, each for the objects that its first line names), `catalogues.txt`, `commands.txt`, `starts.txt`.
+"""
+
+from __future__ import annotations
+
+from collections.abc import Iterator
+from dataclasses import dataclass
+from pathlib import Path
+
+ROOT = Path(__file__).resolve().parent.parent
+DATA = ROOT / "tools" / "refused_calls"
+
+# The script of `batchctl`.
+SCRIPT = ROOT / "crates" / "batchctl" / "stdin"
+
+# A line that begins so is marked: there is a mark before and after its call.
+MARKED = "! "
+
+
+@dataclass(frozen=True)
+class Case:
+    """A call, with what its script has around it. If no line is the call, it makes the object from the first line."""
+
+    name: str
+    kind: str
+    line: str = ""
+    first: str = ""
+    before: tuple[str, ...] = ()
+    after: tuple[str, ...] = ()
+    # The lines that show the object's state.
+    looks: tuple[str, ...] = ()
+
+    def script(self, again: bool) -> str:
+        """The script, in which an unmarked line makes the call again, if it is to be made again."""
+        if not self.line:
+            lines = [self.kind, MARKED + self.first, *self.looks, *self.after]
+        else:
+            call = [MARKED + self.line, *self.looks, *([self.line, *self.looks] if again else [])]
+            lines = [self.kind, self.first, *self.before, *self.looks, *call, *self.after, *self.looks]
+        return "\n".join(lines) + "\n"
+
+    def group(self) -> str:
+        """The part of the name before its first dot."""
+        return self.name.partition(".")[0]
+
+
+def each_of(kind: str, lines: list[str]) -> Iterator[Case]:
+    """A case of each of these lines, which have no object."""
+    for line in lines:
+        yield Case(f"{kind}.{line.replace(' ', '.')[:48]}", kind, line)
+
+
+def of_values() -> Iterator[Case]:
+    """Calls of single values."""
+    night = "the nightly load"
+    words = ["new", "new_of_4", "within", "try_clone", "try_clone_option"]
+    for word in words:
+        yield Case(f"texts.{word}", "texts", f"{word} {night}")
+    yield from each_of("texts", ["shared", "bad_line_text", "metrics_value"])
+    yield from each_of("parameters", ["new", "new_long", "new_many", "try_clone"])
+    faults = ["TextTooLong", "Empty", "TooDeep", "TooMany", "DuplicateId", "NoSuchTarget", "Loop", "RestartNotJobLevel"]
+    yield from each_of("jobs", ["faultless", "in_flows", *faults])
+    yield from each_of("rows", ["add_instance", "add_execution", "add_work", "set_checkpoint", "set_checkpoint 11"])
+    yield from each_of("rows", ["works_of_instance", "steps_made", "running_of", "job_instance.try_clone"])
+    refusals = [
+        f"{kind}Exception" for kind in ("NoSuchJobExecution", "JobExecutionNotMostRecent", "JobExecutionAlreadyComplete")
+    ]
+    yield from each_of("restarts", ["first_plan", "accepted", *refusals, "STARTED", "ABANDONED", "not_restartable"])
+
+
+# A step `a`, then a split of a flow with the step `s` of two partitions and a flow with `t`.
+WALKED = (
+    '{"jobs":[{"id":"j","elements":[{"kind":"step","id":"a","next":"k","batchlet":{"ref":"ok"}},'
+    '{"kind":"split","id":"k","flows":['
+    '{"kind":"flow","id":"f","elements":[{"kind":"step","id":"s","partitions":2,"batchlet":{"ref":"ok"}}]},'
+    '{"kind":"flow","id":"g","elements":[{"kind":"step","id":"t","batchlet":{"ref":"ok"}}]}]}]}]}'
+)
+
+
+def of_walks() -> Iterator[Case]:
+    """Calls of walks: one from its beginning to its end, and clones that go on instead."""
+    for word in ("new", "resume", "value_at_first", "fact.try_clone", "work_key.try_clone"):
+        yield Case(f"walk.{word}", "walk", word, WALKED)
+    steps = [f"{word} {step}" for step in ("a", "t", "s") for word in ("take", "report")]
+    for number, step in enumerate(steps):
+        before, after = ("walk", *steps[:number]), tuple(steps[number + 1 :])
+        yield Case(f"walk.{step.replace(' ', '.')}", "walk", step, WALKED, before, after, ("show",))
+    for word in ("try_clone", "value.try_clone", "work_keys.try_clone"):
+        yield Case(f"walk.cursor.{word}", "walk", word, WALKED, ("walk",), ("swap", *steps), ("show",))
+
+
+def job_of(id_: str) -> str:
+    chunk = '{"item-count":2,"reader":{"ref":"count:5"},"processor":{"ref":"odd"},"writer":{"ref":"sink"}}'
+    return f'{{"id":"{id_}","elements":[{{"kind":"step","id":"t","partitions":3,"chunk":{chunk}}}]}}'
+
+
+def catalogue_of(count: int) -> str:
+    return f'{{"jobs":[{",".join(job_of(f"j{number}") for number in range(count))}]}}'
+
+
+def of_catalogues() -> Iterator[Case]:
+    """Calls of catalogues, and of what is made of one."""
+    two = catalogue_of(2)
+    after = ("add later", "job.element later")
+    for id_, first in (("night", two), ("j1", two), ("more", catalogue_of(256))):
+        # A catalogue of 256 jobs takes no other one.
+        then = () if id_ == "more" else after
+        yield Case(f"catalogue.add.{id_}", "catalogue", f"add {id_}", first, (), then, ("show",))
+    words = ["try_clone", "artifacts", "artifacts_of_a_clone", "table", "status_counts"]
+    for word in words + ["job.try_clone j0", "job.element j0", "task.try_clone j0"]:
+        yield Case(f"catalogue.{word.partition(' ')[0]}", "catalogue", word, two, (), after, ("show",))
+
+
+def lines_of(name: str) -> list[str]:
+    return (DATA / name).read_text().splitlines()
+
+
+# The catalogues without a fault, by their lines.
+FAULTLESS = (1, 2, 3, 12)
+
+
+def of_readers() -> Iterator[Case]:
+    """Calls that read or write texts."""
+    for number, line in enumerate(lines_of("catalogues.txt"), 1):
+        yield Case(f"readings.read_catalogue.{number}", "readings", f"read_catalogue {line}")
+        if number not in FAULTLESS:
+            yield Case(f"readings.fault_text.{number}", "readings", f"fault_text {line}")
+    starts = lines_of("starts.txt")
+    for number, line in enumerate(starts, 1):
+        yield Case(f"readings.read_start.{number}", "readings", f"read_start {line}")
+    commands = tuple(lines_of("commands.txt"))
+    for number, line in enumerate(commands, 1):
+        yield Case(f"commands.{number}", "commands", line, "", commands[: number - 1], commands[number:])
+    for number in range(len(starts) + 2):
+        yield Case(f"lines.{number}", "lines", "", str(number), (), tuple(starts))
+    script = tuple(SCRIPT.read_text().splitlines())
+    for kind in ("run_script", "answer_script", "program"):
+        yield Case(kind, kind, "", "", (), script)
+
+
+def of_workers() -> Iterator[Case]:
+    """Calls of kits, workers and pools, and of the words of a command line."""
+    words = ["kit.add quiet", "run_item quiet", "run_item nobody", "run_item decision", "run_item chunk", "run_partition chunk"]
+    yield from each_of("workers", words + ["worker quiet", "work_item.try_clone chunk", "work_task.try_clone chunk"])
+    lines = ("counts", "start", "pool", "counts")
+    first = '{"jobs":[{"id":"a","elements":[{"kind":"step","id":"s","batchlet":{"ref":"quiet"}}]}]}'
+    yield Case("pool", "pool", "pool", first, ("start",), lines)
+    command_lines = ["script", "run", "run --workers 3", "", "walk", "run --workers 17", "run --help"]
+    for line in command_lines:
+        yield Case(f"arguments.{line.replace(' ', '.') or 'none'}", "arguments", line or " ")
+
+
+# The queries that show what a desk and an operator have.
+LOOKS = [
+    '{"ask":"job_names"}',
+    '{"ask":"job_instances","job":"a","start":0,"count":9}',
+    '{"ask":"running_executions","job":"a"}',
+    '{"ask":"job_executions","instance":1}',
+    '{"ask":"job_executions","instance":2}',
+    '{"ask":"parameters","execution":1}',
+    '{"ask":"step_executions","execution":1}',
+    '{"ask":"step_executions","execution":2}',
+    '{"ask":"status_counts"}',
+]
+COUNT = '{"ask":"job_instance_count","job":"a"}'
+SEEN = ("show", *(f"look {query}" for query in LOOKS))
+# What shows the state of each kind of object.
+SHOWN = {
+    "book": ("show",),
+    "full_book": ("show",),
+    "repository": ("show",),
+    "full_repository": ("show",),
+    "world": ("show",),
+    "desk": SEEN,
+    "full_desk": SEEN,
+    "operator": (*SEEN, f"copies {COUNT}"),
+    "copies": ("show", f"alone {COUNT}", f"shared {COUNT}", "counts"),
+}
+
+
+@dataclass(frozen=True)
+class History:
+    """A script of calls and queries for objects of these kinds."""
+
+    kinds: tuple[str, ...]
+    name: str
+    catalogue: str
+    lines: tuple[str, ...]
+
+
+def histories() -> Iterator[History]:
+    for text in (DATA / "histories.txt").read_text().strip().split("\n\n"):
+        head, catalogue, *lines = text.splitlines()
+        kinds, _, name = head.partition(": ")
+        yield History(tuple(kinds.split()), name, catalogue, tuple(lines))
+
+
+def made(kind: str, history: History, line: str, number: int) -> Case:
+    """The case of a line."""
+    before, after = history.lines[: number - 1], history.lines[number:]
+    return Case(f"{kind}.{history.name}.{number}", kind, line, history.catalogue, before, after, SHOWN[kind])
+
+
+def about(history: History) -> Iterator[Case]:
+    """Cases about the calls and queries of a history: previews, copies and texts. A repository has the calls before."""
+    for number, line in enumerate(history.lines, 1):
+        words = ["answer_text"] if '"ask"' in line else ["preview", "call.try_clone", "reply.try_clone", "reply_text"]
+        for word in words:
+            case = made("repository", history, f"{word} {line}", number)
+            name = f"{word.replace('.', '_')}.{history.name}.{number}"
+            yield Case(name, case.kind, case.line, case.first, case.before, (line, *case.after), case.looks)
+
+
+# Lines that are no cases: nothing in them asks for memory, or they are part of the state of others.
+NO_CASES = ("meet", "stops", "show")
+
+
+def of_histories() -> Iterator[Case]:
+    """Each line of each history, for each of its objects, and the making of the object."""
+    for history in histories():
+        for kind in history.kinds:
+            if kind == "about":
+                yield from about(history)
+                continue
+            name = f"{kind}.{history.name}.new"
+            yield Case(name, kind, "", history.catalogue, (), history.lines, SHOWN[kind])
+            for number, line in enumerate(history.lines, 1):
+                if line.split()[0] not in NO_CASES and not (kind == "copies" and line.startswith("{")):
+                    yield made(kind, history, line, number)
+        if "world" in history.kinds:
+            yield Case(f"events.{history.name}", "events", "", history.catalogue, (), history.lines)
+
+
+def cases() -> list[Case]:
+    """All cases, in their order."""
+    made_of = (of_values, of_walks, of_catalogues, of_readers, of_histories, of_workers)
+    return [case for group in made_of for case in group()]
