@@ -350,8 +350,8 @@ def is_stored_again(refusal: Refusal) -> None:
 
 
 def is_added_to_the_kit_again(refusal: Refusal) -> None:
-    """A kit has no artifact of the name, and then it has."""
-    if refusal.run.parts[1].said != ("Err(OutOfMemory)", "Ok(Failed)", "Ok(Completed)"):
+    """A kit takes the artifact then, and runs it."""
+    if refusal.run.parts[1].said != ("Err(OutOfMemory)", *refusal.whole.parts[1].said):
         raise refusal.fail(f"it left {refusal.run.parts[1].said}")
 
 
