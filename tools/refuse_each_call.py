@@ -3,13 +3,13 @@
     python3 tools/refuse_each_call.py [--program PATH] [--by-case] [WORD..]
 
 Each case (tools/single_calls.py) is one call, in a state made for it. WORD.. runs those cases alone whose names begin so. The
-program `refused_calls` runs the script of a case, and marks where the call begins and ends. Its sources stand in
-`benches/refused_calls`, outside the gate; `benches/refused_calls.py` proves and builds it, and runs this tool on it. A small
-library, refuse_a_request.c, is loaded ahead of it. Each case runs twice with no refusal, and must write the same and make as
-many requests both times. Then each request of the call is refused, one in each run. The call must answer that it was refused
-memory, and then:
+program `refused_calls` runs the script of a case, and marks where the call begins and ends. A small library,
+refuse_a_request.c, is loaded ahead of it. Each case runs twice with no refusal, and must write the same and make as many
+requests both times. Then each request of the call is refused, one in each run. The call must answer that it was refused memory,
+and then:
 
-- What can be read of its object is as it was before the call, but that a walk which was kept may be dropped.
+- What can be read of its object is as it was before the call, but that a walk which was kept may be dropped, and that the
+  session of a refused call may have been shown the operations before it.
 - The call is made again, with memory. Its answer, what can be read then, and all later answers are those of the whole run.
 
 `EXCEPTIONS` lists the calls of which more is allowed, each with its reason. `SWALLOWED` lists the requests that a call may do
@@ -46,8 +46,11 @@ MOST_SECONDS = 120
 # How the program echoes a line.
 ECHO = "> "
 
+# Lines of a walk's script that the program does not echo.
+NOT_ECHOED = ("walk", "swap")
+
 # What a call answers that was refused memory.
-REFUSED = ('{"refused":"OutOfMemory"}', "Err(OutOfMemory)", "OutOfMemory, to standard error true")
+REFUSED = ('{"refused":"OutOfMemory"}', "Err(OutOfMemory)", "Err(Write)", "OutOfMemory, to standard error true")
 
 
 class Wrong(Exception):
@@ -121,7 +124,7 @@ class Program:
 def program_in(path: Path, folder: Path) -> Program:
     """The program at this path, with the library, which is compiled in this folder."""
     if not os.access(path, os.X_OK):
-        raise Wrong(f"there is no program {path}: benches/refused_calls.py makes it")
+        raise Wrong(f"there is no program {path}: `rt ci` makes it")
     if not shutil.which("cc"):
         raise Wrong("there is no C compiler `cc`")
     library = folder / "refuse.so"
@@ -162,10 +165,23 @@ def without_walks(line: str) -> tuple[str, list[list[str]]]:
     return line, kept
 
 
+# What a script shows of a session.
+SESSION = re.compile(r"(session \d+), seen (\d+)(, shown \d+, own \d+)")
+
+
 def is_as_before(now: str, before: str) -> bool:
-    """Whether a line tells the same as another one, but that walks which were kept may be dropped."""
+    """Whether a line tells the same as another one. Walks which were kept may be dropped, and a session may have seen more."""
+    if (found := SESSION.fullmatch(now)) and (other := SESSION.fullmatch(before)):
+        return found[1] == other[1] and found[3] == other[3] and int(found[2]) >= int(other[2])
     (left, kept), (right, held) = without_walks(now), without_walks(before)
     return left == right and all(set(some).issubset(others) for some, others in zip(kept, held, strict=True))
+
+
+def see_what_there_is(lines: list[str]) -> bool:
+    """Whether no session has seen more operations than these lines, which show all sessions, say that there are."""
+    told = [int(found[1]) for line in lines if (found := re.match(r"(\d+) operations", line))]
+    operations = max([sum(line.startswith("Some(Entry") for line in lines), *told])
+    return all(int(found[2]) <= operations for line in lines if (found := SESSION.fullmatch(line)))
 
 
 def are_as_before(now: Iterable[str], before: Iterable[str]) -> bool:
@@ -196,7 +212,8 @@ class Refusal:
 
     def place(self) -> int:
         """The place of the call among the parts of a run."""
-        return 1 + len(self.case.before) + len(self.case.looks) if self.case.line else 0
+        before = [line for line in self.case.before if line not in NOT_ECHOED]
+        return 1 + len(before) + len(self.case.looks) if self.case.line else 0
 
     def answer(self) -> Part:
         """What the call answered that was refused memory."""
@@ -240,8 +257,8 @@ class Refusal:
 
 
 def leaves_all(refusal: Refusal) -> None:
-    """What can be read is as before the call."""
-    if not are_as_before(refusal.now(), refusal.before()):
+    """What can be read is as before the call, but that a session may have been shown the operations before a refusal."""
+    if not are_as_before(refusal.now(), refusal.before()) or not see_what_there_is(refusal.now()):
         raise refusal.fail(f"what can be read then is not as before: {refusal.now()}, {refusal.before()}")
     refusal.goes_on_alike()
 
@@ -295,12 +312,16 @@ def has_a_step(refusal: Refusal) -> None:
     refusal.goes_on_alike()
 
 
+# How a script may end. A text in memory can't be written if memory for it is refused.
+ENDS = {"run_script": ("Err(OutOfMemory)",), "answer_script": ("Err(OutOfMemory)", "Err(Write)")}
+
+
 def wrote_a_beginning(refusal: Refusal) -> None:
     """A script answers that memory was refused, after the replies to some lines; then it runs anew."""
     found, wanted = refusal.run.lines(), refusal.whole.lines()
     rest = found[len(found) - len(wanted) :]
     head = found[: len(found) - len(wanted)]
-    if rest != wanted or head[:1] != ["Err(OutOfMemory)"] or head[1:] != wanted[1 : len(head)]:
+    if rest != wanted or head[0] not in ENDS[refusal.case.kind] or head[1:] != wanted[1 : len(head)]:
         raise refusal.fail(f"{head} is not the replies to the lines before, or it runs otherwise then")
 
 
@@ -317,6 +338,8 @@ def ended_rightly(refusal: Refusal) -> None:
     """The program ends with 2 if the command line was refused memory, and with 5 if its script was."""
     of_words = refusal.program.run(Case("", "arguments", "script").script(False)).requests
     found, wanted = refusal.run.lines(), refusal.whole.lines()
+    if found == wanted:
+        return goes_on_without(refusal)
     rest = found[len(found) - len(wanted) :]
     status, fault, *written = found[: len(found) - len(wanted)]
     if refusal.number <= of_words:
@@ -396,11 +419,12 @@ def counts(**some: int) -> str:
 
 
 def left_to_the_next_pool(refusal: Refusal) -> None:
-    """A pool has claimed nothing, or has lost its work item. The next one runs what is left, and the job started since."""
+    """A pool has claimed nothing, or has lost or finished its work item. The next one runs what is left, and the new job."""
     said = refusal.once().lines()
     ways = [
         ["Err(OutOfMemory)", counts(starting=1), "Ok(PoolReport { items: 2, gave_up: 0 })", counts(completed=2)],
         ["Err(OutOfMemory)", counts(failed=1), "Ok(PoolReport { items: 1, gave_up: 0 })", counts(failed=1, completed=1)],
+        ["Err(OutOfMemory)", counts(completed=1), "Ok(PoolReport { items: 1, gave_up: 0 })", counts(completed=2)],
     ]
     if said not in ways:
         raise refusal.fail(f"it left {said}")
@@ -411,7 +435,7 @@ EXCEPTIONS: list[tuple[str, Callable[[Refusal], None]]] = [
     # Nothing can be read of an object that was not made.
     (r"\w+\.\w+\.new|events\.\w+", is_made_again),
     # A publish takes in one operation after the other, and keeps what it took in.
-    (r"operator\.three_starts\.4|operator\.copies\.5|copies\.lagging\.(3|4|5|12|13|14|20|23)", has_a_beginning),
+    (r"operator\.three_starts\.4|operator\.copies\.5|copies\.lagging\.(4|5|6|13|14|15|21|24)", has_a_beginning),
     (r"world\.at_once\.6", has_a_step),
     # A script writes the replies to its lines as it goes, and a reader of lines that failed reads no more.
     (r"run_script|answer_script", wrote_a_beginning),
@@ -439,6 +463,11 @@ SWALLOWED = [
     # walk, and walks anew the next time.
     r"(full_)?(book|repository|desk)\.\w+\.\d+|(operator|world|copies|preview)\.\w+\.\d+",
     r"events\.\w+|rows\.add_(instance|execution)",
+    # A script, a program and a pool have a repository.
+    r"run_script|answer_script|program|pool",
+    # A list that is collected asks for room for all at once, or else grows as it is filled: ranks in the search for a job's
+    # loops, and what clap says of an unknown command.
+    r"jobs\.\w+|readings\.read_catalogue\.\d+|arguments\.walk",
 ]
 
 
@@ -455,9 +484,11 @@ def goes_on_without(refusal: Refusal) -> None:
     """The call does without a request: its answer and all later ones are as in the whole run."""
     if not any(re.fullmatch(pattern, refusal.case.name) for pattern in SWALLOWED):
         raise refusal.fail(f"the call doesn't say that it was refused memory: {refusal.answer()}")
-    found, wanted = refusal.once().lines(), refusal.whole.lines()
-    # What a book, a repository or a world gave up can be read.
-    if re.match(r"(full_)?(book|repository)|world|rows", refusal.case.name) and found == wanted:
+    run, wanted = refusal.once(), refusal.whole.lines()
+    found = run.lines()
+    # What a book, a repository or a world gave up can be read, or it made more requests in its place.
+    gave_up = found != wanted or run.requests > refusal.whole.requests
+    if re.match(r"(full_)?(book|repository)|world|rows", refusal.case.name) and not gave_up:
         raise refusal.fail("the call doesn't say that it was refused memory, and gave up nothing")
     if not are_as_before(map(without_lists, found), map(without_lists, wanted)):
         raise refusal.fail("the call goes on without a request, and otherwise")
@@ -509,12 +540,19 @@ def check(program: Program, case: Case, pool: ThreadPoolExecutor) -> int:
     return whole.requests
 
 
-def check_all(program: Program, words: list[str], by_case: bool, pool: ThreadPoolExecutor) -> None:
+def check_all(program: Program, words: list[str], by_case: bool, pool: ThreadPoolExecutor) -> bool:
+    """Tells of the cases whose names begin with one of these words (of all, if there is none), and whether each is right."""
     sums: dict[str, Sums] = {}
+    right = True
     for case in cases():
         if words and not case.name.startswith(tuple(words)):
             continue
-        requests = check(program, case, pool)
+        try:
+            requests = check(program, case, pool)
+        except Wrong as wrong:
+            print(f"refuse_each_call: {wrong}", file=sys.stderr)
+            right = False
+            continue
         sums.setdefault(case.group(), Sums()).add(requests)
         if by_case:
             print(f"{case.name}: {requests}")
@@ -523,6 +561,7 @@ def check_all(program: Program, words: list[str], by_case: bool, pool: ThreadPoo
     print(
         f"all: {sum(s.cases for s in sums.values())} calls, {sum(s.requests for s in sums.values())} requests refused in turn"
     )
+    return right
 
 
 def main() -> int:
@@ -533,12 +572,11 @@ def main() -> int:
     given = parser.parse_args()
     with tempfile.TemporaryDirectory(prefix="refuse-each-call-") as name, ThreadPoolExecutor(os.cpu_count()) as pool:
         try:
-            check_all(program_in(given.program.resolve(), Path(name)), given.words, given.by_case, pool)
+            right = check_all(program_in(given.program.resolve(), Path(name)), given.words, given.by_case, pool)
         except Wrong as wrong:
             print(f"refuse_each_call: {wrong}", file=sys.stderr)
-            pool.shutdown(cancel_futures=True)
             return 1
-    return 0
+    return 0 if right else 1
 
 
 if __name__ == "__main__":

@@ -1,6 +1,6 @@
 """The cases of tools/refuse_each_call.py: single calls of the library, each in a state made for it.
 
-A case is a script for the program `refused_calls` (benches/refused_calls). Its lines make the object's state, show it, make the
+A case is a script for the program `refused_calls`. Its lines make the object's state, show it, make the
 call, show the state again, and go on using the object. `tools/refused_calls/` has what the scripts are made of: `histories.txt`
 (scripts of calls and queries, each for the objects that its first line names), `catalogues.txt`, `commands.txt`, `starts.txt`.
 """

@@ -10,7 +10,7 @@ import unittest
 from concurrent.futures import ThreadPoolExecutor
 from pathlib import Path
 
-from refuse_each_call import Wrong, check, has_between, is_as_before, program_in
+from refuse_each_call import Wrong, check, has_between, is_as_before, program_in, see_what_there_is
 from single_calls import Case, cases
 
 # A program whose call `act` makes two requests. What it does if one of them is refused is written in place of @@: it has the
@@ -84,6 +84,15 @@ class Lines(unittest.TestCase):
         less = "{ cursors: {3: Cursor { at: 1 }}, count: 3 }"
         self.assertTrue(is_as_before(less, kept))
         self.assertFalse(is_as_before(kept, less))
+
+    def test_a_session_may_have_seen_more_operations_than_before_and_no_more_than_there_are(self) -> None:
+        before, now = "session 2, seen 1, shown 0, own 1", "session 2, seen 3, shown 0, own 1"
+        self.assertTrue(is_as_before(now, before))
+        self.assertFalse(is_as_before(before, now))
+        self.assertFalse(is_as_before("session 2, seen 3, shown 0, own 2", before))
+        self.assertTrue(see_what_there_is([now, "3 operations"]))
+        self.assertFalse(see_what_there_is([now, "2 operations"]))
+        self.assertFalse(see_what_there_is([now, "Some(Entry { who: 1 })", "Some(Entry { who: 2 })"]))
 
     def test_numbers_are_between_those_of_two_lines(self) -> None:
         self.assertTrue(has_between("copy of 2", "copy of 0", "copy of 3"))

@@ -1,5 +1,5 @@
 //! Worlds, whose events are the lines of a script.
-use crate::lines::{Line, Script, echoed, query_in, tell};
+use crate::lines::{Line, Script, echoed, query_in, tell, tell_refused};
 use crate::told;
 use anyhow::{Result, bail};
 use event_core::{Event, World, run};
@@ -71,28 +71,45 @@ pub(crate) fn run_world<R: Print + AllocGlobal>(rt: &R, script: Script<'_>) -> R
     script.first.mark(alloc);
     let made = World::new(alloc, catalogue, SESSIONS, COPIES);
     script.first.mark(alloc);
-    let Ok(mut world) = made else {
-        println!(rt; "Err(OutOfMemory)")?;
-        return Ok(false);
-    };
-    let ran = run_steps(rt, script.lines, &mut world);
-    drop(world);
-    ran?;
-    Ok(true)
+    match made {
+        Ok(mut world) => {
+            let ran = run_steps(rt, script.lines, &mut world);
+            drop(world);
+            ran?;
+            Ok(true)
+        }
+        Err(_) => tell_refused(rt),
+    }
+}
+
+/// Adds the event of each line.
+fn add_events(alloc: Global, lines: &str, events: &mut Vec<Event>) -> Result<()> {
+    for line in lines.lines() {
+        let event = event_in(alloc, line)?;
+        events.push(event)?;
+    }
+    Ok(())
+}
+
+/// Takes these events by one call.
+fn run_all<R: Print + AllocGlobal>(rt: &R, first: Line<'_>, events: &[Event]) -> Result<bool> {
+    let alloc = rt.alloc();
+    let catalogue = read_catalogue(alloc, first.text.as_bytes())?;
+    first.mark(alloc);
+    let outcomes = run(alloc, catalogue, SESSIONS, COPIES, events);
+    first.mark(alloc);
+    let ran = outcomes.is_ok();
+    tell(rt, outcomes)?;
+    Ok(ran)
 }
 
 /// Takes the events of all lines by one call.
 pub(crate) fn run_events<R: Print + AllocGlobal>(rt: &R, script: Script<'_>) -> Result<bool> {
-    let alloc = rt.alloc();
-    let mut events = Vec::new(alloc);
-    for line in script.lines.lines() {
-        events.push(event_in(alloc, line)?)?;
-    }
-    let catalogue = read_catalogue(alloc, script.first.text.as_bytes())?;
-    script.first.mark(alloc);
-    let outcomes = run(alloc, catalogue, SESSIONS, COPIES, events.as_slice());
-    script.first.mark(alloc);
-    let ran = outcomes.is_ok();
-    tell(rt, outcomes)?;
-    Ok(ran)
+    let mut events = Vec::new(rt.alloc());
+    let ran = match add_events(rt.alloc(), script.lines, &mut events) {
+        Ok(()) => run_all(rt, script.first, events.as_slice()),
+        Err(error) => Err(error),
+    };
+    drop(events);
+    ran
 }

@@ -2,7 +2,8 @@
 ghost use Rattle.std.specs.Prelude.{◌≤◌};
 
 use crate::lines::{
-    Answered, Answers, Line, Replied, Script, answer_lines, query_in, tell, tell_reply, tell_text,
+    Answered, Answers, Line, Replied, Script, answer_lines, query_in, tell, tell_refused,
+    tell_reply, tell_text,
 };
 use crate::told;
 use anyhow::{Result, bail};
@@ -145,10 +146,7 @@ pub(crate) fn run_book<R: Wait + Print + AllocGlobal, const LIMIT: u64>(
             answered?;
             Ok(true)
         }
-        Err(_) => {
-            println!(rt; "Err(OutOfMemory)")?;
-            Ok(false)
-        }
+        Err(_) => tell_refused(rt),
     }
 }
 
@@ -170,9 +168,6 @@ pub(crate) fn run_repository<R: Wait + Print + AllocGlobal, const LIMIT: u64>(
             answered?;
             Ok(true)
         }
-        Err(_) => {
-            println!(rt; "Err(OutOfMemory)")?;
-            Ok(false)
-        }
+        Err(_) => tell_refused(rt),
     }
 }

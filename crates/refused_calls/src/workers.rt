@@ -1,10 +1,10 @@
 //! Kits, work items and workers.
-use crate::lines::{Line, tell};
+use crate::lines::{Line, Tried, tell};
 use crate::memory::{Memory, Open, Quiet};
 use crate::told;
 use anyhow::{Result, bail};
 use batch_history::{WorkItem, WorkTask};
-use batch_ids::{ExecutionId, Refusal, T256, WorkId, WorkOutcome};
+use batch_ids::{ExecutionId, T256, WorkId, WorkOutcome};
 use built_in_artifacts::{BuiltIn, BuiltInArtifact};
 use job_threads::{Kit, WorkerReport, run_item, worker};
 use std::alloc::Global;
@@ -13,7 +13,7 @@ use std::alloc::Global;
 const NAMES: [&str; 3] = ["count:5", "odd", "sink"];
 
 /// Returns the task of this name: a chunk, a decision, or a batchlet with this artifact.
-fn task(alloc: Global, name: &str) -> Result<WorkTask> {
+fn task(alloc: Global, name: &str) -> Tried<WorkTask> {
     match name {
         "chunk" => Ok(WorkTask::Chunk {
             reader: T256::new(alloc, "count:5")?,
@@ -31,7 +31,7 @@ fn task(alloc: Global, name: &str) -> Result<WorkTask> {
     }
 }
 
-fn item(alloc: Global, name: &str, partition: Option<u32>) -> Result<WorkItem> {
+fn item(alloc: Global, name: &str, partition: Option<u32>) -> Tried<WorkItem> {
     Ok(WorkItem {
         work: WorkId::new(1),
         execution: ExecutionId::new(1),
@@ -48,7 +48,7 @@ fn run_with_kit(
     line: Line<'_>,
     port: &mut Memory,
     item: &WorkItem,
-) -> Result<std::result::Result<WorkOutcome, Refusal>> {
+) -> Tried<Tried<WorkOutcome>> {
     let mut kit = Kit::new(alloc);
     for name in &NAMES {
         let built_in = BuiltIn::of(alloc, name)?.unwrap_or(BuiltIn::Fail);
@@ -66,11 +66,7 @@ fn run_with_kit(
 }
 
 /// Runs the one work item of a port by a worker.
-fn work_with_kit(
-    alloc: Global,
-    line: Line<'_>,
-    port: &mut Memory,
-) -> Result<std::result::Result<WorkerReport, Refusal>> {
+fn work_with_kit(alloc: Global, line: Line<'_>, port: &mut Memory) -> Tried<Tried<WorkerReport>> {
     let mut kit = Kit::new(alloc);
     kit.add("quiet", Box::new(alloc, Quiet { alloc })?)?;
     line.mark(alloc);
@@ -108,7 +104,7 @@ fn add_and_run(
     alloc: Global,
     line: Line<'_>,
     port: &mut Memory,
-) -> Result<(bool, std::result::Result<WorkOutcome, Refusal>)> {
+) -> Tried<(bool, Tried<WorkOutcome>)> {
     let item = item(alloc, "quiet", None)?;
     let mut kit = Kit::new(alloc);
     let given = Box::new(alloc, Quiet { alloc })?;

@@ -4,10 +4,11 @@ ghost use Rattle.batch_operator.specs.Calls.{IsAnswered, IsReplied};
 
 use crate::desks::show_session;
 use crate::lines::{
-    Answered, Answers, Line, Replied, Script, answer_lines, query_in, tell, tell_answer,
+    Answered, Answers, Line, Replied, Script, Tried, answer_lines, query_in, tell, tell_answer,
+    tell_refused,
 };
 use anyhow::{Result, bail};
-use batch_ids::{ExecutionId, Moment, OutOfMemory};
+use batch_ids::{ExecutionId, Moment};
 use batch_operator::{CopyCount, Operator};
 use jsl_json::read_catalogue;
 use jsl_model::Catalogue;
@@ -172,7 +173,7 @@ impl<N: Site> Answers for Stage<'_, N> {
 }
 
 /// Opens the sessions of an operator.
-fn stage_of<'a, N: Site>(rt: &impl Wait, operator: &'a Operator<N>) -> Result<Stage<'a, N>> {
+fn stage_of<'a, N: Site>(rt: &impl Wait, operator: &'a Operator<N>) -> Tried<Stage<'a, N>> {
     Ok(Stage {
         operator,
         one: operator.open_session(rt)?,
@@ -194,6 +195,17 @@ fn answer_by<N: Site, R: Wait + Print + AllocGlobal>(
     answered
 }
 
+fn answer_and_close<N: Site, R: Wait + Print + AllocGlobal>(
+    rt: &R,
+    script: Script<'_>,
+    operator: Operator<N>,
+) -> Result<bool> {
+    let answered = answer_by(rt, script, &operator);
+    operator.close();
+    answered?;
+    Ok(true)
+}
+
 fn answer_at<N: Site, R: Wait + Print + AllocGlobal>(
     rt: &R,
     script: Script<'_>,
@@ -212,16 +224,8 @@ fn answer_at<N: Site, R: Wait + Print + AllocGlobal>(
     let made = Operator::<N>::new(rt.alloc(), table, seat, catalogue, copies);
     script.first.mark(rt.alloc());
     match made {
-        Ok(operator) => {
-            let answered = answer_by(rt, script, &operator);
-            operator.close();
-            answered?;
-            Ok(true)
-        }
-        Err(_) => {
-            println!(rt; "Err(OutOfMemory)")?;
-            Ok(false)
-        }
+        Ok(operator) => answer_and_close(rt, script, operator),
+        Err(_) => tell_refused(rt),
     }
 }
 

@@ -1,13 +1,12 @@
 //! Pools of one worker over an operator.
 ghost use Rattle.std.specs.Prelude.{◌≡◌};
 
-use crate::lines::{Line, Script, echoed, tell};
+use crate::lines::{Line, Script, Tried, echoed, tell};
 use crate::memory::{Open, Quiet};
-use crate::told;
 use anyhow::{Result, bail};
 use batch_ids::{Parameters, T256};
 use batch_operator::{CopyCount, Operator};
-use job_threads::{Kit, pool};
+use job_threads::{Kit, PoolReport, pool};
 use jsl_json::read_catalogue;
 use jsl_model::Catalogue;
 use seat_rules::{BookSeat, SeatTable, Site};
@@ -17,17 +16,20 @@ use std::sync::Wait;
 use std::thread::Threads;
 
 /// Lets a pool of one worker run what there is to run.
-fn run_pool<N: Site + Send + Sync, R: Threads + Wait + Print + AllocGlobal + Sync>(
+fn run_pool<N: Site + Send + Sync, R: Threads + Wait + AllocGlobal + Sync>(
     rt: &R,
     line: Line<'_>,
     operator: &Operator<N>,
-) -> Result<()> {
+) -> Tried<Tried<PoolReport>> {
     let alloc = rt.alloc();
     let mut kits = Vec::new(alloc);
     let mut kit = Kit::new(alloc);
     kit.add("quiet", Box::new(alloc, Quiet { alloc })?)?;
     kits.push(kit)?;
-    told!(rt, line, pool(rt, alloc, operator, kits, &Open))
+    line.mark(alloc);
+    let report = pool(rt, alloc, operator, kits, &Open);
+    line.mark(alloc);
+    Ok(report)
 }
 
 /// Starts job `a`.
@@ -50,10 +52,23 @@ fn answer<N: Site + Send + Sync, R: Threads + Wait + Print + AllocGlobal + Sync>
 ) -> Result<()> {
     match line.text {
         "start" => start(rt, operator, session),
-        "pool" => run_pool(rt, line, operator),
+        "pool" => tell(rt, run_pool(rt, line, operator)?),
         "counts" => tell(rt, operator.status_counts(rt, session)),
         _ => bail!("{}: no line of a pool", line.text),
     }
+}
+
+fn answer_lines<N: Site + Send + Sync, R: Threads + Wait + Print + AllocGlobal + Sync>(
+    rt: &R,
+    lines: &str,
+    operator: &Operator<N>,
+    session: &mut Session<N>,
+) -> Result<()> {
+    for text in lines.lines() {
+        let line = echoed(rt, text)?;
+        answer(rt, line, operator, session)?;
+    }
+    Ok(())
 }
 
 fn answer_by<N: Site + Send + Sync, R: Threads + Wait + Print + AllocGlobal + Sync>(
@@ -62,11 +77,9 @@ fn answer_by<N: Site + Send + Sync, R: Threads + Wait + Print + AllocGlobal + Sy
     operator: &Operator<N>,
 ) -> Result<()> {
     let mut session = operator.open_session(rt)?;
-    for text in script.lines.lines() {
-        let line = echoed(rt, text)?;
-        answer(rt, line, operator, &mut session)?;
-    }
-    Ok(())
+    let answered = answer_lines(rt, script.lines, operator, &mut session);
+    drop(session);
+    answered
 }
 
 fn answer_at<N: Site + Send + Sync, R: Threads + Wait + Print + AllocGlobal + Sync>(

@@ -1,7 +1,10 @@
 //! Desks with the table of seats and sessions.
 ghost use Rattle.std.specs.Prelude.{◌≡◌, ◌≤◌, []};
 
-use crate::lines::{Answered, Answers, Line, Replied, Script, answer_lines, query_in, tell_answer};
+use crate::lines::{
+    Answered, Answers, Line, Replied, Script, Tried, answer_lines, query_in, tell_answer,
+    tell_refused,
+};
 use anyhow::{Result, bail};
 use batch_ids::Moment;
 use jsl_json::read_catalogue;
@@ -12,14 +15,20 @@ use sessions::{Desk, Session};
 use std::marker::Brand;
 use std::sync::Wait;
 
-/// A desk with two sessions that make calls, and one that watches.
+/// Two sessions that make calls, and one that watches.
+#[derive(Drop)]
+struct Readers<N: Site> {
+    one: Session<N>,
+    other: Session<N>,
+    watcher: Session<N>,
+}
+
+/// A desk with its sessions.
 #[derive(Drop)]
 struct Held<N: Site, const LIMIT: u64> {
     desk: Desk<N, LIMIT>,
     table: SeatTable,
-    one: Session<N>,
-    other: Session<N>,
-    watcher: Session<N>,
+    readers: Readers<N>,
     ghost alone: { desk.hosted ≡ [] },
     ghost named: { table ≡ N.place },
 }
@@ -39,8 +48,8 @@ pub(crate) fn show_session<N: Site>(rt: &impl Print, session: &Session<N>) -> Re
 impl<N: Site, const LIMIT: u64> Held<N, LIMIT> {
     /// Prints the sessions and the entries.
     fn show<R: Print + AllocGlobal>(&mut self, rt: &R) -> Result<()> {
-        show_session(rt, &self.one)?;
-        show_session(rt, &self.other)?;
+        show_session(rt, &self.readers.one)?;
+        show_session(rt, &self.readers.other)?;
         for k in 0..self.desk.len() {
             println!(rt; "{:?}", self.desk.entry(k.saturating_add(1)))?;
         }
@@ -51,14 +60,15 @@ impl<N: Site, const LIMIT: u64> Held<N, LIMIT> {
 impl<N: Site, const LIMIT: u64> Answers for Held<N, LIMIT> {
     fn act<R: Wait>(&mut self, _rt: &R, by: u64, call: Call, at: Moment) -> Replied {
         if by == 1 {
-            self.desk.act(&mut self.one, call, at, &self.table)
+            self.desk.act(&mut self.readers.one, call, at, &self.table)
         } else {
-            self.desk.act(&mut self.other, call, at, &self.table)
+            self.desk
+                .act(&mut self.readers.other, call, at, &self.table)
         }
     }
 
     fn ask<R: Wait>(&mut self, _rt: &R, query: Query) -> Answered {
-        self.desk.ask(&mut self.one, &query, &self.table)
+        self.desk.ask(&mut self.readers.one, &query, &self.table)
     }
 
     /// `show`, or `look` and a query, which the watcher asks.
@@ -68,7 +78,9 @@ impl<N: Site, const LIMIT: u64> Answers for Held<N, LIMIT> {
             "show" => self.show(rt),
             "look" => {
                 let query = query_in(rt.alloc(), rest)?;
-                let answer = self.desk.ask(&mut self.watcher, &query, &self.table);
+                let answer = self
+                    .desk
+                    .ask(&mut self.readers.watcher, &query, &self.table);
                 drop(query);
                 tell_answer(rt, answer)
             }
@@ -77,16 +89,41 @@ impl<N: Site, const LIMIT: u64> Answers for Held<N, LIMIT> {
     }
 }
 
-/// Opens the two sessions that make calls, and the one that watches.
-fn opened<N: Site, const LIMIT: u64>(
+/// Opens the sessions.
+fn readers_of<N: Site, const LIMIT: u64>(
     desk: &mut Desk<N, LIMIT>,
     table: &SeatTable,
-) -> Result<(Session<N>, Session<N>, Session<N>)>
+) -> Tried<Readers<N>>
     requires table { table.now ≡ N.place }
     requires alone { desk.old.hosted ≡ [] }
     ensures alone { desk.new.hosted ≡ [] }
 {
-    Ok((desk.open(table)?, desk.open(table)?, desk.open(table)?))
+    Ok(Readers {
+        one: desk.open(table)?,
+        other: desk.open(table)?,
+        watcher: desk.open(table)?,
+    })
+}
+
+fn answer_by<N: Site, R: Wait + Print + AllocGlobal, const LIMIT: u64>(
+    rt: &R,
+    lines: &str,
+    desk: Desk<N, LIMIT>,
+    table: SeatTable,
+    readers: Readers<N>,
+) -> Result<bool>
+    requires table { table ≡ N.place }
+    requires alone { desk.hosted ≡ [] }
+{
+    let mut held = Held {
+        desk,
+        table,
+        readers,
+    };
+    let answered = answer_lines(rt, &mut held, lines);
+    drop(held);
+    answered?;
+    Ok(true)
 }
 
 fn answer_with<N: Site, R: Wait + Print + AllocGlobal, const LIMIT: u64>(
@@ -94,25 +131,18 @@ fn answer_with<N: Site, R: Wait + Print + AllocGlobal, const LIMIT: u64>(
     script: Script<'_>,
     desk: Desk<N, LIMIT>,
     table: SeatTable,
-) -> Result<()>
+) -> Result<bool>
     requires table { table ≡ N.place }
     requires alone { desk.hosted ≡ [] }
 {
     let mut desk = desk;
-    let (one, other, watcher) = opened(&mut desk, &table)?;
-    let mut held = Held {
-        desk,
-        table,
-        one,
-        other,
-        watcher,
-    };
-    let answered = answer_lines(rt, &mut held, script.lines);
-    drop(held);
-    answered
+    match readers_of(&mut desk, &table) {
+        Ok(readers) => answer_by(rt, script.lines, desk, table, readers),
+        Err(_) => tell_refused(rt),
+    }
 }
 
-fn answer_at<N: Site, R: Wait + Print + AllocGlobal, const LIMIT: u64>(
+fn answer_on<N: Site, R: Wait + Print + AllocGlobal, const LIMIT: u64>(
     rt: &R,
     script: Script<'_>,
     table: SeatTable,
@@ -128,25 +158,37 @@ fn answer_at<N: Site, R: Wait + Print + AllocGlobal, const LIMIT: u64>(
     let made = Desk::<N, LIMIT>::new(rt.alloc(), seat, catalogue);
     script.first.mark(rt.alloc());
     match made {
-        Ok(desk) => {
-            answer_with(rt, script, desk, table)?;
-            Ok(true)
-        }
-        Err(_) => {
-            println!(rt; "Err(OutOfMemory)")?;
-            Ok(false)
-        }
+        Ok(desk) => answer_with(rt, script, desk, table),
+        Err(_) => tell_refused(rt),
     }
 }
 
-/// Runs a script by a desk.
-pub(crate) fn run_desk<R: Wait + Print + AllocGlobal, const LIMIT: u64>(
+fn answer_at<N: Site, R: Wait + Print + AllocGlobal>(
     rt: &R,
     script: Script<'_>,
+    is_small: bool,
+    table: SeatTable,
+    seat: BookSeat,
+    catalogue: Catalogue,
 ) -> Result<bool>
-    requires limit { LIMIT ≤ 1000000 }
+    requires table { table ≡ N.place }
+    requires seat { seat ≡ N.place.table }
+    requires catalogue { catalogue ≡ N.place.catalogue }
 {
+    if is_small {
+        answer_on::<N, R, 2>(rt, script, table, seat, catalogue)
+    } else {
+        answer_on::<N, R, 1_000_000>(rt, script, table, seat, catalogue)
+    }
+}
+
+/// Runs a script by a desk. A small one is full after two operations.
+pub(crate) fn run_desk<R: Wait + Print + AllocGlobal>(
+    rt: &R,
+    script: Script<'_>,
+    is_small: bool,
+) -> Result<bool> {
     let catalogue = read_catalogue(rt.alloc(), script.first.text.as_bytes())?;
     let (table, seat) = SeatTable::new(rt.alloc(), &catalogue)?;
-    answer_at::<Brand, _, LIMIT>(rt, script, table, seat, catalogue)
+    answer_at::<Brand, _>(rt, script, is_small, table, seat, catalogue)
 }

@@ -5,7 +5,8 @@ ghost use Rattle.read_copies.specs.States.{StandsForCounts, StandsForLog};
 
 use crate::desks::show_session;
 use crate::lines::{
-    Answered, Answers, Line, Replied, Script, answer_lines, query_in, tell, tell_answer,
+    Answered, Answers, Line, Made, Replied, Script, Tried, answer_lines, query_in, tell,
+    tell_answer, tell_refused,
 };
 use crate::told;
 use anyhow::{Result, bail};
@@ -144,7 +145,7 @@ impl<N: Site> Answers for Shelf<N> {
 }
 
 /// Returns an empty repository, for one copy.
-fn repositories_of(alloc: Global, catalogue: &Catalogue) -> Result<Vec<Repository<1_000_000>>>
+fn repositories_of(alloc: Global, catalogue: &Catalogue) -> Made<Vec<Repository<1_000_000>>>
     ensures empty { IfOk result (λ states. All (λ s. StandsForLog s catalogue.now []) states.items) }
     ensures one { IfOk result (λ states. vec_len states ≡ 1) }
 {
@@ -154,7 +155,7 @@ fn repositories_of(alloc: Global, catalogue: &Catalogue) -> Result<Vec<Repositor
 }
 
 /// Returns empty counts, for one copy.
-fn counts_of(alloc: Global, catalogue: &Catalogue) -> Result<Vec<StatusCounts>>
+fn counts_of(alloc: Global, catalogue: &Catalogue) -> Made<Vec<StatusCounts>>
     ensures empty { IfOk result (λ states. All (λ s. StandsForCounts s catalogue.now []) states.items) }
     ensures one { IfOk result (λ states. vec_len states ≡ 1) }
 {
@@ -163,39 +164,83 @@ fn counts_of(alloc: Global, catalogue: &Catalogue) -> Result<Vec<StatusCounts>>
     Ok(states)
 }
 
-/// The copies of a desk. To make that of a repository is the call, if the script's first line is
-/// marked. It is `None` if the call is refused memory.
-fn held_of<N: Site, R: Print + AllocGlobal>(
-    rt: &R,
+/// Returns the copy of a repository with a lock. To make it is the call, if the script's first line
+/// is marked.
+fn shared_of<N: Site>(
+    alloc: Global,
     first: Line<'_>,
     desk: &mut Desk<N, 1_000_000>,
     table: &SeatTable,
     catalogue: &Catalogue,
-) -> Result<Option<Held<N>>>
+) -> Made<Copies<Repository<1_000_000>, N>>
+    requires table { table.now ≡ N.place }
+    requires alone { desk.old.hosted ≡ [] }
+    requires catalogue { catalogue.now ≡ N.place.catalogue }
+    ensures desk { desk.new ≡ desk.old }
+    ensures one { IfOk result (λ copies. copies ≡ 1) }
+{
+    let states = repositories_of(alloc, catalogue)?;
+    first.mark(alloc);
+    let made = Copies::new(alloc, states, desk, table);
+    first.mark(alloc);
+    made
+}
+
+/// Returns the copy of the counts.
+fn counted_of<N: Site>(
+    alloc: Global,
+    desk: &mut Desk<N, 1_000_000>,
+    table: &SeatTable,
+    catalogue: &Catalogue,
+) -> Made<Copies<StatusCounts, N>>
+    requires table { table.now ≡ N.place }
+    requires alone { desk.old.hosted ≡ [] }
+    requires catalogue { catalogue.now ≡ N.place.catalogue }
+    ensures desk { desk.new ≡ desk.old }
+    ensures one { IfOk result (λ copies. copies ≡ 1) }
+{
+    let states = counts_of(alloc, catalogue)?;
+    Copies::new(alloc, states, desk, table)
+}
+
+/// Returns the copy alone.
+fn alone_of<N: Site>(
+    alloc: Global,
+    desk: &mut Desk<N, 1_000_000>,
+    table: &SeatTable,
+    catalogue: &Catalogue,
+) -> Made<Copied<Repository<1_000_000>, N>>
     requires table { table.now ≡ N.place }
     requires alone { desk.old.hosted ≡ [] }
     requires catalogue { catalogue.now ≡ N.place.catalogue }
     ensures desk { desk.new ≡ desk.old }
 {
-    let alloc = rt.alloc();
     let state = Repository::new(alloc, catalogue.try_clone()?)?;
-    let counts = Copies::new(alloc, counts_of(alloc, catalogue)?, desk, table)?;
-    let states = repositories_of(alloc, catalogue)?;
-    first.mark(alloc);
-    let made = Copies::new(alloc, states, desk, table);
-    first.mark(alloc);
-    let Ok(repositories) = made else {
-        return Ok(None);
-    };
-    Ok(Some(Held {
-        alone: Copied::new(state, desk, table),
-        repositories,
-        counts,
-    }))
+    Ok(Copied::new(state, desk, table))
+}
+
+/// Makes the copies of a desk.
+fn held_of<N: Site>(
+    alloc: Global,
+    first: Line<'_>,
+    desk: &mut Desk<N, 1_000_000>,
+    table: &SeatTable,
+    catalogue: &Catalogue,
+) -> Made<Held<N>>
+    requires table { table.now ≡ N.place }
+    requires alone { desk.old.hosted ≡ [] }
+    requires catalogue { catalogue.now ≡ N.place.catalogue }
+    ensures desk { desk.new ≡ desk.old }
+{
+    Ok(Held {
+        repositories: shared_of(alloc, first, desk, table, catalogue)?,
+        counts: counted_of(alloc, desk, table, catalogue)?,
+        alone: alone_of(alloc, desk, table, catalogue)?,
+    })
 }
 
 /// Opens the sessions.
-fn readers_of<N: Site>(desk: &mut Desk<N, 1_000_000>, table: &SeatTable) -> Result<Readers<N>>
+fn readers_of<N: Site>(desk: &mut Desk<N, 1_000_000>, table: &SeatTable) -> Tried<Readers<N>>
     requires table { table.now ≡ N.place }
     requires alone { desk.old.hosted ≡ [] }
     ensures alone { desk.new.hosted ≡ [] }
@@ -208,7 +253,31 @@ fn readers_of<N: Site>(desk: &mut Desk<N, 1_000_000>, table: &SeatTable) -> Resu
     })
 }
 
+/// Answers the lines of a script by a desk with these sessions and copies.
 fn answer_with<N: Site, R: Wait + Print + AllocGlobal>(
+    rt: &R,
+    lines: &str,
+    desk: Desk<N, 1_000_000>,
+    table: SeatTable,
+    readers: Readers<N>,
+    held: Held<N>,
+) -> Result<bool>
+    requires table { table ≡ N.place }
+    requires alone { desk.hosted ≡ [] }
+{
+    let mut shelf = Shelf {
+        desk,
+        table,
+        readers,
+        held,
+    };
+    let answered = answer_lines(rt, &mut shelf, lines);
+    drop(shelf);
+    answered?;
+    Ok(true)
+}
+
+fn answer_by<N: Site, R: Wait + Print + AllocGlobal>(
     rt: &R,
     script: Script<'_>,
     desk: Desk<N, 1_000_000>,
@@ -220,21 +289,12 @@ fn answer_with<N: Site, R: Wait + Print + AllocGlobal>(
     requires catalogue { catalogue.now ≡ N.place.catalogue }
 {
     let mut desk = desk;
-    let Some(held) = held_of(rt, script.first, &mut desk, &table, catalogue)? else {
-        println!(rt; "Err(OutOfMemory)")?;
-        return Ok(false);
-    };
-    let readers = readers_of(&mut desk, &table)?;
-    let mut shelf = Shelf {
-        desk,
-        table,
-        readers,
-        held,
-    };
-    let answered = answer_lines(rt, &mut shelf, script.lines);
-    drop(shelf);
-    answered?;
-    Ok(true)
+    let held = held_of(rt.alloc(), script.first, &mut desk, &table, catalogue);
+    let readers = readers_of(&mut desk, &table);
+    match (held, readers) {
+        (Ok(held), Ok(readers)) => answer_with(rt, script.lines, desk, table, readers, held),
+        _ => tell_refused(rt),
+    }
 }
 
 fn answer_at<N: Site, R: Wait + Print + AllocGlobal>(
@@ -249,7 +309,7 @@ fn answer_at<N: Site, R: Wait + Print + AllocGlobal>(
     requires catalogue { catalogue.now ≡ N.place.catalogue }
 {
     let desk = Desk::<N, 1_000_000>::new(rt.alloc(), seat, catalogue.try_clone()?)?;
-    answer_with(rt, script, desk, table, catalogue)
+    answer_by(rt, script, desk, table, catalogue)
 }
 
 /// Runs a script by read copies.

@@ -1,6 +1,6 @@
 //! The lines of a script, the marks around their calls, and the output.
 use anyhow::{Result, bail};
-use batch_ids::{Moment, Refusal};
+use batch_ids::{Moment, OutOfMemory, Refusal};
 use op_log::{Answer, Call, Query, Reply};
 use script_text::{Command, answer_text, read_command, reply_text};
 use std::alloc::Global;
@@ -10,11 +10,17 @@ use std::sync::Wait;
 /// The size of a request that is a mark. No other request has it.
 const MARK: usize = 1_000_003;
 
+/// What was done, if it was not refused.
+pub(crate) type Tried<T> = std::result::Result<T, Refusal>;
+
 /// The result of a call.
-pub(crate) type Replied = std::result::Result<Reply, Refusal>;
+pub(crate) type Replied = Tried<Reply>;
 
 /// The result of a query.
-pub(crate) type Answered = std::result::Result<Answer, Refusal>;
+pub(crate) type Answered = Tried<Answer>;
+
+/// What was made, if there was the memory for it.
+pub(crate) type Made<T> = std::result::Result<T, OutOfMemory>;
 
 /// A line of a script.
 #[derive(Clone, Copy)]
@@ -76,6 +82,12 @@ pub(crate) fn echoed<'a>(rt: &impl Print, text: &'a str) -> Result<Line<'a>> {
 pub(crate) fn tell<T: Debug + Drop>(rt: &impl Print, answer: T) -> Result<()> {
     println!(rt; "{answer:?}")?;
     Ok(())
+}
+
+/// Prints that there was no memory for an object, which is therefore not there.
+pub(crate) fn tell_refused(rt: &impl Print) -> Result<bool> {
+    println!(rt; "Err(OutOfMemory)")?;
+    Ok(false)
 }
 
 /// Prints bytes that are lines.

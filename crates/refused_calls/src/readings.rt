@@ -1,5 +1,5 @@
 //! Calls that read or write texts: catalogues, lines of a script and of a run, replies.
-use crate::lines::{Line, Script, echoed, tell, tell_text};
+use crate::lines::{Line, Script, echoed, tell, tell_refused, tell_text};
 use crate::told;
 use anyhow::{Result, bail};
 use jsl_json::read_catalogue;
@@ -68,6 +68,32 @@ fn tell_next<R: Print + AllocGlobal>(
     }
 }
 
+/// Reads all lines. That of this number is the call.
+fn read_lines<R: Print + AllocGlobal>(
+    rt: &R,
+    first: Line<'_>,
+    number: u64,
+    lines: &mut Lines<Counted<&[u8]>>,
+) -> Result<()> {
+    for at in 1..MOST_LINES {
+        if lines.has_failed() {
+            return Ok(());
+        }
+        let line = if at == number {
+            first
+        } else {
+            first.unmarked()
+        };
+        line.mark(rt.alloc());
+        let next = lines.next_line();
+        line.mark(rt.alloc());
+        if !tell_next(rt, next)? {
+            return Ok(());
+        }
+    }
+    Ok(())
+}
+
 /// Reads the lines of a script. The first line has the number of the one that is the call, from 1
 /// on; 0 is the call that makes the reader. Returns whether there was the memory for it.
 pub(crate) fn run_lines<R: Print + AllocGlobal>(rt: &R, script: Script<'_>) -> Result<bool> {
@@ -81,27 +107,16 @@ pub(crate) fn run_lines<R: Print + AllocGlobal>(rt: &R, script: Script<'_>) -> R
     making.mark(alloc);
     let made = Lines::new(alloc, Counted::new(script.lines.as_bytes()));
     making.mark(alloc);
-    let Ok(mut lines) = made else {
-        println!(rt; "Err(OutOfMemory)")?;
-        return Ok(false);
-    };
-    for at in 1..MOST_LINES {
-        if lines.has_failed() {
-            return Ok(false);
+    match made {
+        Ok(mut lines) => {
+            let read = read_lines(rt, script.first, number, &mut lines);
+            let failed = lines.has_failed();
+            drop(lines);
+            read?;
+            Ok(!failed)
         }
-        let line = if at == number {
-            script.first
-        } else {
-            script.first.unmarked()
-        };
-        line.mark(alloc);
-        let next = lines.next_line();
-        line.mark(alloc);
-        if !tell_next(rt, next)? {
-            break;
-        }
+        Err(_) => tell_refused(rt),
     }
-    Ok(!lines.has_failed())
 }
 
 /// Runs a script. The capacity for its replies is requested before the mark.
