@@ -177,7 +177,7 @@ SHOWN = {
     "world": ("show",),
     "desk": SEEN,
     "full_desk": SEEN,
-    "operator": (*SEEN, f"copies {COUNT}"),
+    "operator": (*SEEN, COUNT, f"copies {COUNT}"),
     "copies": ("show", f"alone {COUNT}", f"shared {COUNT}", "counts"),
 }
 
