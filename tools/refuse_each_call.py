@@ -321,7 +321,7 @@ def wrote_a_beginning(refusal: Refusal) -> None:
     found, wanted = refusal.run.lines(), refusal.whole.lines()
     rest = found[len(found) - len(wanted) :]
     head = found[: len(found) - len(wanted)]
-    if rest != wanted or head[0] not in ENDS[refusal.case.kind] or head[1:] != wanted[1 : len(head)]:
+    if rest != wanted or not head or head[0] not in ENDS[refusal.case.kind] or head[1:] != wanted[1 : len(head)]:
         raise refusal.fail(f"{head} is not the replies to the lines before, or it runs otherwise then")
 
 

@@ -34,6 +34,7 @@ ended
 KEEPS = 'refused "$before"; acted ""'
 DROPS_A_WALK = "refused '{ cursors: {}, count: 3 }'; acted ''"
 DOES_WITHOUT = "acted '! '; LD_PRELOAD= grep -q '^act$' \"$1\" && acted ''"
+ASKS_FOR_MORE = f"printf '\\3\\0\\0\\0\\0\\0\\0\\0' >\"$REFUSE_COUNT\"; {DOES_WITHOUT}"
 
 # What a wrong body does, and what is said of it.
 WRONG = {
@@ -67,6 +68,7 @@ class RefusedCalls(unittest.TestCase):
 
     def test_a_request_is_done_without_where_it_may_be(self) -> None:
         self.assertEqual(self.requests_of(DOES_WITHOUT, "desk"), 2)
+        self.assertEqual(self.requests_of(ASKS_FOR_MORE), 2)
         with self.assertRaisesRegex(Wrong, "gave up nothing"):
             self.requests_of(DOES_WITHOUT)
         with self.assertRaisesRegex(Wrong, "doesn't say that it was refused"):
