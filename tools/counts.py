@@ -22,12 +22,7 @@ COUNTED = ["public functions", "must-fail edits", "tests"]
 
 
 def lines_of(folder: Path, ending: str) -> int:
-    return sum(
-        1
-        for path in sorted(folder.rglob(f"*{ending}"))
-        for line in path.read_text().splitlines()
-        if line.strip()
-    )
+    return sum(1 for path in sorted(folder.rglob(f"*{ending}")) for line in path.read_text().splitlines() if line.strip())
 
 
 def count_of(folder: Path, pattern: str) -> int:

@@ -51,6 +51,8 @@ class Host:
     def __init__(self, program: Path, log: Path) -> None:
         self.log = log
         self.running = subprocess.Popen([program, "script"], stdin=subprocess.PIPE, stdout=subprocess.PIPE)
+        assert self.running.stdin and self.running.stdout
+        self.to_program, self.from_program = self.running.stdin, self.running.stdout
         self.replies = b"".join(self.hand_on(line, number > 0) for number, line in enumerate(self.whole_lines()))
 
     def whole_lines(self) -> list[bytes]:
@@ -69,9 +71,9 @@ class Host:
             os.fsync(log.fileno())
 
     def hand_on(self, line: bytes, has_reply: bool = True) -> bytes:
-        self.running.stdin.write(line)
-        self.running.stdin.flush()
-        return self.running.stdout.readline() if has_reply else b""
+        self.to_program.write(line)
+        self.to_program.flush()
+        return self.from_program.readline() if has_reply else b""
 
     def call(self, line: bytes, has_reply: bool = True) -> None:
         self.keep(line)
@@ -81,8 +83,8 @@ class Host:
         """Ends the program as a failing machine would: it is given no time to write anything."""
         self.running.kill()
         self.running.wait()
-        self.running.stdin.close()
-        self.running.stdout.close()
+        self.to_program.close()
+        self.from_program.close()
 
 
 def run_night(program: Path, log: Path, lines: list[bytes], begun: int = 0) -> bytes:

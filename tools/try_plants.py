@@ -39,6 +39,7 @@ import tomllib
 from dataclasses import dataclass
 from functools import cache
 from pathlib import Path
+from typing import Any
 
 from repository import ROOT, copy_of
 
@@ -111,13 +112,19 @@ def end_of_function(text: str, begun: re.Match[str]) -> int:
     return len(text)
 
 
+def plant_of(entry: dict[str, Any]) -> Plant:
+    """The plant of an entry, whose further pairs are lists."""
+    pairs = tuple((old, new) for old, new in entry.get("more", []))
+    return Plant(entry["name"], entry["file"], entry["old"], entry["new"], pairs, entry.get("reason", ""))
+
+
 def plants_of(crate: str) -> list[Plant]:
     with (ROOT / "plants" / f"{crate}.toml").open("rb") as file:
         entries = tomllib.load(file)["plant"]
     names = [entry["name"] for entry in entries]
     if twice := sorted({name for name in names if names.count(name) > 1}):
         sys.exit(f"plants/{crate}.toml: two plants have the name {' or '.join(twice)}, and a name has one verdict")
-    return [Plant(**{**entry, "more": tuple(map(tuple, entry.get("more", [])))}) for entry in entries]
+    return [plant_of(entry) for entry in entries]
 
 
 def group_of(plants: list[Plant], sources: dict[str, str]) -> list[Plant]:
@@ -249,7 +256,10 @@ def crates_with_plants() -> list[str]:
 
 def kept_verdicts() -> dict[str, Kept]:
     """What is kept of each crate."""
-    return json.loads(VERDICTS.read_text()) if VERDICTS.exists() else {}
+    if not VERDICTS.exists():
+        return {}
+    verdicts: dict[str, Kept] = json.loads(VERDICTS.read_text())
+    return verdicts
 
 
 def verdict_kept(kept: Kept, plant: Plant, code: str) -> str:

@@ -94,9 +94,7 @@ def listed() -> Counter[Place]:
 
 
 def main() -> int:
-    found = Counter(
-        Place(str(file.relative_to(ROOT)), text) for file in sources() for text in places_in(file.read_text())
-    )
+    found = Counter(Place(str(file.relative_to(ROOT)), text) for file in sources() for text in places_in(file.read_text()))
     known = listed()
     for place in found - known:
         print(f"{place.file}: answers want of memory of its own accord: {place.text}", file=sys.stderr)

@@ -1,5 +1,5 @@
 //! Read copies of a desk: alone, and with their locks.
-ghost use Rattle.std.specs.Prelude.{◌≡◌, ◌<◌, [], IfOk, vec_len};
+ghost use Rattle.std.specs.Prelude.{◌≡◌, ◌<◌, ◌∷◌, [], IfOk, vec_len};
 ghost use Rattle.std.specs.List.{All};
 ghost use Rattle.read_copies.specs.States.{StandsForCounts, StandsForLog};
 
@@ -144,14 +144,22 @@ impl<N: Site> Answers for Shelf<N> {
     }
 }
 
+/// Returns a list of one state.
+fn one_of<S: Drop>(alloc: Global, state: S) -> Made<Vec<S>>
+    ensures { IfOk result (λ states. states.items ≡ state ∷ []) }
+{
+    let mut states = Vec::new(alloc);
+    states.push(state)?;
+    Ok(states)
+}
+
 /// Returns an empty repository, for one copy.
 fn repositories_of(alloc: Global, catalogue: &Catalogue) -> Made<Vec<Repository<1_000_000>>>
     ensures empty { IfOk result (λ states. All (λ s. StandsForLog s catalogue.now []) states.items) }
     ensures one { IfOk result (λ states. vec_len states ≡ 1) }
 {
-    let mut states = Vec::new(alloc);
-    states.push(Repository::new(alloc, catalogue.try_clone()?)?)?;
-    Ok(states)
+    let state = Repository::new(alloc, catalogue.try_clone()?)?;
+    one_of(alloc, state)
 }
 
 /// Returns empty counts, for one copy.
@@ -159,9 +167,8 @@ fn counts_of(alloc: Global, catalogue: &Catalogue) -> Made<Vec<StatusCounts>>
     ensures empty { IfOk result (λ states. All (λ s. StandsForCounts s catalogue.now []) states.items) }
     ensures one { IfOk result (λ states. vec_len states ≡ 1) }
 {
-    let mut states = Vec::new(alloc);
-    states.push(StatusCounts::new(alloc, catalogue.try_clone()?)?)?;
-    Ok(states)
+    let state = StatusCounts::new(alloc, catalogue.try_clone()?)?;
+    one_of(alloc, state)
 }
 
 /// Returns the copy of a repository with a lock. To make it is the call, if the script's first line
