@@ -9,7 +9,7 @@ import tempfile
 import unittest
 from pathlib import Path
 
-from try_plants import Plant, code_at, still_said, verdict_kept, wanted_of
+from try_plants import Plant, code_at, plant_of, still_said, verdict_kept, wanted_of
 
 SOURCE = """
 const FIRST: usize = 1;
@@ -68,6 +68,18 @@ class Functions(unittest.TestCase):
 
     def test_a_function_in_a_function_ends_before_it(self) -> None:
         self.assertEqual(place_of("count < 3"), ("", "is_low"))
+
+
+class Entries(unittest.TestCase):
+    entry = {"name": "name", "file": "src/lib.rt", "old": "1", "new": "2", "reason": "why"}
+
+    def test_further_pairs_are_taken_in_their_order(self) -> None:
+        plant = plant_of({**self.entry, "more": [["3", "4"], ["5", "6"]]})
+        self.assertEqual(plant, Plant("name", "src/lib.rt", "1", "2", (("3", "4"), ("5", "6")), "why"))
+
+    def test_a_misspelled_member_is_an_error(self) -> None:
+        with self.assertRaises(TypeError):
+            plant_of({**self.entry, "reasons": "why"})
 
 
 class Verdicts(unittest.TestCase):

@@ -113,9 +113,10 @@ def end_of_function(text: str, begun: re.Match[str]) -> int:
 
 
 def plant_of(entry: dict[str, Any]) -> Plant:
-    """The plant of an entry, whose further pairs are lists."""
+    """The plant of an entry, whose further pairs are lists. A member that a plant does not have is an error."""
     pairs = tuple((old, new) for old, new in entry.get("more", []))
-    return Plant(entry["name"], entry["file"], entry["old"], entry["new"], pairs, entry.get("reason", ""))
+    members: dict[str, Any] = {**entry, "more": pairs}
+    return Plant(**members)
 
 
 def plants_of(crate: str) -> list[Plant]:
