@@ -8,6 +8,7 @@ use Rattle.std.specs.Set.{remove_key}
 use Rattle.std.proofs.lemmas.Bool.{eqb-true, eq-eqb, ne_eqb}
 use Rattle.std.proofs.lemmas.Bool.Decides.{nat_tests}
 use Rattle.batch_history.specs.Lists.{change_first}
+use Rattle.agendas.proofs.Numbers.{cmp-same, remove-same}
 use Rattle.records.specs.Maps.{AreAbove, AreBelow, AreRising}
 use Rattle.records.proofs.Sets.{put_last}
 use Rattle.seq_repository.specs.Agendas.{put_number}
@@ -17,9 +18,6 @@ cmp-less x y lt = grind arith
 
 cmp-more : (x y : ℕ) → y < x → nat_cmp x y ≡ Greater
 cmp-more x y lt = grind arith
-
-cmp-same : (x : ℕ) → nat_cmp x x ≡ Equal
-cmp-same x = grind arith
 
 -- A number in an ordered set
 
@@ -36,9 +34,6 @@ remove-none x (k ∷ ks) h =
     ap (λ o. cond (is_eq o) ks (k ∷ remove_key (λ y. is_eq (nat_cmp x y)) ks)) (cmp-less x k h.0)
     ∙ ap (λ (l : List ℕ). k ∷ l) (remove-none x ks h.1)
 
-remove-same : (x : ℕ) (ks : List ℕ) → remove_key (λ y. is_eq (nat_cmp x y)) (x ∷ ks) ≡ ks
-remove-same x ks = ap (λ o. cond (is_eq o) ks (x ∷ remove_key (λ y. is_eq (nat_cmp x y)) ks)) (cmp-same x)
-
 -- a number that is put stands, or is gone, where those behind it are above it
 put-here : (b here : Bool) (x : ℕ) (ks : List ℕ) → AreAbove x ks → put_number b x (cond here (x ∷ ks) ks) ≡ cond b (x ∷ ks) ks
 put-here true true x ks h = insert-same x ks
@@ -50,20 +45,6 @@ put-here false false x ks h = remove-none x ks h
 put-behind : (b : Bool) (n x : ℕ) (ks : List ℕ) → n < x → put_number b x (n ∷ ks) ≡ n ∷ put_number b x ks
 put-behind true n x ks lt = ap (λ o. match_ordering o (x ∷ n ∷ ks) (n ∷ ks) (n ∷ insert_key nat_cmp ks x)) (cmp-more x n lt)
 put-behind false n x ks lt = ap (λ o. cond (is_eq o) ks (n ∷ remove_key (λ y. is_eq (nat_cmp x y)) ks)) (cmp-more x n lt)
-
--- a number that was put is taken back
-pub taken_back : (x : ℕ) (ks : List ℕ) → list_any (λ y. is_eq (nat_cmp x y)) ks ≡ false → remove_key (λ y. is_eq (nat_cmp x y)) (insert_key nat_cmp ks x) ≡ ks
-taken_back x [] absent = remove-same x []
-taken_back x (k ∷ ks) absent =
-    (elim (nat_cmp x k) as (λ o. nat_cmp x k ≡ o → list_any (λ y. is_eq (nat_cmp x y)) (k ∷ ks) ≡ false
-    → remove_key (λ y. is_eq (nat_cmp x y)) (match_ordering o (x ∷ k ∷ ks) (k ∷ ks) (k ∷ insert_key nat_cmp ks x)) ≡ k ∷ ks) [
-      | Less ↦ λ e none. remove-same x (k ∷ ks)
-      | Equal ↦ λ e none. cc
-      | Greater ↦ λ e none.
-          let behind : list_any (λ y. is_eq (nat_cmp x y)) ks ≡ false = sym (rw e refl) ∙ none in
-          ap (λ o. cond (is_eq o) (insert_key nat_cmp ks x) (k ∷ remove_key (λ y. is_eq (nat_cmp x y)) (insert_key nat_cmp ks x))) e
-          ∙ ap (λ (l : List ℕ). k ∷ l) (taken_back x ks behind)
-    ]) refl absent
 
 -- a list of no length is empty
 pub empty_list : (ks : List ℕ) → (0 < length ks → ⊥) → ks ≡ []

@@ -1,0 +1,421 @@
+"""The workloads: inputs for `batchctl`, each made from a seed.
+
+    python3 bench/workloads.py NAME SEED SIZE    writes the input of a workload to standard output
+
+SIZE is the number of lines, or for `pool` the number of job executions. Equal seeds give equal inputs.
+
+- `nights`: jobs of five steps, eight at a time, with checkpoints, failures, restarts and some queries.
+- `consoles`: the same, but seven lines in ten are queries.
+- `backlog`: a fifth of the lines are starts, all before the first claim; reports come in any order.
+- `deep`: jobs of about a thousand elements: long lists, flows in flows, wide splits, splits in splits.
+- `pool`: a run of chunks, partitions and splits by two workers with built-in artifacts.
+"""
+
+from __future__ import annotations
+
+import json
+import sys
+from collections.abc import Callable
+from dataclasses import dataclass
+from pathlib import Path
+
+# The number of sessions of a script, which take turns.
+SESSIONS = 16
+# What a reported checkpoint's group of items came to.
+METRICS = '{"READ_COUNT":100,"WRITE_COUNT":98,"FILTER_COUNT":2,"COMMIT_COUNT":1}'
+
+Json = dict[str, object]
+
+
+class Dice:
+    """Pseudorandom numbers, equal for equal seeds (splitmix64)."""
+
+    MASK = 2**64 - 1
+
+    def __init__(self, seed: int) -> None:
+        self.state = seed
+
+    def below(self, bound: int) -> int:
+        """A number below `bound`, or 0 if that is 0."""
+        self.state = (self.state + 0x9E3779B97F4A7C15) & self.MASK
+        first = ((self.state ^ (self.state >> 30)) * 0xBF58476D1CE4E5B9) & self.MASK
+        second = ((first ^ (first >> 27)) * 0x94D049BB133111EB) & self.MASK
+        return (second ^ (second >> 31)) % bound if bound else 0
+
+    def percent(self, share: int) -> bool:
+        """True with a probability of `share` percent."""
+        return self.below(100) < share
+
+
+class Script:
+    """A script that grows line by line, and the numbers that its calls return."""
+
+    def __init__(self, catalogue: list[Json]) -> None:
+        self.lines = [json.dumps({"jobs": catalogue}, separators=(",", ":"))]
+        self.at = 1_700_000_000_000
+        self.instances = self.executions = self.works = 0
+
+    def text(self) -> str:
+        return "".join(f"{line}\n" for line in self.lines)
+
+    def call(self, name: str, turn: int, members: str = "") -> None:
+        """Adds a call in the name of one of the sessions."""
+        self.at += 7
+        self.lines.append(f'{{"do":"{name}","by":{1 + turn % SESSIONS},"at":{self.at}{members}}}')
+
+    def start(self, job: str, day: int = 0) -> int:
+        """Starts a job, and gives the number of the job execution."""
+        self.instances += 1
+        self.executions += 1
+        parameters = f',"parameters":{{"day":"{day}","region":"eu"}}' if day else ""
+        self.call("start", self.executions, f',"job":"{job}"{parameters}')
+        return self.executions
+
+    def restart(self, execution: int) -> int:
+        """Restarts a job execution, and gives the number of the new one."""
+        self.executions += 1
+        self.call("restart", self.executions, f',"execution":{execution}')
+        return self.executions
+
+    def claim(self) -> int:
+        """Claims a work item, and gives its number."""
+        self.works += 1
+        self.call("claim", self.works)
+        return self.works
+
+    def checkpoint(self, work: int, row: int) -> None:
+        """Reports a checkpoint at a row."""
+        self.call("checkpoint", work, f',"work":{work},"data":"row {row}","metrics":{METRICS}')
+
+    def finish(self, work: int, outcome: str = "COMPLETED", exit_status: str = "") -> None:
+        """Reports the end of a work item, with its exit status unless that is empty."""
+        shown = f',"exit":"{exit_status}"' if exit_status else ""
+        self.call("finish", work, f',"work":{work},"outcome":"{outcome}"{shown}')
+
+    def ask(self, query: str, members: str = "") -> None:
+        self.lines.append(f'{{"ask":"{query}"{members}}}')
+
+
+def step(id_: str, ref: str, **others: object) -> Json:
+    """A step that runs a batchlet."""
+    return {"kind": "step", "id": id_, **others, "batchlet": {"ref": ref}}
+
+
+# The nightly jobs: how many there are, and how many job executions run at a time.
+JOBS = 20
+WIDTH = 8
+NIGHTLY_STEPS: list[Json] = [
+    step("extract", "extract", next="validate"),
+    step(
+        "validate",
+        "validate",
+        next="load",
+        transitions=[
+            {"kind": "next", "on": "REDO*", "to": "load"},
+            {"kind": "fail", "on": "BAD?", "exit-status": "bad input"},
+        ],
+    ),
+    {
+        "kind": "step",
+        "id": "load",
+        "next": "reconcile",
+        "chunk": {
+            "item-count": 100,
+            "reader": {"ref": "reader"},
+            "processor": {"ref": "processor"},
+            "writer": {"ref": "writer"},
+        },
+    },
+    step("reconcile", "reconcile", next="report"),
+    step("report", "report"),
+]
+
+
+@dataclass
+class Member:
+    """A job execution that is under way, and the number of steps left."""
+
+    execution: int = 0
+    left: int = 0
+    work: int = 0
+    has_failed: bool = False
+
+    def is_under_way(self) -> bool:
+        return self.left > 0 and not self.has_failed
+
+
+class Nights:
+    """Nights of jobs, and the consoles that watch them."""
+
+    def __init__(self, dice: Dice, share: int) -> None:
+        """After each query another one follows with a probability of `share` percent."""
+        self.dice = dice
+        self.share = share
+        self.script = Script([{"id": f"nightly-{job}", "elements": NIGHTLY_STEPS} for job in range(JOBS)])
+        self.members = [Member() for _ in range(WIDTH)]
+
+    def begin(self, member: Member) -> None:
+        """Starts a job, or restarts the job execution that failed before."""
+        if member.has_failed:
+            member.execution = self.script.restart(member.execution)
+            member.has_failed = False
+            return
+        job = self.dice.below(JOBS)
+        day = 20_240_101 + self.dice.below(28) if self.dice.percent(50) else 0
+        member.execution = self.script.start(f"nightly-{job}", day)
+        member.left = len(NIGHTLY_STEPS)
+
+    def ask(self) -> None:
+        """Adds a query. Half of the queries are about a recent job execution."""
+        dice, script = self.dice, self.script
+        recent = 200 if dice.percent(50) else script.executions
+        execution = max(script.executions - dice.below(recent), 1)
+        job = f',"job":"nightly-{dice.below(JOBS)}"'
+        instance = dice.below(script.instances) + 1
+        page = dice.below(1 + script.instances // (10 * JOBS)) * 10
+        about = f',"execution":{execution}'
+        queries = (
+            (35, "job_execution", about),
+            (60, "step_executions", about),
+            (75, "job_executions", f',"instance":{instance}'),
+            (85, "job_instances", f'{job},"start":{page},"count":10'),
+            (93, "status_counts", ""),
+            (95, "running_executions", job),
+            (97, "parameters", about),
+            (98, "job_instance_count", job),
+            (99, "job_instance", about),
+            (100, "job_names", ""),
+        )
+        drawn = dice.below(100)
+        script.ask(*next((query, members) for bound, query, members in queries if drawn < bound))
+
+    def ask_some(self) -> None:
+        for _ in range(50):
+            if not self.dice.percent(self.share):
+                return
+            self.ask()
+
+    def report(self, member: Member) -> None:
+        """Reports the end of a work item. Before that, a chunk gets up to nine checkpoints."""
+        if member.left == 3:
+            for row in range(self.dice.below(10)):
+                self.script.checkpoint(member.work, 100 * row)
+        if self.dice.percent(3):
+            member.has_failed = True
+            self.script.finish(member.work, "FAILED")
+            return
+        exit_status = "REDO1" if member.left == 4 and self.dice.percent(10) else ""
+        member.left -= 1
+        self.script.finish(member.work, "COMPLETED", exit_status)
+
+    def round(self) -> None:
+        """Runs one step of each job execution: claims all work items, then reports them from a random one on."""
+        for member in self.members:
+            if member.is_under_way():
+                member.work = self.script.claim()
+        first = self.dice.below(WIDTH)
+        for turn in range(WIDTH):
+            member = self.members[(first + 5 * turn) % WIDTH]
+            if member.is_under_way():
+                self.report(member)
+            self.ask_some()
+
+    def run(self, size: int) -> str:
+        while len(self.script.lines) < size:
+            for member in self.members:
+                self.begin(member)
+            for _ in NIGHTLY_STEPS:
+                self.round()
+        return self.script.text()
+
+
+def nights(dice: Dice, size: int) -> str:
+    """Nights with few queries."""
+    return Nights(dice, 10).run(size)
+
+
+def consoles(dice: Dice, size: int) -> str:
+    """Nights in which seven lines of ten are queries."""
+    return Nights(dice, 87).run(size)
+
+
+# A job of one step and a job of two.
+BACKLOG: list[Json] = [
+    {"id": "job-0", "elements": [step("only", "only")]},
+    {"id": "job-1", "elements": [step("first", "first", next="second"), step("second", "second")]},
+]
+
+
+@dataclass
+class Busy:
+    """A claimed work item, and whether another step follows its step."""
+
+    work: int
+    goes_on: bool
+
+
+def backlog(dice: Dice, size: int) -> str:
+    """Job executions that are all started before the first claim, and then reports in any order."""
+    script = Script(BACKLOG)
+
+    def start() -> bool:
+        job = dice.below(2)
+        script.start(f"job-{job}")
+        return job == 1
+
+    pairs = [start() for _ in range(size // 5)]
+    busy = [Busy(script.claim(), goes_on) for goes_on in pairs]
+    while busy:
+        one = busy[dice.below(len(busy))]
+        if len(script.lines) >= size:
+            break
+        script.finish(one.work)
+        one.goes_on = False if one.goes_on else start()
+        one.work = script.claim()
+    return script.text()
+
+
+def steps(prefix: str, number: int, count: int, then: str = "") -> list[Json]:
+    """A list of steps, whose last one goes on with the element `then`, if that is not empty."""
+    ids = [f"{prefix}{number}-{place}" for place in range(count)]
+    found: list[Json] = []
+    for id_, follows in zip(ids, [*ids[1:], then]):
+        found.append(step(id_, "ok") | ({"next": follows} if follows else {}))
+    return found
+
+
+def flows(first: int, count: int, length: int) -> list[Json]:
+    """Flows of a split, numbered from `first`, each of `length` steps."""
+    numbers = range(first, first + count)
+    return [{"kind": "flow", "id": f"v{number}-0", "elements": steps("y", number, length)} for number in numbers]
+
+
+def nested(level: int) -> list[Json]:
+    """A list in a flow in the middle of a list, down to the sixteenth level."""
+    if level == 15:
+        return steps("c", 0, 60)
+    flow: Json = {"kind": "flow", "id": f"f{level}-0", "next": f"b{level}-0", "elements": nested(level + 1)}
+    return [*steps("a", level, 30, f"f{level}-0"), flow, *steps("b", level, 30)]
+
+
+def wide() -> list[Json]:
+    """A split of 60 flows, and a list after it."""
+    return [{"kind": "split", "id": "w0-0", "next": "x0-0", "flows": flows(0, 60, 15)}, *steps("x", 0, 39)]
+
+
+def grid() -> list[Json]:
+    """A split of 16 flows, each of which has a split of 14 flows."""
+    outer: list[Json] = []
+    for number in range(16):
+        inner: Json = {"kind": "split", "id": f"s{number}-0", "flows": flows(14 * number, 14, 3)}
+        elements = [*steps("h", number, 1, f"s{number}-0"), inner]
+        outer.append({"kind": "flow", "id": f"g{number}-0", "elements": elements})
+    return [{"kind": "split", "id": "w0-0", "flows": outer}]
+
+
+@dataclass(frozen=True)
+class Stage:
+    """A part of a job: lists that run at a time, each of `steps` steps."""
+
+    tracks: int
+    steps: int
+
+
+# The jobs of about a thousand elements, each with the stages that it runs in order.
+DEEP: list[tuple[list[Json], tuple[Stage, ...]]] = [
+    (steps("l", 0, 1_000), (Stage(1, 1_000),)),
+    (nested(0), (Stage(1, 960),)),
+    (wide(), (Stage(60, 15), Stage(1, 39))),
+    ([{"kind": "split", "id": "w0-0", "flows": flows(0, 249, 3)}], (Stage(249, 3),)),
+    (grid(), (Stage(16, 1), Stage(224, 3))),
+]
+
+
+def run_stage(script: Script, dice: Dice, stage: Stage) -> None:
+    """Runs all lists of a stage to their ends, in an order drawn by chance."""
+    tracks = [[script.claim(), stage.steps] for _ in range(stage.tracks)]
+    while tracks:
+        place = dice.below(len(tracks))
+        track = tracks[place]
+        script.finish(track[0])
+        track[1] -= 1
+        if track[1] > 0:
+            track[0] = script.claim()
+        else:
+            tracks[place] = tracks[-1]
+            tracks.pop()
+
+
+def deep(dice: Dice, size: int) -> str:
+    """Jobs of about a thousand elements, one after another."""
+    script = Script([{"id": f"deep-{number}", "elements": elements} for number, (elements, _) in enumerate(DEEP)])
+    number = dice.below(len(DEEP))
+    while len(script.lines) < size:
+        script.start(f"deep-{number}")
+        for stage in DEEP[number][1]:
+            run_stage(script, dice, stage)
+        number = (number + 1) % len(DEEP)
+    return script.text()
+
+
+def chunk(id_: str, items: int, item_count: int, **others: object) -> Json:
+    """A step that counts items and drops them."""
+    reader = {"ref": f"count:{items}"}
+    processor = {"processor": {"ref": others.pop("processor")}} if "processor" in others else {}
+    return {
+        "kind": "step",
+        "id": id_,
+        **others,
+        "chunk": {"reader": reader, **processor, "writer": {"ref": "sink"}, "item-count": item_count},
+    }
+
+
+def pool_job(dice: Dice, number: int) -> Json:
+    """A job of a chunk that filters items, a split with a partitioned step, and a last step."""
+    load = chunk("load", 200 + dice.below(50), 10, next="both", processor="odd")
+    left = [chunk("copy", 10 + dice.below(20), 5, partitions=3)]
+    right = [step("check", "ok", next="sign"), step("sign", "ok")]
+    both: Json = {
+        "kind": "split",
+        "id": "both",
+        "next": "end",
+        "flows": [
+            {"kind": "flow", "id": "left", "elements": left},
+            {"kind": "flow", "id": "right", "elements": right},
+        ],
+    }
+    end = step("end", "fail" if dice.percent(20) else "exit:sent")
+    return {"id": f"run-{number}", "elements": [load, both, end]}
+
+
+def pool(dice: Dice, size: int) -> str:
+    """The input of a run: a catalogue of eight jobs, and `size` lines that start them."""
+    catalogue = {"jobs": [pool_job(dice, number) for number in range(8)]}
+    starts = "".join(f'{{"job":"run-{dice.below(8)}"}}\n' for _ in range(size))
+    return json.dumps(catalogue, separators=(",", ":")) + "\n" + starts
+
+
+WORKLOADS: dict[str, Callable[[Dice, int], str]] = {
+    "nights": nights,
+    "consoles": consoles,
+    "backlog": backlog,
+    "deep": deep,
+    "pool": pool,
+}
+
+
+def input_of(name: str, seed: int, size: int) -> bytes:
+    """The input of a workload."""
+    return WORKLOADS[name](Dice(seed), size).encode()
+
+
+def command(checkout: Path, name: str) -> list[str]:
+    """How a checkout's program runs a workload; it has the input as its standard input."""
+    words = ["run", "--workers", "2"] if name == "pool" else ["script"]
+    return [str(checkout / "crates" / "batchctl" / "out" / "batchctl"), *words]
+
+
+if __name__ == "__main__":
+    if len(sys.argv) != 4 or sys.argv[1] not in WORKLOADS:
+        sys.exit(__doc__)
+    sys.stdout.buffer.write(input_of(sys.argv[1], int(sys.argv[2]), int(sys.argv[3])))
