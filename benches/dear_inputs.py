@@ -3,17 +3,17 @@
 
     benches/dear_inputs.py OLD NEW [--turns N] [--only WORD..]
 
-Common work is measured by bench/run. These inputs look for what a change made dearer elsewhere: lines that are refused early or
-late, parameters in any order, ids that are long or have one hash, wide splits, many open job executions, and pools of workers on
-few cores.
+Common work is measured by bench/run. These inputs look for what a change made dearer elsewhere: lines that are refused early
+or late, parameters in any order, ids that are long or have one hash, wide splits, many open job executions, and pools of
+workers on few cores.
 
-OLD and NEW are checkouts with a proved crates/batchctl/out/batchctl. Each input runs by turns in both, five turns if --turns says
-no other number. Both must end with status 0 and write the same: what they write is compared. Printed are the medians of processor
-seconds, of the clock's seconds and of peak memory in MiB, each with NEW over OLD. A row with a ratio above 1.1 is marked, and the
-exit status is 1 then. --only takes the rows whose name begins with one of these words.
+OLD and NEW are checkouts with a proved crates/batchctl/out/batchctl. Each input runs by turns in both, five turns if --turns
+says no other number. Both must end with status 0 and write the same: what they write is compared. Printed are the medians of
+processor seconds, of the clock's seconds and of peak memory in MiB, each with NEW over OLD. A row with a ratio above 1.1 is
+marked, and the exit status is 1 then. --only takes the rows whose name begins with one of these words.
 
-Nothing else should run beside it. Peak memory is counted from that of the process that starts the program, some 22 MiB: what takes
-less shows no difference.
+Nothing else should run beside it. Peak memory is counted from that of the process that starts the program, some 22 MiB: what
+takes less shows no difference.
 """
 
 from __future__ import annotations
@@ -90,7 +90,7 @@ class Script:
 
 
 def no_commands(parts: tuple[str, str, str], longest: int, times: int) -> Lines:
-    """A line that is no command, often: a begin, a part again and again with commas between, an end, in so many bytes at most."""
+    """A line that is no command, often: a begin, a part again and again with commas between, an end, within so many bytes."""
     begin, part, end = parts
     count = (longest - len(begin) - len(end)) // (len(part) + 1)
     line = begin + ",".join([part] * count) + end

@@ -1,5 +1,5 @@
-"""Proves, builds and runs `benches/host`, the complete host of docs/OPERATOR.md. It prints the number, batch status and exit status
-of three job executions.
+"""Proves, builds and runs `benches/host`, the complete host of docs/OPERATOR.md. It prints the number, batch status and exit
+status of three job executions.
 
     python3 benches/host.py
 """

@@ -1,5 +1,5 @@
-"""Runs `benches/operator_soak`: threads start, claim and finish work on one operator, and the history is compared with what they
-were answered. Printed are operations a second with 1, 2, 4 and 8 threads.
+"""Runs `benches/operator_soak`: threads start, claim and finish work on one operator, and the history is compared with what
+they were answered. Printed are operations a second with 1, 2, 4 and 8 threads.
 
     python3 benches/operator_soak.py [OPERATIONS]
     python3 benches/operator_soak.py copies [OPERATIONS]

@@ -33,7 +33,8 @@ MOST_SECONDS = 120
 CATALOGUE = b'{"jobs":[{"id":"a","elements":[{"kind":"step","id":"s","batchlet":{"ref":"ok"}}]}]}'
 NOT_JSON = b'{"fault":"NotJson"}\n'
 BAD_LINE = b'{"refused":"BadLine"}\n'
-TOLD = b'{"execution":%d,"exit":"COMPLETED","status":"COMPLETED","steps":[{"exit":"COMPLETED","metrics":{},"status":"COMPLETED","step":"s"}]}\n'
+STEPS = b'[{"exit":"COMPLETED","metrics":{},"status":"COMPLETED","step":"s"}]'
+TOLD = b'{"execution":%d,"exit":"COMPLETED","status":"COMPLETED","steps":' + STEPS + b"}\n"
 
 
 @dataclass(frozen=True)

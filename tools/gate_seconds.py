@@ -3,13 +3,14 @@
     python3 tools/gate_seconds.py [--log LOG]                        the gate, `.ci/run`, as a whole
     python3 tools/gate_seconds.py --by-crate [--log LOG] [CRATE..]   `rt ci CRATE` of each crate, the lowest first
 
-The figures tell of a first run: `rt ci` keeps on this machine what it has passed, in whichever checkout, and a later run proves
-and tries only what changed. So begin with a machine that has kept nothing of these crates. By crate, a row has the proof of one
-crate, its tests and its must-fail edits: what lies below was kept by the rows before. Beside it stand the tests and programs of
-the crates below, which `rt ci` runs again each time. A row says so if its crate was not proved in this run.
+The figures tell of a first run: with kit 13f `rt ci` keeps on this machine what it has passed, in whichever checkout, and a
+later run proves and tries only what changed. So begin with a machine that has kept nothing of these crates. By crate, a row has
+the proof of one crate, its tests and its must-fail edits: what lies below was kept by the rows before. Beside it stand the
+tests and programs of the crates below, which `rt ci` runs again each time. A row says so if its crate was not proved in this
+run. With kit 13b `rt ci` keeps nothing and takes no crate, so that only the whole can be timed.
 
-Processor time is what the system counts for the command and all that it waited for. What the commands write goes to the file LOG
-(`gate.log` in the system's temporary folder, if none is given). The exit status is the gate's, or that of the first `rt ci`
+Processor time is what the system counts for the command and all that it waited for. What the commands write goes to the file
+LOG (`gate.log` in the system's temporary folder, if none is given). The exit status is the gate's, or that of the first `rt ci`
 that fails, behind which no other crate is timed.
 """
 

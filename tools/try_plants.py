@@ -17,8 +17,8 @@ Where the check names only what the function calls, which may hold another plant
 the plant is tried again by itself, and the whole crate decides. So it is where an answer no longer fits because its goal
 became trivial: a plant against which nothing else is said counts as proved.
 
-The copy has nothing of `out/`. Each crate is checked once with no plant, and has to be proved: that takes as long as a first check of
-the crate and of those below it, or less if checks in other copies on this machine kept them.
+The copy has nothing of `out/`. Each crate is checked once with no plant, and has to be proved: that takes as long as a first
+check of the crate and of those below it, or less if checks in other copies on this machine kept them.
 
 Verdicts are kept in `plants/verdicts.json`, and all of them are printed as a table in the end. Each names what it was tried on,
 by a checksum of the file that the plant is in and of the crate's specs/, without lines that are comments. If any of these was
@@ -95,7 +95,7 @@ class Plant:
 
 
 def function_at(text: str, place: int) -> str:
-    """The name of the innermost function that goes on at this place of a file that `rt fmt` has laid out; none behind its end."""
+    """The name of the innermost function that goes on at this place of a file in `rt fmt`'s layout; none behind its end."""
     begun = [found for found in FUNCTION.finditer(text) if found.start() < place]
     return next((found[2] for found in reversed(begun) if place <= end_of_function(text, found)), "")
 
@@ -228,7 +228,7 @@ def prove(crate: Path) -> None:
 
 
 def try_plants(crate: Path, plants: list[Plant]) -> None:
-    """Tries plants in a copy of their crate, and keeps the verdicts group by group, so that a run that is cut off has those so far."""
+    """Tries plants in a copy of their crate. Verdicts are kept group by group, so a run that is cut off has those so far."""
     prove(crate)
     sources = {plant.file: (crate / plant.file).read_text() for plant in plants}
     stale = [plant.name for plant in plants if plant.put(sources[plant.file]) is None]
@@ -244,7 +244,7 @@ def try_plants(crate: Path, plants: list[Plant]) -> None:
 
 @cache
 def code_at(crate: Path, file: str) -> str:
-    """What tells the code that a plant of this file is tried on from any other: the file and the crate's definitions, without comments."""
+    """What tells the code that a plant of this file is tried on: the file and the crate's definitions, without comments."""
     digest = hashlib.sha256()
     for path in [crate / file, *sorted((crate / "specs").rglob("*.antt"))]:
         digest.update(path.relative_to(crate).as_posix().encode() + b"\0" + COMMENT.sub(b"", path.read_bytes()) + b"\0")
@@ -296,7 +296,7 @@ def keep(name: str, found: dict[str, str]) -> None:
 
 
 def wanted_of(said: dict[Plant, str], only_new: bool, names: list[str]) -> list[Plant]:
-    """The plants to try: those of these names, or of any if there are none; of these the ones without a verdict, if only they are."""
+    """The plants to try: those of these names, or of any if there are none; only those without a verdict, if that is asked."""
     named = [plant for plant in said if not names or plant.name in names]
     return [plant for plant in named if not only_new or said[plant] in ("old", "not tried", "stale")]
 
