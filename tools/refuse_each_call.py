@@ -5,16 +5,18 @@
 Each case (tools/single_calls.py) is one call, in a state made for it. WORD.. runs those cases alone whose names begin so. The
 program `refused_calls` runs the script of a case, and marks where the call begins and ends. A small library,
 refuse_a_request.c, is loaded ahead of it. Each case runs twice with no refusal, and must write the same and make as many
-requests both times. Then each request of the call is refused, one in each run. The call must answer that it was refused memory,
-and then:
+requests both times. It must not answer then that it was refused memory, and some cases must write what
+refused_calls/expected.txt says. Then each request of the call is refused, one in each run. The call must answer that it was
+refused memory, and then:
 
 - What can be read of its object is as it was before the call, but that a walk which was kept may be dropped, and that the
   session of a refused call may have been shown the operations before it.
 - The call is made again, with memory. Its answer, what can be read then, and all later answers are those of the whole run.
 
-`EXCEPTIONS` lists the calls of which more is allowed, each with its reason. `SWALLOWED` lists the requests that a call may do
-without. Says what differed if that is not so, and ends with status 1. Needs a C compiler, `cc`. All processors run the program
-side by side.
+`EXCEPTIONS` lists the calls of which more is allowed, each with its reason. `SWALLOWED` lists the calls that may do without a
+request: then the object shows what it gave up, or the call asks for more instead. A desk and an operator show less, and must
+ask for just what a book asks for, and do without the same. Says what differed if that is not so, and ends with status 1. Needs
+a C compiler, `cc`. All processors run the program side by side.
 """
 
 from __future__ import annotations
@@ -26,13 +28,13 @@ import shutil
 import subprocess
 import sys
 import tempfile
-from collections.abc import Callable, Iterable
+from collections.abc import Callable, Iterable, Iterator
 from concurrent.futures import ThreadPoolExecutor
-from dataclasses import dataclass, field
+from dataclasses import dataclass
 from pathlib import Path
 from threading import get_ident
 
-from single_calls import ROOT, Case, cases
+from single_calls import ROOT, Case, cases, expected
 
 PROGRAM = ROOT / "crates" / "refused_calls" / "out" / "refused_calls"
 LIBRARY = ROOT / "tools" / "refuse_a_request.c"
@@ -51,6 +53,10 @@ NOT_ECHOED = ("walk", "swap")
 
 # What a call answers that was refused memory.
 REFUSED = ('{"refused":"OutOfMemory"}', "Err(OutOfMemory)", "Err(Write)", "OutOfMemory, to standard error true")
+
+
+# The lines of some cases, with what is written for them, worked out by hand.
+EXPECTED = expected()
 
 
 class Wrong(Exception):
@@ -118,6 +124,13 @@ class Program:
             raise Wrong(f"{case.name}, with all memory: status {whole.status}, {whole.faults!r}")
         if again != whole:
             raise Wrong(f"{case.name}, with all memory: {whole.requests} requests, then {again.requests}, or other lines")
+        if refused := [line for line in whole.lines() if line in REFUSED]:
+            raise Wrong(f"{case.name}, with all memory: {refused[0]}")
+        if wanted := EXPECTED.get(case.name):
+            lines = {line for line, _ in wanted}
+            found = [(part.line, part.said) for part in whole.parts if part.line in lines]
+            if found != wanted:
+                raise Wrong(f"{case.name}, with all memory: {found}, in place of {wanted}")
         return whole
 
 
@@ -169,12 +182,17 @@ def without_walks(line: str) -> tuple[str, list[list[str]]]:
 SESSION = re.compile(r"(session \d+), seen (\d+)(, shown \d+, own \d+)")
 
 
-def is_as_before(now: str, before: str) -> bool:
-    """Whether a line tells the same as another one. Walks which were kept may be dropped, and a session may have seen more."""
-    if (found := SESSION.fullmatch(now)) and (other := SESSION.fullmatch(before)):
-        return found[1] == other[1] and found[3] == other[3] and int(found[2]) >= int(other[2])
+def tells_the_same(now: str, before: str) -> bool:
+    """Whether a line tells the same as another one, but that walks which were kept may be dropped."""
     (left, kept), (right, held) = without_walks(now), without_walks(before)
     return left == right and all(set(some).issubset(others) for some, others in zip(kept, held, strict=True))
+
+
+def is_as_before(now: str, before: str) -> bool:
+    """Whether a line tells the same as another one, but that walks may be dropped, and a session may have seen more."""
+    if (found := SESSION.fullmatch(now)) and (other := SESSION.fullmatch(before)):
+        return found[1] == other[1] and found[3] == other[3] and int(found[2]) >= int(other[2])
+    return tells_the_same(now, before)
 
 
 def see_what_there_is(lines: list[str]) -> bool:
@@ -316,6 +334,14 @@ def has_a_step(refusal: Refusal) -> None:
 ENDS = {"run_script": ("Err(OutOfMemory)",), "answer_script": ("Err(OutOfMemory)", "Err(Write)")}
 
 
+def replies_before(refusal: Refusal) -> list[str] | None:
+    """The replies that a script has written whose request was refused; none if it did without it, or couldn't write them."""
+    head = refusal.run.lines()[: -len(refusal.whole.lines())]
+    if not head or head[0] == "Err(Write)":
+        return None
+    return head[2 if refusal.case.kind == "program" else 1 :]
+
+
 def wrote_a_beginning(refusal: Refusal) -> None:
     """A script answers that memory was refused, after the replies to some lines; then it runs anew."""
     found, wanted = refusal.run.lines(), refusal.whole.lines()
@@ -323,6 +349,19 @@ def wrote_a_beginning(refusal: Refusal) -> None:
     head = found[: len(found) - len(wanted)]
     if rest != wanted or not head or head[0] not in ENDS[refusal.case.kind] or head[1:] != wanted[1 : len(head)]:
         raise refusal.fail(f"{head} is not the replies to the lines before, or it runs otherwise then")
+
+
+def have_all_replies_before(refusals: list[Refusal]) -> None:
+    """No request leaves fewer replies than an earlier one, and some request leaves each number of them."""
+    most, seen = 0, set()
+    for refusal in refusals:
+        if (replies := replies_before(refusal)) is not None:
+            if len(replies) < most:
+                raise refusal.fail(f"{len(replies)} replies, and {most} at an earlier request")
+            most = len(replies)
+            seen.add(most)
+    if missed := set(range(len(refusals[0].whole.lines()) - 1)) - seen:
+        raise refusals[-1].fail(f"no request was refused behind {sorted(missed)} replies")
 
 
 def read_a_beginning(refusal: Refusal) -> None:
@@ -391,19 +430,35 @@ def failed_finish(rolled_back: int) -> str:
 
 
 def reported_a_beginning(refusal: Refusal) -> None:
+    """Some groups were reported and no more, and nothing was lost."""
+    head, losses, *found = refusal.answer().said
+    wanted = reports_in(refusal.whole.parts[1].said)
+    if (head, losses) != ("Err(OutOfMemory)", "0 losses") or len(found) >= len(wanted) or found != wanted[: len(found)]:
+        raise refusal.fail(f"it went on to {refusal.answer().said}")
+    if refusal.run.parts[2:] != refusal.whole.parts[1:]:
+        raise refusal.fail(f"it runs otherwise then: {refusal.run.parts[2:]}")
+
+
+def reported_a_beginning_or_failed(refusal: Refusal) -> None:
     """Some groups were reported and no more, or the work item is FAILED since an artifact was refused memory."""
+    if refusal.is_refused():
+        return reported_a_beginning(refusal)
     said, whole = refusal.answer().said, refusal.whole.parts[1].said
     found, wanted = reports_in(said), reports_in(whole)
     if refusal.run.parts[2:] != refusal.whole.parts[1:]:
         raise refusal.fail(f"it runs otherwise then: {refusal.run.parts[2:]}")
-    if refusal.is_refused():
-        if found != wanted[: len(found)]:
-            raise refusal.fail(f"reported were {found}")
-        return
     groups = len(found) - 1
     ends = {failed_finish(0), failed_finish(1)} if groups == 0 else {failed_finish(1)}
     if said[:2] != ("Ok(Failed)", "0 losses") or found[:-1] != wanted[:groups] or found[-1] not in ends:
         raise refusal.fail(f"it went on to {said}")
+
+
+def were_refused_in_each_group(refusals: list[Refusal]) -> None:
+    """Ahead of each group's report some request was refused to the worker itself, which said so."""
+    seen = {len(reports_in(refusal.answer().said)) for refusal in refusals if refusal.is_refused()}
+    groups = [report for report in reports_in(refusals[0].whole.parts[1].said) if report.startswith("Checkpoint")]
+    if missed := set(range(len(groups))) - seen:
+        raise refusals[-1].fail(f"the worker was refused no request behind {sorted(missed)} reports")
 
 
 def gave_up_its_work(refusal: Refusal) -> None:
@@ -445,7 +500,9 @@ EXCEPTIONS: list[tuple[str, Callable[[Refusal], None]]] = [
     (r"rows\.add_\w+", is_added_again),
     (r"rows\.set_checkpoint.*", is_stored_again),
     (r"workers\.kit\.add.*", is_added_to_the_kit_again),
-    # Each report of a work item is an operation of its own; an artifact that is refused memory faults.
+    # Each report of a work item is an operation of its own. A built-in artifact that is refused memory faults; those of the
+    # others take none.
+    (r"workers\.run_\w+\.chunk", reported_a_beginning_or_failed),
     (r"workers\.run_\w+\.\w+", reported_a_beginning),
     (r"workers\.worker\..*", gave_up_its_work),
     (r"pool", left_to_the_next_pool),
@@ -457,111 +514,179 @@ OF_ONE_CALL = (
     *(is_added_to_the_kit_again, left_to_the_next_pool),
 )
 
+# What must be so of all requests of a call together, by the rule of each.
+OF_ALL_REQUESTS: dict[Callable[[Refusal], None], Callable[[list[Refusal]], None]] = {
+    wrote_a_beginning: have_all_replies_before,
+    ended_rightly: have_all_replies_before,
+    reported_a_beginning: were_refused_in_each_group,
+    reported_a_beginning_or_failed: were_refused_in_each_group,
+}
+
+# Rules that see for themselves what a call answered.
+OF_ANY_ANSWER = (reported_a_beginning, reported_a_beginning_or_failed, ended_rightly)
+
+# Calls that collect a list: it asks for room for all at once, or else grows as it is filled. So do ranks in the search for a
+# job's loops, and what clap says of an unknown command.
+COLLECTS = r"jobs\.\w+|readings\.read_catalogue\.\d+|arguments\.walk"
+
 # Calls that do without some requests, with the reason.
 SWALLOWED = [
     # A repository gives up its lists of unfinished job executions, and goes over all rows from then on; or it doesn't keep a
     # walk, and walks anew the next time.
-    r"(full_)?(book|repository|desk)\.\w+\.\d+|(operator|world|copies|preview)\.\w+\.\d+",
+    r"(full_)?(book|repository|desk|preview)\.\w+\.\d+|(operator|world|copies)\.\w+\.\d+",
     r"events\.\w+|rows\.add_(instance|execution)",
     # A script, a program and a pool have a repository.
     r"run_script|answer_script|program|pool",
-    # A list that is collected asks for room for all at once, or else grows as it is filled: ranks in the search for a job's
-    # loops, and what clap says of an unknown command.
-    r"jobs\.\w+|readings\.read_catalogue\.\d+|arguments\.walk",
+    COLLECTS,
 ]
 
+# Cases that show all of their object, so that what it gave up can be seen.
+SHOWS_ALL = r"(full_)?(book|repository|preview)\.|world\.|rows\."
 
-def without_lists(line: str) -> str:
-    """A line in which no repository has lists of unfinished job executions."""
-    head = "running: Some(RunningLists "
-    while (place := line.find(head)) >= 0:
-        end = end_of(line, place + len(head))
-        line = line[:place] + "running: None" + line[end + 1 :]
+# A publish of several operations may give a walk up behind one, and ask for it once more behind a later one.
+GIVES_UP_FOR_A_WHILE = r"world\.at_once\.6"
+
+
+# How a repository prints that it has no lists of unfinished job executions.
+NO_LISTS = "running: None"
+
+
+def places_of_lists(line: str) -> list[tuple[int, int]]:
+    """Where a line tells of a repository's lists of unfinished job executions, or that it has none."""
+    heads = re.finditer(NO_LISTS + r"|running: Some\(RunningLists (?=\{)", line)
+    return [(head.start(), head.end() if head[0] == NO_LISTS else end_of(line, head.end()) + 1) for head in heads]
+
+
+def without_lists(line: str, other: str) -> str:
+    """A line in which those repositories have no lists that have none in the other one."""
+    places, others = places_of_lists(line), places_of_lists(other)
+    if len(places) == len(others):
+        for (start, end), (first, last) in reversed(list(zip(places, others))):
+            if other[first:last] == NO_LISTS:
+                line = line[:start] + NO_LISTS + line[end:]
     return line
 
 
 def goes_on_without(refusal: Refusal) -> None:
     """The call does without a request: its answer and all later ones are as in the whole run."""
-    if not any(re.fullmatch(pattern, refusal.case.name) for pattern in SWALLOWED):
+    name = refusal.case.name
+    if not any(re.fullmatch(pattern, name) for pattern in SWALLOWED):
         raise refusal.fail(f"the call doesn't say that it was refused memory: {refusal.answer()}")
     run, wanted = refusal.once(), refusal.whole.lines()
     found = run.lines()
-    # What a book, a repository or a world gave up can be read, or it made more requests in its place.
-    gave_up = found != wanted or run.requests > refusal.whole.requests
-    if re.match(r"(full_)?(book|repository)|world|rows", refusal.case.name) and not gave_up:
-        raise refusal.fail("the call doesn't say that it was refused memory, and gave up nothing")
-    if not are_as_before(map(without_lists, found), map(without_lists, wanted)):
+    if len(found) != len(wanted) or not all(tells_the_same(now, without_lists(line, now)) for now, line in zip(found, wanted)):
         raise refusal.fail("the call goes on without a request, and otherwise")
+    asks_for_more = run.requests > refusal.whole.requests
+    if re.match(SHOWS_ALL, name) and found == wanted and not (re.fullmatch(GIVES_UP_FOR_A_WHILE, name) and asks_for_more):
+        raise refusal.fail("the call doesn't say that it was refused memory, and gave up nothing")
+    if re.match(COLLECTS, name) and not asks_for_more:
+        raise refusal.fail("the call doesn't say that it was refused memory, and asked for no more instead")
 
 
 def rule_of(case: Case) -> Callable[[Refusal], None]:
     return next((rule for pattern, rule in EXCEPTIONS if re.fullmatch(pattern, case.name)), leaves_all)
 
 
-def judge(refusal: Refusal) -> None:
-    """Says whether a run is as it may be whose request was refused."""
+def judge(refusal: Refusal) -> bool:
+    """Says whether the call did without the request, if the run is as it may be."""
     run, rule = refusal.run, rule_of(refusal.case)
     if run.status != 0 or run.faults:
         raise refusal.fail(f"status {run.status}, {run.faults!r}")
     if run.requests < refusal.number:
         raise refusal.fail(f"there were {run.requests} requests")
-    if rule in (reported_a_beginning, ended_rightly) or refusal.is_refused():
-        return rule(refusal)
-    return goes_on_without(refusal)
+    if rule in OF_ANY_ANSWER or refusal.is_refused():
+        rule(refusal)
+        return False
+    goes_on_without(refusal)
+    return True
+
+
+@dataclass(frozen=True)
+class Tally:
+    """How many requests a call makes, and the numbers of those that it can do without."""
+
+    requests: int
+    without: tuple[int, ...] = ()
+
+
+# Calls of objects that show less, and calls that ask for just the same and can do without the same. A desk and an operator
+# hand a call to their book: they ask for nothing of their own, neither before it nor behind its change.
+AS_OF_A_BOOK = [(r"operator\.(night\.\d+)", r"book.\1"), (r"full_desk\.(\w+\.\d+)", r"full_book.\1")]
+
+
+def differ_from_a_book(tallies: dict[str, Tally]) -> Iterator[str]:
+    """The calls that ask otherwise than those of a book."""
+    for name, tally in tallies.items():
+        for pattern, other in AS_OF_A_BOOK:
+            if found := re.fullmatch(pattern, name):
+                wanted = tallies.get(found.expand(other), tally)
+                if tally != wanted:
+                    yield f"{name}: {tally}, and {found.expand(other)}: {wanted}"
 
 
 @dataclass
 class Sums:
-    """How many cases a group has, and how many requests were refused in them."""
+    """The tallies of a group: how many cases it has, and how many requests were refused in them."""
 
     cases: int = 0
     requests: int = 0
+    without: int = 0
     silent: int = 0
-    most: int = field(default=0)
+    most: int = 0
 
-    def add(self, requests: int) -> None:
+    def add(self, tally: Tally) -> None:
         self.cases += 1
-        self.requests += requests
-        self.silent += requests == 0
-        self.most = max(self.most, requests)
+        self.requests += tally.requests
+        self.without += len(tally.without)
+        self.silent += tally.requests == 0
+        self.most = max(self.most, tally.requests)
 
     def told(self) -> str:
         refused = f"{self.cases} calls, {self.requests} requests refused, at most {self.most} of a call"
-        return f"{refused}; {self.silent} calls asked for none"
+        return f"{refused}, {self.without} done without; {self.silent} calls asked for none"
 
 
-def check(program: Program, case: Case, pool: ThreadPoolExecutor) -> int:
-    """Refuses each request of a case, and says how many there were."""
+def check(program: Program, case: Case, pool: ThreadPoolExecutor) -> Tally:
+    """Refuses each request of a case."""
     whole = program.whole(case)
     script = case.script(rule_of(case) not in OF_ONE_CALL)
     numbers = range(1, whole.requests + 1)
+    without, refusals = [], []
     for number, run in zip(numbers, pool.map(lambda number: program.run(script, number), numbers)):
-        judge(Refusal(program, case, whole, number, run))
-    return whole.requests
+        refusal = Refusal(program, case, whole, number, run)
+        if judge(refusal):
+            without.append(number)
+        if rule_of(case) in OF_ALL_REQUESTS:
+            refusals.append(refusal)
+    if refusals:
+        OF_ALL_REQUESTS[rule_of(case)](refusals)
+    return Tally(whole.requests, tuple(without))
 
 
 def check_all(program: Program, words: list[str], by_case: bool, pool: ThreadPoolExecutor) -> bool:
     """Tells of the cases whose names begin with one of these words (of all, if there is none), and whether each is right."""
+    tallies: dict[str, Tally] = {}
     sums: dict[str, Sums] = {}
-    right = True
+    wrongs: list[str] = []
     for case in cases():
         if words and not case.name.startswith(tuple(words)):
             continue
         try:
-            requests = check(program, case, pool)
+            tally = check(program, case, pool)
         except Wrong as wrong:
-            print(f"refuse_each_call: {wrong}", file=sys.stderr)
-            right = False
+            wrongs.append(str(wrong))
             continue
-        sums.setdefault(case.group(), Sums()).add(requests)
+        tallies[case.name] = tally
+        sums.setdefault(case.group(), Sums()).add(tally)
         if by_case:
-            print(f"{case.name}: {requests}")
+            print(f"{case.name}: {tally.requests}, {len(tally.without)} done without")
     for group, each in sums.items():
         print(f"{group}: {each.told()}")
-    print(
-        f"all: {sum(s.cases for s in sums.values())} calls, {sum(s.requests for s in sums.values())} requests refused in turn"
-    )
-    return right
+    print(f"all: {len(tallies)} calls, {sum(tally.requests for tally in tallies.values())} requests refused in turn")
+    wrongs += differ_from_a_book(tallies)
+    for told in wrongs:
+        print(f"refuse_each_call: {told}", file=sys.stderr)
+    return not wrongs
 
 
 def main() -> int:

@@ -7,7 +7,7 @@ call, show the state again, and go on using the object. `tools/refused_calls/` h
 
 from __future__ import annotations
 
-from collections.abc import Iterator
+from collections.abc import Callable, Iterator
 from dataclasses import dataclass
 from pathlib import Path
 
@@ -61,7 +61,7 @@ def of_values() -> Iterator[Case]:
     for word in words:
         yield Case(f"texts.{word}", "texts", f"{word} {night}")
     yield from each_of("texts", ["shared", "bad_line_text", "metrics_value"])
-    yield from each_of("parameters", ["new", "new_long", "new_many", "try_clone"])
+    yield from each_of("parameters", ["new", "new_long", "new_long_key", "new_many", "try_clone"])
     faults = ["TextTooLong", "Empty", "TooDeep", "TooMany", "DuplicateId", "NoSuchTarget", "Loop", "RestartNotJobLevel"]
     yield from each_of("jobs", ["faultless", "in_flows", *faults])
     yield from each_of("rows", ["add_instance", "add_execution", "add_work", "set_checkpoint", "set_checkpoint 11"])
@@ -119,6 +119,9 @@ def lines_of(name: str) -> list[str]:
     return (DATA / name).read_text().splitlines()
 
 
+# A command that is longer than the lines whose room a reader keeps.
+LONG_COMMAND = '{"do":"claim","by":1,"at":1' + " " * 65_536 + "}"
+
 # The catalogues without a fault, by their lines.
 FAULTLESS = (1, 2, 3, 12)
 
@@ -132,7 +135,7 @@ def of_readers() -> Iterator[Case]:
     starts = lines_of("starts.txt")
     for number, line in enumerate(starts, 1):
         yield Case(f"readings.read_start.{number}", "readings", f"read_start {line}")
-    commands = tuple(lines_of("commands.txt"))
+    commands = (*lines_of("commands.txt"), LONG_COMMAND)
     for number, line in enumerate(commands, 1):
         yield Case(f"commands.{number}", "commands", line, "", commands[: number - 1], commands[number:])
     for number in range(len(starts) + 2):
@@ -144,12 +147,14 @@ def of_readers() -> Iterator[Case]:
 
 def of_workers() -> Iterator[Case]:
     """Calls of kits, workers and pools, and of the words of a command line."""
-    words = ["kit.add quiet", "run_item quiet", "run_item nobody", "run_item decision", "run_item chunk", "run_partition chunk"]
+    words = ["kit.add quiet", *(f"run_item {name}" for name in ("quiet", "nobody", "decision", "chunk", "own_chunk"))]
+    words += ["run_partition chunk", "run_partition own_chunk"]
     yield from each_of("workers", words + ["worker quiet", "work_item.try_clone chunk", "work_task.try_clone chunk"])
     lines = ("counts", "start", "pool", "counts")
     first = '{"jobs":[{"id":"a","elements":[{"kind":"step","id":"s","batchlet":{"ref":"quiet"}}]}]}'
     yield Case("pool", "pool", "pool", first, ("start",), lines)
-    command_lines = ["script", "run", "run --workers 3", "", "walk", "run --workers 17", "run --help"]
+    command_lines = ["script", "script --log night.log", "run", "run --workers 3", "", "walk", "run --workers 17"]
+    command_lines += ["--help", "script --help", "run --help"]
     for line in command_lines:
         yield Case(f"arguments.{line.replace(' ', '.') or 'none'}", "arguments", line or " ")
 
@@ -159,11 +164,13 @@ LOOKS = [
     '{"ask":"job_names"}',
     '{"ask":"job_instances","job":"a","start":0,"count":9}',
     '{"ask":"running_executions","job":"a"}',
+    '{"ask":"running_executions","job":"c"}',
     '{"ask":"job_executions","instance":1}',
     '{"ask":"job_executions","instance":2}',
     '{"ask":"parameters","execution":1}',
     '{"ask":"step_executions","execution":1}',
     '{"ask":"step_executions","execution":2}',
+    '{"ask":"step_executions","execution":3}',
     '{"ask":"status_counts"}',
 ]
 COUNT = '{"ask":"job_instance_count","job":"a"}'
@@ -177,7 +184,7 @@ SHOWN = {
     "world": ("show",),
     "desk": SEEN,
     "full_desk": SEEN,
-    "operator": (*SEEN, COUNT, f"copies {COUNT}"),
+    "operator": ("stops", *SEEN, COUNT, f"copies {COUNT}"),
     "copies": ("show", f"alone {COUNT}", f"shared {COUNT}", "counts"),
 }
 
@@ -192,11 +199,23 @@ class History:
     lines: tuple[str, ...]
 
 
+def blocks_of(name: str) -> list[list[str]]:
+    """The lines of a file of data between which empty lines stand."""
+    return [text.splitlines() for text in (DATA / name).read_text().strip().split("\n\n")]
+
+
 def histories() -> Iterator[History]:
-    for text in (DATA / "histories.txt").read_text().strip().split("\n\n"):
-        head, catalogue, *lines = text.splitlines()
+    for head, catalogue, *lines in blocks_of("histories.txt"):
         kinds, _, name = head.partition(": ")
         yield History(tuple(kinds.split()), name, catalogue, tuple(lines))
+        if "entered" in kinds.split():
+            yield entered(catalogue, lines)
+
+
+def entered(catalogue: str, lines: list[str]) -> History:
+    """The calls of a script in a world whose copy takes in each operation by itself, as soon as it is accepted."""
+    calls = [line for line in lines if '"do"' in line]
+    return History(("world",), "entered", catalogue, tuple(each for call in calls for each in (call, PUBLISH)))
 
 
 def made(kind: str, history: History, line: str, number: int) -> Case:
@@ -215,24 +234,63 @@ def about(history: History) -> Iterator[Case]:
             yield Case(name, case.kind, case.line, case.first, case.before, (line, *case.after), case.looks)
 
 
+def previewed_full(history: History) -> Iterator[Case]:
+    """The previews of a history's calls, by a repository that is full after two operations."""
+    for number, line in enumerate(history.lines, 1):
+        if '"do"' in line:
+            case = made("full_repository", history, f"preview {line}", number)
+            name = f"full_preview.{history.name}.{number}"
+            yield Case(name, case.kind, case.line, case.first, case.before, (line, *case.after), case.looks)
+
+
 # Lines that are no cases: nothing in them asks for memory, or they are part of the state of others.
 NO_CASES = ("meet", "stops", "show")
+
+# The line by which a world's copy takes in all operations.
+PUBLISH = "publish 99"
+
+
+def is_case(kind: str, history: History, line: str) -> bool:
+    """Whether a line of a history is a case. Its calls may be there for others alone."""
+    of_others = kind == "copies" or history.name == "entered"
+    return line.split()[0] not in NO_CASES and not (of_others and line.startswith("{"))
 
 
 def of_histories() -> Iterator[Case]:
     """Each line of each history, for each of its objects, and the making of the object."""
     for history in histories():
         for kind in history.kinds:
-            if kind == "about":
-                yield from about(history)
+            if kind in ABOUT:
+                yield from ABOUT[kind](history)
                 continue
             name = f"{kind}.{history.name}.new"
             yield Case(name, kind, "", history.catalogue, (), history.lines, SHOWN[kind])
             for number, line in enumerate(history.lines, 1):
-                if line.split()[0] not in NO_CASES and not (kind == "copies" and line.startswith("{")):
+                if is_case(kind, history, line):
                     yield made(kind, history, line, number)
-        if "world" in history.kinds:
+        if "world" in history.kinds and history.name != "entered":
             yield Case(f"events.{history.name}", "events", "", history.catalogue, (), history.lines)
+
+
+# What makes cases of a history, by the word that its first line has for them. `entered` makes a history of its own.
+ABOUT: dict[str, Callable[[History], Iterator[Case]]] = {
+    "about": about,
+    "about_full": previewed_full,
+    "entered": lambda _: iter(()),
+}
+
+
+def expected() -> dict[str, list[tuple[str, tuple[str, ...]]]]:
+    """What cases write for some of their lines, by the names of the cases."""
+    wanted: dict[str, list[tuple[str, tuple[str, ...]]]] = {}
+    for name, *lines in blocks_of("expected.txt"):
+        parts = wanted.setdefault(name, [])
+        for line in lines:
+            if line.startswith("> "):
+                parts.append((line.removeprefix("> "), ()))
+            else:
+                parts[-1] = (parts[-1][0], (*parts[-1][1], line))
+    return wanted
 
 
 def cases() -> list[Case]:

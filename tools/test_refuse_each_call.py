@@ -10,7 +10,26 @@ import unittest
 from concurrent.futures import ThreadPoolExecutor
 from pathlib import Path
 
-from refuse_each_call import Wrong, check, has_between, is_as_before, program_in, see_what_there_is
+from refuse_each_call import (
+    EXPECTED,
+    Part,
+    Program,
+    Refusal,
+    Run,
+    Tally,
+    Wrong,
+    check,
+    differ_from_a_book,
+    has_between,
+    have_all_replies_before,
+    is_as_before,
+    program_in,
+    reported_a_beginning,
+    see_what_there_is,
+    tells_the_same,
+    were_refused_in_each_group,
+    without_lists,
+)
 from single_calls import Case, cases
 
 # A program whose call `act` makes two requests. What it does if one of them is refused is written in place of @@: it has the
@@ -53,14 +72,14 @@ class RefusedCalls(unittest.TestCase):
         self.addCleanup(folder.cleanup)
         self.folder = Path(folder.name)
 
-    def requests_of(self, refused: str, kind: str = "book") -> int:
-        """How many requests the call makes, if it does this where one is refused."""
+    def requests_of(self, refused: str, kind: str = "book", answer: str = "Ok(7)") -> int:
+        """How many requests the call makes, if it answers this, and does this where one is refused."""
         path = self.folder / "program"
-        path.write_text(PROGRAM.replace("@@", refused))
+        path.write_text(PROGRAM.replace("@@", refused).replace("Ok(7)", answer))
         path.chmod(0o700)
         case = Case(f"{kind}.night.1", kind, "act", "", (), ("next",), ("show",))
         with ThreadPoolExecutor(2) as pool:
-            return check(program_in(path, self.folder), case, pool)
+            return check(program_in(path, self.folder), case, pool).requests
 
     def test_a_call_that_leaves_all_is_right(self) -> None:
         self.assertEqual(self.requests_of(KEEPS), 2)
@@ -68,11 +87,15 @@ class RefusedCalls(unittest.TestCase):
 
     def test_a_request_is_done_without_where_it_may_be(self) -> None:
         self.assertEqual(self.requests_of(DOES_WITHOUT, "desk"), 2)
-        self.assertEqual(self.requests_of(ASKS_FOR_MORE), 2)
-        with self.assertRaisesRegex(Wrong, "gave up nothing"):
-            self.requests_of(DOES_WITHOUT)
+        for without in (DOES_WITHOUT, ASKS_FOR_MORE):
+            with self.assertRaisesRegex(Wrong, "gave up nothing"):
+                self.requests_of(without)
         with self.assertRaisesRegex(Wrong, "doesn't say that it was refused"):
             self.requests_of(DOES_WITHOUT, "texts")
+
+    def test_a_call_is_not_refused_with_all_memory(self) -> None:
+        with self.assertRaisesRegex(Wrong, "with all memory: Err"):
+            self.requests_of(KEEPS, answer="Err(OutOfMemory)")
 
     def test_each_wrong_body_is_noticed(self) -> None:
         for name, (refused, said) in WRONG.items():
@@ -102,8 +125,90 @@ class Lines(unittest.TestCase):
         self.assertFalse(has_between("book of 2", "copy of 0", "copy of 3"))
         self.assertTrue(has_between('{"count":1}', '{"refused":"NoSuchJobException"}', '{"count":3}'))
 
+    def test_lists_that_are_given_up_are_gone_and_not_other_ones(self) -> None:
+        line = "{ running: Some(RunningLists { of: {1: 2} }), rows: 3, running: None }"
+        self.assertEqual(without_lists(line, line), line)
+        given_up = "{ running: None, rows: 3, running: None }"
+        self.assertEqual(without_lists(line, given_up), given_up)
+        other = line.replace("{1: 2}", "{1: 3}")
+        self.assertEqual(without_lists(line, other), line)
+
+    def test_a_call_that_goes_on_shows_its_session_just_what_it_would(self) -> None:
+        self.assertTrue(tells_the_same("session 2, seen 3, shown 0, own 1", "session 2, seen 3, shown 0, own 1"))
+        self.assertFalse(tells_the_same("session 2, seen 4, shown 0, own 1", "session 2, seen 3, shown 0, own 1"))
+
+
+class Tallies(unittest.TestCase):
+    def test_an_operator_asks_for_what_a_book_asks_for(self) -> None:
+        tallies = {"book.night.3": Tally(3, (2,)), "operator.night.3": Tally(3, (2,))}
+        self.assertEqual(list(differ_from_a_book(tallies)), [])
+        for wrong in (Tally(4, (2,)), Tally(3), Tally(3, (2, 3))):
+            self.assertEqual(len(list(differ_from_a_book({**tallies, "operator.night.3": wrong}))), 1)
+
+
+def refusal_of(case: Case, whole: Run, number: int, parts: tuple[Part, ...]) -> Refusal:
+    """A run with a refused request in which these parts were written."""
+    return Refusal(Program(Path(), Path(), Path()), case, whole, number, Run(0, parts, "", whole.requests))
+
+
+class Replies(unittest.TestCase):
+    """A script of two lines, whose replies are `one` and `two`."""
+
+    WHOLE = Run(0, (Part("", ("Ok(Summary)", "one", "two")),), "", 3)
+
+    def refusals(self, *counts: int) -> list[Refusal]:
+        """Runs that have written so many replies, one for each request."""
+        whole = self.WHOLE.lines()
+        said = [("Err(OutOfMemory)", *whole[1 : 1 + count], *whole) for count in counts]
+        case = Case("run_script", "run_script")
+        return [refusal_of(case, self.WHOLE, number, (Part("", each),)) for number, each in enumerate(said, 1)]
+
+    def test_each_number_of_replies_is_left(self) -> None:
+        have_all_replies_before(self.refusals(0, 0, 1, 1))
+        with self.assertRaisesRegex(Wrong, "no request was refused behind .1. replies"):
+            have_all_replies_before(self.refusals(0, 0, 0))
+        with self.assertRaisesRegex(Wrong, "0 replies, and 1 at an earlier request"):
+            have_all_replies_before(self.refusals(0, 1, 0))
+
+
+class WorkItems(unittest.TestCase):
+    CASE = Case("workers.run_item.quiet", "workers", "run_item quiet")
+    SAID = ("Ok(Completed)", "0 losses", "Checkpoint { 1 }", "Finish { 2 }")
+    WHOLE = Run(0, (Part("", ()), Part("run_item quiet", SAID)), "", 2)
+
+    def refusal(self, *said: str) -> Refusal:
+        parts = (Part("", ()), Part("run_item quiet", said), Part("run_item quiet", self.SAID))
+        return refusal_of(self.CASE, self.WHOLE, 1, parts)
+
+    def judge(self, *said: str) -> None:
+        reported_a_beginning(self.refusal(*said))
+
+    def test_a_worker_says_so_in_each_group(self) -> None:
+        failed, refused = ("Ok(Failed)", "0 losses", "Finish { 3 }"), ("Err(OutOfMemory)", "0 losses")
+        were_refused_in_each_group([self.refusal(*said) for said in (failed, refused)])
+        with self.assertRaisesRegex(Wrong, "behind .0. reports"):
+            were_refused_in_each_group([self.refusal(*failed)])
+
+    def test_a_work_item_is_reported_as_far_as_it_came(self) -> None:
+        self.judge("Err(OutOfMemory)", "0 losses")
+        self.judge("Err(OutOfMemory)", "0 losses", "Checkpoint { 1 }")
+
+    def test_it_is_not_lost_not_failed_and_not_reported_otherwise(self) -> None:
+        for said in (
+            ("Err(OutOfMemory)", "1 losses"),
+            ("Ok(Failed)", "0 losses", "Finish { 2 }"),
+            ("Err(OutOfMemory)", "0 losses", "Finish { 2 }"),
+            self.SAID,
+        ):
+            with self.subTest(said), self.assertRaises(Wrong):
+                self.judge(*said)
+
 
 class Cases(unittest.TestCase):
+    def test_what_is_expected_is_so_of_cases(self) -> None:
+        self.assertLessEqual(set(EXPECTED), {case.name for case in cases()})
+        self.assertTrue(EXPECTED)
+
     def test_each_case_has_a_name_of_its_own_and_one_call(self) -> None:
         names = [case.name for case in cases()]
         self.assertEqual(len(names), len(set(names)))

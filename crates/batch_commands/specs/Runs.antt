@@ -28,7 +28,7 @@ pub record AreReplied (catalogue : List JobTree) (lines : List (List ℕ)) (text
   pub started : AreStarted catalogue session [] lines text made log
   pub legal : IsLegalLog catalogue log
 
--- the output about a pool: nothing, or the line of its refusal
+-- the output about a pool: nothing, or the line of a refusal
 abbrev pub IsPoolText : List ℕ → Type 0
 IsPoolText text = (text ≡ []) ⊎ ((refusal : Refusal) × (text ≡ reply_text (Err refusal)))
 
@@ -76,13 +76,13 @@ IsPart r r' input text =
 abbrev pub IsFaultText : Told → Told → List ℕ → ReadFault → List ℕ → Type 0
 IsFaultText r r' input fault text = (lines : List (List ℕ)) × AreComplete r r' input lines × IsFirstFault lines fault × (text ≡ fault_text fault)
 
--- the first line is a catalogue, but all session numbers are used: that refusal is the only output
+-- the first line is a catalogue, but no session was opened: the line of that refusal is the only output
 abbrev pub IsUnopened : Told → Told → List ℕ → List ℕ → Type 0
 IsUnopened r r' input text = (lines : List (List ℕ)) × AreComplete r r' input lines × IsOpened lines × (text ≡ reply_text (Err RepositoryFull))
 
 -- THE TEXT that is due for an input, by the result
 abbrev pub IsDueText : Told → Told → List ℕ → List ℕ → Result Unit EngineFault → Type 0
--- the reader ended and didn't fail, and the output is complete
+-- the reader didn't fail. It ended and the output is complete, or no session was opened
 IsDueText r r' input text (Ok done) = (IsWhole r r' input text ⊎ IsUnopened r r' input text) × (r'.failures ≡ r.failures)
 -- the fault of the first line
 IsDueText r r' input text (Err (Catalogue fault)) = IsFaultText r r' input fault text

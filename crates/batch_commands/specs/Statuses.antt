@@ -25,8 +25,8 @@ exit_status (Err OutOfMemory) = 5
 abbrev pub IsRefused : Told → Told → Held → Held → ℕ → Type 0
 IsRefused r r' w w' status = (status ≡ 2) × (r' ≡ r) × (w' ≡ w)
 
--- the words ask for a text, such as help, and for neither a script nor a run. It is written or the writer
--- fails, and nothing is read
+-- the words ask for neither a script nor a run, and nothing is read. The status is that of a text, such as
+-- help, which was written or which the writer failed to take
 abbrev pub IsText : List (List ℕ) → Told → Told → ℕ → Type 0
 IsText words r r' status = AskForNone words × ((status ≡ 0) ⊎ (status ≡ 4)) × (r' ≡ r)
 

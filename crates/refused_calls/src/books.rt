@@ -46,6 +46,18 @@ fn tell_made<R: Print, E: Drop>(rt: &R, text: std::result::Result<Vec<u8>, E>) -
     }
 }
 
+/// Makes the call of a line that is about a reply: its copy or its text.
+fn about_reply<R: Print + AllocGlobal>(rt: &R, line: Line<'_>, reply: &Replied) -> Result<()> {
+    let alloc = rt.alloc();
+    if line.parted().0 == "reply.try_clone" {
+        return tell_copy(rt, line, reply);
+    }
+    line.mark(alloc);
+    let text = reply_text(alloc, reply);
+    line.mark(alloc);
+    tell_made(rt, text)
+}
+
 /// Makes the call of a line that is about a call of a repository: its preview, its copy, or the
 /// copy or the text of its reply. The repository stays as it is.
 fn about_call<R: Print + AllocGlobal, const LIMIT: u64>(
@@ -55,31 +67,19 @@ fn about_call<R: Print + AllocGlobal, const LIMIT: u64>(
     by: u64,
     call: &Call,
 ) -> Result<()> {
-    let alloc = rt.alloc();
-    let word = line.parted().0;
-    if word == "call.try_clone" {
-        return told!(rt, line, call.try_clone());
-    }
-    if word == "preview" {
-        line.mark(alloc);
-    }
-    let reply = repository.preview(by, call);
-    match word {
+    match line.parted().0 {
+        "call.try_clone" => told!(rt, line, call.try_clone()),
         "preview" => {
-            line.mark(alloc);
+            line.mark(rt.alloc());
+            let reply = repository.preview(by, call);
+            line.mark(rt.alloc());
             tell_reply(rt, reply)
         }
-        "reply.try_clone" => {
-            let copied = tell_copy(rt, line, &reply);
-            drop(reply);
-            copied
-        }
         _ => {
-            line.mark(alloc);
-            let text = reply_text(alloc, &reply);
-            line.mark(alloc);
+            let reply = repository.preview(by, call);
+            let told = about_reply(rt, line, &reply);
             drop(reply);
-            tell_made(rt, text)
+            told
         }
     }
 }
@@ -89,16 +89,29 @@ fn about_query<R: Print + AllocGlobal, const LIMIT: u64>(
     rt: &R,
     line: Line<'_>,
     repository: &mut Repository<LIMIT>,
-    query: Query,
+    query: &Query,
 ) -> Result<()> {
     let alloc = rt.alloc();
-    let answer = Repository::ask(repository, &query);
-    drop(query);
+    let answer = Repository::ask(repository, query);
     line.mark(alloc);
     let text = answer_text(alloc, &answer);
     line.mark(alloc);
     drop(answer);
     tell_made(rt, text)
+}
+
+/// Makes the call of a line that is about the call or the query of a command.
+fn about_command<R: Print + AllocGlobal, const LIMIT: u64>(
+    rt: &R,
+    line: Line<'_>,
+    repository: &mut Repository<LIMIT>,
+    command: &Command,
+) -> Result<()> {
+    match command {
+        Command::Act { by, call, .. } => about_call(rt, line, repository, *by, call),
+        Command::Ask(query) => about_query(rt, line, repository, query),
+        _ => bail!("{}: no line of a repository", line.text),
+    }
 }
 
 impl<const LIMIT: u64> Answers for Repository<LIMIT> {
@@ -116,15 +129,10 @@ impl<const LIMIT: u64> Answers for Repository<LIMIT> {
         if word == "show" {
             return tell(rt, &*self);
         }
-        match read_command(rt.alloc(), rest.as_bytes())? {
-            Command::Act { by, call, .. } => {
-                let told = about_call(rt, line, self, by, &call);
-                drop(call);
-                told
-            }
-            Command::Ask(query) => about_query(rt, line, self, query),
-            _ => bail!("no call of a repository is named {word}"),
-        }
+        let command = read_command(rt.alloc(), rest.as_bytes())?;
+        let told = about_command(rt, line, self, &command);
+        drop(command);
+        told
     }
 }
 

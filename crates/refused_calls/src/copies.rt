@@ -16,7 +16,7 @@ use jsl_model::Catalogue;
 use op_log::{Call, Query, Repository};
 use read_copies::{Copied, Copies, StatusCounts};
 use seat_rules::{BookSeat, SeatTable, Site};
-use sessions::{Desk, Session};
+use sessions::{Desk, Session, meet};
 use std::alloc::Global;
 use std::marker::Brand;
 use std::sync::Wait;
@@ -119,7 +119,8 @@ impl<N: Site> Answers for Shelf<N> {
     }
 
     /// `alone` and `shared` with a query ask a copy. `bring` updates the copy alone, `publish` the
-    /// one of a repository, `publish_counts` the one of the counts.
+    /// one of a repository, `publish_counts` the one of the counts. At `meet` the session that asks
+    /// the copy of a repository is shown what the caller has seen.
     fn other<R: Wait + Print + AllocGlobal>(&mut self, rt: &R, line: Line<'_>) -> Result<()> {
         match line.parted().0 {
             "alone" => self.read_alone(rt, line),
@@ -138,6 +139,15 @@ impl<N: Site> Answers for Shelf<N> {
                 line,
                 self.held.counts.publish(rt, 0, &mut self.desk, &self.table)
             ),
+            "meet" => {
+                let readers = &mut self.readers;
+                meet(
+                    &mut readers.caller,
+                    &mut readers.of_repositories,
+                    &self.table,
+                );
+                Ok(())
+            }
             "show" => self.show(rt),
             _ => bail!("{}: no line of a copy", line.text),
         }

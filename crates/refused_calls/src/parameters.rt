@@ -5,28 +5,55 @@ use anyhow::{Result, bail};
 use batch_ids::Parameters;
 use std::alloc::{AllocError, Global};
 
-/// Returns `count` pairs, and one more whose value has `length` bytes.
-fn pairs(alloc: Global, count: usize, length: usize) -> Result<Vec<(String, String)>, AllocError> {
+/// Parameters: `count` short ones, and one more whose key and value have these lengths in bytes.
+#[derive(Clone, Copy)]
+struct Shape {
+    count: usize,
+    key: usize,
+    value: usize,
+}
+
+/// Three parameters within the limits.
+const THREE: Shape = Shape {
+    count: 2,
+    key: 4,
+    value: 4,
+};
+
+/// Returns the parameters of a line's word: three of them, or with a key, a value or a number of
+/// parameters that is one over its limit.
+fn shape_of(word: &str) -> Option<Shape> {
+    let mut shape = THREE;
+    match word {
+        "new" | "try_clone" => {}
+        "new_long" => shape.value = 4_097,
+        "new_long_key" => shape.key = 257,
+        "new_many" => shape.count = 64,
+        _ => return None,
+    }
+    Some(shape)
+}
+
+fn pairs(alloc: Global, shape: &Shape) -> Result<Vec<(String, String)>, AllocError> {
     let mut pairs = Vec::new(alloc);
-    for number in 0..count {
+    for number in 0..shape.count {
         let key = format!(in alloc; "k{number}")?;
         pairs.push((key, String::from_str(alloc, "v")?))?;
     }
-    pairs.push((String::from_str(alloc, "last")?, "x".repeat(alloc, length)?))?;
+    pairs.push((
+        "x".repeat(alloc, shape.key)?,
+        "x".repeat(alloc, shape.value)?,
+    ))?;
     Ok(pairs)
 }
 
-/// Makes the call that a line names: `new` or `try_clone` of three parameters, `new_long` with a
-/// value over its limit, `new_many` with one parameter over the limit.
+/// Makes the call that a line names.
 pub(crate) fn run_parameters<R: Print + AllocGlobal>(rt: &R, line: Line<'_>) -> Result<()> {
     let alloc = rt.alloc();
-    let (count, length) = match line.text {
-        "new" | "try_clone" => (2, 4),
-        "new_long" => (2, 4_097),
-        "new_many" => (64, 4),
-        word => bail!("no call of parameters is named {word}"),
+    let Some(shape) = shape_of(line.text) else {
+        bail!("no call of parameters is named {}", line.text);
     };
-    let given = pairs(alloc, count, length)?;
+    let given = pairs(alloc, &shape)?;
     if line.text == "try_clone" {
         let parameters = Parameters::new(alloc, given)?;
         return told!(rt, line, parameters.try_clone());

@@ -12,13 +12,21 @@ use std::alloc::Global;
 /// The built-in artifacts of the chunk.
 const NAMES: [&str; 3] = ["count:5", "odd", "sink"];
 
-/// Returns the task of this name: a chunk, a decision, or a batchlet with this artifact.
+/// Returns the task of this name: a chunk of built-in artifacts, a chunk or a decision of an artifact
+/// that takes no memory, or a batchlet with the artifact of this name.
 fn task(alloc: Global, name: &str) -> Tried<WorkTask> {
     match name {
         "chunk" => Ok(WorkTask::Chunk {
             reader: T256::new(alloc, "count:5")?,
             processor: Some(T256::new(alloc, "odd")?),
             writer: T256::new(alloc, "sink")?,
+            item_count: 2,
+            checkpoint: None,
+        }),
+        "own_chunk" => Ok(WorkTask::Chunk {
+            reader: T256::new(alloc, "quiet")?,
+            processor: Some(T256::new(alloc, "quiet")?),
+            writer: T256::new(alloc, "quiet")?,
             item_count: 2,
             checkpoint: None,
         }),
