@@ -596,7 +596,7 @@ def judge(refusal: Refusal) -> bool:
         raise refusal.fail(f"there were {run.requests} requests")
     if rule in OF_ANY_ANSWER or refusal.is_refused():
         rule(refusal)
-        return False
+        return run.lines() == refusal.whole.lines()
     goes_on_without(refusal)
     return True
 
