@@ -14,9 +14,9 @@ refused memory, and then:
 - The call is made again, with memory. Its answer, what can be read then, and all later answers are those of the whole run.
 
 `EXCEPTIONS` lists the calls of which more is allowed, each with its reason. `SWALLOWED` lists the calls that may do without a
-request: then the object shows what it gave up, or the call asks for more instead. A desk and an operator show less, and must
-ask for just what a book asks for, and do without the same. Says what differed if that is not so, and ends with status 1. Needs
-a C compiler, `cc`. All processors run the program side by side.
+request: then the object shows what it gave up, or the call asks for more instead. A desk and an operator show less. In the
+scripts that a book has too they must ask for just what it asks for, and do without the same. Says what differed if that is not
+so, and ends with status 1. Needs a C compiler, `cc`. All processors run the program side by side.
 """
 
 from __future__ import annotations

@@ -9,6 +9,7 @@ import tempfile
 import unittest
 from concurrent.futures import ThreadPoolExecutor
 from pathlib import Path
+from unittest.mock import patch
 
 from refuse_each_call import (
     EXPECTED,
@@ -72,12 +73,12 @@ class RefusedCalls(unittest.TestCase):
         self.addCleanup(folder.cleanup)
         self.folder = Path(folder.name)
 
-    def requests_of(self, refused: str, kind: str = "book", answer: str = "Ok(7)") -> int:
+    def requests_of(self, refused: str, kind: str = "book", answer: str = "Ok(7)", name: str = "") -> int:
         """How many requests the call makes, if it answers this, and does this where one is refused."""
         path = self.folder / "program"
         path.write_text(PROGRAM.replace("@@", refused).replace("Ok(7)", answer))
         path.chmod(0o700)
-        case = Case(f"{kind}.night.1", kind, "act", "", (), ("next",), ("show",))
+        case = Case(name or f"{kind}.night.1", kind, "act", "", (), ("next",), ("show",))
         with ThreadPoolExecutor(2) as pool:
             return check(program_in(path, self.folder), case, pool).requests
 
@@ -92,6 +93,20 @@ class RefusedCalls(unittest.TestCase):
                 self.requests_of(without)
         with self.assertRaisesRegex(Wrong, "doesn't say that it was refused"):
             self.requests_of(DOES_WITHOUT, "texts")
+
+    def test_a_call_that_collects_a_list_asks_for_more_instead(self) -> None:
+        self.assertEqual(self.requests_of(ASKS_FOR_MORE, name="jobs.faultless"), 2)
+        with self.assertRaisesRegex(Wrong, "asked for no more instead"):
+            self.requests_of(DOES_WITHOUT, name="jobs.faultless")
+
+    def test_what_is_expected_is_compared(self) -> None:
+        for answer, said in {"Ok(7)": None, "Ok(8)": "in place of"}.items():
+            with patch.dict(EXPECTED, {"book.night.1": [("act", (answer,))]}):
+                if said is None:
+                    self.assertEqual(self.requests_of(KEEPS), 2)
+                else:
+                    with self.assertRaisesRegex(Wrong, said):
+                        self.requests_of(KEEPS)
 
     def test_a_call_is_not_refused_with_all_memory(self) -> None:
         with self.assertRaisesRegex(Wrong, "with all memory: Err"):
