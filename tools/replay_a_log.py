@@ -2,7 +2,7 @@
 
     python3 tools/replay_a_log.py [--program PATH]
 
-The worked example of docs/REPLAY.md, over a night of the program service_cases. It says nothing if all is well, and ends with
+The worked example of docs/REPLAY.md, over a night of `cases/scripts`. It says nothing if all is well, and ends with
 status 1 if a reply differs from the night's:
 
 - A host keeps each line before it hands it on. It is stopped at each line in turn, once with half of the line in its log and
@@ -25,7 +25,7 @@ from pathlib import Path
 
 ROOT = Path(__file__).resolve().parent.parent
 PROGRAM = ROOT / "crates" / "batchctl" / "out" / "batchctl"
-NIGHT = ROOT / "crates" / "service_cases" / "data" / "restart_of_a_night.script"
+NIGHT = ROOT / "cases" / "scripts" / "restart_of_a_night.script"
 REPLIES = NIGHT.with_suffix(".replies")
 # A program that never answers is ended by the alarm.
 MOST_SECONDS = 120

@@ -154,6 +154,7 @@ def of_workers() -> Iterator[Case]:
     first = '{"jobs":[{"id":"a","elements":[{"kind":"step","id":"s","batchlet":{"ref":"quiet"}}]}]}'
     yield Case("pool", "pool", "pool", first, ("start",), lines)
     command_lines = ["script", "script --log night.log", "run", "run --workers 3", "", "walk", "run --workers 17"]
+    command_lines += ["run --", "run --workers 3 --", "run --workers 16", "run --workers=1", "run --workers=+03"]
     command_lines += ["--help", "script --help", "run --help"]
     for line in command_lines:
         yield Case(f"arguments.{line.replace(' ', '.') or 'none'}", "arguments", line or " ")
@@ -175,6 +176,13 @@ LOOKS = [
 ]
 COUNT = '{"ask":"job_instance_count","job":"a"}'
 SEEN = ("show", *(f"look {query}" for query in LOOKS))
+# The same of an operator. Sessions 1 and 2 make the calls and queries, 3 looks, 4 and 5 read copies only. Job executions 1 and
+# 65 share a word of stops.
+SEEN_BY_SESSIONS = (
+    *(f"stop_seen 1 {execution}" for execution in (1, 65)),
+    *(f"show {session}" for session in (1, 2, 4, 5)),
+    *(line for query in LOOKS for line in ("operations_at_least 3", f"ask 3 {query}")),
+)
 # What shows the state of each kind of object.
 SHOWN = {
     "book": ("show",),
@@ -184,7 +192,7 @@ SHOWN = {
     "world": ("show",),
     "desk": SEEN,
     "full_desk": SEEN,
-    "operator": ("stops", *SEEN, COUNT, f"copies {COUNT}"),
+    "operator": (*SEEN_BY_SESSIONS, COUNT, f"ask 4 {COUNT}", 'ask 5 {"ask":"status_counts"}'),
     "copies": ("show", f"alone {COUNT}", f"shared {COUNT}", "counts"),
 }
 
@@ -244,7 +252,7 @@ def previewed_full(history: History) -> Iterator[Case]:
 
 
 # Lines that are no cases: nothing in them asks for memory, or they are part of the state of others.
-NO_CASES = ("meet", "stops", "show")
+NO_CASES = ("meet", "stop_seen", "show")
 
 # The line by which a world's copy takes in all operations.
 PUBLISH = "publish 99"

@@ -1,4 +1,4 @@
-"""Writes the large cases of `service_cases`: scripts of many lines or long texts, with their replies.
+"""Writes the large cases of `cases/scripts`: scripts of many lines or long texts, with their replies.
 
     python3 tools/write_large_cases.py [--check]
 
@@ -12,7 +12,7 @@ import sys
 
 from repository import ROOT
 
-DATA = ROOT / "crates" / "service_cases" / "data"
+DATA = ROOT / "cases" / "scripts"
 
 STEP = '{"kind":"step","id":"s","batchlet":{"ref":"ok"}}'
 DECISION = '{"kind":"decision","id":"d","ref":"a"}'

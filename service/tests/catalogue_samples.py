@@ -39,9 +39,7 @@ def catalogues_in(text: str) -> Iterator[bytes]:
 
 
 def catalogues_of_the_repository() -> list[bytes]:
-    found = dict.fromkeys(
-        line for path in sorted((ROOT / "crates" / "service_cases" / "data").rglob("*.script*")) for line in first_lines(path)
-    )
+    found = dict.fromkeys(line for path in sorted((ROOT / "cases").rglob("*.script*")) for line in first_lines(path))
     paths = [path for folder in FOLDERS for path in sorted((ROOT / folder).rglob("*")) if "out" not in path.parts]
     for path in [ROOT / "README.md", *paths]:
         if path.is_file() and path.suffix in SUFFIXES and "__pycache__" not in path.parts:

@@ -11,7 +11,7 @@ from repository import ROOT
 
 from log_trial.program import lines_of
 
-DATA = ROOT / "crates" / "service_cases" / "data"
+DATA = ROOT / "cases" / "scripts"
 NIGHT = DATA / "restart_of_a_night.script"
 SCRIPTS = [ROOT / "crates" / "batchctl" / "stdin", ROOT / "tools" / "refuse_each_growth.script"]
 MAX_LINE = 16_777_216
@@ -34,7 +34,7 @@ def scripts_of_pages() -> Iterator[tuple[str, bytes]]:
 
 
 def scripts_of_cases() -> Iterator[tuple[str, bytes]]:
-    """The scripts of service_cases. A file `.scripts` has an empty line between two of them."""
+    """The scripts of `cases/scripts`. A file `.scripts` has an empty line between two of them."""
     for path in sorted(DATA.glob("*.script*")):
         text = path.read_bytes()
         parts = text.split(b"\n\n") if path.suffix == ".scripts" else [text]

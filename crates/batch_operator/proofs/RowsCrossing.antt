@@ -7,8 +7,8 @@ use Rattle.batch_history.proofs.rows.JobInstance.TheSendSync as instance_crosses
 use Rattle.batch_history.proofs.rows.ExecutionRow.TheSendSync as execution_crosses
 use Rattle.batch_history.proofs.rows.WorkRow.TheSendSync as work_crosses
 use Rattle.batch_history.proofs.rows.CheckpointRow.TheSendSync as checkpoint_crosses
-use Rattle.records.specs.contracts.checkpoint_lists.CheckpointLists as checkpoints
-use Rattle.records.specs.contracts.name_lists.NameLists as names
+use Rattle.record_lists.specs.contracts.checkpoint_lists.CheckpointLists as checkpoints
+use Rattle.record_lists.specs.contracts.name_lists.NameLists as names
 use Rattle.records.specs.contracts.number_lists.NumberLists as numbers
 use Rattle.records.specs.contracts.step_lists.StepLists as steps
 use Rattle.records.specs.contracts.records.Records as records

@@ -18,7 +18,7 @@ use Rattle.records.proofs.Indexed as index
 use Rattle.batch_history.specs.Answers.{instances_of_job}
 use Rattle.records.proofs.Lists.{row_added, row_removed, nothing_removed, passes, passing_among}
 use Rattle.records.proofs.Leaving.{gone_at}
-use Rattle.records.proofs.Marks.{apart_filtered}
+use Rattle.record_lists.proofs.Marks.{apart_filtered}
 use Rattle.records.proofs.Numbered.{instance_pushed, execution_pushed, work_pushed, instances_filtered, executions_filtered, works_filtered, below_filtered}
 
 -- Reading

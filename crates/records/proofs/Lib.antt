@@ -2,7 +2,6 @@ pub mod Numbered
 pub mod Naming
 pub mod Marks
 pub mod Leaving
-pub mod Listing
 pub mod Indexed
 pub mod Indexing
 pub mod Gathered

@@ -1,38 +1,10 @@
 -- Lists of numbers without one of them.
-use Rattle.std.proofs.Common.{◌≡◌, ℕ, zero, suc, ◌==◌, ◌<◌, Bool, true, false, cond, Option, None, Some, List, [], ◌∷◌, ◌++◌, ◌||◌, not, map, filter, subst, length, bytes_eq, position, find, unwrap_or, slice_get, IfSome, ◌≤◌, remove, get_or, refl, sym, ◌∙◌, ap, arith}
-use Rattle.std.proofs.lemmas.List.Quantifiers.{position-Some}
+use Rattle.std.proofs.Common.{◌≡◌, ℕ, ◌==◌, Bool, true, false, cond, Option, None, Some, List, [], ◌∷◌, ◌++◌, ◌||◌, not, map, filter, subst, bytes_eq, find, remove, refl, sym, ◌∙◌, ap, arith}
 use Rattle.std.specs.List.{list_any}
 use Rattle.std.proofs.lemmas.Slice.Eq.{bytes_eq-Decides}
 use Rattle.std.proofs.lemmas.Bool.{eqb-true, eq-eqb, ne_eqb}
 use Rattle.records.specs.Indexes.{without_number}
 use Rattle.records.specs.Maps.{AreAbove, AreBelow, AreRising}
-
-removed-at : (number : ℕ) (xs : List ℕ) (k : ℕ) (d : ℕ) → k < length xs → (get_or xs k d == number) ≡ true → ((j : ℕ) → j < k → (get_or xs j d == number) ≡ false)
-    → remove xs k ≡ without_number number xs
-removed-at number [] k d lt here before = absurd (omega (arith, lt))
-removed-at number (x ∷ xs) zero d lt here before = sym (ap (λ (b : Bool). cond b xs (x ∷ without_number number xs)) here)
-removed-at number (x ∷ xs) (suc k) d lt here before =
-    ap (λ (l : List ℕ). x ∷ l) (removed-at number xs k d (omega (arith, lt)) here (λ j less. before (suc j) (omega (arith, less))))
-    ∙ sym (ap (λ (b : Bool). cond b xs (x ∷ without_number number xs)) (before 0 (omega arith)))
-
-pub removed_first : (number : ℕ) (xs : List ℕ) (k : ℕ) → position (λ n. n == number) xs ≡ Some k → remove xs k ≡ without_number number xs
-removed_first number xs k is =
-    let at = position-Some (λ (n : ℕ). n == number) xs k 0 is in
-    removed-at number xs k 0 at.0 at.1 at.2
-
-pub none_removed : (number : ℕ) (xs : List ℕ) → find (λ n. n == number) xs ≡ None → xs ≡ without_number number xs
-none_removed number [] none = refl
-none_removed number (x ∷ xs) none =
-    (elim (x == number) as (λ b. cond b (Some x) (find (λ n. n == number) xs) ≡ None → x ∷ xs ≡ cond b xs (x ∷ without_number number xs)) [
-      | true ↦ λ e. cc
-      | false ↦ λ e. ap (λ (l : List ℕ). x ∷ l) (none_removed number xs e)
-    ]) none
-
--- the first number of a list that may be missing
-pub first_up_to : (bound : ℕ) (numbers : Option (List ℕ)) → IfSome numbers (λ ns. IfSome (slice_get ns 0) (λ n. n ≤ bound))
-    → IfSome (slice_get (unwrap_or numbers []) 0) (λ n. n ≤ bound)
-first_up_to bound None h = tt
-first_up_to bound (Some ns) h = h
 
 -- a number that is not there
 pub nothing_removed : (number : ℕ) (xs : List ℕ) → list_any (λ n. n == number) xs ≡ false → without_number number xs ≡ xs

@@ -4,7 +4,7 @@ use Rattle.std.specs.List.{position_or_len}
 use Rattle.std.specs.List.Sorted.{IsSearchInRange, IsBinarySearchResult, IsNonDecreasingBy}
 use Rattle.std.specs.Ordering.{nat_cmp, ordering_index}
 use Rattle.std.specs.Result.{result_ok}
-use Rattle.std.proofs.lemmas.Bool.{eqb-true, eq-eqb, ne_eqb, ltb-true, ltb-false, lt-ltb, le-ltb, cases_lt}
+use Rattle.std.proofs.lemmas.Bool.{eqb-true, eq-eqb, ne_eqb, ltb-true, ltb-false, le-ltb, cases_lt}
 use Rattle.std.proofs.lemmas.Option.{slice_get_read}
 use Rattle.std.proofs.lemmas.Bool.Decides.{nat_tests}
 use Rattle.std.proofs.lemmas.Cmp.{ranked}
@@ -18,6 +18,7 @@ use Rattle.batch_history.specs.declared.rows.JobInstance.{JobInstance}
 use Rattle.batch_history.specs.declared.rows.ExecutionRow.{ExecutionRow}
 use Rattle.batch_history.specs.declared.rows.WorkRow.{WorkRow}
 use Rattle.batch_history.proofs.Finding.{found-passes}
+use Rattle.record_lists.proofs.Numbers.{place_at, beyond}
 use Rattle.records.specs.Maps.{instance_numbers, execution_numbers, work_numbers, AreAbove, AreBelow, AreRising, MayReplaceExecution, MayReplaceWork}
 
 module _ {R : Type 0} (num : R → ℕ) where
@@ -48,10 +49,6 @@ module _ {R : Type 0} (num : R → ℕ) where
       let up : num (get_or rows i d) ≤ num (get_or rows j d) = grind (arith, rise, same) in
       grind (arith, nat_tests)
 
-  position-at : (p : R → Bool) (rows : List R) (k : ℕ) → position_or_len p rows ≡ k → k < length rows → position p rows ≡ Some k
-  position-at p rows k is lt =
-      ap (λ (b : Bool). cond b (Some (position_or_len p rows)) None) (lt-ltb (position_or_len p rows) (length rows) (omega (arith, is, lt))) ∙ ap Some is
-
   position-none : (p : R → Bool) (rows : List R) → position_or_len p rows ≡ length rows → position p rows ≡ None
   position-none p rows is =
       ap (λ (b : Bool). cond b (Some (position_or_len p rows)) None) (le-ltb (position_or_len p rows) (length rows) (omega (arith, is)))
@@ -65,7 +62,7 @@ module _ {R : Type 0} (num : R → ℕ) where
       let here : num (get_or rows k row) ≡ x = ranked _ x _ (sym (is row)) in
       let before : (j : ℕ) → j < k → is_numbered x (get_or rows j row) ≡ false =
       λ j lt. ne_eqb (num (get_or rows j row)) x (λ e. omega (arith, rising-at rows j k row h lt within, here, e)) in
-      sym (position-at (is_numbered x) rows k
+      sym (place_at (is_numbered x) rows k
       (position_or_len_is (is_numbered x) rows k row (omega (arith, within)) before (λ lt. eq-eqb (num (get_or rows k row)) x here))
       within)
   searched [] x (Err i) h within is = refl
@@ -86,7 +83,7 @@ module _ {R : Type 0} (num : R → ℕ) where
       let rows : List R = row ∷ rest in
       let before : (j : ℕ) → j < k → is_numbered x (get_or rows j d) ≡ false =
       λ j less. ne_eqb (num (get_or rows j d)) x (λ e. omega (arith, rising-at rows j k d h less lt, is, e)) in
-      position-at (is_numbered x) rows k
+      place_at (is_numbered x) rows k
       (position_or_len_is (is_numbered x) rows k d (omega (arith, lt)) before (λ under. eq-eqb (num (get_or rows k d)) x is))
       lt
 
@@ -110,22 +107,10 @@ module _ {R : Type 0} (num : R → ℕ) where
   pub found : (p : R → Bool) (rows : List R) (k : ℕ) → position p rows ≡ Some k → slice_get rows k ≡ find p rows
   found p rows k is = ap (slice_get rows) (sym (place-is p rows k is)) ∙ sym (find_at p rows)
 
-  beyond : (rows : List R) (k : ℕ) → length rows ≤ k → slice_get rows k ≡ None
-  beyond [] k le = refl
-  beyond (row ∷ rest) zero le = absurd (omega (arith, le))
-  beyond (row ∷ rest) (suc k) le = beyond rest k (omega (arith, le))
-
   -- what a slice has at a place
   pub copied : (rows : List R) (k : ℕ) (r : Option (Bor R)) → is_some r ≡ ltb k (length rows) → IfSome r (λ x. x.now ≡ get_or rows k x.now) → option_copied r ≡ slice_get rows k
   copied rows k None is of = sym (beyond rows k (ltb-false k (length rows) (sym is)))
   copied rows k (Some x) is of = sym (slice_get_read rows (length rows) k x.now refl (ltb-true k (length rows) (sym is)) of)
-
-  pub absent : (p : R → Bool) (rows : List R) → position p rows ≡ None → find p rows ≡ None
-  absent p rows is =
-      (elim (cases_lt (position_or_len p rows) (length rows)) as (λ side. find p rows ≡ None) [
-        | inl under ↦ (let at : position p rows ≡ Some (position_or_len p rows) = position-at p rows (position_or_len p rows) refl under in cc)
-        | inr over ↦ find_at p rows ∙ beyond rows (position_or_len p rows) over
-      ])
 
   pub changed : (p : R → Bool) (rows : List R) (k : ℕ) (new : R) → position p rows ≡ Some k → set rows k new ≡ change_first p (λ old. new) rows
   changed p rows k new is =

@@ -11,6 +11,7 @@ use Rattle.batch_history.specs.Lists.{change_first}
 use Rattle.records.specs.Maps.{AreAbove, AreBelow, AreRising}
 use Rattle.records.specs.Slots.{rows_in, slot_numbers, AreOwn, AreSlots}
 use Rattle.records.specs.declared.row_list.Slot.{Slot}
+use Rattle.record_lists.proofs.Numbers.{absent}
 use Rattle.records.proofs.Numbered as numbered
 use Rattle.records.proofs.Indexed.{flipped}
 
@@ -354,7 +355,7 @@ module _ {T : Type 0} (num : T → ℕ) where
 
   pub unplaced : (n : ℕ) (slots : List (Slot T)) → AreSlots num slots → None ≡ position (is_at n) slots → None ≡ find (is_numbered n) (rows_in slots)
   unplaced n slots are at =
-      ap row_of (sym (numbered.absent (λ (slot : Slot T). slot.number) (is_at n) slots (sym at))) ∙ found n slots are.rising are.own
+      ap row_of (sym (absent (is_at n) slots (sym at))) ∙ found n slots are.rising are.own
 
   pub placed : (n k : ℕ) (old : Slot T) (slots : List (Slot T)) → AreSlots num slots → Some k ≡ position (is_at n) slots → old ≡ get_or slots k old
       → old.row ≡ find (is_numbered n) (rows_in slots)
@@ -388,7 +389,7 @@ module _ {T : Type 0} (num : T → ℕ) where
 
   pub absent_rows : (n : ℕ) (slots : List (Slot T)) → AreSlots num slots → None ≡ position (is_at n) slots → rows_in slots ≡ others n (rows_in slots)
   absent_rows n slots are at =
-      sym (none-removed n slots (numbered.absent (λ (slot : Slot T). slot.number) (is_at n) slots (sym at)) are.own)
+      sym (none-removed n slots (absent (is_at n) slots (sym at)) are.own)
 
   -- The last slot of a slice
 

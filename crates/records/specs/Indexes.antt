@@ -2,7 +2,8 @@
 use Rattle.std.specs.Prelude.{◌≡◌, ℕ, ◌==◌, Bool, true, Option, None, Some, is_some, List, [], ◌∷◌, nat_eq, filter, unwrap_or, if◌then◌else◌}
 use Rattle.indexmap.specs.IndexMap.{get, get_by_text}
 use Rattle.batch_history.specs.Answers.{instances_of_job, running_executions}
-use Rattle.records.specs.declared.name_lists.NameLists.{NameLists}
+use Rattle.record_lists.specs.declared.name_lists.NameLists.{NameLists}
+pub use Rattle.record_lists.specs.Numbers.{numbers_named, without_number}
 use Rattle.batch_history.specs.Replies.{is_running_in}
 use Rattle.batch_history.specs.Restarts.{works_of_step}
 use Rattle.batch_history.specs.declared.rows.ExecutionRow.{ExecutionRow}
@@ -16,10 +17,6 @@ use Rattle.records.specs.Belonging.{executions_of, works_of, works_of_instance}
 -- the numbers under a number
 abbrev pub numbers_under : NumberLists → ℕ → List ℕ
 numbers_under index q = unwrap_or (get nat_eq index.lists q) []
-
--- the numbers under a name
-abbrev pub numbers_named : NameLists → List ℕ → List ℕ
-numbers_named index q = unwrap_or (get_by_text index.lists q) []
 
 -- the numbers of the unfinished job executions under a name
 abbrev pub numbers_running : RunningNames → List ℕ → List ℕ
@@ -37,11 +34,6 @@ numbers_of_step index i q = numbers_if_there (get nat_eq index.lists i) q
 -- whether a job instance has an index by step
 abbrev pub has_steps : StepLists → ℕ → Bool
 has_steps index i = is_some (get nat_eq index.lists i)
-
--- the numbers without the first occurrence of this one
-abbrev pub without_number : ℕ → List ℕ → List ℕ
-without_number number [] = []
-without_number number (n ∷ rest) = if n == number then rest else n ∷ without_number number rest
 
 -- the rows are keyed. The indexes have the numbers of each job's job instances, each job instance's job
 -- executions, and each job execution's work items

@@ -1,6 +1,5 @@
 -- The rows of a job repository: four finite maps.
-use Rattle.std.specs.Prelude.{ℕ, ◌≡◌, ◌≢◌, ◌<◌, ◌==◌, ◌&&◌, Bool, Option, Some, None, List, [], ◌∷◌, map, find}
-use Rattle.std.specs.Option.{option_map}
+use Rattle.std.specs.Prelude.{ℕ, ◌≡◌, ◌≢◌, ◌<◌, ◌==◌, Bool, Option, Some, List, [], ◌∷◌, map, find}
 use Rattle.batch_history.specs.declared.rows.JobInstance.{JobInstance}
 use Rattle.batch_history.specs.declared.rows.ExecutionRow.{ExecutionRow}
 use Rattle.batch_history.specs.declared.rows.WorkRow.{WorkRow}
@@ -8,7 +7,7 @@ use Rattle.batch_history.specs.declared.rows.CheckpointRow.{CheckpointRow}
 use Rattle.batch_history.specs.Checkpoints.{InstanceStep}
 use Rattle.batch_history.specs.Replies.{is_execution}
 use Rattle.batch_history.specs.Works.{is_work}
-use Rattle.walk_rules.specs.Keys.{is_same_key}
+pub use Rattle.record_lists.specs.Places.{step_of, is_place, mark_at, AreApart}
 
 -- the job instances, job executions and work items by their numbers, and the checkpoints by job instance and
 -- step (`mark_at`), in any order
@@ -47,22 +46,6 @@ work_numbers rows = map (λ row. row.work) rows
 
 abbrev pub is_instance : ℕ → JobInstance → Bool
 is_instance i row = row.instance == i
-
--- the step of a job instance that a checkpoint belongs to
-abbrev pub step_of : CheckpointRow → InstanceStep
-step_of row = record { instance = row.instance; step = row.step }
-
-abbrev pub is_place : InstanceStep → CheckpointRow → Bool
-is_place p row = row.instance == p.instance && is_same_key row.step p.step
-
--- the checkpoint of a step of a job instance
-abbrev pub mark_at : List CheckpointRow → InstanceStep → Option (List ℕ)
-mark_at rows p = option_map (λ row. row.mark) (find (is_place p) rows)
-
--- no two checkpoints belong to the same step of a job instance
-abbrev pub AreApart : List CheckpointRow → Type 0
-AreApart [] = Unit {0}
-AreApart (row ∷ rest) = (mark_at rest (step_of row) ≡ None) × AreApart rest
 
 -- job instances, job executions and work items are each in ascending order of number; a step of a job
 -- instance has one checkpoint at most

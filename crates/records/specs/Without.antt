@@ -1,12 +1,8 @@
 -- The rows without those of a removed job instance.
-use Rattle.std.specs.Prelude.{ℕ, ◌==◌, Bool, not, List, filter}
+use Rattle.std.specs.Prelude.{ℕ, ◌==◌}
 use Rattle.batch_history.specs.Rows.{instances_there, executions_there, works_there}
-use Rattle.batch_history.specs.declared.rows.CheckpointRow.{CheckpointRow}
+pub use Rattle.record_lists.specs.Places.{checkpoints_there}
 use Rattle.records.specs.Maps.{Maps}
-
--- the checkpoints of the job instances that haven't been removed
-abbrev pub checkpoints_there : (ℕ → Bool) → List CheckpointRow → List CheckpointRow
-checkpoints_there gone rows = filter (λ row. not (gone row.instance)) rows
 
 -- the rows without a job instance, its job executions, their work items and its checkpoints; all other rows
 -- are unchanged

@@ -1,8 +1,6 @@
 //! The rows of a job repository: job instances, job executions, work items and checkpoints.
 #![tactic(auto)]
 
-mod checkpoint_lists;
-mod name_lists;
 mod number_lists;
 mod readers;
 mod records;
@@ -11,6 +9,6 @@ mod running;
 mod running_names;
 mod step_lists;
 
-pub use name_lists::NameLists;
 pub use readers::{ExecutionsOf, InstancesOf, Names, WorksOf};
+pub use record_lists::NameLists;
 pub use records::Records;

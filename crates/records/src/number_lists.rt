@@ -3,9 +3,9 @@ ghost use Rattle.std.specs.Prelude.{◌≡◌, ℕ, ◌==◌, ◌++◌, ◌∷�
 ghost use Rattle.records.specs.Indexes.{numbers_under, without_number};
 ghost use Rattle.records.specs.Maps.{AreRising};
 
-use crate::name_lists::remove_number;
 use batch_ids::{Listed, OutOfMemory};
 use indexmap::IndexMap;
+use record_lists::remove_number;
 use std::alloc::Global;
 
 /// Lists of numbers by number: the rows that belong to another row. A number without rows has an

@@ -11,14 +11,11 @@ ghost use Rattle.batch_history.specs.Replies.{instance_in};
 ghost use Rattle.batch_history.specs.Restarts.{newest_work, works_of_step};
 ghost use Rattle.records.specs.Indexes.{AreStepped, AreStepsOf, has_steps, numbers_named, numbers_of_step, numbers_under};
 ghost use Rattle.records.specs.Maps.{no_rows, is_instance, is_place, mark_at, instance_numbers, execution_numbers, work_numbers, AreBelow, AreKeyed, AreRising, SetsCheckpoint, MayReplaceExecution, MayReplaceWork};
-ghost use Rattle.records.specs.Placed.{is_elsewhere, with_mark, without_mark};
 ghost use Rattle.records.specs.Left.{is_work_of_instance, job_names, is_first_of_job, names_left, instances_left, executions_of, executions_left, works_of, works_left, works_numbered, works_of_instance};
 ghost use Rattle.batch_history.specs.Rows.{instances_there, executions_there, works_there};
 ghost use Rattle.records.specs.Slots.{rows_left};
 ghost use Rattle.records.specs.Without.{checkpoints_there, without_instance};
 
-use crate::checkpoint_lists::CheckpointLists;
-use crate::name_lists::NameLists;
 use crate::number_lists::{NumberLists, are_rising, numbers_through};
 use crate::readers::{ExecutionsOf, InstancesOf, Names, WorksOf};
 use crate::row_list::{RowList, RowsLeft};
@@ -27,6 +24,7 @@ use crate::step_lists::StepLists;
 use batch_history::{CheckpointRow, CountsByStatus, ExecutionRow, JobInstance, WorkRow};
 use batch_ids::{ExecutionId, InstanceId, OutOfMemory, Text, WorkId};
 use job_walk::WorkKey;
+use record_lists::{CheckpointLists, NameLists};
 use std::alloc::Global;
 use std::marker::Model;
 
@@ -152,10 +150,8 @@ impl Records {
     pub(crate) fn is_first_of_job(&self, row: &JobInstance) -> bool
         ensures { result ≡ is_first_of_job self.now.instances row.now }
     {
-        match self.instances_by_name.under(row.job.as_str()).first() {
-            Some(first) => *first == row.instance.value(),
-            None => false,
-        }
+        self.instances_by_name
+            .is_first(row.job.as_str(), row.instance.value())
     }
 
     /// Returns the job instances of a job, in ascending order of their numbers. There are fewer

@@ -1,9 +1,9 @@
 ghost use Rattle.std.specs.Prelude.{ℕ, ◌≡◌, ◌==◌, ◌&&◌, ◌||◌, ◌++◌, ◌∷◌, [], true, false, is_some, List, bytes_eq, IfSome, OnOk, OnErr, if◌then◌else◌};
 ghost use Rattle.records.specs.Indexes.{has_steps, numbers_named, numbers_of_step, without_number};
 
-use crate::name_lists::NameLists;
 use batch_ids::OutOfMemory;
 use indexmap::IndexMap;
+use record_lists::NameLists;
 use std::alloc::Global;
 
 /// The work items of each step, for some of the job instances.

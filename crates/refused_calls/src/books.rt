@@ -14,12 +14,12 @@ use script_text::{Command, answer_text, read_command, reply_text};
 use std::sync::Wait;
 
 impl<const LIMIT: u64> Answers for Book<LIMIT> {
-    fn act<R: Wait>(&mut self, _rt: &R, by: u64, call: Call, at: Moment) -> Replied {
-        Book::act(self, by, call, at)
+    fn act<R: Wait>(&mut self, _rt: &R, by: u64, call: Call, at: Moment) -> Result<Replied> {
+        Ok(Book::act(self, by, call, at))
     }
 
-    fn ask<R: Wait>(&mut self, _rt: &R, query: Query) -> Answered {
-        Book::ask(self, &query)
+    fn ask<R: Wait>(&mut self, _rt: &R, query: Query) -> Result<Answered> {
+        Ok(Book::ask(self, &query))
     }
 
     fn other<R: Wait + Print + AllocGlobal>(&mut self, rt: &R, _line: Line<'_>) -> Result<()> {
@@ -115,12 +115,12 @@ fn about_command<R: Print + AllocGlobal, const LIMIT: u64>(
 }
 
 impl<const LIMIT: u64> Answers for Repository<LIMIT> {
-    fn act<R: Wait>(&mut self, _rt: &R, by: u64, call: Call, at: Moment) -> Replied {
-        self.apply(by, &call, at)
+    fn act<R: Wait>(&mut self, _rt: &R, by: u64, call: Call, at: Moment) -> Result<Replied> {
+        Ok(self.apply(by, &call, at))
     }
 
-    fn ask<R: Wait>(&mut self, _rt: &R, query: Query) -> Answered {
-        Repository::ask(self, &query)
+    fn ask<R: Wait>(&mut self, _rt: &R, query: Query) -> Result<Answered> {
+        Ok(Repository::ask(self, &query))
     }
 
     /// `show`, or a word about a call or a query, which follows it.

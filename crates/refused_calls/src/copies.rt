@@ -108,14 +108,14 @@ impl<N: Site> Shelf<N> {
 }
 
 impl<N: Site> Answers for Shelf<N> {
-    fn act<R: Wait>(&mut self, _rt: &R, _by: u64, call: Call, at: Moment) -> Replied {
+    fn act<R: Wait>(&mut self, _rt: &R, _by: u64, call: Call, at: Moment) -> Result<Replied> {
         let session = &mut self.readers.caller;
-        self.desk.act(session, call, at, &self.table)
+        Ok(self.desk.act(session, call, at, &self.table))
     }
 
-    fn ask<R: Wait>(&mut self, _rt: &R, query: Query) -> Answered {
+    fn ask<R: Wait>(&mut self, _rt: &R, query: Query) -> Result<Answered> {
         let session = &mut self.readers.caller;
-        self.desk.ask(session, &query, &self.table)
+        Ok(self.desk.ask(session, &query, &self.table))
     }
 
     /// `alone` and `shared` with a query ask a copy. `bring` updates the copy alone, `publish` the

@@ -58,17 +58,18 @@ impl<N: Site, const LIMIT: u64> Held<N, LIMIT> {
 }
 
 impl<N: Site, const LIMIT: u64> Answers for Held<N, LIMIT> {
-    fn act<R: Wait>(&mut self, _rt: &R, by: u64, call: Call, at: Moment) -> Replied {
-        if by == 1 {
+    fn act<R: Wait>(&mut self, _rt: &R, by: u64, call: Call, at: Moment) -> Result<Replied> {
+        let reply = if by == 1 {
             self.desk.act(&mut self.readers.one, call, at, &self.table)
         } else {
             self.desk
                 .act(&mut self.readers.other, call, at, &self.table)
-        }
+        };
+        Ok(reply)
     }
 
-    fn ask<R: Wait>(&mut self, _rt: &R, query: Query) -> Answered {
-        self.desk.ask(&mut self.readers.one, &query, &self.table)
+    fn ask<R: Wait>(&mut self, _rt: &R, query: Query) -> Result<Answered> {
+        Ok(self.desk.ask(&mut self.readers.one, &query, &self.table))
     }
 
     /// `show`, or `look` and a query, which the watcher asks.

@@ -70,6 +70,19 @@ pub(crate) struct Script<'a> {
     pub(crate) first: Line<'a>,
     /// The lines that it answers.
     pub(crate) lines: &'a str,
+    /// The number of read copies of each kind, if it is an operator.
+    pub(crate) copies: u64,
+}
+
+impl<'a> Script<'a> {
+    /// Returns the same script without marks around the making of its object.
+    pub(crate) fn unmarked(self) -> Script<'a> {
+        Script {
+            first: self.first.unmarked(),
+            lines: self.lines,
+            copies: self.copies,
+        }
+    }
 }
 
 /// Prints a line of a script, ahead of its call, and returns it.
@@ -113,11 +126,11 @@ pub(crate) fn tell_answer(rt: &(impl Print + AllocGlobal), answer: Answered) -> 
 
 /// An object that answers lines.
 pub(crate) trait Answers {
-    /// Makes the call of a line, by the session that the line names.
-    fn act<R: Wait>(&mut self, rt: &R, by: u64, call: Call, at: Moment) -> Replied;
+    /// Makes the call of a line, by the session that the line names. Fails if it has no such session.
+    fn act<R: Wait>(&mut self, rt: &R, by: u64, call: Call, at: Moment) -> Result<Replied>;
 
-    /// Asks the query of a line.
-    fn ask<R: Wait>(&mut self, rt: &R, query: Query) -> Answered;
+    /// Asks the query of a line. Fails if it has no session that could.
+    fn ask<R: Wait>(&mut self, rt: &R, query: Query) -> Result<Answered>;
 
     /// Answers a line that is neither a call nor a query.
     fn other<R: Wait + Print + AllocGlobal>(&mut self, rt: &R, line: Line<'_>) -> Result<()>;
@@ -134,13 +147,13 @@ fn answer_line<A: Answers, R: Wait + Print + AllocGlobal>(
             line.mark(alloc);
             let reply = object.act(rt, by, call, at);
             line.mark(alloc);
-            tell_reply(rt, reply)
+            tell_reply(rt, reply?)
         }
         Command::Ask(query) => {
             line.mark(alloc);
             let answer = object.ask(rt, query);
             line.mark(alloc);
-            tell_answer(rt, answer)
+            tell_answer(rt, answer?)
         }
         Command::BadLine => object.other(rt, line),
         Command::TextTooLong => bail!("a text is too long"),

@@ -6,9 +6,10 @@
 //! size that nothing else asks for. `tools/refuse_each_call.py` writes the scripts, refuses each
 //! request between the marks in turn, and compares what the lines around it print.
 //!
-//! The first line of a script names its kind, and the second one is what its object is made of, as
-//! a rule a catalogue. If that line is marked, making the object is the call, and if it is refused
-//! memory, the object is made again without marks. The other lines are for the object.
+//! The first line of a script names its kind, and for an operator the number of its read copies, if
+//! there is more than one. The second line is what its object is made of, as a rule a catalogue. If
+//! that line is marked, making the object is the call, and if it is refused memory, the object is
+//! made again without marks. The other lines are for the object.
 #![tactic(auto)]
 
 mod books;
@@ -118,15 +119,19 @@ fn main(rt: HostRuntime) -> Result<()> {
     let word = env::args(&rt)?.nth(1);
     let name = word.as_ref().map_or(EXAMPLE, |word| word.as_str());
     let text = fs::read_to_string(&rt, name)?;
-    let (kind, rest) = text
+    let (head, rest) = text
         .as_str()
         .split_once('\n')
         .unwrap_or((text.as_str(), ""));
+    let (kind, copies) = head.split_once(' ').unwrap_or((head, "1"));
     let (first, lines) = rest.split_once('\n').unwrap_or((rest, ""));
-    let first = Line::new(first);
-    if !run_kind(&rt, kind, Script { first, lines })? {
-        let first = first.unmarked();
-        run_kind(&rt, kind, Script { first, lines })?;
+    let script = Script {
+        first: Line::new(first),
+        lines,
+        copies: copies.parse::<u64>()?,
+    };
+    if !run_kind(&rt, kind, script)? {
+        run_kind(&rt, kind, script.unmarked())?;
     }
     Ok(())
 }

@@ -1,13 +1,19 @@
-//! Operators, by their own methods.
+//! Operators, by their own methods. Beside calls and queries they answer these lines, in which a
+//! session is named by its place among the open ones, from 1 on:
+//!
+//! - `open` and `close`: one more session is opened, and the last one is closed.
+//! - `ask 2 QUERY`: this session asks the query. By itself a query is asked by session 1.
+//! - `meet 1 2`, `operations_at_least 2`, `stop_seen 2 65`: these calls of sessions; `show 2` prints one.
+//! - `publish 0`: the read copies with this index are updated.
 ghost use Rattle.std.specs.Prelude.{◌≡◌};
 ghost use Rattle.batch_operator.specs.Calls.{IsAnswered, IsReplied};
 
 use crate::desks::show_session;
 use crate::lines::{
-    Answered, Answers, Line, Replied, Script, Tried, answer_lines, query_in, tell, tell_answer,
+    Answered, Answers, Line, Replied, Script, answer_lines, query_in, tell, tell_answer,
     tell_refused,
 };
-use anyhow::{Result, bail};
+use anyhow::{Result, anyhow, bail};
 use batch_ids::{ExecutionId, Moment};
 use batch_operator::{CopyCount, Operator};
 use jsl_json::read_catalogue;
@@ -15,19 +21,59 @@ use jsl_model::Catalogue;
 use op_log::{Call, Query};
 use seat_rules::{BookSeat, SeatTable, Site};
 use sessions::{Session, meet};
+use std::alloc::Global;
 use std::marker::Brand;
 use std::sync::Wait;
 
-/// An operator with one read copy of each kind. Two sessions make calls and queries, one watches,
-/// and two read copies only.
+/// The number of sessions that are open when the first line comes.
+const SESSIONS: u64 = 5;
+
+/// An operator with its open sessions. Lines name these by their places, from 1 on.
 #[derive(Drop)]
 struct Stage<'a, N: Site> {
     operator: &'a Operator<N>,
-    one: Session<N>,
-    other: Session<N>,
-    watcher: Session<N>,
-    of_repositories: Session<N>,
-    of_counts: Session<N>,
+    sessions: Vec<Session<N>>,
+}
+
+/// Returns the session at a place.
+fn session_of<N: Site>(sessions: &mut [Session<N>], place: u64) -> Result<&mut Session<N>> {
+    let before = place
+        .checked_sub(1)
+        .ok_or_else(|| anyhow!("there is no session 0"))?;
+    sessions
+        .get_mut(before as usize)
+        .ok_or_else(|| anyhow!("there is no session {place}"))
+}
+
+/// Returns the sessions at two places, of which the first is the lower.
+fn two_of<N: Site>(
+    sessions: &mut [Session<N>],
+    one: u64,
+    other: u64,
+) -> Result<(&mut Session<N>, &mut Session<N>)> {
+    if other > sessions.len() as u64 || one == other {
+        bail!("sessions {one} and {other} do not meet");
+    }
+    let (before, behind) = sessions.split_at_mut(other.saturating_sub(1) as usize);
+    Ok((session_of(before, one)?, session_of(behind, 1)?))
+}
+
+/// Lets the sessions at two places meet.
+fn meet_of<N: Site>(
+    sessions: &mut [Session<N>],
+    one: u64,
+    other: u64,
+    table: &SeatTable,
+) -> Result<()>
+    requires table { table.now ≡ N.place }
+{
+    let (first, second) = two_of(sessions, one.min(other), one.max(other))?;
+    if one < other {
+        meet(first, second, table);
+    } else {
+        meet(second, first, table);
+    }
+    Ok(())
 }
 
 /// Makes a call by the operator's method for it.
@@ -85,103 +131,146 @@ fn ask_query<N: Site>(
 }
 
 impl<N: Site> Stage<'_, N> {
-    /// Asks a query by the watcher, after it has been shown all operations.
-    fn look<R: Wait + Print + AllocGlobal>(&mut self, rt: &R, line: &str) -> Result<()> {
-        let query = query_in(rt.alloc(), line)?;
-        let shown = self.operator.operations_at_least(&mut self.watcher);
-        let answer = ask_query(rt, self.operator, &mut self.watcher, query);
-        println!(rt; "{shown} operations")?;
+    /// Opens one more session, and prints its number.
+    fn open<R: Wait + Print + AllocGlobal>(&mut self, rt: &R, line: Line<'_>) -> Result<()> {
+        line.mark(rt.alloc());
+        let opened = self.operator.open_session(rt);
+        line.mark(rt.alloc());
+        let session = opened?;
+        println!(rt; "session {}", session.number())?;
+        self.sessions.push(session)?;
+        Ok(())
+    }
+
+    /// Asks a query by the session at a place.
+    fn ask_by<R: Wait + Print + AllocGlobal>(
+        &mut self,
+        rt: &R,
+        line: Line<'_>,
+        place: u64,
+        query: &str,
+    ) -> Result<()> {
+        let session = session_of(&mut self.sessions, place)?;
+        let query = query_in(rt.alloc(), query)?;
+        line.mark(rt.alloc());
+        let answer = ask_query(rt, self.operator, session, query);
+        line.mark(rt.alloc());
         tell_answer(rt, answer)
     }
 
-    /// Asks a query by the second session.
-    fn ask_other<R: Wait + Print + AllocGlobal>(&mut self, rt: &R, line: Line<'_>) -> Result<()> {
-        let query = query_in(rt.alloc(), line.parted().1)?;
-        line.mark(rt.alloc());
-        let answer = ask_query(rt, self.operator, &mut self.other, query);
-        line.mark(rt.alloc());
-        tell_answer(rt, answer)
-    }
-
-    /// Updates the read copies, if there are any.
-    fn publish<R: Wait + Print + AllocGlobal>(&mut self, rt: &R, line: Line<'_>) -> Result<()> {
-        if self.operator.copies() == 0 {
-            bail!("there is no read copy");
+    /// Updates the read copies with an index.
+    fn publish<R: Wait + Print + AllocGlobal>(
+        &mut self,
+        rt: &R,
+        line: Line<'_>,
+        copy: u64,
+    ) -> Result<()> {
+        let place = copy as usize;
+        if place >= self.operator.copies() {
+            bail!("there is no copy {copy}");
         }
         line.mark(rt.alloc());
-        let published = self.operator.publish(rt, 0);
+        let published = self.operator.publish(rt, place);
         line.mark(rt.alloc());
         tell(rt, published)
     }
 
-    /// Prints the sessions.
-    fn show(&mut self, rt: &impl Print) -> Result<()> {
-        show_session(rt, &self.one)?;
-        show_session(rt, &self.other)?;
-        show_session(rt, &self.of_repositories)?;
-        show_session(rt, &self.of_counts)
-    }
-
-    /// Asks a query by a session that reads the copy of a repository, and the counts by one that
-    /// reads the other copy.
-    fn copies<R: Wait + Print + AllocGlobal>(&mut self, rt: &R, line: &str) -> Result<()> {
-        let query = query_in(rt.alloc(), line)?;
-        let answer = ask_query(rt, self.operator, &mut self.of_repositories, query);
-        tell_answer(rt, answer)?;
-        let answer = self.operator.status_counts(rt, &mut self.of_counts);
-        tell_answer(rt, answer)
-    }
-
-    /// Looks for a stop of two job executions that share a word.
-    fn stops(&mut self, rt: &impl Print) -> Result<()> {
-        let first = self.operator.stop_seen(&mut self.one, ExecutionId::new(1));
-        let same_word = self.operator.stop_seen(&mut self.one, ExecutionId::new(65));
-        println!(rt; "stops seen: {first}, {same_word}")?;
+    /// Prints whether a session sees that a job execution was asked to stop.
+    fn stop_seen(&mut self, rt: &impl Print, place: u64, execution: &str) -> Result<()> {
+        let execution = ExecutionId::new(execution.parse::<u64>()?);
+        let session = session_of(&mut self.sessions, place)?;
+        println!(rt; "{}", self.operator.stop_seen(session, execution))?;
         Ok(())
     }
-}
 
-impl<N: Site> Answers for Stage<'_, N> {
-    fn act<R: Wait>(&mut self, rt: &R, by: u64, call: Call, at: Moment) -> Replied {
-        if by == 1 {
-            make_call(rt, self.operator, &mut self.one, call, at)
-        } else {
-            make_call(rt, self.operator, &mut self.other, call, at)
-        }
+    /// Prints the number of operations that a session is shown.
+    fn operations_at_least(&mut self, rt: &impl Print, place: u64) -> Result<()> {
+        let session = session_of(&mut self.sessions, place)?;
+        println!(rt; "{} operations", self.operator.operations_at_least(session))?;
+        Ok(())
     }
 
-    fn ask<R: Wait>(&mut self, rt: &R, query: Query) -> Answered {
-        ask_query(rt, self.operator, &mut self.one, query)
+    /// Prints a session.
+    fn show(&mut self, rt: &impl Print, place: u64) -> Result<()> {
+        show_session(rt, session_of(&mut self.sessions, place)?)
     }
 
-    fn other<R: Wait + Print + AllocGlobal>(&mut self, rt: &R, line: Line<'_>) -> Result<()> {
-        let (word, rest) = line.parted();
-        match word {
-            "publish" => self.publish(rt, line),
-            "other" => self.ask_other(rt, line),
-            "look" => self.look(rt, rest),
-            "copies" => self.copies(rt, rest),
-            "show" => self.show(rt),
-            "stops" => self.stops(rt),
-            "meet" => {
-                meet(&mut self.one, &mut self.other, self.operator.table());
-                Ok(())
-            }
+    /// Lets two sessions meet.
+    fn meet(&mut self, one: u64, other: &str) -> Result<()> {
+        let other = other.parse::<u64>()?;
+        meet_of(&mut self.sessions, one, other, self.operator.table())
+    }
+
+    /// Answers a line whose first number is the place of a session, or the index of read copies.
+    fn answer_at<R: Wait + Print + AllocGlobal>(
+        &mut self,
+        rt: &R,
+        line: Line<'_>,
+        number: &str,
+        rest: &str,
+    ) -> Result<()> {
+        let number = number.parse::<u64>()?;
+        match line.parted().0 {
+            "ask" => self.ask_by(rt, line, number, rest),
+            "meet" => self.meet(number, rest),
+            "operations_at_least" => self.operations_at_least(rt, number),
+            "publish" => self.publish(rt, line, number),
+            "show" => self.show(rt, number),
+            "stop_seen" => self.stop_seen(rt, number, rest),
             _ => bail!("{}: no line of an operator", line.text),
         }
     }
 }
 
+impl<N: Site> Answers for Stage<'_, N> {
+    fn act<R: Wait>(&mut self, rt: &R, by: u64, call: Call, at: Moment) -> Result<Replied> {
+        match session_of(&mut self.sessions, by) {
+            Ok(session) => Ok(make_call(rt, self.operator, session, call, at)),
+            Err(error) => {
+                drop(call);
+                Err(error)
+            }
+        }
+    }
+
+    /// Asks the query by the first session.
+    fn ask<R: Wait>(&mut self, rt: &R, query: Query) -> Result<Answered> {
+        match session_of(&mut self.sessions, 1) {
+            Ok(session) => Ok(ask_query(rt, self.operator, session, query)),
+            Err(error) => {
+                drop(query);
+                Err(error)
+            }
+        }
+    }
+
+    fn other<R: Wait + Print + AllocGlobal>(&mut self, rt: &R, line: Line<'_>) -> Result<()> {
+        let (word, rest) = line.parted();
+        match word {
+            "close" => {
+                drop(self.sessions.pop());
+                Ok(())
+            }
+            "open" => self.open(rt, line),
+            _ => {
+                let (number, rest) = rest.split_once(' ').unwrap_or((rest, ""));
+                self.answer_at(rt, line, number, rest)
+            }
+        }
+    }
+}
+
 /// Opens the sessions of an operator.
-fn stage_of<'a, N: Site>(rt: &impl Wait, operator: &'a Operator<N>) -> Tried<Stage<'a, N>> {
-    Ok(Stage {
-        operator,
-        one: operator.open_session(rt)?,
-        other: operator.open_session(rt)?,
-        watcher: operator.open_session(rt)?,
-        of_repositories: operator.open_session(rt)?,
-        of_counts: operator.open_session(rt)?,
-    })
+fn stage_of<'a, N: Site>(
+    rt: &impl Wait,
+    alloc: Global,
+    operator: &'a Operator<N>,
+) -> Result<Stage<'a, N>> {
+    let mut sessions = Vec::new(alloc);
+    for _ in 0..SESSIONS {
+        sessions.push(operator.open_session(rt)?)?;
+    }
+    Ok(Stage { operator, sessions })
 }
 
 fn answer_by<N: Site, R: Wait + Print + AllocGlobal>(
@@ -189,7 +278,7 @@ fn answer_by<N: Site, R: Wait + Print + AllocGlobal>(
     script: Script<'_>,
     operator: &Operator<N>,
 ) -> Result<()> {
-    let mut stage = stage_of(rt, operator)?;
+    let mut stage = stage_of(rt, rt.alloc(), operator)?;
     let answered = answer_lines(rt, &mut stage, script.lines);
     drop(stage);
     answered
@@ -217,8 +306,8 @@ fn answer_at<N: Site, R: Wait + Print + AllocGlobal>(
     requires seat { seat ≡ N.place.table }
     requires catalogue { catalogue ≡ N.place.catalogue }
 {
-    let Some(copies) = CopyCount::new(1) else {
-        bail!("there is no copy");
+    let Some(copies) = CopyCount::new(script.copies) else {
+        bail!("no such number of read copies");
     };
     script.first.mark(rt.alloc());
     let made = Operator::<N>::new(rt.alloc(), table, seat, catalogue, copies);

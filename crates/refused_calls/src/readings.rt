@@ -1,10 +1,11 @@
 //! Calls that read or write texts: catalogues, lines of a script and of a run, replies.
-use crate::lines::{Line, Script, echoed, tell, tell_refused, tell_text};
+use crate::lines::{Line, Script, echoed, tell_refused, tell_text};
 use crate::told;
 use anyhow::{Result, bail};
 use jsl_json::read_catalogue;
 use script_engine::{
-    Counted, EngineFault, Line as Read, Lines, answer_script, fault_text, read_start, run_script,
+    Counted, EngineFault, Line as Read, Lines, Summary, answer_script, fault_text, read_start,
+    run_script,
 };
 use script_text::CommandReader;
 
@@ -119,6 +120,19 @@ pub(crate) fn run_lines<R: Print + AllocGlobal>(rt: &R, script: Script<'_>) -> R
     }
 }
 
+/// Prints how a script ended, and its replies. Returns whether there was the memory for it.
+fn tell_ran<R: Print>(
+    rt: &R,
+    outcome: std::result::Result<Summary, EngineFault>,
+    written: Vec<u8>,
+) -> Result<bool> {
+    let ran = outcome.is_ok();
+    println!(rt; "{outcome:?}")?;
+    drop(outcome);
+    tell_text(rt, written)?;
+    Ok(ran)
+}
+
 /// Runs a script. The capacity for its replies is requested before the mark.
 pub(crate) fn run_whole<R: Print + AllocGlobal>(rt: &R, script: Script<'_>) -> Result<bool> {
     let alloc = rt.alloc();
@@ -130,10 +144,7 @@ pub(crate) fn run_whole<R: Print + AllocGlobal>(rt: &R, script: Script<'_>) -> R
         &mut Counted::new(&mut written),
     );
     script.first.mark(alloc);
-    let ran = outcome.is_ok();
-    tell(rt, outcome)?;
-    tell_text(rt, written)?;
-    Ok(ran)
+    tell_ran(rt, outcome, written)
 }
 
 /// Answers a script that is a slice of bytes.
@@ -142,8 +153,5 @@ pub(crate) fn answer_whole<R: Print + AllocGlobal>(rt: &R, script: Script<'_>) -
     script.first.mark(alloc);
     let (written, outcome) = answer_script(alloc, script.lines.as_bytes());
     script.first.mark(alloc);
-    let ran = outcome.is_ok();
-    tell(rt, outcome)?;
-    tell_text(rt, written)?;
-    Ok(ran)
+    tell_ran(rt, outcome, written)
 }

@@ -13,7 +13,7 @@ use Rattle.batch_history.specs.declared.rows.WorkRow.{WorkRow}
 use Rattle.records.specs.Left.{executions_of, works_of}
 use Rattle.records.specs.Maps.{Maps}
 use Rattle.records.specs.Without.{without_instance}
-use Rattle.records.proofs.Marks.{marks_there}
+use Rattle.record_lists.proofs.Marks.{marks_there}
 use Rattle.restart_rules.specs.Restarting.{rows_over}
 
 -- what a work item tells of its work key

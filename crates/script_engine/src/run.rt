@@ -1,4 +1,6 @@
-ghost use Rattle.std.specs.Prelude.{◌≡◌, [], IfOk, box_value};
+ghost use Rattle.std.specs.Prelude.{◌≡◌, ◌≤◌, [], length, Err, IfOk, box_value};
+ghost use Rattle.script_lines.specs.declared.input_buffer.TheConstants.{MAX_READS};
+ghost use Rattle.script_engine.specs.declared.fault.EngineFault.TheVariants.{Read};
 ghost use Rattle.seq_repository.specs.Kept.{StandsFor};
 ghost use Rattle.script_engine.specs.Script.{begin};
 ghost use Rattle.script_engine.specs.Ran.{Ran, RanInMemory, RanSoFar, HoldsReplies, has_writer_failed};
@@ -114,11 +116,12 @@ pub fn run_script<R: Source, W: Sink>(
 /// run ended. The text has the replies to all lines, or the line of the catalogue's fault.
 ///
 /// After `OutOfMemory` the text has the replies to the lines before. After `Write`, which means
-/// that memory for the text was refused, it has a beginning of them. No read fails. `Read` could be
-/// returned only after 2^40 reads.
+/// that memory for the text was refused, it has a beginning of them. No read fails. `Read` is
+/// returned only for a script of at least [`MAX_READS`](crate::MAX_READS) bytes.
 pub fn answer_script(alloc: Global, script: &[u8]) -> (Vec<u8>, Result<Summary, EngineFault>)
     ensures replies { HoldsReplies script.now result.0.items result.1 }
     ensures ran { RanInMemory script.now result.0.items result.1 }
+    ensures long { result.1 ≡ Err Read → MAX_READS ≤ length script.now }
 {
     let mut reader = SliceSource::new(script);
     let mut writer = Counted::new(Vec::new(alloc));

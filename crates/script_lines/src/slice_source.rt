@@ -1,4 +1,4 @@
-ghost use Rattle.std.specs.Prelude.{◌≡◌, Some};
+ghost use Rattle.std.specs.Prelude.{◌≡◌, ◌≤◌, ◌+◌, length, Some};
 ghost use Rattle.script_lines.specs.Tape.{nothing_past, told_in_memory};
 
 use crate::device::{DeviceFault, Source};
@@ -9,6 +9,7 @@ use crate::tape::{Answer, Tape};
 pub struct SliceSource<'a> {
     rest: &'a [u8],
     tape: Tape,
+    ghost few: { tape.past.calls ≤ length tape.past.bytes + tape.past.ends + tape.past.narrow },
 }
 
 impl<'a> SliceSource<'a> {

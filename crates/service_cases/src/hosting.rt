@@ -20,23 +20,8 @@ pub(crate) fn operator_of<N: Site>(
     requires seat { seat ≡ N.place.table }
     requires catalogue { catalogue ≡ N.place.catalogue }
 {
-    operator_with::<N>(alloc, table, seat, catalogue, 1)
-}
-
-/// Returns an operator with `copies` read copies of each kind.
-pub(crate) fn operator_with<N: Site>(
-    alloc: Global,
-    table: SeatTable,
-    seat: BookSeat,
-    catalogue: Catalogue,
-    copies: u64,
-) -> Result<Operator<N>>
-    requires table { table ≡ N.place }
-    requires seat { seat ≡ N.place.table }
-    requires catalogue { catalogue ≡ N.place.catalogue }
-{
-    let Some(copies) = CopyCount::new(copies) else {
-        bail!("no such number of read copies");
+    let Some(copies) = CopyCount::new(1) else {
+        bail!("there is no read copy");
     };
     Ok(Operator::<N>::new(alloc, table, seat, catalogue, copies)?)
 }

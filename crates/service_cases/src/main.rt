@@ -1,11 +1,6 @@
-//! Runs scripts, scripts on an operator, and workers, one after another. The file `stdout` has each
-//! line of output.
+//! Runs threads and workers, one case after another. The file `stdout` has each line of output.
 //!
-//! - Scripts: reports for each whether its replies are those of a file, and the first line in which
-//!   they differ. The scripts, the replies and the list of both are in `data/`.
-//! - Scripts on an operator: reports the same for those in `data/operator/`. Then it runs four
-//!   threads on one operator, a full desk, sessions that read several read copies, and a session
-//!   that is dropped.
+//! - Four threads work on one operator at once.
 //! - Workers with an operator, and with a port that refuses. Two workers run at once, then a step
 //!   in partitions, and a job of built-in artifacts. A worker and a pool report, and a work item is
 //!   given up. A chunk's artifacts fault at each of their places, and the kit lacks names. Stops
@@ -13,27 +8,17 @@
 //!   executions. A worker is idle, and each worker of a pool is refused.
 #![tactic(auto)]
 
-mod asking;
 mod built_ins;
 mod chunks;
-mod comparison;
-mod directive;
-mod dropped_sessions;
 mod four_threads;
-mod fronts;
-mod full_desk;
 mod hosting;
 mod memory;
-mod operator_cases;
 mod pools;
 mod ports;
 mod quiet;
 mod refused_pools;
 mod refusing;
 mod reports;
-mod script;
-mod script_cases;
-mod stage;
 mod staged;
 mod stops;
 mod turns;
@@ -41,17 +26,12 @@ mod turns;
 use anyhow::Result;
 use built_ins::print_built_ins;
 use chunks::{print_ended_early, print_faults, print_unknown_names};
-use dropped_sessions::print_dropped_session;
 use four_threads::print_four_threads;
-use fronts::print_fronts;
-use full_desk::print_full_desk;
-use operator_cases::run_operator_cases;
 use pools::{print_ahead, print_partitions, print_together};
 use ports::print_unfinished;
 use refused_pools::print_refused_pools;
 use refusing::print_given_up;
 use reports::print_reports;
-use script_cases::run_script_cases;
 use std::sync::Wait;
 use std::thread::Threads;
 use stops::print_stops;
@@ -75,11 +55,6 @@ fn print_workers<R: Threads + Wait + Print + AllocGlobal + Sync>(rt: &R) -> Resu
 }
 
 fn main(rt: HostRuntime) -> Result<()> {
-    run_script_cases(&rt)?;
-    run_operator_cases(&rt)?;
     print_four_threads(&rt)?;
-    print_full_desk(&rt)?;
-    print_fronts(&rt)?;
-    print_dropped_session(&rt)?;
     print_workers(&rt)
 }

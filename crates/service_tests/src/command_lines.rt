@@ -1,5 +1,5 @@
 use crate::flaky::{FlakyReader, FlakyWriter};
-use batch_commands::{Arguments, arguments, program, refuse_words};
+use batch_commands::{program, refuse_words};
 use std::alloc::{AllocError, Global};
 use std::fs::{File, Files};
 use std::io::{Error, ErrorKind, Read};
@@ -12,69 +12,6 @@ const SCRIPT: &[u8] = b"{\"jobs\":[]}\n{\"do\":\"start\",\"by\":1,\"at\":0,\"job
 /// A job of one chunk that filters items, and its start.
 const CHUNK: &[u8] =
     b"{\"jobs\":[{\"id\":\"c\",\"elements\":[{\"kind\":\"step\",\"id\":\"s\",\"chunk\":{\"item-count\":2,\"reader\":{\"ref\":\"count:5\"},\"processor\":{\"ref\":\"odd\"},\"writer\":{\"ref\":\"sink\"}}}]}]}\n{\"job\":\"c\"}\n";
-
-/// The output of this run.
-const CHUNK_RUN: &str =
-    "{\"execution\":1}\n{\"execution\":1,\"exit\":\"COMPLETED\",\"status\":\"COMPLETED\",\"steps\":[{\"exit\":\"COMPLETED\",\"metrics\":{\"COMMIT_COUNT\":3,\"FILTER_COUNT\":2,\"READ_COUNT\":5,\"WRITE_COUNT\":3},\"status\":\"COMPLETED\",\"step\":\"s\"}]}\n";
-
-/// Lines that start nothing, and one that does.
-const STARTS: &[u8] =
-    b"{\"jobs\":[{\"id\":\"a\",\"elements\":[{\"kind\":\"step\",\"id\":\"t\",\"next\":\"s\",\"batchlet\":{\"ref\":\"ok\"}},{\"kind\":\"step\",\"id\":\"s\",\"batchlet\":{\"ref\":\"fail\"}}]}]}\n{\"job\":\"zz\"}\n\n{\"job\":\"a\",\"by\":1}\n{\"job\":\"a\",\"parameters\":{\"k\":\"v\"}}";
-
-/// Their replies, and the line of the job execution, which lists steps by their ids.
-const STARTS_RUN: &str =
-    "{\"refused\":\"JobStartException\"}\n{\"refused\":\"BadLine\"}\n{\"execution\":1}\n{\"execution\":1,\"exit\":\"FAILED\",\"status\":\"FAILED\",\"steps\":[{\"exit\":\"FAILED\",\"metrics\":{},\"status\":\"FAILED\",\"step\":\"s\"},{\"exit\":\"COMPLETED\",\"metrics\":{},\"status\":\"COMPLETED\",\"step\":\"t\"}]}\n";
-
-/// The program's output, and its text on standard error.
-#[derive(Drop)]
-struct Written {
-    out: Vec<u8>,
-    faults: Vec<u8>,
-}
-
-/// Runs the program on these bytes. Returns its exit status.
-fn run<R: Threads + Wait + AllocGlobal + Files<File = File> + Sync>(
-    rt: &R,
-    words: &[&str],
-    input: &[u8],
-    written: &mut Written,
-) -> u8 {
-    program(rt, words, input, &mut written.out, &mut written.faults)
-}
-
-/// Checks whether the program ends with this status and this output, with nothing on standard
-/// error.
-fn writes<R: Threads + Wait + AllocGlobal + Files<File = File> + Sync>(
-    rt: &R,
-    words: &[&str],
-    input: &[u8],
-    status: u8,
-    wanted: &str,
-) -> bool {
-    let mut written = Written {
-        out: Vec::new(rt.alloc()),
-        faults: Vec::new(rt.alloc()),
-    };
-    let found = run(rt, words, input, &mut written);
-    let is_so = written.out.as_slice() == wanted.as_bytes() && written.faults.is_empty();
-    drop(written);
-    found == status && is_so
-}
-
-#[test]
-fn a_script_is_answered_on_the_writer(rt: HostRuntime) {
-    let wanted = "{\"refused\":\"JobStartException\"}\n";
-    assert!(rt; writes(&rt, &["script"], SCRIPT, 0, wanted));
-    assert!(rt; writes(&rt, &["script"], b"", 3, "{\"fault\":\"NotJson\"}\n"));
-}
-
-#[test]
-fn a_catalogue_is_run(rt: HostRuntime) {
-    assert!(rt; writes(&rt, &["run"], CHUNK, 0, CHUNK_RUN));
-    assert!(rt; writes(&rt, &["run", "--workers", "16"], STARTS, 0, STARTS_RUN));
-    let wanted = "{\"fault\":\"NotJson\"}\n";
-    assert!(rt; writes(&rt, &["run", "--workers=1"], b"", 3, wanted));
-}
 
 /// A command, its input of two lines, and the pieces of its output: the reply to the second line,
 /// and the line of a run's job execution.
@@ -239,101 +176,6 @@ fn each_write_of_a_command_may_fail(rt: HostRuntime) -> Result<(), Fail> {
 #[test]
 fn a_failed_device_is_told_where_help_was_asked_for(rt: HostRuntime) {
     assert!(rt; tells_write_fault(&rt, "--help", b"", usize::MAX, 0, b""));
-}
-
-/// Checks whether the program writes help, and nothing on standard error.
-fn helps<R: Threads + Wait + AllocGlobal + Files<File = File> + Sync>(rt: &R) -> bool {
-    let mut written = Written {
-        out: Vec::new(rt.alloc()),
-        faults: Vec::new(rt.alloc()),
-    };
-    let found = run(rt, &["--help"], SCRIPT, &mut written);
-    let is_so = !written.out.is_empty() && written.faults.is_empty();
-    drop(written);
-    found == 0 && is_so
-}
-
-#[test]
-fn help_goes_to_the_writer(rt: HostRuntime) {
-    assert!(rt; helps(&rt));
-    assert!(rt; writes(&rt, &["--version"], SCRIPT, 0, "batchctl 1.0.0-rc.1\n"));
-}
-
-/// Command lines, and the arguments that they give.
-const COMMAND_LINES: [(&[&str], Arguments<'static>); 10] = [
-    (&["script"], Arguments::Script),
-    (
-        &["script", "--log", "night.log"],
-        Arguments::LoggedScript { log: "night.log" },
-    ),
-    (
-        &["script", "--log=a -b"],
-        Arguments::LoggedScript { log: "a -b" },
-    ),
-    (&["run"], Arguments::Run { workers: 2 }),
-    (&["run", "--"], Arguments::Run { workers: 2 }),
-    (&["run", "--workers", "3"], Arguments::Run { workers: 3 }),
-    (
-        &["run", "--workers", "3", "--"],
-        Arguments::Run { workers: 3 },
-    ),
-    (&["run", "--workers", "16"], Arguments::Run { workers: 16 }),
-    (&["run", "--workers=1"], Arguments::Run { workers: 1 }),
-    (&["run", "--workers=+03"], Arguments::Run { workers: 3 }),
-];
-
-#[test]
-fn words_ask_for_a_script_or_a_run(rt: HostRuntime) {
-    for (words, wanted) in &COMMAND_LINES {
-        assert!(rt; arguments(rt.alloc(), words).ok() == Some(*wanted));
-    }
-}
-
-/// Command lines that are refused.
-const MISTAKES: [&[&str]; 20] = [
-    &[],
-    &["script", "night.log"],
-    &["script", "--log"],
-    &["script", "--log", ""],
-    &["script", "--log="],
-    &["script", "--log", "-x"],
-    &["script", "--log=-x"],
-    &["script", "--log", "-"],
-    &["script", "--log", "a", "--"],
-    &["script", "--log", "a", "--log", "b"],
-    &["run", "--log", "a"],
-    &["--log", "a", "script"],
-    &["scrip"],
-    &["Script"],
-    &["script", "script"],
-    &["script", "--workers", "2"],
-    &["run", "--workers", "0"],
-    &["run", "--workers", "17"],
-    &["run", "--workers"],
-    &["run", "2"],
-];
-
-#[test]
-fn mistakes_go_to_standard_error(rt: HostRuntime) {
-    for words in &MISTAKES {
-        assert!(rt; refuses(&rt, words));
-    }
-}
-
-/// Checks whether the program refuses a command line: with no output, and with the reason on
-/// standard error.
-fn refuses<R: Threads + Wait + AllocGlobal + Files<File = File> + Sync>(
-    rt: &R,
-    words: &[&str],
-) -> bool {
-    let mut written = Written {
-        out: Vec::new(rt.alloc()),
-        faults: Vec::new(rt.alloc()),
-    };
-    let found = run(rt, words, SCRIPT, &mut written);
-    let is_so = written.out.is_empty() && !written.faults.is_empty();
-    drop(written);
-    found == 2 && is_so
 }
 
 /// Faults of reading the words, with the exit status and the line on standard error.

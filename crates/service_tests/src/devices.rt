@@ -1,4 +1,4 @@
-//! Scripts that end at any byte, and readers and writers that fail at any call.
+//! Readers and writers that fail at any call.
 use crate::flaky::{FlakyReader, FlakyWriter};
 use script_engine::{Counted, EngineFault, Summary, answer_script, run_script};
 use std::alloc::{AllocError, Global};
@@ -19,13 +19,12 @@ const REPLIES: [&str; 4] = [
     "{\"job_execution\":{\"create\":10,\"end\":30,\"execution\":1,\"exit\":\"COMPLETED\",\"instance\":1,\"job\":\"a\",\"start\":20,\"status\":\"COMPLETED\",\"updated\":30}}\n",
 ];
 
-/// Returns the first `count` replies, and a line after them.
-fn replies_and(alloc: Global, count: usize, last: &str) -> Result<String, AllocError> {
+/// Returns the first `count` replies.
+fn first_replies(alloc: Global, count: usize) -> Result<String, AllocError> {
     let mut text = String::new(alloc);
     for reply in REPLIES.iter().take(count) {
         text.push_str(reply)?;
     }
-    text.push_str(last)?;
     Ok(text)
 }
 
@@ -33,48 +32,6 @@ fn replies_and(alloc: Global, count: usize, last: &str) -> Result<String, AllocE
 fn replies_due(bytes: &[u8]) -> usize {
     let feeds = bytes.iter().filter(|byte| **byte == b'\n').count();
     feeds.saturating_sub(1)
-}
-
-/// Returns the output for the first `length` bytes of the script. A last line without its line feed
-/// is whole if the line feed is the next byte.
-fn replies_to_cut(alloc: Global, cut: usize) -> Result<String, AllocError> {
-    let (script, rest) = SCRIPT
-        .as_bytes()
-        .split_at_checked(cut)
-        .unwrap_or((b"", b""));
-    let due = replies_due(script);
-    if script.ends_with(b"\n") {
-        replies_and(alloc, due, "")
-    } else if rest.starts_with(b"\n") {
-        replies_and(
-            alloc,
-            replies_due(SCRIPT.as_bytes().get(..=cut).unwrap_or(b"")),
-            "",
-        )
-    } else if script.contains(&b'\n') {
-        replies_and(alloc, due, "{\"refused\":\"BadLine\"}\n")
-    } else {
-        replies_and(alloc, 0, "{\"fault\":\"NotJson\"}\n")
-    }
-}
-
-/// Checks the output for the first bytes of the script.
-fn is_answered_to(alloc: Global, cut: usize) -> Result<bool, Fail> {
-    let wanted = replies_to_cut(alloc, cut)?;
-    let script = SCRIPT.as_bytes().get(..cut).unwrap_or(b"");
-    let (replies, outcome) = answer_script(alloc, script);
-    drop(outcome);
-    let is_wanted = replies.as_slice() == wanted.as_bytes();
-    drop(replies);
-    Ok(is_wanted)
-}
-
-#[test]
-fn a_script_may_end_at_each_byte(rt: HostRuntime) -> Result<(), Fail> {
-    for cut in 0..SCRIPT.len() {
-        assert!(rt; is_answered_to(rt.alloc(), cut)?, "cut at {cut}");
-    }
-    Ok(())
 }
 
 #[test]
@@ -94,7 +51,7 @@ fn a_script_is_summed_up(rt: HostRuntime) {
 /// before.
 fn is_broken_behind(alloc: Global, calls: usize) -> Result<bool, Fail> {
     let told = SCRIPT.as_bytes().get(..calls).unwrap_or(b"");
-    let wanted = replies_and(alloc, replies_due(told), "")?;
+    let wanted = first_replies(alloc, replies_due(told))?;
     let mut reader = Counted::new(FlakyReader::new(SCRIPT.as_bytes(), calls));
     let mut writer = Counted::new(Vec::new(alloc));
     let outcome = run_script(alloc, &mut reader, &mut writer);
@@ -139,7 +96,7 @@ fn is_cut_behind(alloc: Global, most: usize, good_calls: usize, wanted: &[u8]) -
 
 #[test]
 fn each_write_of_a_byte_may_fail(rt: HostRuntime) -> Result<(), Fail> {
-    let all = replies_and(rt.alloc(), REPLIES.len(), "")?;
+    let all = first_replies(rt.alloc(), REPLIES.len())?;
     for calls in 0..all.len() {
         let wanted = all.as_bytes().get(..calls).unwrap_or(b"");
         assert!(rt; is_cut_behind(rt.alloc(), 1, calls, wanted), "call {calls}");
@@ -151,7 +108,7 @@ fn each_write_of_a_byte_may_fail(rt: HostRuntime) -> Result<(), Fail> {
 #[test]
 fn each_write_of_a_line_may_fail(rt: HostRuntime) -> Result<(), Fail> {
     for calls in 0..REPLIES.len() {
-        let wanted = replies_and(rt.alloc(), calls, "")?;
+        let wanted = first_replies(rt.alloc(), calls)?;
         let is_cut = is_cut_behind(rt.alloc(), usize::MAX, calls, wanted.as_bytes());
         assert!(rt; is_cut, "call {calls}");
     }

@@ -1,15 +1,13 @@
 //! Tests of properties that no script in a file can show.
 //!
 //! Below the repository: identifiers, jobs, graphs, members of JSON objects, transition elements,
-//! indexes of elements and walks. Of the service: clones, printed forms of a book, full logs, lines
-//! at their limit, scripts that are cut off, readers and writers that fail, a list of events,
-//! built-in artifacts, threads that wait for one another, and the words of a command line.
+//! indexes of elements and walks. Of the service: clones, printed forms of a book, full logs,
+//! readers and writers that fail, a list of events, built-in artifacts, threads that wait for one
+//! another, and a command line that is not UTF-8.
 #![tactic(auto)]
 
 #[cfg(test)]
 mod books;
-#[cfg(test)]
-mod bounds;
 #[cfg(test)]
 mod built_ins;
 #[cfg(test)]

@@ -1,7 +1,8 @@
-use Rattle.std.proofs.Common.{◌≡◌, ◌∙◌, ap, sym, subst, Some, List, ℕ, []}
-use Rattle.script_lines.specs.Tape.{told_in_memory, held_by}
+use Rattle.std.proofs.Common.{◌≡◌, ◌∙◌, ap, sym, subst, Some, Err, List, ℕ, []}
+use Rattle.script_lines.specs.Tape.{nothing_past, told_in_memory, held_by}
+use Rattle.script_engine.specs.declared.fault.EngineFault.TheVariants.{Read}
 use Rattle.script_engine.specs.Ran.{Ran, RanInMemory}
-use Rattle.script_engine.proofs.InMemory.{ran_in_memory}
+use Rattle.script_engine.proofs.InMemory.{ran_in_memory, is_long}
 use Rattle.script_engine.proofs.run.answer_script.Goals as goal
 
 pub returns-clause-ran : goal.returns-clause-ran
@@ -18,3 +19,16 @@ returns-clause-ran c =
     let R = subst (λ b. Ran (told_in_memory p b) (told_in_memory p' rest) (held_by q (Some c.new-writer.result.inner.items)) (held_by q' (Some text)) c.run_script-outcome.result) read c.run_script-outcome.ensures in
     let R' = subst (λ b. Ran (told_in_memory p c.args.script.now) (told_in_memory p' rest) (held_by q (Some b)) (held_by q' (Some text)) c.run_script-outcome.result) none R in
     subst (λ b. RanInMemory c.args.script.now b c.run_script-outcome.result) (sym whole) (ran_in_memory p p' q q' c.args.script.now rest text c.run_script-outcome.result R')
+
+pub returns-clause-long : goal.returns-clause-long
+returns-clause-long c fault =
+    let p = c.new-reader.result.tape.past in
+    let p' = c.run_script-outcome.new.reader.tape.past in
+    let q = c.new-writer.result.tape.past in
+    let w = held_by q (Some c.new-writer.result.inner.items) in
+    let w' = held_by c.run_script-outcome.new.writer.tape.past (Some c.run_script-outcome.new.writer.inner.items) in
+    let rest = c.run_script-outcome.new.reader.rest.now in
+    let R = subst (λ b. Ran (told_in_memory p b) (told_in_memory p' rest) w w' c.run_script-outcome.result) c.new-reader.ensures.rest c.run_script-outcome.ensures in
+    let R' = subst (λ b. Ran (told_in_memory b c.args.script.now) (told_in_memory p' rest) w w' c.run_script-outcome.result) c.new-reader.ensures.past R in
+    let R'' = subst (λ b. Ran (told_in_memory nothing_past c.args.script.now) (told_in_memory p' rest) w w' b) fault R' in
+    is_long p' w w' c.args.script.now rest c.run_script-outcome.new.reader.few R''

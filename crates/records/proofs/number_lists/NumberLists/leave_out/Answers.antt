@@ -1,7 +1,7 @@
 use Rattle.std.proofs.Common.{◌≡◌, ℕ, ◌==◌, Bool, true, false, List, [], cond, refl, sym, ◌∙◌, ap}
 use Rattle.std.proofs.lemmas.Bool.{eqb-true}
 use Rattle.records.specs.Indexes.{numbers_under, without_number}
-use Rattle.records.proofs.Listing.{empty_list}
+use Rattle.record_lists.proofs.Listing.{empty_list}
 use Rattle.records.proofs.number_lists.NumberLists.leave_out.Goals as goal
 
 pub returns-then-is_empty : goal.returns-then-is_empty

@@ -4,7 +4,7 @@ use Rattle.batch_history.specs.declared.rows.WorkRow.{WorkRow}
 use Rattle.records.specs.Belonging.{works_of}
 use Rattle.records.specs.Indexes.{numbers_under}
 use Rattle.records.specs.Maps.{Maps, work_numbers}
-use Rattle.records.proofs.Listing.{empty_list}
+use Rattle.record_lists.proofs.Listing.{empty_list}
 use Rattle.records.proofs.records.Records.has_no_work.Goals as goal
 
 pub returns : goal.returns

@@ -2,7 +2,7 @@ use Rattle.std.proofs.Common.{Option, sym, ◌∙◌, ap}
 use Rattle.std.proofs.lemmas.Bool.{eq-eqb}
 use Rattle.std.specs.List.{cons_option}
 use Rattle.records.specs.Slots.{rows_in}
-use Rattle.records.proofs.Listing.{empty_list}
+use Rattle.record_lists.proofs.Listing.{empty_list}
 use Rattle.records.proofs.row_list.RowsLeftIterator.next.Goals as goal
 
 pub loop-first-preserved : goal.loop-first-preserved

@@ -2,7 +2,7 @@ use Rattle.std.proofs.Common.{◌≡◌, ◌==◌, ◌||◌, Bool, List, ℕ, Op
 use Rattle.std.specs.Bool.{nat_eq}
 use Rattle.indexmap.specs.IndexMap.{get}
 use Rattle.records.specs.Indexes.{numbers_if_there, numbers_named}
-use Rattle.records.specs.declared.name_lists.NameLists.{NameLists}
+use Rattle.record_lists.specs.declared.name_lists.NameLists.{NameLists}
 use Rattle.records.proofs.step_lists.StepLists.put.Goals as goal
 
 is-there : (b : Bool) (names : NameLists) (old : Option NameLists) → is_some (cond b (Some names) old) ≡ (b || is_some old)

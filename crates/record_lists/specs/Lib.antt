@@ -1,0 +1,4 @@
+pub mod Listed
+pub mod Numbers
+pub mod Placed
+pub mod Places

@@ -1,6 +1,0 @@
-use Rattle.std.proofs.Common.{sym, ◌∙◌}
-use Rattle.records.proofs.Listing.{empty_list}
-use Rattle.records.proofs.name_lists.NameLists.remove.Goals as goal
-
-pub forget-requires : goal.forget-requires
-forget-requires c = sym c.under.ensures ∙ empty_list _ (sym c.is_empty.ensures ∙ c.if-is_empty.true)
