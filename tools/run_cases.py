@@ -10,9 +10,9 @@ an empty line between two of them. So do the replies, in `NAME.replies`, which w
 - Scripts whose lines have 16,777,216 bytes, or one more, are made here, since they are too large for a file, and one with
   checkpoints of 65,536 bytes and of one more.
 - `cases/operator`: an operator of the program `refused_calls` answers each. The session that a line names makes a call, and
-  session 1 makes a query. Lines with a member `operator` are directives (`DIRECTIVES`). Session 5 is open and makes no call:
-  at the end it has to be shown as many operations as calls were accepted, and the next session to be opened has to have the
-  next number. So a case shows whether the operator made an operation or opened a session without being asked.
+  session 1 makes a query. Lines with a member `operator` are directives (`OnAnOperator.follow`). Session 5 makes no call: at
+  the end it has to be shown as many operations as calls were accepted, and the next session to be opened has to have the next
+  number. So a case shows whether the operator made an operation or opened a session without being asked.
 
 The programs are those that `rt ci` or `rt run` has built. Says how many scripts there were, or which line differs, and then
 ends with status 1.
