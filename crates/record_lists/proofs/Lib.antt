@@ -1,3 +1,4 @@
+pub mod Firsts
 pub mod Listing
 pub mod Marks
 pub mod Numbers

@@ -1,6 +1,6 @@
-ghost use Rattle.std.specs.Prelude.{◌≡◌, ℕ, ◌==◌, ◌≤◌, ◌++◌, ◌∷◌, [], List, bytes_eq, position, slice_get, IfSome, OnOk, OnErr, if◌then◌else◌};
+ghost use Rattle.std.specs.Prelude.{◌≡◌, ℕ, ◌==◌, ◌≤◌, ◌++◌, ◌∷◌, [], List, bytes_eq, position, slice_get, OnOk, OnErr, if◌then◌else◌};
 ghost use Rattle.batch_history.specs.Lists.{is_at};
-ghost use Rattle.record_lists.specs.Numbers.{numbers_named, without_number};
+ghost use Rattle.record_lists.specs.Numbers.{numbers_named, without_number, AreFirstsUpTo};
 
 use batch_ids::{Listed, OutOfMemory};
 use indexmap::IndexMap;
@@ -98,7 +98,8 @@ impl NameLists {
 
     /// Returns the highest number that is the first of its list, or 0 if there are no lists.
     pub fn newest(&self) -> u64
-        ensures { (q : List ℕ) → IfSome (slice_get (numbers_named self.now q) 0) (λ n. n ≤ result) }
+        ensures bound { AreFirstsUpTo result self.now }
+        ensures least { (bound : ℕ) → AreFirstsUpTo bound self.now → result ≤ bound }
     {
         let mut newest = 0;
         for (_name, numbers) in self.lists.iter() {

@@ -12,7 +12,7 @@ pub returns : goal.returns
 returns c =
     let rows : List JobInstance = c.self.inside.instances.rows in
     let each : (q : List ℕ) → IfSome (slice_get (instance_numbers (instances_of_job q rows)) 0) (λ n. n ≤ c.newest.result) =
-    λ q. subst (λ (ns : List ℕ). IfSome (slice_get ns 0) (λ n. n ≤ c.newest.result)) (c.self.invariant.0.instances_by_name q) (c.newest.ensures q) in
+    λ q. subst (λ (ns : List ℕ). IfSome (slice_get ns 0) (λ n. n ≤ c.newest.result)) (c.self.invariant.0.instances_by_name q) (c.newest.ensures.bound q) in
     subst (λ (m : Maps). job_names (filter (is_first_of_job m.instances) (rows_left c.rows_through.result)) ≡ distinct (job_names m.instances)) c.self.view_is
     (ap job_names (c.rows_through.ensures (is_first_of_job rows) (none_first rows c.newest.result each))
     ∙ firsts_distinct rows c.self.invariant.0.keyed.instances)
