@@ -14,8 +14,8 @@ an empty line between two of them. So do the replies, in `NAME.replies`, which w
   the end it has to be shown as many operations as calls were accepted, and the next session to be opened has to have the next
   number. So a case shows whether the operator made an operation or opened a session without being asked.
 
-The programs are those that `rt ci` or `rt run` has built. Says how many scripts there were, or which line differs, and then
-ends with status 1.
+The programs are those that `rt ci` or `rt run` has built. Says how many scripts there were, or which line differs and
+which file stands alone, and then ends with status 1.
 """
 
 from __future__ import annotations
@@ -307,11 +307,22 @@ def check(path: Path, answered: Callable[[str], str], pool: ThreadPoolExecutor) 
     return len(scripts)
 
 
+def left_alone(folder: Path) -> list[str]:
+    """The files of a folder that have no replies beside them, or no script. A folder without any script is named too."""
+    scripts = {path.stem for path in folder.glob("*.script*")}
+    replies = {path.stem for path in folder.glob("*.replies")}
+    alone = [f"{name} has no replies" for name in sorted(scripts - replies)]
+    alone += [f"{name} has no script" for name in sorted(replies - scripts)]
+    return alone if scripts else [f"{folder.name} has no script", *alone]
+
+
 def check_folder(name: str, answered: Callable[[str], str], words: list[str], pool: ThreadPoolExecutor) -> list[str]:
     """Runs the files of a folder, says how many scripts they have, and returns what differs."""
-    paths = sorted((CASES / name).glob("*.script*"))
-    count, wrongs = 0, []
-    for path in paths:
+    wrongs = left_alone(CASES / name)
+    if wrongs:
+        return wrongs
+    count = 0
+    for path in sorted((CASES / name).glob("*.script*")):
         if not words or path.name.startswith(tuple(words)):
             try:
                 count += check(path, answered, pool)

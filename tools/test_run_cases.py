@@ -18,6 +18,7 @@ from run_cases import (
     check_large,
     commands_of_the_cases,
     first_difference,
+    left_alone,
     on_an_operator,
     replies_of_an_operator,
     replies_of_batchctl,
@@ -128,6 +129,15 @@ class Files(InAFolder):
         self.assertEqual(first_difference("A\n", "A\nB\n"), 2)
         self.assertEqual(first_difference("", "A\n"), 1)
         self.assertEqual(first_difference("A\nB", "A\nB\n"), 3)
+
+    def test_a_file_that_stands_alone_is_noticed(self) -> None:
+        self.assertEqual(left_alone(self.folder), [f"{self.folder.name} has no script"])
+        self.write("one.script", "a\n")
+        self.assertEqual(left_alone(self.folder), ["one has no replies"])
+        self.write("one.replies", "A\n")
+        self.assertEqual(left_alone(self.folder), [])
+        self.write("two.replies", "A\n")
+        self.assertEqual(left_alone(self.folder), ["two has no script"])
 
 
 class Batchctl(InAFolder):
