@@ -32,9 +32,9 @@ IsCatalogueFault records (Refused (OtherReply number)) = ⊥
 IsCatalogueFault records Failed = ⊥
 IsCatalogueFault records OutOfMemory = Unit {0}
 
--- the given catalogue has all jobs of the log's, and more if it has grown
+-- the given catalogue has all jobs of the log's, and has more exactly if it has grown
 abbrev pub HasGrown : List JobTree → List JobTree → Bool → Type 0
-HasGrown kept given true = IsGrown kept given
+HasGrown kept given true = IsGrown kept given × (length kept < length given)
 HasGrown kept given false = given ≡ kept
 
 -- the job with this number is the first of the log's that the given catalogue does not have in the same place
