@@ -1,11 +1,10 @@
 -- What the calls of a host that notes them do, as its trait has it.
 use Rattle.std.proofs.Common.{◌≡◌, inl, inr, ⊎_elim, ℕ, zero, suc, ◌+◌, ◌-◌, ◌≤◌, List, [], ◌∷◌, ◌++◌, length, take, drop, refl, sym, ◌∙◌, ap, subst, arith, length-append, length-drop}
-use Rattle.std.proofs.lemmas.List.{take_at, length-take-le, append-nil, append_assoc, take_all}
+use Rattle.std.proofs.lemmas.List.{take_at, length-take-le, append-nil, append_assoc}
 use Rattle.std.proofs.lemmas.Slice.{drop-append-drop}
-use Rattle.log_host.specs.Host.{Outcomes, Holds, Torn, Cut, Follows, Hearing, Elapses}
+use Rattle.log_host.specs.Host.{Outcomes, Holds, Torn, Follows, Hearing, Elapses}
 use Rattle.log_host.specs.Past.{Past, Call, seen_after, heard_after, leaves_after, left_after}
 use Rattle.log_host.specs.Laws.{now_left}
-use Rattle.log_host.specs.Tears.{MayTear}
 
 -- one way to tear a write: to write a front of it, or as many other bytes
 pub torn_by : (old bytes new : List ℕ) (at n : ℕ) → at ≤ length old → length bytes ≤ n → Holds old at bytes new → Torn at n old new
@@ -25,14 +24,6 @@ torn_by old bytes new at n le few holds =
 
 torn-same : (old : List ℕ) (at n : ℕ) → Torn at n old old
 torn-same old at n = record { before = refl; after = refl; no_shorter = omega arith; no_longer = omega arith }
-
-cut-same : (old : List ℕ) (n : ℕ) → n ≤ length old → Cut n old old
-cut-same old n le = record { no_shorter = le; front = take_all (length old) old (omega arith) }
-
-cut-taken : (old new : List ℕ) (n : ℕ) → n ≤ length old → new ≡ take n old → Cut n old new
-cut-taken old new n le is =
-    let long : length new ≡ n = ap length is ∙ length-take-le n old le in
-    record { no_shorter = omega (arith, long); front = ap (λ (k : ℕ). take k old) long ∙ sym is }
 
 -- the past with one call more
 abbrev pub longer : Past → Call → Past
@@ -60,29 +51,24 @@ module _ (was : Past) where
   write-follows zero at bytes le c o (inr now) = (seen, there o now.1, subst (Torn at (length bytes) seen) (sym now.0) (torn-same seen at (length bytes)))
   write-follows (suc k) at bytes le c o (inr now) = (seen, there o now.1, torn_by seen bytes c at (length bytes) le (omega arith) now.0)
 
-  cut-follows : (k n : ℕ) → n ≤ length seen → Follows (Cut n) (leaves was) (leaves (longer was (1, (n, ([], k)))))
-  cut-follows k n le c o (inl cut) = cut
-  cut-follows zero n le c o (inr now) = (seen, there o now.1, subst (Cut n seen) (sym now.0) (cut-same seen n le))
-  cut-follows (suc k) n le c o (inr now) = (seen, there o now.1, cut-taken seen c n le now.0)
-
-  sync-follows : (k : ℕ) (c o : List ℕ) → leaves (longer was (2, (0, ([], k)))) c o → leaves was c o
+  sync-follows : (k : ℕ) (c o : List ℕ) → leaves (longer was (1, (0, ([], k)))) c o → leaves was c o
   sync-follows zero c o (inl old) = old
   sync-follows (suc k) c o (inl old) = old.0
   sync-follows zero c o (inr now) = there-both c o now.0 now.1
   sync-follows (suc k) c o (inr now) = there-both c o now.0 now.1
 
-  tell-hears : (k n : ℕ) (piece : List ℕ) (c o : List ℕ) → leaves (longer was (3, (n, (piece, k)))) c o → Hearing piece (leaves was) c o
+  tell-hears : (k n : ℕ) (piece : List ℕ) (c o : List ℕ) → leaves (longer was (2, (n, (piece, k)))) c o → Hearing piece (leaves was) c o
   tell-hears zero n piece c o (inl hears) = hears
   tell-hears (suc k) n piece c o (inl hears) = hears.0
   tell-hears zero n piece c o (inr now) = (heard, there-both c heard now.0 refl, (0, now.1 ∙ sym (append-nil heard)))
   tell-hears (suc k) n piece c o (inr now) = (heard, there-both c heard now.0 refl, (n, now.1))
 
-  tell-leaves : (n : ℕ) (piece : List ℕ) (c o : List ℕ) → leaves (longer was (3, (n, (piece, 1)))) c o → (o ≡ heard ++ take n piece) × ((p : List ℕ) × leaves was c p)
+  tell-leaves : (n : ℕ) (piece : List ℕ) (c o : List ℕ) → leaves (longer was (2, (n, (piece, 1)))) c o → (o ≡ heard ++ take n piece) × ((p : List ℕ) × leaves was c p)
   tell-leaves n piece c o (inl hears) = (hears.1, hears.2)
   tell-leaves n piece c o (inr now) = (now.1, (heard, there-both c heard now.0 refl))
 
-  tell-elapses : (k n : ℕ) (piece : List ℕ) → Elapses (length was.calls) (length ((3, (n, (piece, k))) ∷ was.calls)) (left_after was.start was.calls)
-      (left_after was.start ((3, (n, (piece, k))) ∷ was.calls)) (Hearing piece (leaves was))
+  tell-elapses : (k n : ℕ) (piece : List ℕ) → Elapses (length was.calls) (length ((2, (n, (piece, k))) ∷ was.calls)) (left_after was.start was.calls)
+      (left_after was.start ((2, (n, (piece, k))) ∷ was.calls)) (Hearing piece (leaves was))
   tell-elapses k n piece = record {
     later = omega arith;
     nothing_else = λ t c o le left. ⊎_elim (λ now. inr (tell-hears k n piece c o now)) (λ more. ⊎_elim (λ in_call. inr in_call) (λ was. inl was) more.1) left;
@@ -94,45 +80,15 @@ pub write-noted : (was now : Past) (k at : ℕ) (bytes : List ℕ) → now ≡ l
     → Follows (Torn at (length bytes)) (leaves was) (leaves now)
 write-noted was now k at bytes is le = subst (λ (p : Past). Follows (Torn at (length bytes)) (leaves was) (leaves p)) (sym is) (write-follows was k at bytes le)
 
-pub cut-noted : (was now : Past) (k n : ℕ) → now ≡ longer was (1, (n, ([], k))) → n ≤ length (seen_after was.start was.calls) → Follows (Cut n) (leaves was) (leaves now)
-cut-noted was now k n is le = subst (λ (p : Past). Follows (Cut n) (leaves was) (leaves p)) (sym is) (cut-follows was k n le)
-
-pub sync-noted : (was now : Past) (k : ℕ) → now ≡ longer was (2, (0, ([], k))) → (c o : List ℕ) → leaves now c o → leaves was c o
+pub sync-noted : (was now : Past) (k : ℕ) → now ≡ longer was (1, (0, ([], k))) → (c o : List ℕ) → leaves now c o → leaves was c o
 sync-noted was now k is c o left = sync-follows was k c o (subst (λ (p : Past). leaves p c o) is left)
 
-pub tell-noted : (was now : Past) (n : ℕ) (piece : List ℕ) → now ≡ longer was (3, (n, (piece, 1))) → (c o : List ℕ) → leaves now c o
+pub tell-noted : (was now : Past) (n : ℕ) (piece : List ℕ) → now ≡ longer was (2, (n, (piece, 1))) → (c o : List ℕ) → leaves now c o
     → (o ≡ heard_after now.calls) × ((p : List ℕ) × leaves was c p)
 tell-noted was now n piece is =
     subst (λ (p : Past). (c o : List ℕ) → leaves p c o → (o ≡ heard_after p.calls) × ((q : List ℕ) × leaves was c q)) (sym is) (tell-leaves was n piece)
 
-pub tell-time : (was now : Past) (k n : ℕ) (piece : List ℕ) → now ≡ longer was (3, (n, (piece, k)))
+pub tell-time : (was now : Past) (k n : ℕ) (piece : List ℕ) → now ≡ longer was (2, (n, (piece, k)))
     → Elapses (length was.calls) (length now.calls) (left_after was.start was.calls) (left_after now.start now.calls) (Hearing piece (leaves was))
 tell-time was now k n piece is =
     subst (λ (p : Past). Elapses (length was.calls) (length p.calls) (left_after was.start was.calls) (left_after p.start p.calls) (Hearing piece (leaves was))) (sym is) (tell-elapses was k n piece)
-
--- a write that was just made may be torn
-pub write-tears : (was now : Past) (at : ℕ) (bytes piece before : List ℕ) → now ≡ longer was (0, (at, (bytes, 1))) → before ≡ seen_after was.start was.calls → piece ≡ bytes
-    → MayTear now at piece before
-write-tears was now at bytes piece before is before_is piece_is =
-    subst (λ (p : Past). MayTear p at piece before) (sym is)
-    (subst (λ (l : List ℕ). MayTear (longer was (0, (at, (bytes, 1)))) at l before) (sym piece_is)
-    (subst (λ (l : List ℕ). MayTear (longer was (0, (at, (bytes, 1)))) at bytes l) (sym before_is)
-    (λ c torn. inl (seen_after was.start was.calls, now_left was.start was.calls, torn))))
-
--- and still may after something was told
-pub tell-tears : (was now : Past) (k n at : ℕ) (told piece before : List ℕ) → now ≡ longer was (3, (n, (told, k))) → MayTear was at piece before → MayTear now at piece before
-tell-tears was now k n at told piece before is may = subst (λ (p : Past). MayTear p at piece before) (sym is) (by_flag k)
-  where
-    by_flag : (k : ℕ) → MayTear (longer was (3, (n, (told, k)))) at piece before
-    by_flag zero = λ c torn. inl (heard_after was.calls, may c torn, (0, sym (append-nil (heard_after was.calls))))
-    by_flag (suc k) = λ c torn. inl ((heard_after was.calls, may c torn, (n, refl)), refl, (heard_after was.calls, may c torn))
-
--- a copy of what is there may be left
-pub copy-left : (past : Past) (file bytes : List ℕ) → file ≡ bytes → bytes ≡ seen_after past.start past.calls → leaves past file (heard_after past.calls)
-copy-left past file bytes is seen_is = subst (λ (l : List ℕ). leaves past l (heard_after past.calls)) (sym (is ∙ seen_is)) (now_left past.start past.calls)
-
--- a piece that was told whole was heard
-pub tell-heard : (was now : Past) (piece new heard : List ℕ) → now ≡ longer was (3, (length piece, (piece, 1))) → new ≡ heard ++ piece → heard ≡ heard_after was.calls → new ≡ heard_after now.calls
-tell-heard was now piece new heard is grown heard_is =
-    let all : piece ≡ take (length piece) piece = sym (take_all (length piece) piece (omega arith)) in
-    grown ∙ (λ i. heard_is i ++ all i) ∙ ap (λ (p : Past). heard_after p.calls) (sym is)

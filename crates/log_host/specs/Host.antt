@@ -18,11 +18,6 @@ pub record Torn (at n : ℕ) (old new : List ℕ) : Type 0 where
   pub no_shorter : length old ≤ length new
   pub no_longer : length new ≤ max (length old) (at + n)
 
--- a cut that a crash interrupts: some length between the old and the new
-pub record Cut (n : ℕ) (old new : List ℕ) : Type 0 where
-  pub no_shorter : n ≤ length new
-  pub front : take (length new) old ≡ new
-
 -- each new outcome of a crash is an old outcome after a change of the file; nothing more was heard
 abbrev pub Follows : (List ℕ → List ℕ → Type 0) → Outcomes → Outcomes → Type 0
 Follows step old new = (c o : List ℕ) → new c o → (d : List ℕ) × old d o × step d c

@@ -2,4 +2,3 @@ pub mod Host
 pub mod Past
 pub mod Noted
 pub mod Laws
-pub mod Tears

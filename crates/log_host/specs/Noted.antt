@@ -12,9 +12,15 @@ flag false = 0
 
 abbrev pub call_of : Asked → Call
 call_of (asked.Write at bytes ok) = (0, (at, (bytes.now, flag ok)))
-call_of (asked.Cut len ok) = (1, (len, ([], flag ok)))
-call_of (asked.Sync ok) = (2, (0, ([], flag ok)))
-call_of (asked.Tell piece n ok) = (3, (n, (piece.now, flag ok)))
+call_of (asked.Sync ok) = (1, (0, ([], flag ok)))
+call_of (asked.Tell piece n ok) = (2, (n, (piece.now, flag ok)))
+call_of asked.Refused = (3, (0, ([], 0)))
+call_of asked.Silent = (4, (0, ([], 0)))
+call_of (asked.Take name ok) = (5, (0, (name.now, flag ok)))
+call_of (asked.Read bytes) = (6, (0, (bytes.now, 1)))
+call_of (asked.Draft name ok) = (7, (0, (name.now, flag ok)))
+call_of (asked.Rename name ok) = (8, (0, (name.now, flag ok)))
+call_of (asked.SyncFolder name ok) = (9, (0, (name.now, flag ok)))
 
 abbrev pub past_in : History → Past
 past_in (Begun start) = record { start = start.now; calls = [] }

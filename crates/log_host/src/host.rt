@@ -1,7 +1,7 @@
 // A file and a listener: the bytes written to the file, the bytes sent to the listener, and the
 // bytes that a crash may leave.
 ghost use Rattle.std.specs.Prelude.{◌≡◌, ◌≤◌, ◌<◌, ◌++◌, List, ℕ, length, take, IfOk, OnOk};
-ghost use Rattle.log_host.specs.Host.{Follows, Hearing, Torn, Cut, Holds, Elapses, HasCause};
+ghost use Rattle.log_host.specs.Host.{Follows, Hearing, Torn, Holds, Elapses, HasCause};
 
 use std::error::Error;
 use std::fmt;
@@ -38,8 +38,11 @@ pub trait Host {
     /// two calls.
     ghost left_since: { Self → ℕ → List ℕ → List ℕ → Type 0 };
 
-    /// The number of failures of the host.
-    ghost faults: { Self → ℕ };
+    /// The number of failures of the file.
+    ghost file_faults: { Self → ℕ };
+
+    /// The number of failures of the listener.
+    ghost listener_faults: { Self → ℕ };
 
     /// Writes over the bytes of the file, and past its end. Until a sync, a crash may leave any
     /// bytes in the range.
@@ -53,34 +56,23 @@ pub trait Host {
         ensures heard { heard self.new ≡ heard self.old }
         ensures crash { Follows (Torn at (length bytes.now)) (may_leave self.old) (may_leave self.new) }
         ensures time { Elapses (moment self.old) (moment self.new) (left_since self.old) (left_since self.new) (may_leave self.new) }
-        ensures cause { HasCause (faults self.old) (faults self.new) result };
-
-    /// Cuts the file to a length, in bytes.
-    ///
-    /// # Errors
-    ///
-    /// `HostFault` if the file failed. Even then, a crash may leave any length between the old and
-    /// the new.
-    fn cut(&mut self, len: usize) -> Result<(), HostFault>
-        requires { len ≤ length (seen self.old) }
-        ensures cut { OnOk result (seen self.new ≡ take len (seen self.old)) }
-        ensures heard { heard self.new ≡ heard self.old }
-        ensures crash { Follows (Cut len) (may_leave self.old) (may_leave self.new) }
-        ensures time { Elapses (moment self.old) (moment self.new) (left_since self.old) (left_since self.new) (may_leave self.new) }
-        ensures cause { HasCause (faults self.old) (faults self.new) result };
+        ensures cause { HasCause (file_faults self.old) (file_faults self.new) result }
+        ensures listener { listener_faults self.new ≡ listener_faults self.old };
 
     /// Waits until the file is on the disk. After it, a crash leaves the bytes that a read returns.
     ///
     /// # Errors
     ///
-    /// `HostFault` if the file failed. Nothing more is certain to be on the disk then.
+    /// `HostFault` if the file failed, now or before. Nothing more is certain to be on the disk
+    /// then, and no later sync makes it certain.
     fn sync(&mut self) -> Result<(), HostFault>
         ensures durable { OnOk result ((c : List ℕ) (o : List ℕ) → may_leave self.new c o → c ≡ seen self.old) }
         ensures seen { seen self.new ≡ seen self.old }
         ensures heard { heard self.new ≡ heard self.old }
         ensures crash { (c : List ℕ) (o : List ℕ) → may_leave self.new c o → may_leave self.old c o }
         ensures time { Elapses (moment self.old) (moment self.new) (left_since self.old) (left_since self.new) (may_leave self.new) }
-        ensures cause { HasCause (faults self.old) (faults self.new) result };
+        ensures cause { HasCause (file_faults self.old) (file_faults self.new) result }
+        ensures listener { listener_faults self.new ≡ listener_faults self.old };
 
     /// Sends the listener a front of a piece, and returns its number of bytes. To send no byte of a
     /// piece that is not empty counts as a failure. A crash in the call may leave any front heard.
@@ -91,11 +83,12 @@ pub trait Host {
     fn tell(&mut self, piece: &[u8]) -> Result<usize, HostFault>
         ensures bound { IfOk result (λ n. n ≤ length piece.now) }
         ensures told { IfOk result (λ n. heard self.new ≡ heard self.old ++ take n piece.now) }
-        ensures nothing { IfOk result (λ n. n ≡ 0 → 0 < length piece.now → faults self.old < faults self.new) }
+        ensures nothing { IfOk result (λ n. n ≡ 0 → 0 < length piece.now → listener_faults self.old < listener_faults self.new) }
         ensures crash { OnOk result ((c : List ℕ) (o : List ℕ) → may_leave self.new c o → (o ≡ heard self.new) × ((p : List ℕ) × may_leave self.old c p)) }
         ensures seen { seen self.new ≡ seen self.old }
         ensures time { Elapses (moment self.old) (moment self.new) (left_since self.old) (left_since self.new) (Hearing piece.now (may_leave self.old)) }
-        ensures cause { HasCause (faults self.old) (faults self.new) result };
+        ensures cause { HasCause (listener_faults self.old) (listener_faults self.new) result }
+        ensures file { file_faults self.new ≡ file_faults self.old };
 
     /// A crash may leave the bytes that a read returns. So no host can satisfy the calls' contracts
     /// by leaving nothing.

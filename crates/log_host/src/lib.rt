@@ -2,11 +2,9 @@
 #![tactic(auto)]
 
 mod host;
-mod memory;
 mod synced;
 mod tape;
 
 pub use host::{Host, HostFault};
-pub use memory::{Memory, Tear};
-pub use synced::{cut_and_sync, write_and_sync};
+pub use synced::write_and_sync;
 pub use tape::{Asked, Tape};

@@ -16,17 +16,29 @@ impl Model for Tape {
     ghost also_owns = { λ _. ftrue };
 }
 
-/// A call of a host, and whether it succeeded.
+/// A call of a host or of its disk, and whether it succeeded.
 #[derive(Clone, Copy, Drop)]
 pub enum Asked<'a> {
     /// A write at a place.
     Write(usize, &'a [u8], bool),
-    /// A cut to a length.
-    Cut(usize, bool),
     /// A sync.
     Sync(bool),
     /// A piece for the listener, and how many bytes of it were sent.
     Tell(&'a [u8], usize, bool),
+    /// A call of the file that was not made, since an earlier one failed.
+    Refused,
+    /// A piece that was not sent, since the listener failed before.
+    Silent,
+    /// The file of this name was opened and locked.
+    Take(&'a [u8], bool),
+    /// All bytes of the file were read.
+    Read(&'a [u8]),
+    /// An empty draft of the file of this name was made and locked.
+    Draft(&'a [u8], bool),
+    /// The draft was given the name of the file.
+    Rename(&'a [u8], bool),
+    /// The names in the folder of the file of this name were synced.
+    SyncFolder(&'a [u8], bool),
 }
 
 // All past calls.
