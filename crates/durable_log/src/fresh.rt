@@ -1,18 +1,19 @@
 // The bytes of a new log, of a log that was read, and of a log with one record more.
 ghost use Rattle.std.specs.Prelude.{◌≡◌, ◌≤◌, ◌^◌, ◌∷◌, ◌++◌, [], length, drop, IfOk, if◌then◌else◌};
 ghost use Rattle.durable_log.specs.Format.{blocks, shut};
-ghost use Rattle.durable_log.specs.Files.{header, StandsFor};
+ghost use Rattle.durable_log.specs.Files.{header, first_link, StandsFor};
 ghost use Rattle.durable_log.specs.Logs.{records_of, IsRest};
 ghost use Rattle.durable_log.specs.Shown.{record_shown, IsEnd};
 
 use crate::frame::{frame, push_record};
-use crate::reading::End;
+use crate::link::link_after;
+use crate::reading::{End, first_link};
 use crate::record::Record;
 use crate::rest::{LogFile, Rest};
 use std::alloc::{AllocError, Global};
 
-// The header, and an open gate.
-const BEGINNING: [u8; 11] = *b"bctlog1\n111";
+// The header, and an open gate after it.
+const BEGINNING: [u8; 11] = *b"bctlog2\n111";
 
 /// A log that was read, with a clean end.
 #[derive(Drop)]
@@ -30,15 +31,18 @@ pub struct CleanLog {
 /// `AllocError` if memory is refused.
 pub fn new_log(alloc: Global, added: Record<'_>) -> Result<LogFile, AllocError>
     requires { length added.line.now ≤ 2 ^ 24 }
-    ensures bytes { IfOk result (λ file. file.bytes.items ≡ header ++ (blocks (record_shown added.entry ∷ []) ++ shut)) }
+    ensures bytes { IfOk result (λ file. file.bytes.items ≡ header ++ (blocks first_link (record_shown added.entry ∷ []) ++ shut)) }
     ensures records { IfOk result (λ file. StandsFor (record_shown added.entry ∷ []) file.bytes.items) }
     ensures rest { IfOk result (λ file. IsRest file.bytes.items file.rest) }
 {
     let mut bytes = BEGINNING.to_vec(alloc)?;
-    let first = frame(alloc, added)?;
+    let link = first_link();
+    let next = link_after(link, added);
+    let first = frame(alloc, link, next, added)?;
     bytes.extend_from_slice(&first)?;
     let rest = Rest {
         end: bytes.len() - 3,
+        link: next,
     };
     Ok(LogFile { bytes, rest })
 }
@@ -54,7 +58,10 @@ pub fn restored(alloc: Global, mut bytes: Vec<u8>, end: End) -> Result<CleanLog,
     ensures rest { IfOk result (λ r. IsRest r.file.bytes.items r.file.rest) }
     ensures cut { IfOk result (λ r. r.cut.items ≡ (if end.is_clean then [] else drop end.byte bytes.items)) }
 {
-    let rest = Rest { end: end.byte };
+    let rest = Rest {
+        end: end.byte,
+        link: end.link,
+    };
     if end.is_clean {
         let file = LogFile { bytes, rest };
         let cut = Vec::new(alloc);
@@ -78,10 +85,13 @@ pub fn with_record(alloc: Global, file: LogFile, added: Record<'_>) -> Result<Lo
     ensures records { IfOk result (λ more. records_of more.bytes.items ≡ records_of file.bytes.items ++ record_shown added.entry ∷ []) }
     ensures rest { IfOk result (λ more. IsRest more.bytes.items more.rest) }
 {
+    let link = file.rest.link;
+    let next = link_after(link, added);
     let mut bytes = file.bytes;
-    push_record(alloc, &mut bytes, added)?;
+    push_record(alloc, &mut bytes, link, next, added)?;
     let rest = Rest {
         end: bytes.len() - 3,
+        link: next,
     };
     Ok(LogFile { bytes, rest })
 }

@@ -1,11 +1,12 @@
 // An open log.
 ghost use Rattle.std.specs.Prelude.{◌≡◌, ◌<◌, ◌≤◌, ◌^◌, ◌+◌, ◌-◌, ◌++◌, ◌∷◌, ◌↔◌, [], length, take, OnOk, OnErr, IfOk, IsErrOf, IsTrue};
 ghost use Rattle.log_host.specs.Host.{Only, LeavesOnly};
-ghost use Rattle.durable_log.specs.Logs.{records_of, IsAtRest, IsRest, IsBatch, IsSettled, waiting_in, batch_records, BeforeOrAfter, Told};
+ghost use Rattle.durable_log.specs.Logs.{records_of, link_of, IsAtRest, IsRest, IsBatch, IsSettled, waiting_in, batch_records, BeforeOrAfter, Told};
 ghost use Rattle.durable_log.specs.Shown.{record_shown};
 ghost use Rattle.durable_log.specs.declared.log.CommitFault.TheVariants.{Failed};
 
 use crate::frame::push_record;
+use crate::link::{Link, link_after};
 use crate::record::Record;
 use crate::rest::Rest;
 use log_host::{Host, HostFault, write_and_sync};
@@ -52,6 +53,10 @@ impl From<HostFault> for CommitFault {
 pub struct Log<H: Host> {
     pub(crate) host: H,
     pub(crate) end: usize,
+    // The link of the records of the file to the next.
+    pub(crate) link: Link,
+    // The link of the last waiting record to the next.
+    pub(crate) last: Link,
     // The bytes to be written after the gate at the end, as they are.
     pub(crate) waiting: Vec<u8>,
 }
@@ -59,15 +64,15 @@ pub struct Log<H: Host> {
 // Writes a batch after the gate at the end, and opens that gate after the batch is on the disk.
 fn put_batch<H: Host>(host: &mut H, end: usize, batch: &[u8]) -> Result<(), HostFault>
     requires rest { IsAtRest (H.seen host.old) end }
-    requires batch { IsBatch batch.now }
+    requires batch { IsBatch (link_of (H.seen host.old)) batch.now }
     requires room { end + length batch.now < 2 ^ 63 }
     requires durable { Only (H.seen host.old) (H.heard host.old) (H.may_leave host.old) }
     ensures rest { OnOk result (IsAtRest (H.seen host.new) (end + length batch.now)) }
-    ensures records { OnOk result (records_of (H.seen host.new) ≡ records_of (H.seen host.old) ++ batch_records batch.now) }
+    ensures records { OnOk result (records_of (H.seen host.new) ≡ records_of (H.seen host.old) ++ batch_records (link_of (H.seen host.old)) batch.now) }
     ensures durable { OnOk result (Only (H.seen host.new) (H.heard host.new) (H.may_leave host.new)) }
     ensures heard { H.heard host.new ≡ H.heard host.old }
     ensures any_moment { LeavesOnly H.moment H.left_since host.old host.new
-        (BeforeOrAfter (records_of (H.seen host.old)) (batch_records batch.now) (H.heard host.old)) }
+        (BeforeOrAfter (records_of (H.seen host.old)) (batch_records (link_of (H.seen host.old)) batch.now) (H.heard host.old)) }
     ensures later { H.file_faults host.old ≤ H.file_faults host.new }
     ensures failed { OnErr result (H.file_faults host.old < H.file_faults host.new) }
     ensures listener { H.listener_faults host.new ≡ H.listener_faults host.old }
@@ -91,6 +96,8 @@ impl<H: Host> Log<H> {
         Log {
             host,
             end: rest.end,
+            link: rest.link,
+            last: rest.link,
             waiting: Vec::new(alloc),
         }
     }
@@ -118,7 +125,9 @@ impl<H: Host> Log<H> {
         ensures settled { IsSettled H.seen H.heard H.may_leave self.new }
         ensures host { self.new.host ≡ self.old.host }
     {
-        push_record(alloc, &mut self.waiting, added)?;
+        let next = link_after(self.last, added);
+        push_record(alloc, &mut self.waiting, self.last, next, added)?;
+        self.last = next;
         Ok(())
     }
 
@@ -156,6 +165,7 @@ impl<H: Host> Log<H> {
         }
         put_batch(&mut self.host, self.end, &self.waiting)?;
         self.end += self.waiting.len();
+        self.link = self.last;
         self.waiting.clear();
         Ok(())
     }

@@ -1,8 +1,12 @@
+use crate::link::Link;
+
 /// The place at which a log goes on.
 #[derive(Clone, Copy, Debug, PartialEq, Eq)]
 pub struct Rest {
     /// The byte at which the shut gate at the end begins.
     pub end: usize,
+    /// The link of its records to the next.
+    pub link: Link,
 }
 
 /// The bytes of a log that ends with a shut gate.

@@ -1,5 +1,6 @@
-use Rattle.std.proofs.Common.{◌≡◌, ◌++◌, take, rules}
+use Rattle.std.proofs.Common.{◌≡◌, ◌∙◌, ◌++◌, ap, sym, take, rules}
 use Rattle.durable_log.specs.Format.{shut}
+use Rattle.durable_log.specs.Files.{link_behind}
 use Rattle.durable_log.proofs.Batches.{shut-there}
 use Rattle.durable_log.proofs.fresh.restored.Goals as goal
 
@@ -11,4 +12,5 @@ returns-clause-records c =
 pub returns-clause-rest : goal.returns-clause-rest
 returns-clause-rest c =
     let is : c.extend_from_slice.new.self.items ≡ take c.args.end.byte c.args.bytes.items ++ shut = search rules in
-    record { at = (shut-there c.args.bytes.items c.args.end.byte c.requires.ends c.extend_from_slice.new.self.items is).0 }
+    let there = shut-there c.args.bytes.items c.args.end.byte c.requires.ends c.extend_from_slice.new.self.items is in
+    record { at = there.0; link = c.requires.link ∙ ap link_behind (sym there.1) }
