@@ -45,6 +45,7 @@ pub enum Asked<'a> {
 #[derive(Clone, Copy, Drop)]
 enum History<'a> {
     Begun(&'a [u8]),
+    Same(&'a Tape),
     Then(&'a Tape, Asked<'a>),
 }
 
@@ -56,6 +57,13 @@ impl Tape {
         ensures { result.past ≡ record { start = start.now; calls = [] } }
     {
         Tape::of(&History::Begun(start))
+    }
+
+    /// Returns the same tape.
+    pub fn copied(&self) -> Tape
+        ensures { result.past ≡ self.now.past }
+    {
+        Tape::of(&History::Same(self))
     }
 
     /// Returns the tape with one more call.
