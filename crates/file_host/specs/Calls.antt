@@ -1,5 +1,5 @@
 -- The calls of the disk, as they are noted.
-use Rattle.std.specs.Prelude.{ℕ, zero, suc, ◌≡◌, List, [], ◌∷◌, Bool, true, false, Result, Ok, Err, if◌then◌else◌}
+use Rattle.std.specs.Prelude.{ℕ, zero, suc, List, [], ◌∷◌, Bool, true, false, Result, Ok, Err, if◌then◌else◌}
 use Rattle.log_host.specs.Past.{Call}
 
 -- 1 if a call succeeded
@@ -19,6 +19,9 @@ module _ {A E : Type 0} where
 
   abbrev pub draft_call : List ℕ → Result A E → Call
   draft_call name result = (7, (0, (name, flag_of result)))
+
+  abbrev pub keep_call : List ℕ → Result A E → Call
+  keep_call bytes result = (10, (0, (bytes, flag_of result)))
 
   abbrev pub rename_call : List ℕ → Result A E → Call
   rename_call name result = (8, (0, (name, flag_of result)))

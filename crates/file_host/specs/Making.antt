@@ -1,5 +1,5 @@
 -- Making a file anew, and what a crash leaves under its name.
-use Rattle.std.specs.Prelude.{ℕ, ◌≡◌, ◌≤◌, ◌==◌, ◌&&◌, ◌||◌, List, [], ◌∷◌, ◌++◌, length, Bool, true, false, not, Result, Ok, Err}
+use Rattle.std.specs.Prelude.{ℕ, ◌≡◌, ◌≤◌, ◌==◌, ◌&&◌, ◌||◌, List, [], ◌∷◌, ◌++◌, length, Bool, true, false}
 use Rattle.log_host.specs.Past.{Call, leaves_after}
 use Rattle.file_host.specs.Calls.{file_calls}
 

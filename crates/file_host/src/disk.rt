@@ -1,7 +1,7 @@
 // The calls of the disk for one file.
 ghost use Rattle.std.specs.Prelude.{◌≡◌, ◌∷◌, List, IfOk, OnErr};
 ghost use Rattle.log_host.specs.Past.{Call};
-ghost use Rattle.file_host.specs.Calls.{take_call, read_call, draft_call, write_call, sync_call, rename_call, folder_call};
+ghost use Rattle.file_host.specs.Calls.{take_call, read_call, keep_call, draft_call, write_call, sync_call, rename_call, folder_call};
 
 use crate::file_fault::FileFault;
 use log_host::Tape;
@@ -45,13 +45,24 @@ pub trait Disk {
         ensures read { IfOk result (λ bytes. past self.new ≡ read_call bytes.items ∷ past self.old) }
         ensures unread { OnErr result (past self.new ≡ past self.old) };
 
-    /// Makes an empty draft of the file of this name, and takes its lock. A draft that a crash left
-    /// is emptied.
+    /// Keeps bytes in the file `NAME.cut`, in place of what it held, and waits until they are on the
+    /// disk.
+    ///
+    /// # Errors
+    ///
+    /// `Unavailable` if that file cannot be made, written or synced, and `OutOfMemory` if memory for
+    /// its name is refused.
+    fn keep(&mut self, name: &str, bytes: &[u8]) -> Result<(), FileFault>
+        ensures { past self.new ≡ keep_call bytes.now result ∷ past self.old };
+
+    /// Makes an empty draft of the file of this name, and takes its lock. It has the permissions of
+    /// the file that was taken, or is readable by its owner alone. A draft that a crash left is
+    /// emptied.
     ///
     /// # Errors
     ///
     /// - `Unavailable` if it cannot be made or emptied.
-    /// - `InUse` if another program makes it.
+    /// - `InUse` if another program makes it, or has made the file meanwhile.
     /// - `OutOfMemory` if memory for its name is refused.
     fn draft(&mut self, name: &str) -> Result<(), FileFault>
         ensures { past self.new ≡ draft_call name.now result ∷ past self.old };

@@ -9,8 +9,10 @@ mod disk;
 mod file_fault;
 mod host;
 mod making;
+mod system;
 
 pub use disk::{CallFault, Disk};
 pub use file_fault::FileFault;
 pub use host::FileHost;
 pub use making::make_anew;
+pub use system::SystemDisk;

@@ -33,6 +33,8 @@ pub enum Asked<'a> {
     Take(&'a [u8], bool),
     /// All bytes of the file were read.
     Read(&'a [u8]),
+    /// Bytes were kept beside the file.
+    Keep(&'a [u8], bool),
     /// An empty draft of the file of this name was made and locked.
     Draft(&'a [u8], bool),
     /// The draft was given the name of the file.
