@@ -14,5 +14,5 @@ mod system;
 pub use disk::{CallFault, Disk};
 pub use file_fault::FileFault;
 pub use host::FileHost;
-pub use making::make_anew;
+pub use making::{make_anew, read_file};
 pub use system::SystemDisk;
