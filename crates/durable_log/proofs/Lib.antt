@@ -1,4 +1,5 @@
 pub mod Numbers
+pub mod Links
 pub mod Places
 pub mod Blocks
 pub mod Fronts
@@ -10,4 +11,3 @@ pub mod Found
 pub mod One
 pub mod Damages
 pub mod NewLogs
-pub mod Sums

@@ -1,38 +1,10 @@
 -- One byte of a file that is changed is found, or changes nothing.
-use Rattle.std.proofs.Common.{◌≡◌, ◌⊎◌, inl, inr, ⊎_elim, ℕ, ◌+◌, ◌%◌, ◌<◌, List, [], ◌∷◌, ◌++◌, length, Bool, true, false, refl, sym, ◌∙◌, ap, subst, arith, append_assoc}
+use Rattle.std.proofs.Common.{◌≡◌, ◌⊎◌, inl, inr, ⊎_elim, ℕ, ◌^◌, ◌<◌, List, [], ◌∷◌, ◌++◌, length, true, false, refl, sym, ◌∙◌, ap, subst, arith, append_assoc}
 use Rattle.std.specs.Prelude.{◌==◌, ◌&&◌, ◌||◌, if◌then◌else◌}
-use Rattle.durable_log.specs.Format.{check_from, check_of, is_open}
+use Rattle.crc32c.specs.Check.{check_after}
+use Rattle.crc32c.proofs.Laws.{one-byte}
+use Rattle.durable_log.specs.Format.{is_open}
 use Rattle.durable_log.specs.Damage.{OneOff}
-
--- the low sum of the check
-abbrev pub low_from : ℕ → List ℕ → ℕ
-low_from low [] = low
-low_from low (b ∷ bytes) = low_from ((low + b) % 65521) bytes
-
-low-check : (low high : ℕ) (bytes : List ℕ) → low < 65521 → check_from low high bytes % 65536 ≡ low_from low bytes
-low-check low high [] small = omega arith
-low-check low high (b ∷ bytes) small = low-check ((low + b) % 65521) ((high + (low + b) % 65521) % 65521) bytes (omega arith)
-
-step-same : (l m b : ℕ) → l < 65521 → m < 65521 → (l + b) % 65521 ≡ (m + b) % 65521 → l ≡ m
-step-same l m b ls ms is = omega arith
-
-low-same : (l m : ℕ) (bytes : List ℕ) → l < 65521 → m < 65521 → low_from l bytes ≡ low_from m bytes → l ≡ m
-low-same l m [] ls ms is = is
-low-same l m (b ∷ bytes) ls ms is = step-same l m b ls ms (low-same ((l + b) % 65521) ((m + b) % 65521) bytes (omega arith) (omega arith) is)
-
-byte-same : (l a b : ℕ) → l < 65521 → a < 256 → b < 256 → (l + a) % 65521 ≡ (l + b) % 65521 → a ≡ b
-byte-same l a b ls as_ bs is = omega arith
-
-low-changed : (l : ℕ) (xs ys : List ℕ) (a b : ℕ) → l < 65521 → a < 256 → b < 256 → low_from l (xs ++ a ∷ ys) ≡ low_from l (xs ++ b ∷ ys) → a ≡ b
-low-changed l [] ys a b ls as_ bs is = byte-same l a b ls as_ bs (low-same ((l + a) % 65521) ((l + b) % 65521) ys (omega arith) (omega arith) is)
-low-changed l (x ∷ xs) ys a b ls as_ bs is = low-changed ((l + x) % 65521) xs ys a b (omega arith) as_ bs is
-
--- one changed byte changes the check
-pub check-changed : (xs ys : List ℕ) (a b : ℕ) → a < 256 → b < 256 → check_of (xs ++ a ∷ ys) ≡ check_of (xs ++ b ∷ ys) → a ≡ b
-unfolding check_of
-check-changed xs ys a b as_ bs is =
-    low-changed 1 xs ys a b (omega arith) as_ bs
-    (sym (low-check 1 0 (xs ++ a ∷ ys) (omega arith)) ∙ ap (λ (n : ℕ). n % 65536) is ∙ low-check 1 0 (xs ++ b ∷ ys) (omega arith))
 
 -- Bytes of which one may be changed
 
@@ -78,17 +50,19 @@ split-off (x ∷ front) body (y ∷ changed) (inr there) =
     }
 
 -- one changed byte with the same check is none
-pub changed-at : (prefix bytes changed : List ℕ) → OneOff bytes changed → check_of (prefix ++ changed) ≡ check_of (prefix ++ bytes) → changed ≡ bytes
-changed-at prefix [] [] off same = refl
-changed-at prefix [] (y ∷ changed) off same = absurd off
-changed-at prefix (x ∷ bytes) [] off same = absurd off
-changed-at prefix (x ∷ bytes) (y ∷ changed) (inl here) same =
-    let y_is : y ≡ x = check-changed prefix bytes y x here.1 here.0 (ap (λ (l : List ℕ). check_of (prefix ++ y ∷ l)) here.2 ∙ same) in
+pub changed-at : (check : ℕ) (prefix bytes changed : List ℕ) → check < 2 ^ 32 → OneOff bytes changed → check_after check (prefix ++ changed) ≡ check_after check (prefix ++ bytes) → changed ≡ bytes
+changed-at check prefix [] [] small off same = refl
+changed-at check prefix [] (y ∷ changed) small off same = absurd off
+changed-at check prefix (x ∷ bytes) [] small off same = absurd off
+changed-at check prefix (x ∷ bytes) (y ∷ changed) small (inl here) same =
+    let y_is : y ≡ x =
+    one-byte check prefix bytes y x small here.1 here.0 (ap (λ (l : List ℕ). check_after check (prefix ++ y ∷ l)) here.2 ∙ same) in
     λ i. y_is i ∷ sym here.2 i
-changed-at prefix (x ∷ bytes) (y ∷ changed) (inr there) same =
-    let longer : check_of ((prefix ++ x ∷ []) ++ changed) ≡ check_of ((prefix ++ x ∷ []) ++ bytes) =
-    ap check_of (append_assoc prefix (x ∷ []) changed) ∙ ap (λ (z : ℕ). check_of (prefix ++ z ∷ changed)) there.0 ∙ same ∙ ap check_of (sym (append_assoc prefix (x ∷ []) bytes)) in
-    let tail = changed-at (prefix ++ x ∷ []) bytes changed there.1 longer in
+changed-at check prefix (x ∷ bytes) (y ∷ changed) small (inr there) same =
+    let longer : check_after check ((prefix ++ x ∷ []) ++ changed) ≡ check_after check ((prefix ++ x ∷ []) ++ bytes) =
+    ap (check_after check) (append_assoc prefix (x ∷ []) changed) ∙ ap (λ (z : ℕ). check_after check (prefix ++ z ∷ changed)) there.0 ∙ same
+    ∙ ap (check_after check) (sym (append_assoc prefix (x ∷ []) bytes)) in
+    let tail = changed-at check (prefix ++ x ∷ []) bytes changed small there.1 longer in
     λ i. sym there.0 i ∷ tail i
 
 nil-off : (es : List ℕ) → OneOff [] es → es ≡ []

@@ -1,19 +1,25 @@
--- The state of an open log.
-use Rattle.std.specs.Prelude.{ℕ, ◌<◌, ◌^◌, ◌≡◌, ◌⊎◌, ◌↔◌, Bool, IsTrue, List, [], ◌∷◌, ◌++◌, length, take}
+-- A log at rest, and the state of an open log.
+use Rattle.std.specs.Prelude.{ℕ, ◌<◌, ◌≤◌, ◌^◌, ◌≡◌, ◌⊎◌, List, [], ◌∷◌, ◌++◌, length, take}
 use Rattle.log_host.specs.Host.{Outcomes, Only}
-use Rattle.durable_log.specs.Format.{LogRecord, frame, read, shut, blocks, next, End, Damaged}
-use Rattle.durable_log.specs.Files.{Opening, Ours, Later, Foreign, opening, Holding, StandsFor}
+use Rattle.durable_log.specs.Format.{LogRecord, link_after, links_after, frame, read, shut, blocks, next, End, Damaged, max_batch}
+use Rattle.durable_log.specs.Files.{Opening, Ours, Later, Foreign, opening, first_link, link_behind, Holding, StandsFor}
+use Rattle.durable_log.specs.declared.link.Link.{Link}
 use Rattle.durable_log.specs.declared.log.Log.{Log}
+use Rattle.durable_log.specs.declared.rest.Rest.{Rest}
 
 -- the records of a file with this beginning
 abbrev pub records_by : Opening → List LogRecord
-records_by (Ours rest) = (read rest).records
+records_by (Ours rest) = (read first_link rest).records
 records_by Later = []
 records_by Foreign = []
 
 -- the records of a file
 abbrev pub records_of : List ℕ → List LogRecord
 records_of file = records_by (opening file)
+
+-- the link of its records to the next
+abbrev pub link_of : List ℕ → Link
+link_of file = link_behind (records_of file)
 
 -- the length of each line and the check of each reply fit into eight digits
 abbrev pub AreSmall : List LogRecord → Type 0
@@ -27,23 +33,29 @@ pub record IsAtRest (file : List ℕ) (end : ℕ) : Type 0 where
   pub place : end ≡ length base
   pub holds : Holding (records_of file) base
 
+-- a log goes on there: its file is at rest
+pub record IsRest (file : List ℕ) (rest : Rest) : Type 0 where
+  pub at : IsAtRest file rest.end
+  pub link : rest.link ≡ link_of file
+
 -- the bytes of records after the gate of the first: the other records have open gates, and a shut gate
 -- follows
-abbrev pub behind_gate : List LogRecord → List ℕ
-behind_gate [] = []
-behind_gate (r ∷ records) = (frame r ++ blocks records) ++ shut
+abbrev pub behind_gate : Link → List LogRecord → List ℕ
+behind_gate link [] = []
+behind_gate link (r ∷ records) = (frame link r ++ blocks (link_after link r) records) ++ shut
 
 -- the records of the bytes after a gate, if that gate is open
-abbrev pub batch_records : List ℕ → List LogRecord
-batch_records batch = (read (49 ∷ 49 ∷ 49 ∷ batch)).records
+abbrev pub batch_records : Link → List ℕ → List LogRecord
+batch_records link batch = (read link (49 ∷ 49 ∷ 49 ∷ batch)).records
 
 -- the bytes of one or more records after the gate of the first
-pub record IsBatch (batch : List ℕ) : Type 0 where
+pub record IsBatch (link : Link) (batch : List ℕ) : Type 0 where
   pub first : LogRecord
   pub others : List LogRecord
-  pub records : batch_records batch ≡ first ∷ others
-  pub bytes : batch ≡ (frame first ++ blocks others) ++ shut
+  pub records : batch_records link batch ≡ first ∷ others
+  pub bytes : batch ≡ (frame link first ++ blocks (link_after link first) others) ++ shut
   pub small : AreSmall (first ∷ others)
+  pub short : length batch ≤ max_batch
 
 -- all records of the file are before this place, and the end is at this place
 pub record EndsAt (file : List ℕ) (end : ℕ) : Type 0 where
@@ -52,7 +64,7 @@ pub record EndsAt (file : List ℕ) (end : ℕ) : Type 0 where
   pub split : file ≡ base ++ tail
   pub place : end ≡ length base
   pub holds : Holding (records_of file) base
-  pub ends : next tail ≡ End
+  pub ends : next (link_of file) tail ≡ End
 
 -- the record with this number, counted from 0, begins at this byte and is damaged; all records before it are
 -- whole
@@ -62,18 +74,21 @@ pub record IsDamagedAt (file : List ℕ) (number byte : ℕ) : Type 0 where
   pub split : file ≡ base ++ tail
   pub place : byte ≡ length base
   pub holds : Holding (records_of file) base
-  pub damaged : next tail ≡ Damaged
+  pub damaged : next (link_of file) tail ≡ Damaged
   pub number_is : number ≡ length (records_of file)
 
 -- the waiting records
 abbrev pub waiting_in : {D : Type 0} → Log D → List LogRecord
-waiting_in log = batch_records log.waiting.items
+waiting_in log = batch_records log.link log.waiting.items
 
 -- the file is at rest, all of it is on the disk, and the waiting bytes are those of the waiting records
 pub record IsSettled {D : Type 0} (seen heard : D → List ℕ) (may_leave : D → Outcomes) (log : Log D) : Type 0 where
   pub rest : IsAtRest (seen log.host) log.end
-  pub waits : log.waiting.items ≡ behind_gate (waiting_in log)
+  pub link : log.link ≡ link_of (seen log.host)
+  pub last : log.last ≡ links_after log.link (waiting_in log)
+  pub waits : log.waiting.items ≡ behind_gate log.link (waiting_in log)
   pub small : AreSmall (waiting_in log)
+  pub short : length log.waiting.items ≤ max_batch
   pub durable : Only (seen log.host) (heard log.host) (may_leave log.host)
 
 -- a crash leaves these records, or these followed by the others; and the listener has heard these bytes

@@ -1,8 +1,8 @@
 -- The results of the reader, in terms of the format.
-use Rattle.std.specs.Prelude.{ℕ, ◌≡◌, ◌↔◌, IsTrue, List, map}
+use Rattle.std.specs.Prelude.{ℕ, ◌≡◌, ◌↔◌, IsTrue, List}
 use Rattle.durable_log.specs.Format.{LogRecord, Column, Absent, Number, Next, End, Damaged, Found}
 use Rattle.durable_log.specs.Files.{Later, Foreign, opening}
-use Rattle.durable_log.specs.Logs.{EndsAt, IsAtRest, IsDamagedAt}
+use Rattle.durable_log.specs.Logs.{link_of, EndsAt, IsAtRest, IsDamagedAt}
 use Rattle.durable_log.specs.Parts.{IsPartDamaged}
 use Rattle.durable_log.specs.declared.record.Record.{Record}
 use Rattle.durable_log.specs.declared.columns.ColumnRead.{ColumnRead}
@@ -24,11 +24,12 @@ column_shown (column_reads.Number n rest) = Number n rest.now
 abbrev pub next_shown : Place → Next
 next_shown places.End = End
 next_shown places.Damaged = Damaged
-next_shown (places.Found r rest) = Found (record_shown r) rest.now
+next_shown (places.Found r link rest) = Found (record_shown r) link rest.now
 
 -- the records of a file end there, and it is clean if it ends right after a shut gate
 pub record IsEnd (file : List ℕ) (end : LogEnd) : Type 0 where
   pub ends : EndsAt file end.byte
+  pub link : end.link ≡ link_of file
   pub clean : IsTrue end.is_clean ↔ IsAtRest file end.byte
 
 -- a fault of a file

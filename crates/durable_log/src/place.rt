@@ -1,18 +1,22 @@
 // The contents of a place in a file.
 ghost use Rattle.std.specs.Prelude.{◌≡◌, length};
-ghost use Rattle.durable_log.specs.Format.{is_open, next, after_front, with_length, with_again, with_check, with_reply_check, record_in, column_of};
+ghost use Rattle.durable_log.specs.Format.{is_open, next, after_front, with_length, with_again, with_number, with_check, with_reply_check, record_in, column_of};
 ghost use Rattle.durable_log.specs.Shown.{next_shown};
 
-use crate::adler::check_of_record;
 use crate::columns::{ColumnRead, column};
+use crate::link::{Link, link_after};
 use crate::record::Record;
 
-// The end; or bytes after an open gate that are no record; or a record, and the bytes after it.
+/// The most bytes that are written at once after the gate at the end of a file.
+pub const MAX_BATCH: usize = (1 << 25) + 128;
+
+// The end; or damage, as bytes after an open gate that are no record; or a record, its link to the
+// next, and the bytes after it.
 #[derive(Clone, Copy)]
 pub enum Place<'a> {
     End,
     Damaged,
-    Found(Record<'a>, &'a [u8]),
+    Found(Record<'a>, Link, &'a [u8]),
 }
 
 fn is_open(a: u8, b: u8, c: u8) -> bool
@@ -25,11 +29,20 @@ fn is_open(a: u8, b: u8, c: u8) -> bool
     }
 }
 
-fn record_in(mark: u8, n: u32, again: u32, check: u32, reply_check: u32, body: &[u8]) -> Place<'_>
-    ensures { next_shown result ≡ record_in mark n again check reply_check body.now }
+fn record_in(
+    link: Link,
+    mark: u8,
+    n: u32,
+    again: u32,
+    number: u32,
+    check: u32,
+    reply_check: u32,
+    body: &[u8],
+) -> Place<'_>
+    ensures { next_shown result ≡ record_in link mark n again number check reply_check body.now }
 {
     let size = n as usize;
-    if n != again || size >= body.len() || body[size] != b'\n' {
+    if n != again || number != link.number || size >= body.len() || body[size] != b'\n' {
         return Place::Damaged;
     }
     let entry = Record {
@@ -37,59 +50,77 @@ fn record_in(mark: u8, n: u32, again: u32, check: u32, reply_check: u32, body: &
         line: &body[..size],
         reply_check,
     };
-    if check_of_record(entry) == check {
-        Place::Found(entry, &body[size + 1..])
+    let next = link_after(link, entry);
+    if next.check == check {
+        Place::Found(entry, next, &body[size + 1..])
     } else {
         Place::Damaged
     }
 }
 
-fn with_check(mark: u8, n: u32, again: u32, check: u32, bytes: &[u8]) -> Place<'_>
-    ensures { next_shown result ≡ with_reply_check mark n again check (column_of bytes.now) }
+fn with_check(
+    link: Link,
+    mark: u8,
+    n: u32,
+    again: u32,
+    number: u32,
+    check: u32,
+    bytes: &[u8],
+) -> Place<'_>
+    ensures { next_shown result ≡ with_reply_check link mark n again number check (column_of bytes.now) }
 {
     match column(bytes) {
         ColumnRead::Number(reply_check, body) => {
-            record_in(mark, n, again, check, reply_check, body)
+            record_in(link, mark, n, again, number, check, reply_check, body)
         }
         ColumnRead::Absent => Place::Damaged,
     }
 }
 
-fn with_again(mark: u8, n: u32, again: u32, bytes: &[u8]) -> Place<'_>
-    ensures { next_shown result ≡ with_check mark n again (column_of bytes.now) }
+fn with_number(link: Link, mark: u8, n: u32, again: u32, number: u32, bytes: &[u8]) -> Place<'_>
+    ensures { next_shown result ≡ with_check link mark n again number (column_of bytes.now) }
 {
     match column(bytes) {
-        ColumnRead::Number(check, rest) => with_check(mark, n, again, check, rest),
+        ColumnRead::Number(check, rest) => with_check(link, mark, n, again, number, check, rest),
         ColumnRead::Absent => Place::Damaged,
     }
 }
 
-fn with_length(mark: u8, n: u32, bytes: &[u8]) -> Place<'_>
-    ensures { next_shown result ≡ with_again mark n (column_of bytes.now) }
+fn with_again(link: Link, mark: u8, n: u32, again: u32, bytes: &[u8]) -> Place<'_>
+    ensures { next_shown result ≡ with_number link mark n again (column_of bytes.now) }
 {
     match column(bytes) {
-        ColumnRead::Number(again, rest) => with_again(mark, n, again, rest),
+        ColumnRead::Number(number, rest) => with_number(link, mark, n, again, number, rest),
         ColumnRead::Absent => Place::Damaged,
     }
 }
 
-fn with_mark(mark: u8, bytes: &[u8]) -> Place<'_>
-    ensures { next_shown result ≡ with_length mark (column_of bytes.now) }
+fn with_length(link: Link, mark: u8, n: u32, bytes: &[u8]) -> Place<'_>
+    ensures { next_shown result ≡ with_again link mark n (column_of bytes.now) }
 {
     match column(bytes) {
-        ColumnRead::Number(n, rest) => with_length(mark, n, rest),
+        ColumnRead::Number(again, rest) => with_again(link, mark, n, again, rest),
         ColumnRead::Absent => Place::Damaged,
     }
 }
 
-fn behind_gate(bytes: &[u8]) -> Place<'_>
-    ensures { next_shown result ≡ after_front bytes.now }
+fn with_mark(link: Link, mark: u8, bytes: &[u8]) -> Place<'_>
+    ensures { next_shown result ≡ with_length link mark (column_of bytes.now) }
+{
+    match column(bytes) {
+        ColumnRead::Number(n, rest) => with_length(link, mark, n, rest),
+        ColumnRead::Absent => Place::Damaged,
+    }
+}
+
+fn behind_gate(link: Link, bytes: &[u8]) -> Place<'_>
+    ensures { next_shown result ≡ after_front link bytes.now }
 {
     match bytes {
         [] => Place::End,
         [space, mark, also, rest @ ..] => {
             if *space == b' ' && *also == b' ' {
-                with_mark(*mark, rest)
+                with_mark(link, *mark, rest)
             } else {
                 Place::Damaged
             }
@@ -100,13 +131,15 @@ fn behind_gate(bytes: &[u8]) -> Place<'_>
 
 // Reads the place at the front of the bytes.
 #[tactic(auto, unfolding(crate::specs::Format::next))]
-pub(crate) fn next(bytes: &[u8]) -> Place<'_>
-    ensures { next_shown result ≡ next bytes.now }
+pub(crate) fn next(link: Link, bytes: &[u8]) -> Place<'_>
+    ensures { next_shown result ≡ next link bytes.now }
 {
     match bytes {
         [a, b, c, rest @ ..] => {
             if is_open(*a, *b, *c) {
-                behind_gate(rest)
+                behind_gate(link, rest)
+            } else if rest.len() > MAX_BATCH {
+                Place::Damaged
             } else {
                 Place::End
             }

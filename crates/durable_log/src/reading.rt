@@ -1,13 +1,15 @@
 // Reading the bytes of a file.
 ghost use Rattle.std.specs.Prelude.{◌≡◌, ◌↔◌, ◌∷◌, List, length, map, drop, IsTrue, IfOk, IfErr};
 ghost use Rattle.durable_log.specs.Format.{shut};
-ghost use Rattle.durable_log.specs.Files.{opening, Ours, is_known, StandsFor};
+ghost use Rattle.durable_log.specs.Files.{opening, Ours, is_known, first_link, link_behind, StandsFor};
 ghost use Rattle.durable_log.specs.Parts.{IsPart};
 ghost use Rattle.durable_log.specs.declared.reading.ReadFault.TheVariants.{OutOfMemory};
 ghost use Rattle.durable_log.specs.Shown.{record_shown, IsEnd, HasFault, HasPartFault};
 
+use crate::link::Link;
 use crate::place::{Place, next};
 use crate::record::Record;
+use crc32c::check_of;
 use std::alloc::{AllocError, AllocFailed, Global};
 use std::error::Error;
 use std::fmt;
@@ -19,7 +21,7 @@ pub enum ReadFault {
     Foreign,
     /// It is a log of another version.
     Later,
-    /// A record is damaged.
+    /// A record is damaged, or more bytes follow the end than a crash can leave.
     Damaged {
         /// The number of the record, counted from 0.
         number: usize,
@@ -66,6 +68,8 @@ impl<T: Drop> From<AllocFailed<T>> for ReadFault {
 pub struct End {
     /// The byte at which the gate after the last record begins, or would begin.
     pub byte: usize,
+    /// The link of the records to the next.
+    pub link: Link,
     /// Whether the gate is shut, and the file ends right after it.
     pub is_clean: bool,
 }
@@ -79,27 +83,47 @@ pub struct Contents<'a> {
     pub end: End,
 }
 
-// The records of a part of a file, and the bytes after them.
+// The records of a part of a file, their link to the next, and the bytes after them.
 #[derive(Drop)]
 pub struct Part<'a> {
     records: Vec<Record<'a>>,
+    link: Link,
     rest: &'a [u8],
+}
+
+// Returns the link of a header to the first record.
+pub(crate) fn first_link() -> Link
+    ensures { result ≡ first_link }
+{
+    Link {
+        number: 0,
+        check: check_of(b"bctlog2\n"),
+    }
 }
 
 // Reads records up to the end.
 fn read_records(alloc: Global, bytes: &[u8]) -> Result<Part<'_>, ReadFault>
     ensures records { IfOk result (λ found. IsPart bytes.now (map record_shown found.records.items) found.rest.now) }
+    ensures link { IfOk result (λ found. found.link ≡ link_behind (map record_shown found.records.items)) }
     ensures fault { IfErr result (HasPartFault bytes.now) }
 {
     let mut records = Vec::new(alloc);
+    let mut link = first_link();
     let mut rest = bytes;
     'records: loop {
-        match next(rest) {
-            Place::Found(entry, after) => {
+        match next(link, rest) {
+            Place::Found(entry, behind, after) => {
                 records.push(entry)?;
+                link = behind;
                 rest = after;
             }
-            Place::End => return Ok(Part { records, rest }),
+            Place::End => {
+                return Ok(Part {
+                    records,
+                    link,
+                    rest,
+                });
+            }
             Place::Damaged => {
                 let number = records.len();
                 let byte = bytes.len() - rest.len() + 8;
@@ -126,10 +150,10 @@ fn behind_header(file: &[u8]) -> Result<&[u8], ReadFault>
             if !is_header(*a, *b, *c, *d, *e, *f, *h) {
                 return Err(ReadFault::Foreign);
             }
-            if *g == b'1' {
-                Ok(rest)
-            } else {
-                Err(ReadFault::Later)
+            match *g {
+                b'2' => Ok(rest),
+                b'1' => Err(ReadFault::Foreign),
+                _ => Err(ReadFault::Later),
             }
         }
         _ => Err(ReadFault::Foreign),
@@ -150,9 +174,11 @@ fn is_shut(bytes: &[u8]) -> bool
 ///
 /// # Errors
 ///
-/// - `Foreign` if the file is no log: its first 8 bytes are no header, or it is shorter.
+/// - `Foreign` if the file is no log: its first 8 bytes are no header, or it is shorter, or its
+///   version is 1, which had no release.
 /// - `Later` if its header has another version digit.
-/// - `Damaged` if the bytes after an open gate are no record. All records before it are whole.
+/// - `Damaged` if the bytes after an open gate are no record, or if more than `MAX_BATCH` bytes
+///   follow a gate that isn't open. All records before it are whole.
 /// - `OutOfMemory` if memory is refused, instead of any result.
 pub fn read_log(alloc: Global, file: &[u8]) -> Result<Contents<'_>, ReadFault>
     ensures records { IfOk result (λ found. StandsFor (map record_shown found.records.items) file.now) }
@@ -166,6 +192,7 @@ pub fn read_log(alloc: Global, file: &[u8]) -> Result<Contents<'_>, ReadFault>
     };
     let end = End {
         byte: file.len() - found.rest.len(),
+        link: found.link,
         is_clean: is_shut(found.rest),
     };
     Ok(Contents {

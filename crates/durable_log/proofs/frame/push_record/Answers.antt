@@ -1,4 +1,4 @@
-use Rattle.std.proofs.Common.{◌≡◌, ◌∙◌, ◌+◌, ◌-◌, ◌++◌, ◌∷◌, ap, sym, [], List, ℕ, length, take, drop, append_assoc, length-append, rules, arith}
+use Rattle.std.proofs.Common.{◌≡◌, ◌∙◌, ◌+◌, ◌-◌, ◌++◌, ◌∷◌, ap, sym, List, ℕ, length, take, drop, append_assoc, length-append, rules, arith}
 use Rattle.std.proofs.lemmas.List.{take_at, drop_at}
 use Rattle.durable_log.specs.Format.{shut, frame}
 use Rattle.durable_log.specs.Shown.{record_shown}
@@ -13,7 +13,7 @@ opened front more items at is place =
 
 pub returns-clause-later : goal.returns-clause-later
 returns-clause-later c front is =
-    let more = frame (record_shown c.args.added) ++ shut in
+    let more = frame c.args.link (record_shown c.args.added) ++ shut in
     let grown : c.extend_from_slice.new.self.items ≡ c.args.bytes.now.items ++ more =
     c.in_ok-extend_from_slice.ensures.items ∙ ap (λ (l : List ℕ). c.args.bytes.now.items ++ l) (c.deref.ensures.value ∙ c.in_ok-more.ensures) in
     let long : length c.args.bytes.now.items ≡ c.len-end.result = search rules in

@@ -1,5 +1,5 @@
-use Rattle.std.proofs.Common.{◌-◌, length, refl}
-use Rattle.durable_log.proofs.Found.{part-stands, part-ends, part-within, part-clean, part-shut, part-fault}
+use Rattle.std.proofs.Common.{◌-◌, ◌∙◌, sym, length}
+use Rattle.durable_log.proofs.Found.{part-stands, part-ends, part-link, part-within, part-clean, part-shut, part-fault}
 use Rattle.durable_log.proofs.reading.read_log.Goals as goal
 
 pub returns-in-Err-clause-fault : goal.returns-in-Err-clause-fault
@@ -20,6 +20,7 @@ returns-clause-end c =
     let end = length file - length c.in-Ok.found.rest.now in
     record {
       ends = part-ends file part ours _ _ all end (λ i. end);
+      link = c.in-Ok.ensures.link ∙ sym (part-link file part ours _ _ all);
       clean = (
         λ is. part-clean file part ours _ _ all end (λ i. end) (c.is_shut.ensures.0 is),
         λ at_rest. c.is_shut.ensures.1 (part-shut file part ours _ _ all end (λ i. end) at_rest),
