@@ -1,8 +1,10 @@
 -- What blocks of records are read as.
-use Rattle.std.proofs.Common.{◌≡◌, ℕ, zero, suc, ◌<◌, ◌≤◌, ◌^◌, List, [], ◌∷◌, ◌++◌, length, take, Bool, true, false, refl, ◌∙◌, ap, arith, append_assoc, length-append}
-use Rattle.durable_log.specs.Format.{LogRecord, Next, End, Damaged, Found, Behind, after_front, after_gate, next, whole, with_record, then_read, read_within, read, prepended, frame, blocks, shut, is_open}
+use Rattle.std.proofs.Common.{◌≡◌, ℕ, zero, suc, ◌<◌, ◌≤◌, ◌^◌, List, [], ◌∷◌, ◌++◌, length, Bool, true, false, refl, ◌∙◌, ap, arith, append_assoc, length-append}
+use Rattle.durable_log.specs.Format.{LogRecord, max_batch, Next, End, Damaged, Found, Behind, after_front, after_gate, next, whole, with_record, then_read, read_within, read, prepended, frame, blocks, shut, is_open}
+use Rattle.std.specs.Prelude.{nat_lt, if◌then◌else◌}
+use Rattle.std.proofs.lemmas.Bool.Decides.{nat_tests}
 use Rattle.durable_log.specs.Logs.{AreSmall}
-use Rattle.durable_log.proofs.Places.{front-reads, front-found, not-end, gate-reads}
+use Rattle.durable_log.proofs.Places.{front-reads, front-found, gate-reads}
 
 -- what is read leaves less behind it
 abbrev pub IsShorter : Next → ℕ → Type 0
@@ -18,7 +20,7 @@ front-shorter bytes k less (Found r rest) is =
     omega (arith, less, ap length f.split, length-append (frame r) rest)
 
 gate-shorter : (opens : Bool) (rest : List ℕ) (k : ℕ) → length rest < k → IsShorter (after_gate (Behind opens rest)) k
-gate-shorter false rest k less = tt
+gate-shorter false rest k less = elim (nat_lt max_batch (length rest)) as (λ v. IsShorter (if v then Damaged else End) k) [ true ↦ tt | false ↦ tt ]
 gate-shorter true rest k less = front-shorter rest k less (after_front rest) refl
 
 pub next-shorter : (bytes : List ℕ) → IsShorter (next bytes) (length bytes)
@@ -75,13 +77,21 @@ read-blocks (r ∷ records) x small =
 pub read-end : (bytes : List ℕ) → next bytes ≡ End → read bytes ≡ whole []
 read-end bytes ends = read-step bytes ∙ ap (then_read read) ends
 
--- a gate that is not open ends them, whatever stands behind it
-pub next-not_open : (a b c : ℕ) (x : List ℕ) → is_open a b c ≡ false → next (a ∷ b ∷ c ∷ x) ≡ End
-unfolding next
-next-not_open a b c x is = ap (λ (v : Bool). after_gate (Behind v x)) is
+not-less : (n m : ℕ) → m ≤ n → nat_lt n m ≡ false
+not-less n m le = grind (arith, nat_tests)
 
-pub read-shut : (x : List ℕ) → read (shut ++ x) ≡ whole []
-read-shut x = read-end (shut ++ x) (next-not_open 48 48 48 x refl)
+-- a gate that is not open ends them, whatever a batch may leave behind it
+pub next-not_open : (a b c : ℕ) (x : List ℕ) → is_open a b c ≡ false → length x ≤ max_batch → next (a ∷ b ∷ c ∷ x) ≡ End
+unfolding next
+next-not_open a b c x is few =
+    ap (λ (v : Bool). after_gate (Behind v x)) is ∙ ap (λ (v : Bool). if v then Damaged else End) (not-less max_batch (length x) few)
+
+pub read-shut : (x : List ℕ) → length x ≤ max_batch → read (shut ++ x) ≡ whole []
+read-shut x few = read-end (shut ++ x) (next-not_open 48 48 48 x refl few)
+
+-- nothing stands behind the last gate
+pub read-last : read shut ≡ whole []
+read-last = read-shut [] (omega arith)
 
 -- at most three bytes stand for nothing
 pub next-few : (bytes : List ℕ) → length bytes ≤ 3 → next bytes ≡ End
@@ -91,20 +101,3 @@ next-few (a ∷ []) few = refl
 next-few (a ∷ b ∷ []) few = refl
 next-few (a ∷ b ∷ c ∷ []) few = elim (is_open a b c) as (λ v. after_gate (Behind v []) ≡ End) [ true ↦ refl | false ↦ refl ]
 next-few (a ∷ b ∷ c ∷ d ∷ bytes) few = absurd (omega arith)
-
--- nor does a front of what is the end
-gate-front : (k : ℕ) (opens : Bool) (rest : List ℕ) → after_gate (Behind opens rest) ≡ End → after_gate (Behind opens (take k rest)) ≡ End
-gate-front k false rest ends = refl
-gate-front zero true rest ends = refl
-gate-front (suc k) true [] ends = refl
-gate-front (suc k) true (x ∷ rest) ends = absurd (not-end x rest ends)
-
-pub next-front : (k : ℕ) (bytes : List ℕ) → next bytes ≡ End → next (take k bytes) ≡ End
-unfolding next
-next-front zero bytes ends = refl
-next-front (suc k) [] ends = refl
-next-front (suc zero) (a ∷ bytes) ends = refl
-next-front (suc (suc k)) (a ∷ []) ends = refl
-next-front (suc (suc zero)) (a ∷ b ∷ bytes) ends = refl
-next-front (suc (suc (suc k))) (a ∷ b ∷ []) ends = refl
-next-front (suc (suc (suc k))) (a ∷ b ∷ c ∷ rest) ends = gate-front k (is_open a b c) rest ends

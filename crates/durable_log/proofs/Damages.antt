@@ -8,7 +8,7 @@ use Rattle.durable_log.specs.Logs.{AreSmall}
 use Rattle.durable_log.specs.Damage.{OneOff, IsRefused}
 use Rattle.durable_log.proofs.Numbers.{digits-same}
 use Rattle.durable_log.proofs.Places.{check-digits, front-found, not-end, gate-reads}
-use Rattle.durable_log.proofs.Blocks.{read-step, read-blocks, read-shut, read-end, next-few}
+use Rattle.durable_log.proofs.Blocks.{read-step, read-blocks, read-last, read-end, next-few}
 use Rattle.durable_log.proofs.One.{off-same, off-is, Off, split-off, changed-at, Opened, gate-off}
 
 prefix-same : (xs ys us vs : List ℕ) → length xs ≡ length us → xs ++ ys ≡ us ++ vs → (xs ≡ us) × (ys ≡ vs)
@@ -235,7 +235,7 @@ pub file-off : (records : List LogRecord) (file : List ℕ) → AreSmall records
 file-off records file small off =
     let body = blocks records ++ shut in
     let s = split-off header body file off in
-    let body_is : read body ≡ whole records = read-blocks records shut small ∙ ap (prepended records) (read-shut []) ∙ (λ i. whole (append-nil records i)) in
+    let body_is : read body ≡ whole records = read-blocks records shut small ∙ ap (prepended records) read-last ∙ (λ i. whole (append-nil records i)) in
     subst (λ (l : List ℕ). StandsFor records l ⊎ IsRefused l) (sym s.split)
     (⊎_elim
     (λ (same : s.es ≡ header). subst (λ (l : List ℕ). StandsFor records (l ++ s.rest) ⊎ IsRefused (l ++ s.rest)) (sym same)

@@ -1,8 +1,8 @@
 -- How reading goes on.
-use Rattle.std.proofs.Common.{◌≡◌, ◌⊎◌, ℕ, ◌+◌, ◌-◌, ◌<◌, ◌≤◌, List, [], ◌∷◌, ◌++◌, length, drop, Bool, true, false, refl, sym, ◌∙◌, ap, subst, arith, append_assoc, length-append}
-use Rattle.std.specs.Prelude.{◌==◌}
+use Rattle.std.proofs.Common.{◌≡◌, ℕ, ◌+◌, ◌-◌, ◌<◌, ◌≤◌, List, [], ◌∷◌, ◌++◌, length, drop, Bool, true, false, refl, sym, ◌∙◌, ap, subst, arith, append_assoc, length-append}
+use Rattle.std.specs.Prelude.{◌==◌, nat_lt, if◌then◌else◌}
 use Rattle.std.proofs.lemmas.List.{append-nil, drop_at}
-use Rattle.durable_log.specs.Format.{LogRecord, Next, End, Damaged, Found, Behind, after_gate, next, Reading, whole, then_read, read, prepended, frame, shut, is_open}
+use Rattle.durable_log.specs.Format.{LogRecord, Next, End, Damaged, Found, Behind, max_batch, after_shut, after_gate, next, Reading, whole, then_read, read, prepended, frame, shut, is_open}
 use Rattle.durable_log.specs.Files.{opening, Ours, is_known, version_of, StandsFor, Holding}
 use Rattle.durable_log.specs.Logs.{records_by, records_of, EndsAt, IsAtRest, IsDamagedAt}
 use Rattle.durable_log.specs.Parts.{IsRead, IsPart, IsPartDamaged}
@@ -19,8 +19,12 @@ pub record PlaceFound (bytes : List ℕ) (r : LogRecord) (rest : List ℕ) : Typ
   pub split : bytes ≡ block ++ rest
   pub reads : (x : List ℕ) → next (block ++ x) ≡ Found r x
 
+shut-not_found : (bytes : List ℕ) (r : LogRecord) (rest : List ℕ) → after_shut bytes ≡ Found r rest → ⊥
+shut-not_found bytes r rest =
+    elim (nat_lt max_batch (length bytes)) as (λ v. (if v then Damaged else End) ≡ Found r rest → ⊥) [ true ↦ λ is. cc | false ↦ λ is. cc ]
+
 gate-found : (a b c : ℕ) (v : Bool) (bytes : List ℕ) (r : LogRecord) (rest : List ℕ) → is_open a b c ≡ v → after_gate (Behind v bytes) ≡ Found r rest → PlaceFound (a ∷ b ∷ c ∷ bytes) r rest
-gate-found a b c false bytes r rest v_is is = absurd (cc)
+gate-found a b c false bytes r rest v_is is = absurd (shut-not_found bytes r rest is)
 gate-found a b c true bytes r rest v_is is =
     let f = front-found bytes r rest is in
     record {

@@ -1,10 +1,10 @@
 -- What files stand for, by a front that has records.
-use Rattle.std.proofs.Common.{◌≡◌, ◌⊎◌, inl, inr, ℕ, List, [], ◌∷◌, ◌++◌, Bool, true, false, refl, sym, ◌∙◌, ap, subst, append_assoc}
+use Rattle.std.proofs.Common.{◌≡◌, ◌⊎◌, inl, inr, ℕ, ◌≤◌, List, [], ◌∷◌, ◌++◌, length, Bool, true, false, refl, sym, ◌∙◌, ap, subst, append_assoc}
 use Rattle.std.proofs.lemmas.List.{append-nil}
-use Rattle.durable_log.specs.Format.{LogRecord, Reading, whole, with_record, read, prepended, blocks, shut, is_open, frame}
+use Rattle.durable_log.specs.Format.{LogRecord, Reading, whole, with_record, read, prepended, blocks, shut, is_open, frame, max_batch}
 use Rattle.durable_log.specs.Files.{opening, header, StandsFor, Holding}
 use Rattle.durable_log.specs.Logs.{AreSmall, records_by, records_of}
-use Rattle.durable_log.proofs.Blocks.{read-block, read-blocks, read-end, read-shut, next-not_open}
+use Rattle.durable_log.proofs.Blocks.{read-block, read-blocks, read-end, read-last, next-not_open}
 
 -- a header has no records
 pub header-holds : Holding [] header
@@ -35,9 +35,10 @@ records-stand records file stands = ap records_by stands.1 ∙ ap (λ (r : Readi
 
 -- a batch behind a gate counts or it does not
 pub stands-gate : (records others : List LogRecord) (first : LogRecord) (base : List ℕ) (a b c : ℕ) → Holding records base → AreSmall (first ∷ others)
+    → length ((frame first ++ blocks others) ++ shut) ≤ max_batch
     → (StandsFor records (base ++ (a ∷ b ∷ c ∷ ((frame first ++ blocks others) ++ shut))))
     ⊎ (StandsFor (records ++ first ∷ others) (base ++ (a ∷ b ∷ c ∷ ((frame first ++ blocks others) ++ shut))))
-stands-gate records others first base a b c holds small = by_gate (is_open a b c) refl
+stands-gate records others first base a b c holds small short = by_gate (is_open a b c) refl
   where
     behind : List ℕ
     behind = (frame first ++ blocks others) ++ shut
@@ -46,10 +47,10 @@ stands-gate records others first base a b c holds small = by_gate (is_open a b c
     opened is =
         ap (λ (l : List ℕ). read (a ∷ b ∷ c ∷ l)) (append_assoc (frame first) (blocks others) shut)
         ∙ read-block a b c first (blocks others ++ shut) is small.0 small.1
-        ∙ ap (with_record first) (read-blocks others shut small.2 ∙ ap (prepended others) (read-shut []))
+        ∙ ap (with_record first) (read-blocks others shut small.2 ∙ ap (prepended others) read-last)
         ∙ (λ i. whole (first ∷ append-nil others i))
 
     by_gate : (v : Bool) → is_open a b c ≡ v
         → (StandsFor records (base ++ (a ∷ b ∷ c ∷ behind))) ⊎ (StandsFor (records ++ first ∷ others) (base ++ (a ∷ b ∷ c ∷ behind)))
     by_gate true is = inr (stands-more records (first ∷ others) base (a ∷ b ∷ c ∷ behind) holds (opened is))
-    by_gate false is = inl (stands-alone records base (a ∷ b ∷ c ∷ behind) holds (read-end _ (next-not_open a b c behind is)))
+    by_gate false is = inl (stands-alone records base (a ∷ b ∷ c ∷ behind) holds (read-end _ (next-not_open a b c behind is short)))

@@ -1,10 +1,10 @@
 -- A file that was just made.
-use Rattle.std.proofs.Common.{◌≡◌, ℕ, ◌<◌, ◌^◌, List, [], ◌∷◌, ◌++◌, length, refl, sym, ◌∙◌, ap, subst}
+use Rattle.std.proofs.Common.{◌≡◌, ℕ, List, [], ◌∷◌, ◌++◌, length, refl, sym, ◌∙◌, ap, subst}
 use Rattle.std.proofs.lemmas.List.{append-nil}
 use Rattle.durable_log.specs.Format.{LogRecord, whole, prepended, blocks, shut, frame}
 use Rattle.durable_log.specs.Files.{header, StandsFor, Holding}
-use Rattle.durable_log.specs.Logs.{AreSmall, records_of, IsAtRest}
-use Rattle.durable_log.proofs.Blocks.{read-blocks, read-shut}
+use Rattle.durable_log.specs.Logs.{AreSmall, IsAtRest}
+use Rattle.durable_log.proofs.Blocks.{read-blocks, read-last}
 use Rattle.durable_log.proofs.Fronts.{header-holds, holds-more, records-stand}
 
 pub fresh-bytes : (r : LogRecord) (file : List ℕ) → file ≡ header ++ (49 ∷ 49 ∷ 49 ∷ (frame r ++ shut)) → file ≡ header ++ (blocks (r ∷ []) ++ shut)
@@ -12,7 +12,7 @@ fresh-bytes r file is = is ∙ ap (λ (l : List ℕ). header ++ (49 ∷ 49 ∷ 4
 
 module _ (records : List LogRecord) (small : AreSmall records) where
   stands : StandsFor records (header ++ (blocks records ++ shut))
-  stands = (blocks records ++ shut, refl, read-blocks records shut small ∙ ap (prepended records) (read-shut []) ∙ (λ i. whole (append-nil records i)))
+  stands = (blocks records ++ shut, refl, read-blocks records shut small ∙ ap (prepended records) read-last ∙ (λ i. whole (append-nil records i)))
 
   at-rest : IsAtRest (header ++ (blocks records ++ shut)) (length (header ++ blocks records))
   at-rest = record {

@@ -1,8 +1,8 @@
 -- Digits give back the number that they were made of, and a column that was read is one.
 use Rattle.std.proofs.Common.{◌≡◌, ℕ, ◌+◌, ◌*◌, ◌/◌, ◌%◌, ◌^◌, ◌<◌, List, [], ◌∷◌, ◌++◌, Bool, true, false, refl, sym, ◌∙◌, ap, arith}
-use Rattle.std.specs.Prelude.{◌==◌, ◌&&◌, nat_lt, if◌then◌else◌}
+use Rattle.std.specs.Prelude.{◌==◌, ◌&&◌, if◌then◌else◌}
 use Rattle.std.proofs.lemmas.Bool.Decides.{nat_tests}
-use Rattle.durable_log.specs.Format.{digit, half_digits, digits, column, value, half, is_half, is_column, Column, Absent, Number, column_by, column_of}
+use Rattle.durable_log.specs.Format.{digit, half_digits, digits, column, value, half, is_half, is_column, Absent, Number, column_by, column_of}
 
 pub eq-same : (x : ℕ) → (x == x) ≡ true
 eq-same x = grind (arith, nat_tests)

@@ -1,10 +1,10 @@
 -- What stands at a place of a file: a record that is written is read, and what is read was written.
-use Rattle.std.proofs.Common.{◌≡◌, ℕ, ◌+◌, ◌<◌, ◌^◌, ◌%◌, List, [], ◌∷◌, ◌++◌, length, get_or, take, drop, Bool, true, false, refl, sym, ◌∙◌, ap, subst, arith, append_assoc, length-append, length-drop, take-append-drop}
+use Rattle.std.proofs.Common.{◌≡◌, ℕ, ◌+◌, ◌<◌, ◌^◌, ◌%◌, List, [], ◌∷◌, ◌++◌, length, get_or, take, drop, Bool, true, false, refl, sym, ◌∙◌, ap, subst, arith, append_assoc, length-append, take-append-drop}
 use Rattle.std.specs.Prelude.{◌==◌, ◌&&◌, nat_lt, if◌then◌else◌}
 use Rattle.std.proofs.lemmas.List.{take_at, length-take-le, drop_more, get_or_at}
 use Rattle.std.proofs.lemmas.Bool.Decides.{nat_tests}
 use Rattle.std.proofs.Math.Seq.{drop-append-add}
-use Rattle.durable_log.specs.Format.{LogRecord, digits, column, check_from, check_of, covered, columns, frame, is_open, Column, Absent, Number, column_of, Next, End, Damaged, Found, record_by, fits, record_in, with_reply_check, with_check, with_again, with_length, after_front, Behind, after_gate, next}
+use Rattle.durable_log.specs.Format.{LogRecord, column, check_from, check_of, covered, columns, frame, is_open, Column, Absent, Number, column_of, Next, End, Damaged, Found, record_by, fits, record_in, with_reply_check, with_check, with_again, with_length, after_front, Behind, after_gate, next}
 use Rattle.durable_log.proofs.Numbers.{eq-same, column-read, column-found}
 
 check-small : (low high : ℕ) (bytes : List ℕ) → low < 65521 → high < 65521 → check_from low high bytes < 2 ^ 32

@@ -1,19 +1,19 @@
 -- Records that wait to be on the disk.
-use Rattle.std.proofs.Common.{◌≡◌, ◌⊎◌, inl, inr, ℕ, ◌<◌, ◌^◌, List, [], ◌∷◌, ◌++◌, length, take, refl, sym, ◌∙◌, ap, subst, append_assoc, arith}
-use Rattle.std.proofs.lemmas.List.{append-nil, nil_from_length}
+use Rattle.std.proofs.Common.{◌≡◌, ◌⊎◌, inl, inr, ⊎_elim, ℕ, ◌+◌, ◌<◌, ◌≤◌, ◌^◌, List, [], ◌∷◌, ◌++◌, length, take, refl, sym, ◌∙◌, ap, subst, append_assoc, length-append, arith}
+use Rattle.std.proofs.lemmas.List.{append-nil}
 use Rattle.log_host.specs.Host.{Outcomes}
-use Rattle.durable_log.specs.Format.{LogRecord, Reading, prepended, blocks, shut, frame, read}
+use Rattle.durable_log.specs.Format.{LogRecord, Reading, prepended, blocks, shut, frame, max_batch}
 use Rattle.durable_log.specs.Files.{StandsFor}
 use Rattle.durable_log.specs.Logs.{AreSmall, records_of, behind_gate, batch_records, IsBatch, IsSettled, BeforeOrAfter, Same, Told}
 use Rattle.durable_log.specs.declared.log.Log.{Log}
-use Rattle.durable_log.proofs.Blocks.{read-blocks, read-shut, read-end, next-few}
+use Rattle.durable_log.proofs.Blocks.{read-blocks, read-last, read-end, next-few}
 use Rattle.durable_log.proofs.Batches.{rest-stands}
 
 -- a batch has the records that it was made of
 pub batch-of : (records : List LogRecord) → AreSmall records → batch_records (behind_gate records) ≡ records
 batch-of [] small = ap (λ (r : Reading). r.records) (read-end (49 ∷ 49 ∷ 49 ∷ []) (next-few (49 ∷ 49 ∷ 49 ∷ []) (omega arith)))
 batch-of (r ∷ records) small =
-    ap (λ (q : Reading). q.records) (read-blocks (r ∷ records) shut small ∙ ap (prepended (r ∷ records)) (read-shut [])) ∙ append-nil (r ∷ records)
+    ap (λ (q : Reading). q.records) (read-blocks (r ∷ records) shut small ∙ ap (prepended (r ∷ records)) read-last) ∙ append-nil (r ∷ records)
 
 blocks-push : (records : List LogRecord) (r : LogRecord) → blocks (records ++ r ∷ []) ≡ blocks records ++ (49 ∷ 49 ∷ 49 ∷ frame r)
 blocks-push [] r = ap (λ (l : List ℕ). 49 ∷ 49 ∷ 49 ∷ l) (append-nil (frame r))
@@ -59,12 +59,26 @@ behind-ends bytes [] is = inl is
 behind-ends bytes (r ∷ records) is = inr (frame r ++ blocks records, is)
 
 -- what waits is a batch, if anything does
-is-batch : (bytes : List ℕ) (records : List LogRecord) → batch_records bytes ≡ records → bytes ≡ behind_gate records → AreSmall records → (bytes ≡ [] → ⊥) → IsBatch bytes
-is-batch bytes [] same waits small some = absurd (some waits)
-is-batch bytes (r ∷ records) same waits small some = record { first = r; others = records; records = same; bytes = waits; small = small }
+is-batch : (bytes : List ℕ) (records : List LogRecord) → batch_records bytes ≡ records → bytes ≡ behind_gate records → AreSmall records → length bytes ≤ max_batch → (bytes ≡ [] → ⊥)
+    → IsBatch bytes
+is-batch bytes [] same waits small short some = absurd (some waits)
+is-batch bytes (r ∷ records) same waits small short some = record { first = r; others = records; records = same; bytes = waits; small = small; short = short }
 
-pub waiting-batch : (bytes : List ℕ) → bytes ≡ behind_gate (batch_records bytes) → AreSmall (batch_records bytes) → (bytes ≡ [] → ⊥) → IsBatch bytes
-waiting-batch bytes waits small some = is-batch bytes (batch_records bytes) refl waits small some
+pub waiting-batch : (bytes : List ℕ) → bytes ≡ behind_gate (batch_records bytes) → AreSmall (batch_records bytes) → length bytes ≤ max_batch → (bytes ≡ [] → ⊥) → IsBatch bytes
+waiting-batch bytes waits small short some = is-batch bytes (batch_records bytes) refl waits small short some
+
+-- A record of a line that is not too long makes no batch too long
+
+frame-length : (r : LogRecord) → length (frame r) ≡ length r.line + 40
+frame-length r = omega (arith, length-append r.line (10 ∷ []))
+
+pub still-short : (bytes grown : List ℕ) (r : LogRecord) → bytes ≡ behind_gate (batch_records bytes) → length bytes ≤ 2 ^ 24 → length r.line ≤ 2 ^ 24
+    → (bytes ≡ [] → grown ≡ frame r ++ shut) → ((front : List ℕ) → bytes ≡ front ++ shut → grown ≡ front ++ (49 ∷ 49 ∷ 49 ∷ (frame r ++ shut))) → length grown ≤ max_batch
+still-short bytes grown r waits room small first later = ⊎_elim
+    (λ (none : bytes ≡ []). omega (arith, ap length (first none), length-append (frame r) shut, frame-length r))
+    (λ (some : (front : List ℕ) × (bytes ≡ front ++ shut)).
+    omega (arith, ap length (later some.0 some.1), ap length some.1, length-append some.0 shut, length-append some.0 (49 ∷ 49 ∷ 49 ∷ (frame r ++ shut)), length-append (frame r) shut, frame-length r))
+    (behind-ends bytes (batch_records bytes) waits)
 
 -- where nothing waits
 pub nothing-waits : (bytes : List ℕ) → bytes ≡ [] → batch_records bytes ≡ []

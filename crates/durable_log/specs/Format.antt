@@ -1,5 +1,5 @@
 -- The bytes of a file after its header: records, each on a line of its own after a gate.
-use Rattle.std.specs.Prelude.{ℕ, zero, suc, ◌+◌, ◌*◌, ◌/◌, ◌%◌, ◌==◌, ◌&&◌, ◌||◌, nat_lt, List, [], ◌∷◌, ◌++◌, length, get_or, take, drop, Bool, true, false, if◌then◌else◌}
+use Rattle.std.specs.Prelude.{ℕ, zero, suc, ◌+◌, ◌*◌, ◌/◌, ◌%◌, ◌^◌, ◌==◌, ◌&&◌, ◌||◌, nat_lt, List, [], ◌∷◌, ◌++◌, length, get_or, take, drop, Bool, true, false, if◌then◌else◌}
 
 -- A RECORD: its mark, which is one byte, its line, and the check of the reply to that line
 pub record LogRecord : Type 0 where
@@ -92,8 +92,12 @@ abbrev pub column_of : List ℕ → Column
 column_of (a ∷ b ∷ c ∷ d ∷ e ∷ f ∷ g ∷ h ∷ space ∷ rest) = column_by (half a b c d) (half e f g h) a b c d e f g h space rest
 column_of short = Absent
 
--- the contents of a place: the end; or bytes after an open gate that are no record; or a record and the bytes
--- after it
+-- the most bytes that a batch may have, which is written at once after the gate at the end
+abbrev pub max_batch : ℕ
+max_batch = 2 ^ 25 + 128
+
+-- the contents of a place: the end; or damage, as bytes after an open gate that are no record; or a record and the
+-- bytes after it
 pub data Next : Type 0 where
   End : Next
   Damaged : Next
@@ -143,9 +147,13 @@ abbrev pub gate_of : List ℕ → Gate
 gate_of (a ∷ b ∷ c ∷ rest) = Behind (is_open a b c) rest
 gate_of short = NoGate
 
+-- A shut gate ends the records. A crash leaves no more bytes after it than those of one batch.
+abbrev pub after_shut : List ℕ → Next
+after_shut rest = if nat_lt max_batch (length rest) then Damaged else End
+
 abbrev pub after_gate : Gate → Next
 after_gate NoGate = End
-after_gate (Behind false rest) = End
+after_gate (Behind false rest) = after_shut rest
 after_gate (Behind true rest) = after_front rest
 
 unfoldable pub next : List ℕ → Next

@@ -1,9 +1,10 @@
--- The state of an open log.
-use Rattle.std.specs.Prelude.{ℕ, ◌<◌, ◌^◌, ◌≡◌, ◌⊎◌, ◌↔◌, Bool, IsTrue, List, [], ◌∷◌, ◌++◌, length, take}
+-- A log at rest, and the state of an open log.
+use Rattle.std.specs.Prelude.{ℕ, ◌<◌, ◌≤◌, ◌^◌, ◌≡◌, ◌⊎◌, List, [], ◌∷◌, ◌++◌, length, take}
 use Rattle.log_host.specs.Host.{Outcomes, Only}
-use Rattle.durable_log.specs.Format.{LogRecord, frame, read, shut, blocks, next, End, Damaged}
+use Rattle.durable_log.specs.Format.{LogRecord, frame, read, shut, blocks, next, End, Damaged, max_batch}
 use Rattle.durable_log.specs.Files.{Opening, Ours, Later, Foreign, opening, Holding, StandsFor}
 use Rattle.durable_log.specs.declared.log.Log.{Log}
+use Rattle.durable_log.specs.declared.rest.Rest.{Rest}
 
 -- the records of a file with this beginning
 abbrev pub records_by : Opening → List LogRecord
@@ -27,6 +28,10 @@ pub record IsAtRest (file : List ℕ) (end : ℕ) : Type 0 where
   pub place : end ≡ length base
   pub holds : Holding (records_of file) base
 
+-- a log goes on there: its file is at rest
+pub record IsRest (file : List ℕ) (rest : Rest) : Type 0 where
+  pub at : IsAtRest file rest.end
+
 -- the bytes of records after the gate of the first: the other records have open gates, and a shut gate
 -- follows
 abbrev pub behind_gate : List LogRecord → List ℕ
@@ -44,6 +49,7 @@ pub record IsBatch (batch : List ℕ) : Type 0 where
   pub records : batch_records batch ≡ first ∷ others
   pub bytes : batch ≡ (frame first ++ blocks others) ++ shut
   pub small : AreSmall (first ∷ others)
+  pub short : length batch ≤ max_batch
 
 -- all records of the file are before this place, and the end is at this place
 pub record EndsAt (file : List ℕ) (end : ℕ) : Type 0 where
@@ -74,6 +80,7 @@ pub record IsSettled {D : Type 0} (seen heard : D → List ℕ) (may_leave : D �
   pub rest : IsAtRest (seen log.host) log.end
   pub waits : log.waiting.items ≡ behind_gate (waiting_in log)
   pub small : AreSmall (waiting_in log)
+  pub short : length log.waiting.items ≤ max_batch
   pub durable : Only (seen log.host) (heard log.host) (may_leave log.host)
 
 -- a crash leaves these records, or these followed by the others; and the listener has heard these bytes

@@ -1,5 +1,5 @@
 -- The results of the reader, in terms of the format.
-use Rattle.std.specs.Prelude.{ℕ, ◌≡◌, ◌↔◌, IsTrue, List, map}
+use Rattle.std.specs.Prelude.{ℕ, ◌≡◌, ◌↔◌, IsTrue, List}
 use Rattle.durable_log.specs.Format.{LogRecord, Column, Absent, Number, Next, End, Damaged, Found}
 use Rattle.durable_log.specs.Files.{Later, Foreign, opening}
 use Rattle.durable_log.specs.Logs.{EndsAt, IsAtRest, IsDamagedAt}

@@ -1,30 +1,87 @@
-// The bytes of a new log.
-ghost use Rattle.std.specs.Prelude.{◌≡◌, ◌<◌, ◌^◌, ◌∷◌, ◌++◌, [], ℕ, length, IfOk};
+// The bytes of a new log, of a log that was read, and of a log with one record more.
+ghost use Rattle.std.specs.Prelude.{◌≡◌, ◌≤◌, ◌^◌, ◌∷◌, ◌++◌, [], length, drop, IfOk, if◌then◌else◌};
 ghost use Rattle.durable_log.specs.Format.{blocks, shut};
 ghost use Rattle.durable_log.specs.Files.{header, StandsFor};
-ghost use Rattle.durable_log.specs.Logs.{IsAtRest};
-ghost use Rattle.durable_log.specs.Shown.{record_shown};
+ghost use Rattle.durable_log.specs.Logs.{records_of, IsRest};
+ghost use Rattle.durable_log.specs.Shown.{record_shown, IsEnd};
 
-use crate::frame::frame;
+use crate::frame::{frame, push_record};
+use crate::reading::End;
 use crate::record::Record;
+use crate::rest::{LogFile, Rest};
 use std::alloc::{AllocError, Global};
 
 // The header, and an open gate.
 const BEGINNING: [u8; 11] = *b"bctlog1\n111";
 
-/// Returns the bytes of a new log with one record. It is clean: [`crate::open`] takes it unchanged.
+/// A log that was read, with a clean end.
+#[derive(Drop)]
+pub struct CleanLog {
+    /// The log, with all its records.
+    pub file: LogFile,
+    /// The bytes after its records, if the end wasn't clean.
+    pub cut: Vec<u8>,
+}
+
+/// Returns the bytes of a new log with one record.
 ///
 /// # Errors
 ///
 /// `AllocError` if memory is refused.
-pub fn new_log(alloc: Global, added: Record<'_>) -> Result<Vec<u8>, AllocError>
-    requires { length added.line.now < 2 ^ 32 }
-    ensures bytes { IfOk result (λ file. file.items ≡ header ++ (blocks (record_shown added.entry ∷ []) ++ shut)) }
-    ensures records { IfOk result (λ file. StandsFor (record_shown added.entry ∷ []) file.items) }
-    ensures clean { IfOk result (λ file. (end : ℕ) × IsAtRest file.items end) }
+pub fn new_log(alloc: Global, added: Record<'_>) -> Result<LogFile, AllocError>
+    requires { length added.line.now ≤ 2 ^ 24 }
+    ensures bytes { IfOk result (λ file. file.bytes.items ≡ header ++ (blocks (record_shown added.entry ∷ []) ++ shut)) }
+    ensures records { IfOk result (λ file. StandsFor (record_shown added.entry ∷ []) file.bytes.items) }
+    ensures rest { IfOk result (λ file. IsRest file.bytes.items file.rest) }
 {
     let mut bytes = BEGINNING.to_vec(alloc)?;
     let first = frame(alloc, added)?;
     bytes.extend_from_slice(&first)?;
-    Ok(bytes)
+    let rest = Rest {
+        end: bytes.len() - 3,
+    };
+    Ok(LogFile { bytes, rest })
+}
+
+/// Returns the bytes of a log that was read, with a clean end, and the bytes that were cut off.
+///
+/// # Errors
+///
+/// `AllocError` if memory is refused.
+pub fn restored(alloc: Global, mut bytes: Vec<u8>, end: End) -> Result<CleanLog, AllocError>
+    requires { IsEnd bytes.items end }
+    ensures records { IfOk result (λ r. records_of r.file.bytes.items ≡ records_of bytes.items) }
+    ensures rest { IfOk result (λ r. IsRest r.file.bytes.items r.file.rest) }
+    ensures cut { IfOk result (λ r. r.cut.items ≡ (if end.is_clean then [] else drop end.byte bytes.items)) }
+{
+    let rest = Rest { end: end.byte };
+    if end.is_clean {
+        let file = LogFile { bytes, rest };
+        let cut = Vec::new(alloc);
+        return Ok(CleanLog { file, cut });
+    }
+    let cut = bytes[end.byte..].to_vec(alloc)?;
+    bytes.truncate(end.byte);
+    bytes.extend_from_slice(b"000")?;
+    let file = LogFile { bytes, rest };
+    Ok(CleanLog { file, cut })
+}
+
+/// Returns a log with one record more.
+///
+/// # Errors
+///
+/// `AllocError` if memory is refused.
+pub fn with_record(alloc: Global, file: LogFile, added: Record<'_>) -> Result<LogFile, AllocError>
+    requires rest { IsRest file.bytes.items file.rest }
+    requires small { length added.line.now ≤ 2 ^ 24 }
+    ensures records { IfOk result (λ more. records_of more.bytes.items ≡ records_of file.bytes.items ++ record_shown added.entry ∷ []) }
+    ensures rest { IfOk result (λ more. IsRest more.bytes.items more.rest) }
+{
+    let mut bytes = file.bytes;
+    push_record(alloc, &mut bytes, added)?;
+    let rest = Rest {
+        end: bytes.len() - 3,
+    };
+    Ok(LogFile { bytes, rest })
 }

@@ -10,11 +10,14 @@ mod log;
 mod place;
 mod reading;
 mod record;
+mod rest;
 
 pub use adler::check_of;
-pub use fresh::new_log;
+pub use fresh::{CleanLog, new_log, restored, with_record};
 pub use law::one_changed_byte_is_found;
-pub use log::{CommitFault, Log, open};
+pub use log::{CommitFault, Log};
 pub use log_host::{Host, HostFault};
+pub use place::MAX_BATCH;
 pub use reading::{Contents, End, ReadFault, read_log};
 pub use record::Record;
+pub use rest::{LogFile, Rest};

@@ -1,23 +1,20 @@
 // An open log.
-ghost use Rattle.std.specs.Prelude.{◌≡◌, ◌<◌, ◌≤◌, ◌^◌, ◌+◌, ◌-◌, ◌++◌, ◌∷◌, [], List, ℕ, length, take, OnOk, OnErr, IfOk, IfErr, IsErrOf, IsTrue, IsOkAnd};
-ghost use Rattle.log_host.specs.Host.{Only, LeavesOnly, Elapses, Hearing};
-ghost use Rattle.durable_log.specs.Logs.{records_of, IsAtRest, IsBatch, EndsAt, IsSettled, waiting_in, batch_records, BeforeOrAfter, Same, Told};
-ghost use Rattle.durable_log.specs.Shown.{record_shown, IsEnd};
+ghost use Rattle.std.specs.Prelude.{◌≡◌, ◌<◌, ◌≤◌, ◌^◌, ◌+◌, ◌-◌, ◌++◌, ◌∷◌, ◌↔◌, [], length, take, OnOk, OnErr, IfOk, IsErrOf, IsTrue};
+ghost use Rattle.log_host.specs.Host.{Only, LeavesOnly};
+ghost use Rattle.durable_log.specs.Logs.{records_of, IsAtRest, IsRest, IsBatch, IsSettled, waiting_in, batch_records, BeforeOrAfter, Told};
+ghost use Rattle.durable_log.specs.Shown.{record_shown};
 ghost use Rattle.durable_log.specs.declared.log.CommitFault.TheVariants.{Failed};
 
 use crate::frame::push_record;
-use crate::reading::End;
 use crate::record::Record;
-use log_host::{Host, HostFault, cut_and_sync, write_and_sync};
+use crate::rest::Rest;
+use log_host::{Host, HostFault, write_and_sync};
 use std::alloc::{AllocError, Global};
 use std::error::Error;
 use std::fmt;
 
 // An open gate.
 const OPEN: [u8; 3] = *b"111";
-
-// A shut gate.
-const SHUT: [u8; 3] = *b"000";
 
 // The most bytes that a file may have.
 const MAX_FILE: usize = 1 << 62;
@@ -71,8 +68,9 @@ fn put_batch<H: Host>(host: &mut H, end: usize, batch: &[u8]) -> Result<(), Host
     ensures heard { H.heard host.new ≡ H.heard host.old }
     ensures any_moment { LeavesOnly H.moment H.left_since host.old host.new
         (BeforeOrAfter (records_of (H.seen host.old)) (batch_records batch.now) (H.heard host.old)) }
-    ensures later { H.faults host.old ≤ H.faults host.new }
-    ensures failed { OnErr result (H.faults host.old < H.faults host.new) }
+    ensures later { H.file_faults host.old ≤ H.file_faults host.new }
+    ensures failed { OnErr result (H.file_faults host.old < H.file_faults host.new) }
+    ensures listener { H.listener_faults host.new ≡ H.listener_faults host.old }
 {
     write_and_sync(host, end + 3, batch)?;
     // The batch must be on the disk first. Otherwise a crash could leave an open gate before a part
@@ -81,27 +79,29 @@ fn put_batch<H: Host>(host: &mut H, end: usize, batch: &[u8]) -> Result<(), Host
     Ok(())
 }
 
-// Cuts off the bytes after the last record, and writes a shut gate there.
-fn shut_end<H: Host>(host: &mut H, end: usize) -> Result<(), HostFault>
-    requires ends { EndsAt (H.seen host.old) end }
-    requires durable { Only (H.seen host.old) (H.heard host.old) (H.may_leave host.old) }
-    ensures rest { OnOk result (IsAtRest (H.seen host.new) end) }
-    ensures records { OnOk result (records_of (H.seen host.new) ≡ records_of (H.seen host.old)) }
-    ensures durable { OnOk result (Only (H.seen host.new) (H.heard host.new) (H.may_leave host.new)) }
-    ensures heard { H.heard host.new ≡ H.heard host.old }
-    ensures any_moment { LeavesOnly H.moment H.left_since host.old host.new
-        (Same (records_of (H.seen host.old)) (H.heard host.old)) }
-    ensures later { H.faults host.old ≤ H.faults host.new }
-    ensures failed { OnErr result (H.faults host.old < H.faults host.new) }
-{
-    cut_and_sync(host, end)?;
-    // The cut must be on the disk first. Otherwise a crash could leave an open gate, after which
-    // the old bytes would count.
-    write_and_sync(host, end, &SHUT)?;
-    Ok(())
-}
-
 impl<H: Host> Log<H> {
+    /// Returns a log over a host whose file is at rest, and on the disk. No record waits.
+    pub fn new(alloc: Global, host: H, rest: Rest) -> Log<H>
+        requires rest { IsRest (H.seen host) rest }
+        requires durable { Only (H.seen host) (H.heard host) (H.may_leave host) }
+        ensures settled { IsSettled H.seen H.heard H.may_leave result }
+        ensures nothing_waits { waiting_in result ≡ [] }
+        ensures host { result.host ≡ host }
+    {
+        Log {
+            host,
+            end: rest.end,
+            waiting: Vec::new(alloc),
+        }
+    }
+
+    /// Checks whether more than 2^24 bytes wait. The caller commits then, before the next record.
+    pub fn is_long(&self) -> bool
+        ensures { IsTrue result ↔ (2 ^ 24 < length self.now.waiting.items) }
+    {
+        self.waiting.len() > 1 << 24
+    }
+
     /// Adds a record to the waiting records. It makes no call of the host. It takes all memory that
     /// a commit needs.
     ///
@@ -111,7 +111,8 @@ impl<H: Host> Log<H> {
     /// be committed.
     pub fn append(&mut self, alloc: Global, added: Record<'_>) -> Result<(), AllocError>
         requires settled { IsSettled H.seen H.heard H.may_leave self.old }
-        requires small { length added.line.now < 2 ^ 32 }
+        requires room { length self.old.waiting.items ≤ 2 ^ 24 }
+        requires small { length added.line.now ≤ 2 ^ 24 }
         ensures ok { OnOk result (waiting_in self.new ≡ waiting_in self.old ++ record_shown added.entry ∷ []) }
         ensures err { OnErr result (waiting_in self.new ≡ waiting_in self.old) }
         ensures settled { IsSettled H.seen H.heard H.may_leave self.new }
@@ -142,8 +143,9 @@ impl<H: Host> Log<H> {
         ensures any_moment { LeavesOnly H.moment H.left_since self.old.host self.new.host
             (BeforeOrAfter (records_of (H.seen self.old.host)) (waiting_in self.old) (H.heard self.old.host)) }
 
-        ensures later { H.faults self.old.host ≤ H.faults self.new.host }
-        ensures failed { IsErrOf result CommitFault.Failed → H.faults self.old.host < H.faults self.new.host }
+        ensures later { H.file_faults self.old.host ≤ H.file_faults self.new.host }
+        ensures failed { IsErrOf result CommitFault.Failed → H.file_faults self.old.host < H.file_faults self.new.host }
+        ensures listener { H.listener_faults self.new.host ≡ H.listener_faults self.old.host }
         ensures full { IsErrOf result CommitFault.Full → (self.new ≡ self.old) × (2 ^ 62 ≤ self.old.end + length self.old.waiting.items) }
     {
         if self.waiting.is_empty() {
@@ -169,7 +171,7 @@ impl<H: Host> Log<H> {
         requires nothing_waits { waiting_in self.old ≡ [] }
         ensures bound { IfOk result (λ n. n ≤ length piece.now) }
         ensures told { IfOk result (λ n. H.heard self.new.host ≡ H.heard self.old.host ++ take n piece.now) }
-        ensures nothing { IfOk result (λ n. n ≡ 0 → 0 < length piece.now → H.faults self.old.host < H.faults self.new.host) }
+        ensures nothing { IfOk result (λ n. n ≡ 0 → 0 < length piece.now → H.listener_faults self.old.host < H.listener_faults self.new.host) }
         ensures settled { OnOk result (IsSettled H.seen H.heard H.may_leave self.new) }
         ensures seen { H.seen self.new.host ≡ H.seen self.old.host }
         ensures nothing_waits { waiting_in self.new ≡ [] }
@@ -179,22 +181,9 @@ impl<H: Host> Log<H> {
         ensures any_moment { LeavesOnly H.moment H.left_since self.old.host self.new.host
             (Told (records_of (H.seen self.old.host)) (H.heard self.old.host) piece.now) }
 
-        ensures later { H.faults self.old.host ≤ H.faults self.new.host }
-        ensures failed { OnErr result (H.faults self.old.host < H.faults self.new.host) }
-    {
-        self.host.tell(piece)
-    }
-
-    /// Sends the listener a front of a last piece, which says why nothing more follows. It is no
-    /// reply to a record. It may be called even if the log is of no more use.
-    ///
-    /// # Errors
-    ///
-    /// `HostFault` if the listener failed.
-    pub fn tell_last(&mut self, piece: &[u8]) -> Result<usize, HostFault>
-        ensures seen { H.seen self.new.host ≡ H.seen self.old.host }
-        ensures time { Elapses (H.moment self.old.host) (H.moment self.new.host) (H.left_since self.old.host) (H.left_since self.new.host)
-            (Hearing piece.now (H.may_leave self.old.host)) }
+        ensures later { H.listener_faults self.old.host ≤ H.listener_faults self.new.host }
+        ensures failed { OnErr result (H.listener_faults self.old.host < H.listener_faults self.new.host) }
+        ensures file { H.file_faults self.new.host ≡ H.file_faults self.old.host }
     {
         self.host.tell(piece)
     }
@@ -204,43 +193,5 @@ impl<H: Host> Log<H> {
         ensures { result ≡ self.host }
     {
         self.host
-    }
-}
-
-/// Opens a file whose records were read and end at `end`. A clean file is taken unchanged. Any
-/// other file is cut at the end of its records, and a shut gate is written there. A crash at any
-/// moment of this leaves the same records.
-///
-/// # Errors
-///
-/// `HostFault` if the host failed, with the host. A clean file never fails.
-pub fn open<H: Host>(alloc: Global, mut host: H, end: End) -> Result<Log<H>, (HostFault, H)>
-    requires ends { IsEnd (H.seen host) end }
-    // After a restart, a read returns the bytes that are on the disk.
-    requires durable { Only (H.seen host) (H.heard host) (H.may_leave host) }
-
-    ensures ok { IfOk result (λ log. IsSettled H.seen H.heard H.may_leave log
-        × (records_of (H.seen log.host) ≡ records_of (H.seen host)) × (waiting_in log ≡ []) × (H.heard log.host ≡ H.heard host)) }
-    ensures untouched { IsTrue end.is_clean → IsOkAnd result (λ log. log.host ≡ host) }
-    ensures any_moment { IfOk result (λ log. LeavesOnly H.moment H.left_since host log.host
-        (Same (records_of (H.seen host)) (H.heard host))) }
-    ensures any_moment_err { IfErr result (λ e. LeavesOnly H.moment H.left_since host e.1
-        (Same (records_of (H.seen host)) (H.heard host))) }
-    ensures failed { IfErr result (λ e. H.faults host < H.faults e.1) }
-{
-    if end.is_clean {
-        return Ok(Log {
-            host,
-            end: end.byte,
-            waiting: Vec::new(alloc),
-        });
-    }
-    match shut_end(&mut host, end.byte) {
-        Ok(()) => Ok(Log {
-            host,
-            end: end.byte,
-            waiting: Vec::new(alloc),
-        }),
-        Err(fault) => Err((fault, host)),
     }
 }

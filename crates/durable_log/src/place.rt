@@ -7,7 +7,11 @@ use crate::adler::check_of_record;
 use crate::columns::{ColumnRead, column};
 use crate::record::Record;
 
-// The end; or bytes after an open gate that are no record; or a record, and the bytes after it.
+/// The most bytes that are written at once after the gate at the end of a file.
+pub const MAX_BATCH: usize = (1 << 25) + 128;
+
+// The end; or damage, as bytes after an open gate that are no record; or a record, and the bytes
+// after it.
 #[derive(Clone, Copy)]
 pub enum Place<'a> {
     End,
@@ -107,6 +111,8 @@ pub(crate) fn next(bytes: &[u8]) -> Place<'_>
         [a, b, c, rest @ ..] => {
             if is_open(*a, *b, *c) {
                 behind_gate(rest)
+            } else if rest.len() > MAX_BATCH {
+                Place::Damaged
             } else {
                 Place::End
             }

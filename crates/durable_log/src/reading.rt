@@ -19,7 +19,7 @@ pub enum ReadFault {
     Foreign,
     /// It is a log of another version.
     Later,
-    /// A record is damaged.
+    /// A record is damaged, or more bytes follow the end than a crash can leave.
     Damaged {
         /// The number of the record, counted from 0.
         number: usize,
@@ -152,7 +152,8 @@ fn is_shut(bytes: &[u8]) -> bool
 ///
 /// - `Foreign` if the file is no log: its first 8 bytes are no header, or it is shorter.
 /// - `Later` if its header has another version digit.
-/// - `Damaged` if the bytes after an open gate are no record. All records before it are whole.
+/// - `Damaged` if the bytes after an open gate are no record, or if more than `MAX_BATCH` bytes
+///   follow a gate that isn't open. All records before it are whole.
 /// - `OutOfMemory` if memory is refused, instead of any result.
 pub fn read_log(alloc: Global, file: &[u8]) -> Result<Contents<'_>, ReadFault>
     ensures records { IfOk result (λ found. StandsFor (map record_shown found.records.items) file.now) }

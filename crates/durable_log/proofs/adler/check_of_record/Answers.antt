@@ -1,4 +1,4 @@
-use Rattle.std.proofs.Common.{◌≡◌, ◌∙◌, ◌++◌, ◌∷◌, ap, [], List, ℕ, rules}
+use Rattle.std.proofs.Common.{◌∙◌, ◌++◌, ◌∷◌, ap, [], List, ℕ}
 use Rattle.std.proofs.lemmas.List.{append-nil}
 use Rattle.durable_log.specs.Format.{digits, check_from, check_of}
 use Rattle.durable_log.proofs.adler.check_of_record.Goals as goal

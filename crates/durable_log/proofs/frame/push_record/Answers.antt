@@ -1,4 +1,4 @@
-use Rattle.std.proofs.Common.{◌≡◌, ◌∙◌, ◌+◌, ◌-◌, ◌++◌, ◌∷◌, ap, sym, [], List, ℕ, length, take, drop, append_assoc, length-append, rules, arith}
+use Rattle.std.proofs.Common.{◌≡◌, ◌∙◌, ◌+◌, ◌-◌, ◌++◌, ◌∷◌, ap, sym, List, ℕ, length, take, drop, append_assoc, length-append, rules, arith}
 use Rattle.std.proofs.lemmas.List.{take_at, drop_at}
 use Rattle.durable_log.specs.Format.{shut, frame}
 use Rattle.durable_log.specs.Shown.{record_shown}

@@ -1,10 +1,14 @@
-use Rattle.std.proofs.Common.{◌≡◌, ◌<◌, ◌^◌, ◌∙◌, ◌++◌, ◌∷◌, [], List, ℕ, ap, rules}
-use Rattle.durable_log.specs.Format.{frame, shut, blocks}
+use Rattle.std.proofs.Common.{◌≡◌, ◌<◌, ◌^◌, ◌-◌, ◌∙◌, ◌++◌, ◌∷◌, [], length, rules, arith}
+use Rattle.durable_log.specs.Format.{LogRecord, frame, shut}
 use Rattle.durable_log.specs.Files.{header}
 use Rattle.durable_log.specs.Logs.{AreSmall}
 use Rattle.durable_log.specs.Shown.{record_shown}
+use Rattle.durable_log.proofs.Batches.{at-gate}
 use Rattle.durable_log.proofs.NewLogs.{fresh-bytes, fresh-stands, fresh-rests}
 use Rattle.durable_log.proofs.fresh.new_log.Goals as goal
+
+small-one : (r : LogRecord) → length r.line < 2 ^ 32 → r.reply_check < 2 ^ 32 → AreSmall (r ∷ [])
+small-one r line reply = (line, reply, tt)
 
 pub returns : goal.returns
 returns c =
@@ -16,5 +20,11 @@ returns c =
     c.in_ok-extend_from_slice.ensures.items ∙ (λ i. begins i ++ first i) in
     let is = fresh-bytes r file written in
     let reply : c.args.added.reply_check < 2 ^ 32 = search rules in
-    let small : AreSmall (r ∷ []) = (c.requires, reply, tt) in
-    record { bytes = is; records = fresh-stands (r ∷ []) small file is; clean = fresh-rests (r ∷ []) small file is }
+    let small = small-one r (omega (arith, c.requires)) reply in
+    let rests = fresh-rests (r ∷ []) small file is in
+    let place : c.len.result - 3 ≡ length file - 3 = search rules in
+    record {
+      bytes = is;
+      records = fresh-stands (r ∷ []) small file is;
+      rest = record { at = at-gate file rests.0 (c.len.result - 3) rests.1 place };
+    }

@@ -1,4 +1,4 @@
-use Rattle.std.proofs.Common.{◌-◌, length, refl}
+use Rattle.std.proofs.Common.{◌-◌, length}
 use Rattle.durable_log.proofs.Found.{part-stands, part-ends, part-within, part-clean, part-shut, part-fault}
 use Rattle.durable_log.proofs.reading.read_log.Goals as goal
 

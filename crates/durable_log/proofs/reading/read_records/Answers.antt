@@ -1,9 +1,9 @@
-use Rattle.std.proofs.Common.{◌≡◌, ◌∙◌, ◌++◌, ◌∷◌, [], List, ℕ, sym, ap, subst, arith, map, length}
+use Rattle.std.proofs.Common.{◌≡◌, ◌∙◌, ◌++◌, ◌∷◌, [], List, sym, ap, subst, arith, map}
 use Rattle.std.proofs.lemmas.List.{map-append}
 use Rattle.durable_log.specs.Format.{LogRecord, next, Found}
 use Rattle.durable_log.specs.Parts.{IsRead}
 use Rattle.durable_log.specs.Shown.{record_shown}
-use Rattle.durable_log.proofs.Found.{more-read, read-smaller, none-read}
+use Rattle.durable_log.proofs.Found.{more-read, read-smaller}
 use Rattle.durable_log.proofs.reading.read_records.Goals as goal
 
 pub records-smaller : goal.records-smaller

@@ -1,4 +1,4 @@
-use Rattle.std.proofs.Common.{◌≡◌, List, ℕ, [], ◌++◌, ◌∙◌, ap, subst, sym, rules, arith, length, ◌+◌, ◌-◌}
+use Rattle.std.proofs.Common.{◌≡◌, List, ℕ, [], ◌++◌, ◌∙◌, ap, subst, sym, rules, arith, length, ◌+◌}
 use Rattle.std.proofs.lemmas.List.{nil_from_length, append-nil}
 use Rattle.std.proofs.lemmas.Bool.Decides.{nat_tests}
 use Rattle.durable_log.specs.Format.{LogRecord}
@@ -35,7 +35,7 @@ pub put_batch-requires-clause-batch : goal.put_batch-requires-clause-batch
 put_batch-requires-clause-batch g c =
     let batch : c.deref.result.now ≡ c.args.self.now.waiting.items = search rules in
     let some : c.args.self.now.waiting.items ≡ [] → ⊥ = λ none. let zero : length c.args.self.now.waiting.items ≡ 0 = ap length none in grind (arith, nat_tests) in
-    subst IsBatch (sym batch) (waiting-batch c.args.self.now.waiting.items c.requires.waits c.requires.small some)
+    subst IsBatch (sym batch) (waiting-batch c.args.self.now.waiting.items c.requires.waits c.requires.small c.requires.short some)
 
 pub returns-clause-acknowledged : goal.returns-clause-acknowledged
 returns-clause-acknowledged g c =
@@ -49,6 +49,7 @@ returns-clause-acknowledged g c =
         rest = subst (λ (n : ℕ). IsAtRest (g.H.Host.seen c.put_batch.new.host) (log.end + n)) long put.rest;
         waits = k.waits;
         small = k.small;
+        short = let none : length c.clear.new.self.items ≡ 0 = ap length cleared in omega (arith, none);
         durable = put.durable;
       },
       put.records ∙ ap (λ (l : List ℕ). records_of (g.H.Host.seen log.host) ++ batch_records l) batch,

@@ -1,0 +1,4 @@
+pub mod Linear
+pub mod Fours
+pub mod Tables
+pub mod Laws
