@@ -5,7 +5,7 @@ use Rattle.script_engine.specs.declared.fault.EngineFault.{EngineFault}
 use Rattle.script_engine.specs.declared.fault.EngineFault.TheVariants.{Catalogue, Read, Write, OutOfMemory}
 use Rattle.script_engine.specs.declared.summary.Summary.{Summary}
 use Rattle.script_engine.specs.Ran.{Ran}
-use Rattle.script_lines.specs.Device.{Told, Held}
+use Rattle.batch_commands.specs.Devices.{Devices}
 use Rattle.batch_commands.specs.Asked.{IsAsked, AskForNone}
 use Rattle.batch_commands.specs.Logging.{IsLogServed, over_log_exit}
 use Rattle.batch_commands.specs.Runs.{HasRun}
@@ -20,15 +20,6 @@ exit_status (Err (Catalogue fault)) = 3
 exit_status (Err Read) = 4
 exit_status (Err Write) = 4
 exit_status (Err OutOfMemory) = 5
-
--- the past of a reader, of a writer and of a disk
-pub record Devices : Type 0 where
-  pub told : Told
-  pub held : Held
-  pub disk : List Call
-
-abbrev pub devices : Told → Held → List Call → Devices
-devices told held disk = record { told = told; held = held; disk = disk }
 
 -- the words are refused, and nothing is read or written
 abbrev pub IsRefused : Devices → Devices → ℕ → Type 0

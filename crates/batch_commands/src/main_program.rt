@@ -4,7 +4,8 @@ ghost use Rattle.script_lines.specs.Tape.{nothing_past, told_by, held_by};
 ghost use Rattle.script_engine.specs.Ran.{Ran};
 ghost use Rattle.batch_commands.specs.Commands.{IsShown};
 ghost use Rattle.batch_commands.specs.Runs.{HasRun};
-ghost use Rattle.batch_commands.specs.Statuses.{Devices, devices, exit_status, IsServed};
+ghost use Rattle.batch_commands.specs.Devices.{Devices, devices};
+ghost use Rattle.batch_commands.specs.Statuses.{exit_status, IsServed};
 
 use crate::asked::Arguments;
 use crate::command_line::arguments;

@@ -32,10 +32,18 @@ fn lock<R: Files<File = File>>(files: &R, file: &File, place: &str) -> Result<()
         Err(TryLockError::WouldBlock) => return Err(FileFault::InUse),
         Err(TryLockError::Error(_)) => return Err(FileFault::Unavailable),
     }
+    let (Ok(own), Ok(named)) = (file.metadata(), files.metadata(place)) else {
+        return Err(FileFault::InUse);
+    };
+    // A pipe or a device is no file.
+    if !own.is_file() {
+        return Err(FileFault::Unavailable);
+    }
     // Another program may have given the name to a file that it made anew.
-    match (file.metadata(), files.metadata(place)) {
-        (Ok(own), Ok(named)) if own.dev() == named.dev() && own.ino() == named.ino() => Ok(()),
-        _ => Err(FileFault::InUse),
+    if own.dev() == named.dev() && own.ino() == named.ino() {
+        Ok(())
+    } else {
+        Err(FileFault::InUse)
     }
 }
 
