@@ -8,3 +8,4 @@ pub mod Runs
 pub mod Turns
 pub mod Logging
 pub mod Statuses
+pub mod Devices

@@ -1,24 +1,42 @@
 -- A script over a log, as the program runs it.
-use Rattle.std.specs.Prelude.{ℕ, ◌≡◌, ◌⊎◌, ◌<◌, List, [], length, false, Option, Result, Ok, Err}
+use Rattle.std.specs.Prelude.{ℕ, ◌≡◌, ◌⊎◌, ◌<◌, List, [], ◌∷◌, ◌++◌, length, false, Option, Some, None, Result, Ok, Err}
 use Rattle.jsl_model.specs.Jobs.{JobTree}
 use Rattle.jsl_json.specs.Catalogues.{is_out_of_memory}
 use Rattle.jsl_json.specs.declared.fault.ReadFault.{ReadFault}
 use Rattle.log_host.specs.Host.{Outcomes, LeavesOnly}
-use Rattle.log_host.specs.Past.{Past, seen_after, heard_after, left_after, faults_after}
+use Rattle.log_host.specs.Past.{Call, Past, seen_after, heard_after, left_after, file_faults_after, listener_faults_after}
+use Rattle.file_host.specs.Calls.{file_calls}
+use Rattle.file_host.specs.Making.{AtEachMoment, IsBeforeOrWhole, IsOpening, keeping, making, reading as read_calls}
+use Rattle.file_host.specs.declared.file_fault.FileFault.{FileFault}
+use Rattle.file_host.specs.declared.file_fault.FileFault.TheVariants as files
+use Rattle.durable_log.specs.Format.{LogRecord}
+use Rattle.durable_log.specs.Logs.{records_of}
 use Rattle.script_lines.specs.Device.{Told, Held, Takes}
 use Rattle.script_lines.specs.Unread.{Unread, nothing_read}
-use Rattle.script_lines.specs.Lines.{LineRead, ShowsFirst, lines_since}
+use Rattle.script_lines.specs.Lines.{LineRead, ShowsFirst}
 use Rattle.script_lines.specs.declared.line.Line.{Line}
 use Rattle.script_lines.specs.declared.line_fault.LineFault.TheVariants as lines
 use Rattle.script_text.specs.Faults.{fault_text}
 use Rattle.script_engine.specs.Script.{catalogue_at}
 use Rattle.script_engine.specs.declared.fault.EngineFault.{EngineFault}
 use Rattle.script_engine.specs.declared.fault.EngineFault.TheVariants as engine
+use Rattle.script_log.specs.Covered.{Covered}
+use Rattle.script_log.specs.Hosts.{State}
+use Rattle.script_log.specs.Reading.{Reading, reading, lines_in}
+use Rattle.script_log.specs.Runs.{catalogue_record}
+use Rattle.logged_script.specs.Faults.{IsOpeningFault}
+use Rattle.logged_script.specs.Histories.{is_kept, reply_at}
+use Rattle.logged_script.specs.Logged.{IsAnsweredOver}
+use Rattle.logged_script.specs.Openings.{IsBegun, IsCutOff}
 use Rattle.logged_script.specs.Texts.{log_fault_text}
-use Rattle.logged_script.specs.Logged.{IsLoggedOutcome, Leaves}
 use Rattle.logged_script.specs.declared.fault.LogFault.TheVariants.{InUse}
+use Rattle.logged_script.specs.declared.opening.OpeningFault.{OpeningFault}
+use Rattle.logged_script.specs.declared.opening.OpeningFault.TheVariants as openings
 use Rattle.logged_script.specs.declared.outcome.LoggedFault.{LoggedFault}
 use Rattle.logged_script.specs.declared.outcome.LoggedFault.TheVariants as logged
+use Rattle.batch_commands.specs.Devices.{Devices}
+use Rattle.batch_commands.specs.declared.logged.Unready.{Unready}
+use Rattle.batch_commands.specs.declared.logged.Unready.TheVariants as unready
 use Rattle.batch_commands.specs.declared.logged_fault.OverLogFault.{OverLogFault}
 use Rattle.batch_commands.specs.declared.logged_fault.OverLogFault.TheVariants.{Catalogue, Refused, Read, Write, Log, OutOfMemory}
 
@@ -45,11 +63,14 @@ fault_of_engine engine.Write = Write
 fault_of_engine engine.OutOfMemory = OutOfMemory
 
 abbrev pub fault_of_logged : LoggedFault → OverLogFault
-fault_of_logged (logged.Refused fault) = Refused
 fault_of_logged logged.Read = Read
 fault_of_logged logged.Write = Write
 fault_of_logged logged.Log = Log
 fault_of_logged logged.OutOfMemory = OutOfMemory
+
+abbrev pub outcome_over : Result Unit LoggedFault → Result Unit OverLogFault
+outcome_over (Ok done) = Ok done
+outcome_over (Err fault) = Err (fault_of_logged fault)
 
 -- ---- Lines of faults
 
@@ -104,21 +125,77 @@ TellsFirst engine.OutOfMemory w w' end = (end ≡ OutOfMemory) × (w' ≡ w)
 
 -- ---- The log
 
--- the output about a file that isn't available
-abbrev pub TellsUnavailable : Held → Held → OverLogFault → Type 0
-TellsUnavailable w w' end = Tells (log_fault_text InUse) Refused w w' end ⊎ (((end ≡ Log) ⊎ (end ≡ OutOfMemory)) × (w' ≡ w))
+abbrev pub unready_by_file : FileFault → Unready
+unready_by_file files.InUse = unready.Refused InUse
+unready_by_file files.OutOfMemory = unready.OutOfMemory
+unready_by_file files.Missing = unready.Failed
+unready_by_file files.Unavailable = unready.Failed
 
--- the output about the end of a script over a log
-abbrev pub TellsOutcome : Result Unit LoggedFault → Held → Held → Result Unit OverLogFault → Type 0
-TellsOutcome (Ok done) w w' result = (result ≡ Ok tt) × (w' ≡ w)
-TellsOutcome (Err (logged.Refused fault)) w w' result = (end : OverLogFault) × (result ≡ Err end) × Tells (log_fault_text fault) Refused w w' end
-TellsOutcome (Err logged.Read) w w' result = (result ≡ Err Read) × (w' ≡ w)
-TellsOutcome (Err logged.Write) w w' result = (result ≡ Err Write) × (w' ≡ w)
-TellsOutcome (Err logged.Log) w w' result = (result ≡ Err Log) × (w' ≡ w)
-TellsOutcome (Err logged.OutOfMemory) w w' result = (result ≡ Err OutOfMemory) × (w' ≡ w)
+abbrev pub unready_by_log : OpeningFault → Unready
+unready_by_log (openings.Refused fault) = unready.Refused fault
+unready_by_log openings.OutOfMemory = unready.OutOfMemory
 
--- the past of a file and of its listener. It has the file's content, the text that was heard, and the moment.
--- It also has the content that a crash since an earlier moment may have left, and the number of failed calls
+-- the records with which a run begins: those of the file that was found, and the given catalogue exactly if it has
+-- more jobs; without a file that catalogue alone
+abbrev pub IsBegunFrom : Option (List ℕ) → List ℕ → List LogRecord → Type 0
+IsBegunFrom None line now = now ≡ catalogue_record line ∷ []
+IsBegunFrom (Some file) line now = IsBegun file line now
+
+-- the reason why a run does not begin with the file that was found
+abbrev pub IsFaultFrom : Option (List ℕ) → List ℕ → OpeningFault → Type 0
+IsFaultFrom None line fault = fault ≡ openings.OutOfMemory
+IsFaultFrom (Some file) line fault = IsOpeningFault file line fault
+
+-- the bytes that are cut off: those behind the end of the file that was found
+abbrev pub IsCutFrom : Option (List ℕ) → List ℕ → Type 0
+IsCutFrom None cut = cut ≡ []
+IsCutFrom (Some file) cut = IsCutOff file cut
+
+-- THE FILE OF THIS NAME WAS MADE ANEW with these bytes. What was cut off is kept beside it. At each moment a crash leaves what the name stood for
+-- before, or the whole new file
+pub record IsReady (name line : List ℕ) (d d' : List Call) (bytes : List ℕ) : Type 0 where
+  pub found : Option (List ℕ)
+  pub begun : IsBegunFrom found line (records_of bytes)
+  pub cut : List ℕ
+  pub cut_off : IsCutFrom found cut
+  pub calls : d' ≡ making name bytes ++ keeping cut (read_calls name found d)
+  pub any_moment : AtEachMoment d' (IsBeforeOrWhole bytes)
+
+-- it could not be opened or read: no draft was made
+abbrev pub IsUnread : List Call → Unready → Type 0
+IsUnread d' fault = IsOpening d' × ((why : FileFault) × (fault ≡ unready_by_file why))
+
+-- it was read, and the log is not restored: no further call was made
+pub record IsUnrestored (name line : List ℕ) (d d' : List Call) (fault : Unready) : Type 0 where
+  pub found : Option (List ℕ)
+  pub calls : d' ≡ read_calls name found d
+  pub why : OpeningFault
+  pub is : IsFaultFrom found line why
+  pub named : fault ≡ unready_by_log why
+
+-- it was not made: at each moment a crash leaves what the name stood for before, or the whole new file
+pub record IsUnmade (line : List ℕ) (d' : List Call) (fault : Unready) : Type 0 where
+  pub found : Option (List ℕ)
+  pub bytes : List ℕ
+  pub begun : IsBegunFrom found line (records_of bytes)
+  pub any_moment : AtEachMoment d' (IsBeforeOrWhole bytes)
+  pub why : FileFault
+  pub named : fault ≡ unready_by_file why
+
+-- the reason why there is no log over which lines are answered
+abbrev pub IsUnready : List ℕ → List ℕ → List Call → List Call → Unready → Type 0
+IsUnready name line d d' fault = IsUnread d' fault ⊎ IsUnrestored name line d d' fault ⊎ IsUnmade line d' fault
+
+-- the output about that reason
+abbrev pub TellsUnready : Unready → Held → Held → OverLogFault → Type 0
+TellsUnready (unready.Refused fault) w w' end = Tells (log_fault_text fault) Refused w w' end
+TellsUnready unready.Failed w w' end = (end ≡ Log) × (w' ≡ w)
+TellsUnready unready.OutOfMemory w w' end = (end ≡ OutOfMemory) × (w' ≡ w)
+
+-- ---- The lines
+
+-- the past of a file that was made and of its listener: the content, what was heard, the moment, the failures, and
+-- what a crash since an earlier moment may have left
 abbrev pub seen_of : Past → List ℕ
 seen_of past = seen_after past.start past.calls
 
@@ -131,32 +208,41 @@ moment_of past = length past.calls
 abbrev pub left_since : Past → ℕ → Outcomes
 left_since past = left_after past.start past.calls
 
-abbrev pub faults_of : Past → ℕ
-faults_of past = faults_after past.calls
+abbrev pub state_in : Past → State
+state_in past = record { file = seen_of past; heard = heard_of past; file_faults = file_faults_after past.calls; listener_faults = listener_faults_after past.calls }
 
--- THE LINES AFTER THE FIRST run over a file that was read, with the content that a crash leaves at every
--- moment, and the end
-pub record RanOverLog (line : List ℕ) (r r' : Told) (p p' : Unread) (outcome : Result Unit LoggedFault) : Type 0 where
-  pub file : List ℕ
+-- THE LINES AFTER THE FIRST, over a file that was made with these bytes. At each moment a crash leaves its records
+-- and those of the first of the lines, and the writer has taken a beginning of the replies to those. The calls of
+-- the disk are those of this file, and the writer took just what its listener heard
+pub record AnswersOver (bytes : List ℕ) (x : Reading) (made d' : List Call) (w' : Held) (result : Result Unit OverLogFault) : Type 0 where
   pub before : Past
   pub after : Past
-  pub read : seen_of before ≡ file
+  pub made_with : seen_of before ≡ bytes
   pub nothing_heard : heard_of before ≡ []
-  pub any_moment : LeavesOnly moment_of left_since before after (Leaves file line (lines_since r r' p) (heard_of before))
-  pub ended : IsLoggedOutcome seen_of heard_of moment_of left_since faults_of file line r r' p p' before after outcome
-
--- the file can't be read, or the lines run over it
-abbrev pub AnswersIn : List ℕ → Told → Told → Unread → Unread → Held → Result Unit OverLogFault → Type 0
-AnswersIn line r r' p p' w' result = (((result ≡ Err Log) ⊎ (result ≡ Err OutOfMemory)) × (r' ≡ r))
-    ⊎ ((outcome : Result Unit LoggedFault) × (held : Held) × RanOverLog line r r' p p' outcome × TellsOutcome outcome held w' result)
+  pub any_moment : LeavesOnly moment_of left_since before after (Covered is_kept reply_at (records_of bytes) (lines_in x) [])
+  pub outcome : Result Unit LoggedFault
+  pub ended : IsAnsweredOver (state_in before) x (state_in after) outcome
+  pub status : result ≡ outcome_over outcome
+  pub calls : d' ≡ file_calls after.calls ++ made
+  pub took : w'.bytes ≡ heard_of after
 
 -- ---- The whole script
 
--- memory is refused before anything is read, or the first line is no catalogue, or the file isn't available,
--- or the lines are run
-abbrev pub IsLogServed : Told → Told → Held → Held → Result Unit OverLogFault → Type 0
-IsLogServed r r' w w' result =
-    ((result ≡ Err OutOfMemory) × (r' ≡ r) × (w' ≡ w))
-    ⊎ ((p : Unread) × (fault : EngineFault) × (end : OverLogFault) × FailsFirst r r' nothing_read p fault × (result ≡ Err end) × TellsFirst fault w w' end)
-    ⊎ ((p : Unread) × (line : List ℕ) × (catalogue : List JobTree) × (end : OverLogFault) × HasFirst r r' nothing_read p line catalogue × (result ≡ Err end) × TellsUnavailable w w' end)
-    ⊎ ((m : Told) × (p : Unread) × (p' : Unread) × (line : List ℕ) × (catalogue : List JobTree) × HasFirst r m nothing_read p line catalogue × AnswersIn line m r' p p' w' result)
+-- there is no first line that is a catalogue
+abbrev pub HasNoCatalogue : Devices → Devices → Result Unit OverLogFault → Type 0
+HasNoCatalogue x x' result = (p : Unread) × (fault : EngineFault) × (end : OverLogFault)
+    × FailsFirst x.told x'.told nothing_read p fault × (result ≡ Err end) × TellsFirst fault x.held x'.held end × (x'.disk ≡ x.disk)
+
+-- there is no log over which lines are answered
+abbrev pub HasNoLog : List ℕ → Devices → Devices → Result Unit OverLogFault → Type 0
+HasNoLog name x x' result = (p : Unread) × (line : List ℕ) × (catalogue : List JobTree) × (fault : Unready) × (end : OverLogFault)
+    × HasFirst x.told x'.told nothing_read p line catalogue × IsUnready name line x.disk x'.disk fault × (result ≡ Err end) × TellsUnready fault x.held x'.held end
+
+-- the lines are answered over a file that was made
+abbrev pub AnswersLines : List ℕ → Devices → Devices → Result Unit OverLogFault → Type 0
+AnswersLines name x x' result = (m : Told) × (p p' : Unread) × (line : List ℕ) × (catalogue : List JobTree) × (bytes : List ℕ) × (made : List Call)
+    × HasFirst x.told m nothing_read p line catalogue × IsReady name line x.disk made bytes × AnswersOver bytes (reading m x'.told p p') made x'.disk x'.held result
+
+-- memory is refused before anything is read, or one of these
+abbrev pub IsLogServed : List ℕ → Devices → Devices → Result Unit OverLogFault → Type 0
+IsLogServed name x x' result = ((result ≡ Err OutOfMemory) × (x' ≡ x)) ⊎ HasNoCatalogue x x' result ⊎ HasNoLog name x x' result ⊎ AnswersLines name x x' result

@@ -1,22 +1,31 @@
 // A script over a log.
-ghost use Rattle.std.specs.Prelude.{◌≡◌, List, Ok, IfOk, IfErr, IsErrAnd};
-ghost use Rattle.jsl_model.specs.Jobs.{JobTree};
-ghost use Rattle.logged_script.specs.Texts.{log_fault_text};
+ghost use Rattle.std.specs.Prelude.{◌≡◌, [], List, ℕ, None, Ok, IfOk, IfErr, IsErrAnd};
+ghost use Rattle.std.specs.Option.{option_map};
+ghost use Rattle.durable_log.specs.Logs.{records_of, IsRest};
+ghost use Rattle.file_host.specs.Making.{IsMade, IsOpening};
 ghost use Rattle.script_engine.specs.Script.{catalogue_at};
+ghost use Rattle.script_log.specs.Reading.{reading};
+ghost use Rattle.script_log.specs.Runs.{history_of};
+ghost use Rattle.logged_script.specs.Histories.{Answers};
+ghost use Rattle.logged_script.specs.Texts.{log_fault_text};
+ghost use Rattle.logged_script.specs.declared.opening.OpeningFault.TheVariants.{OutOfMemory};
 ghost use Rattle.batch_commands.specs.declared.logged_fault.OverLogFault.TheVariants.{Refused};
-ghost use Rattle.batch_commands.specs.Logging.{AnswersIn, FailsFirst, HasFirst, HasName, IsLogServed, PutsLine, Tells, TellsFirst, TellsOutcome, TellsUnavailable, over_log_exit};
+ghost use Rattle.batch_commands.specs.Devices.{devices};
+ghost use Rattle.batch_commands.specs.Logging.{AnswersOver, FailsFirst, HasFirst, HasName, IsBegunFrom, IsCutFrom, IsFaultFrom, IsLogServed, IsReady, IsUnready, PutsLine, Tells, TellsFirst, TellsUnready, outcome_over, over_log_exit, unready_by_file, unready_by_log};
 
 use crate::logged_fault::OverLogFault;
 use crate::main_program::DONE;
 use crate::replies::{flush, put};
-use crate::sink_writer::SinkWriter;
-use file_host::{FileFault, FileHost, create_file, open_file};
+use durable_log::Log;
+use file_host::{Disk, FileFault, FileHost, make_anew, read_file};
 use jsl_model::Catalogue;
-use logged_script::{LogFault, LoggedFault, answer_logged, catalogue_at, log_fault_text, new_log};
+use logged_script::{
+    LogFault, LoggedFault, OpeningFault, RestoredLog, ScriptEngine, answer_restored, catalogue_at,
+    log_fault_text, new_log, restore,
+};
 use script_engine::{EngineFault, Line, OutputBuffer, ReadFault, Sink, Source, fault_text};
 use script_lines::InputBuffer;
 use std::alloc::Global;
-use std::fs::{File, Files};
 use std::io::Write;
 
 /// Writes a line.
@@ -80,113 +89,227 @@ fn tell_first<W: Sink>(alloc: Global, fault: EngineFault, sink: &mut W) -> Resul
     Err(OverLogFault::of_engine(fault))
 }
 
-/// Opens the file of a log. Creates it for this catalogue if there is none.
-fn open_or_make<R: Files<File = File>>(
-    rt: &R,
-    alloc: Global,
-    log: &str,
-    line: &[u8],
-) -> Result<File, FileFault>
-    requires { (catalogue : List JobTree) × (catalogue_at line.now ≡ Ok catalogue) }
-{
-    match open_file(rt, log) {
-        Err(FileFault::Missing) => {
-            let bytes = new_log(alloc, line)?;
-            create_file(rt, alloc, log, &bytes)
+/// The reason why there is no log over which lines could be answered.
+#[derive(Clone, Copy, Debug, PartialEq, Eq)]
+pub(crate) enum Unready {
+    /// The log is refused.
+    Refused(LogFault),
+    /// The file can't be opened, read or made anew.
+    Failed,
+    /// Memory was refused.
+    OutOfMemory,
+}
+
+impl From<FileFault> for Unready {
+    ghost from_gives = { λ fault unready. unready ≡ unready_by_file fault };
+
+    fn from(fault: FileFault) -> Unready {
+        match fault {
+            FileFault::InUse => Unready::Refused(LogFault::InUse),
+            FileFault::OutOfMemory => Unready::OutOfMemory,
+            FileFault::Missing => Unready::Failed,
+            FileFault::Unavailable => Unready::Failed,
         }
-        opened => opened,
     }
 }
 
-/// Writes the reason why the file of a log isn't available, if it is in use, and returns that
-/// fault.
-fn tell_unavailable<W: Sink>(
+impl From<OpeningFault> for Unready {
+    ghost from_gives = { λ fault unready. unready ≡ unready_by_log fault };
+
+    fn from(fault: OpeningFault) -> Unready {
+        match fault {
+            OpeningFault::Refused(fault) => Unready::Refused(fault),
+            OpeningFault::OutOfMemory => Unready::OutOfMemory,
+        }
+    }
+}
+
+/// Makes a log that has only this catalogue.
+fn fresh_log(alloc: Global, line: &[u8], catalogue: Catalogue) -> Result<RestoredLog, OpeningFault>
+    requires { catalogue_at line.now ≡ Ok catalogue }
+    ensures begun { IfOk result (λ log. IsBegunFrom None line.now (records_of log.file.bytes.items)) }
+    ensures rest { IfOk result (λ log. IsRest log.file.bytes.items log.file.rest) }
+    ensures answers { IfOk result (λ log. Answers log.engine (history_of (records_of log.file.bytes.items))) }
+    ensures cut { IfOk result (λ log. log.cut.items ≡ []) }
+    ensures fault { IfErr result (λ fault. fault ≡ OutOfMemory) }
+{
+    let file = new_log(alloc, line)?;
+    match ScriptEngine::new(alloc, catalogue) {
+        Ok(engine) => Ok(RestoredLog {
+            file,
+            cut: Vec::new(alloc),
+            engine,
+        }),
+        Err(_) => Err(OpeningFault::OutOfMemory),
+    }
+}
+
+/// Restores the log that was found, or makes one that has only this catalogue.
+fn find_log(
     alloc: Global,
-    fault: FileFault,
+    found: Option<Vec<u8>>,
+    line: &[u8],
+    catalogue: Catalogue,
+) -> Result<RestoredLog, OpeningFault>
+    requires { catalogue_at line.now ≡ Ok catalogue }
+    ensures begun { IfOk result (λ log. IsBegunFrom (option_map (λ file. file.items) found) line.now (records_of log.file.bytes.items)) }
+    ensures rest { IfOk result (λ log. IsRest log.file.bytes.items log.file.rest) }
+    ensures answers { IfOk result (λ log. Answers log.engine (history_of (records_of log.file.bytes.items))) }
+    ensures cut { IfOk result (λ log. IsCutFrom (option_map (λ file. file.items) found) log.cut.items) }
+    ensures fault { IfErr result (IsFaultFrom (option_map (λ file. file.items) found) line.now) }
+{
+    match found {
+        Some(file) => restore(alloc, file, line, catalogue),
+        None => fresh_log(alloc, line, catalogue),
+    }
+}
+
+/// Reads the log of this name, restores it, and makes its file anew.
+fn make_ready<D: Disk>(
+    alloc: Global,
+    disk: &mut D,
+    name: &str,
+    line: &[u8],
+    catalogue: Catalogue,
+) -> Result<RestoredLog, Unready>
+    requires opening { IsOpening (D.past disk.old) }
+    requires catalogue { catalogue_at line.now ≡ Ok catalogue }
+    ensures ready { IfOk result (λ log. IsReady name.now line.now (D.past disk.old) (D.past disk.new) log.file.bytes.items) }
+    ensures rest { IfOk result (λ log. IsRest log.file.bytes.items log.file.rest) }
+    ensures answers { IfOk result (λ log. Answers log.engine (history_of (records_of log.file.bytes.items))) }
+    ensures unready { IfErr result (IsUnready name.now line.now (D.past disk.old) (D.past disk.new)) }
+{
+    let found = match read_file(disk, alloc, name) {
+        Ok(found) => found,
+        Err(fault) => return Err(Unready::from(fault)),
+    };
+    let log = match find_log(alloc, found, line, catalogue) {
+        Ok(log) => log,
+        Err(fault) => return Err(Unready::from(fault)),
+    };
+    match make_anew(disk, name, &log.cut, &log.file.bytes) {
+        Ok(()) => Ok(log),
+        Err(fault) => {
+            drop(log);
+            Err(Unready::from(fault))
+        }
+    }
+}
+
+/// Writes the reason why there is no log, if the log is refused, and returns that fault.
+fn tell_unready<W: Sink>(
+    alloc: Global,
+    fault: Unready,
     sink: &mut W,
 ) -> Result<(), OverLogFault>
-    ensures { IsErrAnd result (TellsUnavailable (W.tape sink.old) (W.tape sink.new)) }
+    ensures { IsErrAnd result (TellsUnready fault (W.tape sink.old) (W.tape sink.new)) }
 {
     match fault {
-        FileFault::InUse => refuse(alloc, LogFault::InUse, sink),
-        FileFault::OutOfMemory => Err(OverLogFault::OutOfMemory),
-        FileFault::Missing => Err(OverLogFault::Log),
-        FileFault::Unavailable => Err(OverLogFault::Log),
+        Unready::Refused(fault) => refuse(alloc, fault, sink),
+        Unready::Failed => Err(OverLogFault::Log),
+        Unready::OutOfMemory => Err(OverLogFault::OutOfMemory),
     }
 }
 
-/// Writes the reason why the log was refused, if it was, and returns the end of the script.
-fn tell_outcome<W: Sink>(
-    alloc: Global,
-    outcome: Result<(), LoggedFault>,
-    sink: &mut W,
-) -> Result<(), OverLogFault>
-    ensures { TellsOutcome outcome (W.tape sink.old) (W.tape sink.new) result }
+fn outcome_of(outcome: Result<(), LoggedFault>) -> Result<(), OverLogFault>
+    ensures { result ≡ outcome_over outcome }
 {
     match outcome {
         Ok(()) => Ok(()),
-        Err(LoggedFault::Refused(fault)) => refuse(alloc, fault, sink),
         Err(fault) => Err(OverLogFault::of_logged(fault)),
     }
 }
 
-/// Replies to the lines after the first, over the log in a file.
-fn answer_in<S: Source, W: Sink>(
+/// Replies to the lines after the first, over a log whose file was made.
+fn answer_in<D: Disk + Drop, S: Source, W: Sink + Drop>(
     alloc: Global,
     input: &mut InputBuffer,
     source: &mut S,
-    sink: &mut W,
-    file: File,
-    line: &[u8],
-    catalogue: Catalogue,
-) -> Result<(), OverLogFault>
-    requires { catalogue_at line.now ≡ Ok catalogue }
-    ensures { AnswersIn line.now (S.tape source.old) (S.tape source.new) input.old input.new (W.tape sink.new) result }
+    disk: D,
+    sink: W,
+    log: RestoredLog,
+) -> (Result<(), OverLogFault>, D, W)
+    requires made { (name : List ℕ) × IsMade (D.past disk) name log.file.bytes.items }
+    requires fresh { (W.tape sink).bytes ≡ [] }
+    requires rest { IsRest log.file.bytes.items log.file.rest }
+    requires answers { Answers log.engine (history_of (records_of log.file.bytes.items)) }
+    ensures { AnswersOver log.file.bytes.items (reading (S.tape source.old) (S.tape source.new) input.old input.new)
+        (D.past disk) (D.past result.1) (W.tape result.2) result.0 }
 {
-    let listener = SinkWriter { sink: &mut *sink };
-    let (host, bytes) = match FileHost::open(alloc, file, listener) {
-        Ok(opened) => opened,
-        Err(FileFault::OutOfMemory) => return Err(OverLogFault::OutOfMemory),
-        Err(_) => return Err(OverLogFault::Log),
-    };
-    let (outcome, host) = answer_logged(alloc, input, source, host, bytes, line, catalogue);
-    drop(host);
-    tell_outcome(alloc, outcome, sink)
+    let RestoredLog { file, cut, engine } = log;
+    drop(cut);
+    let host = FileHost::new(disk, sink, &file.bytes);
+    let log = Log::new(alloc, host, file.rest);
+    drop(file);
+    let (outcome, host) = answer_restored(alloc, input, source, log, engine);
+    let (disk, sink) = host.into_parts();
+    (outcome_of(outcome), disk, sink)
+}
+
+/// Says on standard error where the bytes are that a crash left behind the log's end.
+fn tell_cut<F: Write>(faults: &mut F, name: &str, log: &RestoredLog) {
+    if !log.cut.is_empty() {
+        let _ = writeln!(faults, "batchctl: the bytes behind the end of the log are in {name}.cut");
+    }
 }
 
 /// Runs a script over a log.
-fn answer_over<R: AllocGlobal + Files<File = File>, S: Source, W: Sink>(
-    rt: &R,
-    log: &str,
+fn answer_over<D: Disk + Drop, S: Source, W: Sink + Drop, F: Write>(
+    alloc: Global,
+    disk: D,
+    name: &str,
     source: &mut S,
-    sink: &mut W,
-) -> Result<(), OverLogFault>
-    ensures { IsLogServed (S.tape source.old) (S.tape source.new) (W.tape sink.old) (W.tape sink.new) result }
+    sink: W,
+    faults: &mut F,
+) -> (Result<(), OverLogFault>, D, W)
+    requires opening { IsOpening (D.past disk) }
+    requires fresh { (W.tape sink).bytes ≡ [] }
+    ensures { IsLogServed name.now (devices (S.tape source.old) (W.tape sink) (D.past disk))
+        (devices (S.tape source.new) (W.tape result.2) (D.past result.1)) result.0 }
 {
-    let alloc = rt.alloc();
-    let mut input = InputBuffer::new(alloc)?;
+    let mut disk = disk;
+    let mut sink = sink;
+    let mut input = match InputBuffer::new(alloc) {
+        Ok(input) => input,
+        Err(error) => return (Err(OverLogFault::from(error)), disk, sink),
+    };
     let (line, catalogue) = match read_first(alloc, &mut input, source) {
         Ok(first) => first,
-        Err(fault) => return tell_first(alloc, fault, sink),
+        Err(fault) => {
+            let end = tell_first(alloc, fault, &mut sink);
+            return (end, disk, sink);
+        }
     };
-    match open_or_make(rt, alloc, log, &line) {
-        Ok(file) => answer_in(alloc, &mut input, source, sink, file, &line, catalogue),
-        Err(fault) => tell_unavailable(alloc, fault, sink),
+    match make_ready(alloc, &mut disk, name, &line, catalogue) {
+        Ok(log) => {
+            tell_cut(faults, name, &log);
+            answer_in(alloc, &mut input, source, disk, sink, log)
+        }
+        Err(fault) => {
+            let end = tell_unready(alloc, fault, &mut sink);
+            (end, disk, sink)
+        }
     }
 }
 
-/// Runs a script over a log, and returns the exit status.
-pub(crate) fn serve_logged<R: AllocGlobal + Files<File = File>, S: Source, W: Sink, F: Write>(
-    rt: &R,
-    log: &str,
+/// Runs a script over a log, and returns the exit status, the disk and the sink.
+pub(crate) fn serve_logged<D: Disk + Drop, S: Source, W: Sink + Drop, F: Write>(
+    alloc: Global,
+    disk: D,
+    name: &str,
     source: &mut S,
-    sink: &mut W,
+    sink: W,
     faults: &mut F,
-) -> u8
-    ensures { (outcome : _) × IsLogServed (S.tape source.old) (S.tape source.new) (W.tape sink.old) (W.tape sink.new) outcome × (result ≡ over_log_exit outcome) }
+) -> (u8, D, W)
+    requires opening { IsOpening (D.past disk) }
+    requires fresh { (W.tape sink).bytes ≡ [] }
+    ensures { (outcome : _) × IsLogServed name.now (devices (S.tape source.old) (W.tape sink) (D.past disk))
+        (devices (S.tape source.new) (W.tape result.2) (D.past result.1)) outcome × (result.0 ≡ over_log_exit outcome) }
 {
-    match answer_over(rt, log, source, sink) {
+    let (outcome, disk, sink) = answer_over(alloc, disk, name, source, sink, faults);
+    let status = match outcome {
         Ok(()) => DONE,
         Err(fault) => fault.end(faults),
-    }
+    };
+    (status, disk, sink)
 }

@@ -54,7 +54,6 @@ impl OverLogFault {
         ensures { result ≡ fault_of_logged fault }
     {
         match fault {
-            LoggedFault::Refused(_) => OverLogFault::Refused,
             LoggedFault::Read => OverLogFault::Read,
             LoggedFault::Write => OverLogFault::Write,
             LoggedFault::Log => OverLogFault::Log,

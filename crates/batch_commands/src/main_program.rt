@@ -1,9 +1,10 @@
-ghost use Rattle.std.specs.Prelude.{◌≡◌, ◌≢◌, ◌≤◌, ◌⊎◌, map};
+ghost use Rattle.std.specs.Prelude.{◌≡◌, ◌≢◌, ◌≤◌, ◌⊎◌, [], map};
 ghost use Rattle.std.specs.IoError.{error_kind};
 ghost use Rattle.script_lines.specs.Tape.{nothing_past, told_by, held_by};
 ghost use Rattle.script_engine.specs.Ran.{Ran};
 ghost use Rattle.batch_commands.specs.Commands.{IsShown};
 ghost use Rattle.batch_commands.specs.Runs.{HasRun};
+ghost use Rattle.batch_commands.specs.Devices.{Devices, devices};
 ghost use Rattle.batch_commands.specs.Statuses.{exit_status, IsServed};
 
 use crate::asked::Arguments;
@@ -12,6 +13,7 @@ use crate::logged::serve_logged;
 use crate::run::run_jobs;
 use crate::sink_writer::SinkWriter;
 use clap::error::Error;
+use file_host::{Disk, SystemDisk};
 use script_engine::{Counted, EngineFault, Sink, Source, run_script};
 use std::alloc::Global;
 use std::fs::{File, Files};
@@ -141,24 +143,46 @@ fn tell_words<W: Sink, F: Write>(error: &Error, sink: &mut W, faults: &mut F) ->
     tell_text(error, sink, faults)
 }
 
-/// Runs the command that the words ask for, and returns the exit status.
-fn serve<R: Threads + Wait + AllocGlobal + Files<File = File> + Sync, S: Source, W: Sink, F: Write>(
+/// Runs the command that the words ask for, over a disk, a reader and a writer that have made no
+/// call yet. Returns the exit status ([`program`]), and the disk and the writer as the calls left
+/// them.
+pub fn serve<
+    R: Threads + Wait + AllocGlobal + Sync,
+    D: Disk + Drop,
+    S: Source,
+    W: Sink + Drop,
+    F: Write,
+>(
     rt: &R,
+    disk: D,
     words: &[&str],
     source: &mut S,
-    sink: &mut W,
+    sink: W,
     faults: &mut F,
-) -> u8
-    ensures { IsServed (map (λ word. word.now) words.now) (S.tape source.old) (S.tape source.new) (W.tape sink.old) (W.tape sink.new) result }
+) -> (u8, D, W)
+    requires fresh_disk { D.past disk ≡ [] }
+    requires fresh_sink { (W.tape sink).bytes ≡ [] }
+    ensures { IsServed (map (λ word. word.now) words.now) (devices (S.tape source.old) (W.tape sink) (D.past disk))
+        (devices (S.tape source.new) (W.tape result.2) (D.past result.1)) result.0 }
 {
-    match arguments(rt.alloc(), words) {
-        Ok(Arguments::Script) => serve_script(rt.alloc(), source, sink, faults),
-        Ok(Arguments::LoggedScript { log }) => serve_logged(rt, log, source, sink, faults),
-        Ok(Arguments::Run { workers }) => serve_run(rt, workers, source, sink, faults),
+    let alloc = rt.alloc();
+    let mut sink = sink;
+    match arguments(alloc, words) {
+        Ok(Arguments::Script) => {
+            let status = serve_script(alloc, source, &mut sink, faults);
+            (status, disk, sink)
+        }
+        Ok(Arguments::LoggedScript { log }) => {
+            serve_logged(alloc, disk, log, source, sink, faults)
+        }
+        Ok(Arguments::Run { workers }) => {
+            let status = serve_run(rt, workers, source, &mut sink, faults);
+            (status, disk, sink)
+        }
         Err(error) => {
-            let status = tell_words(&error, sink, faults);
+            let status = tell_words(&error, &mut sink, faults);
             drop(error);
-            status
+            (status, disk, sink)
         }
     }
 }
@@ -180,13 +204,15 @@ pub fn program<
     W: Write + Drop,
     F: Write,
 >(rt: &R, words: &[&str], reader: D, writer: W, faults: &mut F) -> u8
-    ensures { (r' : _) × (w' : _) × IsServed (map (λ word. word.now) words.now)
-        (told_by nothing_past (D.remaining reader)) r' (held_by nothing_past (W.contents writer)) w' result }
+    ensures { (after : Devices) × IsServed (map (λ word. word.now) words.now)
+        (devices (told_by nothing_past (D.remaining reader)) (held_by nothing_past (W.contents writer)) []) after result }
 {
     let mut source = Counted::new(reader);
-    let mut sink = Counted::new(writer);
-    let status = serve(rt, words, &mut source, &mut sink, faults);
+    let sink = Counted::new(writer);
+    let disk = SystemDisk::new(rt, rt.alloc());
+    let (status, disk, sink) = serve(rt, disk, words, &mut source, sink, faults);
     drop(source);
+    drop(disk);
     drop(sink);
     status
 }

@@ -76,6 +76,7 @@ fn put_batch<H: Host>(host: &mut H, end: usize, batch: &[u8]) -> Result<(), Host
     ensures later { H.file_faults host.old ≤ H.file_faults host.new }
     ensures failed { OnErr result (H.file_faults host.old < H.file_faults host.new) }
     ensures listener { H.listener_faults host.new ≡ H.listener_faults host.old }
+    ensures origin { H.origin host.new ≡ H.origin host.old }
 {
     write_and_sync(host, end + 3, batch)?;
     // The batch must be on the disk first. Otherwise a crash could leave an open gate before a part
@@ -155,6 +156,7 @@ impl<H: Host> Log<H> {
         ensures later { H.file_faults self.old.host ≤ H.file_faults self.new.host }
         ensures failed { IsErrOf result CommitFault.Failed → H.file_faults self.old.host < H.file_faults self.new.host }
         ensures listener { H.listener_faults self.new.host ≡ H.listener_faults self.old.host }
+        ensures origin { H.origin self.new.host ≡ H.origin self.old.host }
         ensures full { IsErrOf result CommitFault.Full → (self.new ≡ self.old) × (2 ^ 62 ≤ self.old.end + length self.old.waiting.items) }
     {
         if self.waiting.is_empty() {
@@ -194,6 +196,7 @@ impl<H: Host> Log<H> {
         ensures later { H.listener_faults self.old.host ≤ H.listener_faults self.new.host }
         ensures failed { OnErr result (H.listener_faults self.old.host < H.listener_faults self.new.host) }
         ensures file { H.file_faults self.new.host ≡ H.file_faults self.old.host }
+        ensures origin { H.origin self.new.host ≡ H.origin self.old.host }
     {
         self.host.tell(piece)
     }

@@ -1,6 +1,7 @@
 ghost use Rattle.std.specs.Prelude.{◌≡◌};
-ghost use Rattle.file_host.specs.declared.file_fault.FileFault.TheVariants.{OutOfMemory};
+ghost use Rattle.file_host.specs.declared.file_fault.FileFault.TheVariants.{OutOfMemory, Unavailable};
 
+use crate::disk::CallFault;
 use std::alloc::AllocError;
 use std::error::Error;
 use std::fmt;
@@ -36,5 +37,13 @@ impl From<AllocError> for FileFault {
 
     fn from(_: AllocError) -> FileFault {
         FileFault::OutOfMemory
+    }
+}
+
+impl From<CallFault> for FileFault {
+    ghost from_gives = { λ _ e. e ≡ Unavailable };
+
+    fn from(_: CallFault) -> FileFault {
+        FileFault::Unavailable
     }
 }

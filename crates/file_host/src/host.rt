@@ -1,94 +1,72 @@
-// A host made from a file of the system and a writer.
-ghost use Rattle.std.specs.Prelude.{◌≡◌, ◌≤◌, [], length, IfOk, IfSome};
-ghost use Rattle.log_host.specs.Host.{Only};
-ghost use Rattle.log_host.specs.Past.{seen_after, heard_after, leaves_after, left_after, faults_after};
+// A host made from the disk and a sink.
+ghost use Rattle.std.specs.Prelude.{◌≡◌, ◌<◌, ◌++◌, List, ℕ, [], length, nat_lt, true, false};
+ghost use Rattle.log_host.specs.Past.{seen_after, heard_after, leaves_after, left_after, is_sound, file_faults_after, listener_faults_after};
 ghost use Rattle.log_host.specs.Laws.{now_left, counts, only};
+ghost use Rattle.file_host.specs.Calls.{file_calls};
+ghost use Rattle.file_host.specs.Causes.{are_caused};
 
-use crate::file_fault::FileFault;
-use crate::system::FileCalls;
+use crate::disk::Disk;
 use log_host::{Asked, Host, HostFault, Tape};
-use std::alloc::Global;
-use std::io::Write;
+use script_lines::Sink;
 
-/// A file of the system, and a writer that hears the replies. After a call of the file has failed,
-/// each later call of it fails, since a sync after a failed one proves nothing. The same holds for
-/// the writer.
+/// A file that was made anew, and a sink that hears the replies. After a call of the file has
+/// failed, no further call of it is made, since a sync after a failed one proves nothing. The same
+/// holds for the sink.
 #[derive(Drop)]
-pub struct FileHost<F: FileCalls + Drop, W: Write + Drop> {
-    file: F,
-    listener: W,
+pub struct FileHost<D: Disk + Drop, S: Sink + Drop> {
+    disk: D,
+    listener: S,
     tape: Tape,
+    made: Tape,
     broken: bool,
     silent: bool,
+    ghost calls_are: { D.past disk ≡ file_calls tape.past.calls ++ made.past.calls },
+    ghost heard_is: { (S.tape listener).bytes ≡ heard_after tape.past.calls },
+    ghost sound_is: { broken ≡ false → is_sound tape.past.calls ≡ true },
+    ghost broken_is: { broken ≡ true → nat_lt 0 (file_faults_after tape.past.calls) ≡ true },
+    ghost silent_is: { silent ≡ true → nat_lt 0 (listener_faults_after tape.past.calls) ≡ true },
+    ghost caused: { are_caused tape.past.calls ≡ true },
 }
 
-impl<F: FileCalls + Drop, W: Write + Drop> FileHost<F, W> {
-    ghost use Rattle.log_host.specs.Past.{seen_after, heard_after, leaves_after};
+impl<D: Disk + Drop, S: Sink + Drop> FileHost<D, S> {
+    ghost use Rattle.std.specs.Prelude.{◌≡◌, ◌++◌, List, ℕ, []};
+    ghost use Rattle.log_host.specs.Past.{seen_after, heard_after, leaves_after, file_faults_after, listener_faults_after};
     ghost use Rattle.log_host.specs.Host.{Only};
+    ghost use Rattle.file_host.specs.Calls.{file_calls};
+    ghost use Rattle.file_host.specs.Making.{IsMade};
 
-    /// Opens a host over a file and a writer, and returns it with the bytes of the file. It syncs
-    /// the file first: a program that was killed may have left bytes that are not on the disk yet.
-    /// So the bytes that were read count as being on the disk.
-    ///
-    /// # Errors
-    ///
-    /// `Unavailable` if the file cannot be synced or read, and `OutOfMemory` if memory for its
-    /// bytes is refused.
-    pub fn open(
-        alloc: Global,
-        mut file: F,
-        listener: W,
-    ) -> Result<(FileHost<F, W>, Vec<u8>), FileFault>
-        ensures seen { IfOk result (λ r. seen_after r.0.tape.past.start r.0.tape.past.calls ≡ r.1.items) }
-        ensures heard { IfOk result (λ r. heard_after r.0.tape.past.calls ≡ []) }
-        ensures durable { IfOk result (λ r. Only r.1.items [] (leaves_after r.0.tape.past.start r.0.tape.past.calls)) }
+    /// Creates a host over a file that was made with these bytes, and a sink that has taken nothing
+    /// yet. All bytes of the file are on the disk.
+    pub fn new(disk: D, listener: S, bytes: &[u8]) -> FileHost<D, S>
+        requires made { (name : List ℕ) × IsMade (D.past disk) name bytes.now }
+        requires fresh { (S.tape listener).bytes ≡ [] }
+        ensures seen { seen_after result.tape.past.start result.tape.past.calls ≡ bytes.now }
+        ensures heard { heard_after result.tape.past.calls ≡ [] }
+        ensures durable { Only bytes.now [] (leaves_after result.tape.past.start result.tape.past.calls) }
+        ensures sound { (file_faults_after result.tape.past.calls ≡ 0) × (listener_faults_after result.tape.past.calls ≡ 0) }
+        ensures origin { result.made.past.calls ≡ D.past disk }
     {
-        if file.sync_all_data().is_err() {
-            return Err(FileFault::Unavailable);
-        }
-        let bytes = file.read_all(alloc)?;
-        let host = FileHost {
-            file,
+        let made = disk.tape();
+        FileHost {
+            disk,
             listener,
-            tape: Tape::begin(&bytes),
+            tape: Tape::begin(bytes),
+            made,
             broken: false,
             silent: false,
-        };
-        Ok((host, bytes))
+        }
+    }
+
+    /// Returns the disk and the sink, as the calls left them.
+    pub fn into_parts(self) -> (D, S)
+        ensures disk { D.past result.0 ≡ file_calls self.tape.past.calls ++ self.made.past.calls }
+        ensures listener { (S.tape result.1).bytes ≡ heard_after self.tape.past.calls }
+    {
+        (self.disk, self.listener)
     }
 }
 
-// Writes the bytes, and returns whether it succeeded.
-fn writes<F: FileCalls>(file: &mut F, broken: bool, at: usize, bytes: &[u8]) -> bool {
-    !broken && file.write_all_at(at, bytes).is_ok()
-}
-
-// Cuts the file, and returns whether it succeeded.
-fn cuts<F: FileCalls>(file: &mut F, broken: bool, len: usize) -> bool {
-    !broken && file.set_size(len).is_ok()
-}
-
-// Syncs the file, and returns whether it succeeded.
-fn syncs<F: FileCalls>(file: &mut F, broken: bool) -> bool {
-    !broken && file.sync_all_data().is_ok()
-}
-
-// Sends a front of the piece, and returns its number of bytes. If the writer takes no byte of a
-// piece that is not empty, this is a failure.
-fn tells<W: Write>(listener: &mut W, silent: bool, piece: &[u8]) -> Option<usize>
-    ensures bound { IfSome result (λ n. n ≤ length piece.now) }
-    ensures nothing { IfSome result (λ n. n ≡ 0 → length piece.now ≡ 0) }
-{
-    if silent {
-        return None;
-    }
-    match listener.write(piece) {
-        Ok(n) if n > 0 || piece.is_empty() => Some(n),
-        _ => None,
-    }
-}
-
-impl<F: FileCalls + Drop, W: Write + Drop> Host for FileHost<F, W> {
+impl<D: Disk + Drop, S: Sink + Drop> Host for FileHost<D, S> {
     ghost seen = { λ h. seen_after h.tape.past.start h.tape.past.calls };
 
     ghost heard = { λ h. heard_after h.tape.past.calls };
@@ -99,7 +77,11 @@ impl<F: FileCalls + Drop, W: Write + Drop> Host for FileHost<F, W> {
 
     ghost left_since = { λ h t c o. left_after h.tape.past.start h.tape.past.calls t c o };
 
-    ghost faults = { λ h. faults_after h.tape.past.calls };
+    ghost origin = { λ h. h.made.past };
+
+    ghost file_faults = { λ h. file_faults_after h.tape.past.calls };
+
+    ghost listener_faults = { λ h. listener_faults_after h.tape.past.calls };
 
     ghost leaves_now = { λ h. now_left h.tape.past.start h.tape.past.calls };
 
@@ -108,44 +90,54 @@ impl<F: FileCalls + Drop, W: Write + Drop> Host for FileHost<F, W> {
     ghost only_now = { λ h c o left. only h.tape.past.start h.tape.past.calls c o left };
 
     fn write_at(&mut self, at: usize, bytes: &[u8]) -> Result<(), HostFault> {
-        let done = writes(&mut self.file, self.broken, at, bytes);
-        self.tape = self.tape.then(Asked::Write(at, bytes, done));
-        if done {
-            return Ok(());
+        if self.broken {
+            self.tape = self.tape.then(Asked::Refused);
+            return Err(HostFault);
         }
-        self.broken = true;
-        Err(HostFault)
-    }
-
-    fn cut(&mut self, len: usize) -> Result<(), HostFault> {
-        let done = cuts(&mut self.file, self.broken, len);
-        self.tape = self.tape.then(Asked::Cut(len, done));
-        if done {
-            return Ok(());
+        match self.disk.write_at(at, bytes) {
+            Ok(()) => {
+                self.tape = self.tape.then(Asked::Write(at, bytes, true));
+                Ok(())
+            }
+            Err(_) => {
+                self.tape = self.tape.then(Asked::Write(at, bytes, false));
+                self.broken = true;
+                Err(HostFault)
+            }
         }
-        self.broken = true;
-        Err(HostFault)
     }
 
     fn sync(&mut self) -> Result<(), HostFault> {
-        let done = syncs(&mut self.file, self.broken);
-        self.tape = self.tape.then(Asked::Sync(done));
-        if done {
-            return Ok(());
+        if self.broken {
+            self.tape = self.tape.then(Asked::Refused);
+            return Err(HostFault);
         }
-        self.broken = true;
-        Err(HostFault)
+        match self.disk.sync() {
+            Ok(()) => {
+                self.tape = self.tape.then(Asked::Sync(true));
+                Ok(())
+            }
+            Err(_) => {
+                self.tape = self.tape.then(Asked::Sync(false));
+                self.broken = true;
+                Err(HostFault)
+            }
+        }
     }
 
     fn tell(&mut self, piece: &[u8]) -> Result<usize, HostFault> {
-        match tells(&mut self.listener, self.silent, piece) {
-            Some(n) => {
+        if self.silent {
+            self.tape = self.tape.then(Asked::Silent);
+            return Err(HostFault);
+        }
+        match self.listener.write(piece) {
+            Ok(n) if n > 0 || piece.is_empty() => {
                 self.tape = self.tape.then(Asked::Tell(piece, n, true));
                 Ok(n)
             }
-            None => {
-                self.silent = true;
+            _ => {
                 self.tape = self.tape.then(Asked::Tell(piece, 0, false));
+                self.silent = true;
                 Err(HostFault)
             }
         }

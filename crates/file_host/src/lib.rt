@@ -1,13 +1,18 @@
-//! A host made from a file of the system and a writer. It records its calls for proofs only.
+//! A host made from a file of the system and a sink. Its past is the calls that the disk and the
+//! sink answered.
 //!
-//! No contract can say that a file of the system does what is asked of it, or how a file is opened,
-//! locked and made. The module `system` has these parts.
+//! No contract can say that a file of the system does what is asked of it. The module `system` has
+//! the calls of std, each with its note on a tape.
 #![tactic(auto)]
 
+mod disk;
 mod file_fault;
 mod host;
+mod making;
 mod system;
 
+pub use disk::{CallFault, Disk};
 pub use file_fault::FileFault;
 pub use host::FileHost;
-pub use system::{CallFault, FileCalls, create_file, open_file};
+pub use making::{make_anew, read_file};
+pub use system::SystemDisk;

@@ -1,134 +1,160 @@
-// All calls of the system's files. No contract describes their effect.
+// The disk of the system: the calls of std, each with its note. No contract describes what std's calls
+// do, so these lines are trusted.
+use crate::disk::{CallFault, Disk};
 use crate::file_fault::FileFault;
+use log_host::{Asked, Tape};
 use std::alloc::Global;
-use std::error::Error;
-use std::fs::{File, Files, OpenOptions, TryLockError};
+use std::fs;
+use std::fs::{File, Files, OpenOptions, Permissions, TryLockError};
 use std::io::{ErrorKind, Read, Seek, SeekFrom, Write};
-use std::{fmt, fs};
+use std::os::unix::fs::{MetadataExt, OpenOptionsExt, PermissionsExt, chown};
 
-/// A call of a file failed.
-#[derive(Clone, Copy, Debug, PartialEq, Eq)]
-pub struct CallFault;
+// A new file is readable by its owner alone: parameters may be secrets.
+const OWNER_ALONE: u32 = 0o600;
 
-impl fmt::Display for CallFault {
-    fn fmt<W: fmt::Write>(&self, f: &mut fmt::Formatter<W>) -> fmt::Result {
-        f.write_str("a call of the file failed")
-    }
+/// The disk of the system, for one file of a name.
+#[derive(Drop)]
+pub struct SystemDisk<'r, R: Files<File = File>> {
+    files: &'r R,
+    alloc: Global,
+    // The file that was taken, and its name without links.
+    taken: Option<File>,
+    place: Option<String>,
+    draft: Option<File>,
+    tape: Tape,
 }
 
-impl Error for CallFault {}
-
-/// The calls of a file.
-pub trait FileCalls {
-    /// Reads all bytes, from the first.
-    ///
-    /// # Errors
-    ///
-    /// `Unavailable` if the file cannot be read, and `OutOfMemory` if memory for the bytes is
-    /// refused.
-    fn read_all(&mut self, alloc: Global) -> Result<Vec<u8>, FileFault>;
-
-    /// Writes all of the bytes at a place.
-    ///
-    /// # Errors
-    ///
-    /// `CallFault` if the write failed. Some of the bytes may have been written then.
-    fn write_all_at(&mut self, at: usize, bytes: &[u8]) -> Result<(), CallFault>;
-
-    /// Cuts the file to a length, in bytes.
-    ///
-    /// # Errors
-    ///
-    /// `CallFault` if the cut failed.
-    fn set_size(&mut self, len: usize) -> Result<(), CallFault>;
-
-    /// Waits until all bytes are on the disk.
-    ///
-    /// # Errors
-    ///
-    /// `CallFault` if the sync failed.
-    fn sync_all_data(&mut self) -> Result<(), CallFault>;
-}
-
-impl FileCalls for File {
-    fn read_all(&mut self, alloc: Global) -> Result<Vec<u8>, FileFault> {
-        let mut bytes = Vec::new(alloc);
-        if self.seek(SeekFrom::Start(0)).is_err() {
-            return Err(FileFault::Unavailable);
-        }
-        match self.read_to_end(&mut bytes) {
-            Ok(_) => Ok(bytes),
-            Err(error) if error.kind() == ErrorKind::OutOfMemory => Err(FileFault::OutOfMemory),
-            Err(_) => Err(FileFault::Unavailable),
-        }
-    }
-
-    fn write_all_at(&mut self, at: usize, bytes: &[u8]) -> Result<(), CallFault> {
-        match self.seek(SeekFrom::Start(at as u64)) {
-            Ok(_) => {}
-            Err(_) => return Err(CallFault),
-        }
-        match self.write_all(bytes) {
-            Ok(()) => Ok(()),
-            Err(_) => Err(CallFault),
-        }
-    }
-
-    fn set_size(&mut self, len: usize) -> Result<(), CallFault> {
-        match self.set_len(len as u64) {
-            Ok(()) => Ok(()),
-            Err(_) => Err(CallFault),
-        }
-    }
-
-    fn sync_all_data(&mut self) -> Result<(), CallFault> {
-        match self.sync_data() {
-            Ok(()) => Ok(()),
-            Err(_) => Err(CallFault),
-        }
-    }
-}
-
-// Takes the lock on a file. The lock lasts as long as the file is open.
-fn lock(file: &File) -> Result<(), FileFault> {
+// Takes the lock on a file, which has to have this name still. The lock lasts as long as the file is
+// open.
+fn lock<R: Files<File = File>>(files: &R, file: &File, place: &str) -> Result<(), FileFault> {
     match file.try_lock() {
-        Ok(()) => Ok(()),
-        Err(TryLockError::WouldBlock) => Err(FileFault::InUse),
-        Err(TryLockError::Error(_)) => Err(FileFault::Unavailable),
+        Ok(()) => {}
+        Err(TryLockError::WouldBlock) => return Err(FileFault::InUse),
+        Err(TryLockError::Error(_)) => return Err(FileFault::Unavailable),
+    }
+    let (Ok(own), Ok(named)) = (file.metadata(), files.metadata(place)) else {
+        return Err(FileFault::InUse);
+    };
+    // A pipe or a device is no file.
+    if !own.is_file() {
+        return Err(FileFault::Unavailable);
+    }
+    // Another program may have given the name to a file that it made anew.
+    if own.dev() == named.dev() && own.ino() == named.ino() {
+        Ok(())
+    } else {
+        Err(FileFault::InUse)
     }
 }
 
-/// Opens a file for reading and writing, and takes its lock. It follows a link. Two programs that
-/// open a file in this way never have it at the same time.
-///
-/// # Errors
-///
-/// - `Missing` if there is no such file.
-/// - `Unavailable` if it cannot be opened, or its file system has no locks.
-/// - `InUse` if another program has it.
-pub fn open_file<R: Files<File = File>>(files: &R, path: &str) -> Result<File, FileFault> {
-    let opened = OpenOptions::new().read(true).write(true).open(files, path);
-    let file = match opened {
-        Ok(file) => file,
+// Opens the file of a name, and takes its lock.
+fn open_locked<R: Files<File = File>>(
+    files: &R,
+    alloc: Global,
+    name: &str,
+) -> Result<(File, String), FileFault> {
+    let place = match files.canonicalize(alloc, name) {
+        Ok(place) => place.into_string(),
         Err(error) if error.kind() == ErrorKind::NotFound => return Err(FileFault::Missing),
+        Err(error) if error.kind() == ErrorKind::OutOfMemory => return Err(FileFault::OutOfMemory),
         Err(_) => return Err(FileFault::Unavailable),
     };
-    lock(&file)?;
-    Ok(file)
+    let opened = OpenOptions::new()
+        .read(true)
+        .write(true)
+        .open(files, place.as_str());
+    let Ok(file) = opened else {
+        return Err(FileFault::Unavailable);
+    };
+    lock(files, &file, &place)?;
+    Ok((file, place))
 }
 
-// Opens the draft of a new file, and takes its lock. A draft that a crash left is used.
-fn open_draft<R: Files<File = File>>(files: &R, draft: &str) -> Result<File, FileFault> {
+// Opens a file for writing, which is made if it isn't there.
+fn open_new<R: Files<File = File>>(files: &R, path: &str) -> Result<File, FileFault> {
     let opened = OpenOptions::new()
         .read(true)
         .write(true)
         .create(true)
-        .open(files, draft);
-    let Ok(file) = opened else {
+        .mode(OWNER_ALONE)
+        .open(files, path);
+    match opened {
+        Ok(file) => Ok(file),
+        Err(_) => Err(FileFault::Unavailable),
+    }
+}
+
+// Makes the draft of a file, empty, with the permissions of the file that was taken.
+fn make_draft<R: Files<File = File>>(
+    disk: &SystemDisk<'_, R>,
+    name: &str,
+) -> Result<File, FileFault> {
+    let place = disk.place_of(name);
+    let path = format!(in disk.alloc; "{place}.new")?;
+    let draft = open_new(disk.files, &path)?;
+    lock(disk.files, &draft, &path)?;
+    let taken = match &disk.taken {
+        Some(file) => file.metadata(),
+        // The program that makes the file has the lock of the draft. So a file that is there now
+        // was made before.
+        None if disk.files.symlink_metadata(name).is_ok() => return Err(FileFault::InUse),
+        None => return emptied(draft, Permissions::from_mode(OWNER_ALONE)),
+    };
+    let Ok(taken) = taken else {
         return Err(FileFault::Unavailable);
     };
-    lock(&file)?;
-    Ok(file)
+    // The owner stays the same as far as the system lets it.
+    let _ = chown(
+        disk.files,
+        path.as_str(),
+        Some(taken.uid()),
+        Some(taken.gid()),
+    );
+    emptied(draft, taken.permissions())
+}
+
+// Empties a draft.
+fn emptied(draft: File, permissions: Permissions) -> Result<File, FileFault> {
+    match draft.set_permissions(permissions) {
+        Ok(()) => {}
+        Err(_) => return Err(FileFault::Unavailable),
+    }
+    match draft.set_len(0) {
+        Ok(()) => Ok(draft),
+        Err(_) => Err(FileFault::Unavailable),
+    }
+}
+
+// Reads all bytes of a file.
+fn read_all(file: Option<&mut File>, alloc: Global) -> Result<Vec<u8>, FileFault> {
+    let mut bytes = Vec::new(alloc);
+    let Some(file) = file else {
+        return Err(FileFault::Unavailable);
+    };
+    match file.read_to_end(&mut bytes) {
+        Ok(_) => Ok(bytes),
+        Err(error) if error.kind() == ErrorKind::OutOfMemory => Err(FileFault::OutOfMemory),
+        Err(_) => Err(FileFault::Unavailable),
+    }
+}
+
+// Writes all of the bytes at a place that is not behind the end.
+fn write_all_at(file: Option<&mut File>, at: usize, bytes: &[u8]) -> Result<(), CallFault> {
+    let Some(file) = file else {
+        return Err(CallFault);
+    };
+    match file.metadata() {
+        Ok(found) if found.len() >= at as u64 => {}
+        _ => return Err(CallFault),
+    }
+    match file.seek(SeekFrom::Start(at as u64)) {
+        Ok(_) => {}
+        Err(_) => return Err(CallFault),
+    }
+    match file.write_all(bytes) {
+        Ok(()) => Ok(()),
+        Err(_) => Err(CallFault),
+    }
 }
 
 // Returns the folder of a file.
@@ -140,56 +166,144 @@ fn folder(path: &str) -> &str {
     }
 }
 
-// Waits until the names in the folder of a file are on the disk.
-fn sync_folder<R: Files<File = File>>(files: &R, path: &str) -> Result<(), FileFault> {
-    let Ok(opened) = File::open(files, folder(path)) else {
-        return Err(FileFault::Unavailable);
-    };
-    match opened.sync_all() {
-        Ok(()) => Ok(()),
-        Err(_) => Err(FileFault::Unavailable),
+impl<'r, R: Files<File = File>> SystemDisk<'r, R> {
+    ghost use Rattle.std.specs.Prelude.{◌≡◌, []};
+
+    /// Creates a disk that has made no call.
+    pub fn new(files: &'r R, alloc: Global) -> SystemDisk<'r, R>
+        ensures { result.tape.past.calls ≡ [] }
+    {
+        SystemDisk {
+            files,
+            alloc,
+            taken: None,
+            place: None,
+            draft: None,
+            tape: Tape::begin(&[]),
+        }
+    }
+
+    // Returns the name of the file without links.
+    fn place_of<'n>(&'n self, name: &'n str) -> &'n str {
+        match &self.place {
+            Some(place) => place,
+            None => name,
+        }
+    }
+
+    // Renames the draft.
+    fn renames(&self, name: &str) -> Result<(), CallFault> {
+        let place = self.place_of(name);
+        let Ok(draft) = format!(in self.alloc; "{place}.new") else {
+            return Err(CallFault);
+        };
+        match fs::rename(self.files, draft.as_str(), place) {
+            Ok(()) => Ok(()),
+            Err(_) => Err(CallFault),
+        }
+    }
+
+    // Syncs the folder.
+    fn syncs_folder(&self, name: &str) -> Result<(), CallFault> {
+        let Ok(opened) = File::open(self.files, folder(self.place_of(name))) else {
+            return Err(CallFault);
+        };
+        match opened.sync_all() {
+            Ok(()) => Ok(()),
+            Err(_) => Err(CallFault),
+        }
+    }
+
+    // Writes the bytes into the file `NAME.cut`.
+    fn keeps(&self, name: &str, bytes: &[u8]) -> Result<(), FileFault> {
+        let place = self.place_of(name);
+        let path = format!(in self.alloc; "{place}.cut")?;
+        let mut file = emptied(
+            open_new(self.files, &path)?,
+            Permissions::from_mode(OWNER_ALONE),
+        )?;
+        write_all_at(Some(&mut file), 0, bytes)?;
+        match file.sync_all() {
+            Ok(()) => Ok(()),
+            Err(_) => Err(FileFault::Unavailable),
+        }
     }
 }
 
-// Replaces the contents of a file by these bytes, and waits until they are on the disk.
-fn fill(file: &mut File, bytes: &[u8]) -> Result<(), FileFault> {
-    let filled = match file.set_size(0) {
-        Ok(()) => file.write_all_at(0, bytes).is_ok(),
-        Err(_) => false,
-    };
-    if filled && file.sync_all().is_ok() {
-        Ok(())
-    } else {
-        Err(FileFault::Unavailable)
-    }
-}
+impl<R: Files<File = File>> Disk for SystemDisk<'_, R> {
+    ghost past = { λ d. d.tape.past.calls };
 
-/// Makes a file with these bytes, and takes its lock. The bytes are written to a file `PATH.new`,
-/// which is renamed after they are on the disk. Then the folder is synced. So a crash leaves either
-/// no file `PATH`, or all of it. A `PATH.new` that a crash left is replaced.
-///
-/// # Errors
-///
-/// - `Unavailable` if the file cannot be made, written, renamed or synced.
-/// - `InUse` if another program makes it, or there is a file `PATH` already.
-/// - `OutOfMemory` if memory for the name `PATH.new` is refused.
-pub fn create_file<R: Files<File = File>>(
-    files: &R,
-    alloc: Global,
-    path: &str,
-    bytes: &[u8],
-) -> Result<File, FileFault> {
-    let draft = format!(in alloc; "{path}.new")?;
-    let mut file = open_draft(files, &draft)?;
-    // The program that makes the file has this lock. So if there is a file now, it was made before,
-    // and the draft may be this file.
-    if files.symlink_metadata(path).is_ok() {
-        return Err(FileFault::InUse);
+    fn take(&mut self, name: &str) -> Result<(), FileFault> {
+        match open_locked(self.files, self.alloc, name) {
+            Ok((file, place)) => {
+                self.taken = Some(file);
+                self.place = Some(place);
+                self.tape = self.tape.then(Asked::Take(name.as_bytes(), true));
+                Ok(())
+            }
+            Err(fault) => {
+                self.tape = self.tape.then(Asked::Take(name.as_bytes(), false));
+                Err(fault)
+            }
+        }
     }
-    fill(&mut file, bytes)?;
-    if fs::rename(files, draft.as_str(), path).is_err() {
-        return Err(FileFault::Unavailable);
+
+    fn read(&mut self, alloc: Global) -> Result<Vec<u8>, FileFault> {
+        let bytes = read_all(self.taken.as_mut(), alloc)?;
+        self.tape = self.tape.then(Asked::Read(&bytes));
+        Ok(bytes)
     }
-    sync_folder(files, path)?;
-    Ok(file)
+
+    fn keep(&mut self, name: &str, bytes: &[u8]) -> Result<(), FileFault> {
+        let done = self.keeps(name, bytes);
+        self.tape = self.tape.then(Asked::Keep(bytes, done.is_ok()));
+        done
+    }
+
+    fn draft(&mut self, name: &str) -> Result<(), FileFault> {
+        match make_draft(self, name) {
+            Ok(draft) => {
+                self.draft = Some(draft);
+                self.tape = self.tape.then(Asked::Draft(name.as_bytes(), true));
+                Ok(())
+            }
+            Err(fault) => {
+                self.tape = self.tape.then(Asked::Draft(name.as_bytes(), false));
+                Err(fault)
+            }
+        }
+    }
+
+    fn write_at(&mut self, at: usize, bytes: &[u8]) -> Result<(), CallFault> {
+        let done = write_all_at(self.draft.as_mut(), at, bytes);
+        self.tape = self.tape.then(Asked::Write(at, bytes, done.is_ok()));
+        done
+    }
+
+    fn sync(&mut self) -> Result<(), CallFault> {
+        let synced = match &self.draft {
+            Some(draft) => draft.sync_data().is_ok(),
+            None => false,
+        };
+        self.tape = self.tape.then(Asked::Sync(synced));
+        if synced { Ok(()) } else { Err(CallFault) }
+    }
+
+    fn rename(&mut self, name: &str) -> Result<(), CallFault> {
+        let done = self.renames(name);
+        self.tape = self.tape.then(Asked::Rename(name.as_bytes(), done.is_ok()));
+        done
+    }
+
+    fn sync_folder(&mut self, name: &str) -> Result<(), CallFault> {
+        let done = self.syncs_folder(name);
+        self.tape = self
+            .tape
+            .then(Asked::SyncFolder(name.as_bytes(), done.is_ok()));
+        done
+    }
+
+    fn tape(&self) -> Tape {
+        self.tape.copied()
+    }
 }

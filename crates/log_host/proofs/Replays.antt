@@ -57,6 +57,25 @@ module _ (was : Past) where
   sync-follows zero c o (inr now) = there-both c o now.0 now.1
   sync-follows (suc k) c o (inr now) = there-both c o now.0 now.1
 
+  refused-leaves : (c o : List ℕ) → leaves (longer was (3, (0, ([], 0)))) c o → leaves was c o
+  refused-leaves c o (inl old) = old
+  refused-leaves c o (inr now) = there-both c o now.0 now.1
+
+  refused-follows : (at n : ℕ) → Follows (Torn at n) (leaves was) (leaves (longer was (3, (0, ([], 0)))))
+  refused-follows at n c o left = (c, refused-leaves c o left, torn-same c at n)
+
+  silent-leaves : (c o : List ℕ) → leaves (longer was (4, (0, ([], 0)))) c o → leaves was c o
+  silent-leaves c o (inl old) = old
+  silent-leaves c o (inr now) = there-both c o now.0 now.1
+
+  silent-elapses : (piece : List ℕ) → Elapses (length was.calls) (length ((4, (0, ([], 0))) ∷ was.calls)) (left_after was.start was.calls)
+      (left_after was.start ((4, (0, ([], 0))) ∷ was.calls)) (Hearing piece (leaves was))
+  silent-elapses piece = record {
+    later = omega arith;
+    nothing_else = λ t c o le left. ⊎_elim (λ now. inr (o, silent-leaves c o now, (0, sym (append-nil o)))) (λ more. ⊎_elim (λ in_call. absurd in_call) (λ was. inl was) more.1) left;
+    keeps = λ t c o le was. inr (le, inr was);
+  }
+
   tell-hears : (k n : ℕ) (piece : List ℕ) (c o : List ℕ) → leaves (longer was (2, (n, (piece, k)))) c o → Hearing piece (leaves was) c o
   tell-hears zero n piece c o (inl hears) = hears
   tell-hears (suc k) n piece c o (inl hears) = hears.0
@@ -92,3 +111,16 @@ pub tell-time : (was now : Past) (k n : ℕ) (piece : List ℕ) → now ≡ long
     → Elapses (length was.calls) (length now.calls) (left_after was.start was.calls) (left_after now.start now.calls) (Hearing piece (leaves was))
 tell-time was now k n piece is =
     subst (λ (p : Past). Elapses (length was.calls) (length p.calls) (left_after was.start was.calls) (left_after p.start p.calls) (Hearing piece (leaves was))) (sym is) (tell-elapses was k n piece)
+
+-- a call of the file that was not made
+pub refused-noted : (was now : Past) → now ≡ longer was (3, (0, ([], 0))) → (c o : List ℕ) → leaves now c o → leaves was c o
+refused-noted was now is c o left = refused-leaves was c o (subst (λ (p : Past). leaves p c o) is left)
+
+pub refused-write-noted : (was now : Past) (at : ℕ) (bytes : List ℕ) → now ≡ longer was (3, (0, ([], 0))) → Follows (Torn at (length bytes)) (leaves was) (leaves now)
+refused-write-noted was now at bytes is = subst (λ (p : Past). Follows (Torn at (length bytes)) (leaves was) (leaves p)) (sym is) (refused-follows was at (length bytes))
+
+-- a piece that was not sent
+pub silent-time : (was now : Past) (piece : List ℕ) → now ≡ longer was (4, (0, ([], 0)))
+    → Elapses (length was.calls) (length now.calls) (left_after was.start was.calls) (left_after now.start now.calls) (Hearing piece (leaves was))
+silent-time was now piece is =
+    subst (λ (p : Past). Elapses (length was.calls) (length p.calls) (left_after was.start was.calls) (left_after p.start p.calls) (Hearing piece (leaves was))) (sym is) (silent-elapses was piece)

@@ -4,7 +4,7 @@ use Rattle.log_host.specs.Past.{Past, Call}
 use Rattle.log_host.specs.declared.tape.Asked.{Asked}
 use Rattle.log_host.specs.declared.tape.Asked.TheVariants as asked
 use Rattle.log_host.specs.declared.tape.History.{History}
-use Rattle.log_host.specs.declared.tape.History.TheVariants.{Begun, Then}
+use Rattle.log_host.specs.declared.tape.History.TheVariants.{Begun, Same, Then}
 
 abbrev pub flag : Bool → ℕ
 flag true = 1
@@ -18,10 +18,12 @@ call_of asked.Refused = (3, (0, ([], 0)))
 call_of asked.Silent = (4, (0, ([], 0)))
 call_of (asked.Take name ok) = (5, (0, (name.now, flag ok)))
 call_of (asked.Read bytes) = (6, (0, (bytes.now, 1)))
+call_of (asked.Keep bytes ok) = (10, (0, (bytes.now, flag ok)))
 call_of (asked.Draft name ok) = (7, (0, (name.now, flag ok)))
 call_of (asked.Rename name ok) = (8, (0, (name.now, flag ok)))
 call_of (asked.SyncFolder name ok) = (9, (0, (name.now, flag ok)))
 
 abbrev pub past_in : History → Past
 past_in (Begun start) = record { start = start.now; calls = [] }
+past_in (Same tape) = tape.now.past
 past_in (Then before call) = record { start = before.now.past.start; calls = call_of call ∷ before.now.past.calls }

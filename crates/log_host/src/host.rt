@@ -2,6 +2,7 @@
 // bytes that a crash may leave.
 ghost use Rattle.std.specs.Prelude.{◌≡◌, ◌≤◌, ◌<◌, ◌++◌, List, ℕ, length, take, IfOk, OnOk};
 ghost use Rattle.log_host.specs.Host.{Follows, Hearing, Torn, Holds, Elapses, HasCause};
+ghost use Rattle.log_host.specs.Past.{Past};
 
 use std::error::Error;
 use std::fmt;
@@ -38,6 +39,9 @@ pub trait Host {
     /// two calls.
     ghost left_since: { Self → ℕ → List ℕ → List ℕ → Type 0 };
 
+    /// What became of the file and the listener before the host began. It never changes.
+    ghost origin: { Self → Past };
+
     /// The number of failures of the file.
     ghost file_faults: { Self → ℕ };
 
@@ -57,7 +61,8 @@ pub trait Host {
         ensures crash { Follows (Torn at (length bytes.now)) (may_leave self.old) (may_leave self.new) }
         ensures time { Elapses (moment self.old) (moment self.new) (left_since self.old) (left_since self.new) (may_leave self.new) }
         ensures cause { HasCause (file_faults self.old) (file_faults self.new) result }
-        ensures listener { listener_faults self.new ≡ listener_faults self.old };
+        ensures listener { listener_faults self.new ≡ listener_faults self.old }
+        ensures origin { origin self.new ≡ origin self.old };
 
     /// Waits until the file is on the disk. After it, a crash leaves the bytes that a read returns.
     ///
@@ -72,7 +77,8 @@ pub trait Host {
         ensures crash { (c : List ℕ) (o : List ℕ) → may_leave self.new c o → may_leave self.old c o }
         ensures time { Elapses (moment self.old) (moment self.new) (left_since self.old) (left_since self.new) (may_leave self.new) }
         ensures cause { HasCause (file_faults self.old) (file_faults self.new) result }
-        ensures listener { listener_faults self.new ≡ listener_faults self.old };
+        ensures listener { listener_faults self.new ≡ listener_faults self.old }
+        ensures origin { origin self.new ≡ origin self.old };
 
     /// Sends the listener a front of a piece, and returns its number of bytes. To send no byte of a
     /// piece that is not empty counts as a failure. A crash in the call may leave any front heard.
@@ -88,7 +94,8 @@ pub trait Host {
         ensures seen { seen self.new ≡ seen self.old }
         ensures time { Elapses (moment self.old) (moment self.new) (left_since self.old) (left_since self.new) (Hearing piece.now (may_leave self.old)) }
         ensures cause { HasCause (listener_faults self.old) (listener_faults self.new) result }
-        ensures file { file_faults self.new ≡ file_faults self.old };
+        ensures file { file_faults self.new ≡ file_faults self.old }
+        ensures origin { origin self.new ≡ origin self.old };
 
     /// A crash may leave the bytes that a read returns. So no host can satisfy the calls' contracts
     /// by leaving nothing.

@@ -21,6 +21,7 @@ pub fn write_and_sync<H: Host>(host: &mut H, at: usize, bytes: &[u8]) -> Result<
     ensures later { H.file_faults host.old ≤ H.file_faults host.new }
     ensures failed { OnErr result (H.file_faults host.old < H.file_faults host.new) }
     ensures listener { H.listener_faults host.new ≡ H.listener_faults host.old }
+    ensures origin { H.origin host.new ≡ H.origin host.old }
 {
     host.write_at(at, bytes)?;
     host.sync()?;

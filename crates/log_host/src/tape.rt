@@ -33,6 +33,8 @@ pub enum Asked<'a> {
     Take(&'a [u8], bool),
     /// All bytes of the file were read.
     Read(&'a [u8]),
+    /// Bytes were kept beside the file.
+    Keep(&'a [u8], bool),
     /// An empty draft of the file of this name was made and locked.
     Draft(&'a [u8], bool),
     /// The draft was given the name of the file.
@@ -45,6 +47,7 @@ pub enum Asked<'a> {
 #[derive(Clone, Copy, Drop)]
 enum History<'a> {
     Begun(&'a [u8]),
+    Same(&'a Tape),
     Then(&'a Tape, Asked<'a>),
 }
 
@@ -56,6 +59,13 @@ impl Tape {
         ensures { result.past ≡ record { start = start.now; calls = [] } }
     {
         Tape::of(&History::Begun(start))
+    }
+
+    /// Returns the same tape.
+    pub fn copied(&self) -> Tape
+        ensures { result.past ≡ self.now.past }
+    {
+        Tape::of(&History::Same(self))
     }
 
     /// Returns the tape with one more call.

@@ -1,42 +1,64 @@
--- Why a log is of no more use.
-use Rattle.std.proofs.Common.{◌≡◌, ℕ, ◌<◌, ◌≤◌, ◌^◌, ◌+◌, List, [], ◌∷◌, ◌++◌, length, refl, sym, ◌∙◌, ap, subst, arith}
+-- Why a log is of no more use, and what goes on meanwhile.
+use Rattle.std.proofs.Common.{◌≡◌, ℕ, ◌<◌, ◌≤◌, ◌^◌, ◌+◌, List, [], ◌++◌, length, refl, sym, ◌∙◌, ap, subst, arith}
+use Rattle.std.proofs.lemmas.List.{length-append}
 use Rattle.log_host.specs.Host.{Outcomes}
-use Rattle.durable_log.specs.Format.{LogRecord}
-use Rattle.durable_log.specs.Logs.{records_of, waiting_in, IsSettled}
+use Rattle.durable_log.specs.Format.{LogRecord, shut}
+use Rattle.durable_log.specs.Logs.{waiting_in, behind_gate, IsSettled}
 use Rattle.durable_log.specs.declared.log.Log.{Log}
 use Rattle.durable_log.specs.declared.log.CommitFault.{CommitFault}
 use Rattle.durable_log.specs.declared.log.CommitFault.TheVariants as commits
-use Rattle.script_log.specs.Faults.{all_records, IsFull, HasFailed, HasBroken, HasAppendFault}
-use Rattle.script_log.specs.declared.fault.AppendFault.TheVariants as appends
+use Rattle.script_log.specs.Hosts.{Hosting, state_of, GoesOn}
+use Rattle.script_log.specs.Faults.{all_records, IsFullWith, HasFailed, HasBroken}
+use Rattle.script_log.specs.InTurn.{HasRoom}
 use Rattle.script_log.specs.declared.fault.RunFault.{RunFault}
 use Rattle.script_log.specs.declared.fault.RunFault.TheVariants as faults
 
-module _ {D : Type 0} (seen heard : D → List ℕ) (may_leave : D → Outcomes) (counts : D → ℕ) where
+-- the file of a log that is full
+full-file : {D : Type 0} (seen heard : D → List ℕ) (may_leave : D → Outcomes) (log : Log D) → IsSettled seen heard may_leave log → 2 ^ 62 ≤ log.end + length log.waiting.items → IsFullWith (all_records seen log) (seen log.host)
+full-file seen heard may_leave log settled size =
+    let rest = settled.rest in
+    let file : length (seen log.host) ≡ length rest.base + length shut = ap length rest.split ∙ length-append rest.base shut in
+    let waits : length log.waiting.items ≡ length (behind_gate (waiting_in log)) = ap length settled.waits in
+    (waiting_in log, refl, omega (arith, size, rest.place, file, waits))
+
+module _ {D : Type 0} (d : Hosting D) where
   -- why a commit failed
-  pub commit-failed : (old new : Log D) (f : CommitFault) → IsSettled seen heard may_leave old → (f ≡ commits.Failed → counts old.host < counts new.host)
-      → (f ≡ commits.Full → (new ≡ old) × (2 ^ 62 ≤ old.end + length old.waiting.items)) → HasFailed seen heard may_leave counts old new f
+  pub commit-failed : (old new : Log D) (f : CommitFault) → IsSettled d.seen d.heard d.may_leave old → (f ≡ commits.Failed → d.file_faults old.host < d.file_faults new.host)
+      → (f ≡ commits.Full → (new ≡ old) × (2 ^ 62 ≤ old.end + length old.waiting.items)) → HasFailed (all_records d.seen old) (state_of d old.host) (state_of d new.host) f
   commit-failed old new commits.Failed settled failed full = failed refl
   commit-failed old new commits.Full settled failed full =
       let is = full refl in
-      subst (λ (log : Log D). IsFull seen heard may_leave (all_records seen old) log) (sym is.0) (record { settled = settled; records_are = refl; size = is.1 })
+      subst (λ (log : Log D). IsFullWith (all_records d.seen old) (d.seen log.host)) (sym is.0) (full-file d.seen d.heard d.may_leave old settled is.1)
+
+  -- there is room for a record if none waits
+  pub none-short : (log : Log D) → IsSettled d.seen d.heard d.may_leave log → waiting_in log ≡ [] → HasRoom log
+  none-short log settled none = let is : length log.waiting.items ≡ 0 = ap length (settled.waits ∙ ap behind_gate none) in omega (arith, is)
+
+  pub goes-none : (host : D) → GoesOn d host host
+  goes-none host = record { file = omega arith; listener = omega arith; origin = refl }
+
+  pub goes-two : (a b c : D) → GoesOn d a b → GoesOn d b c → GoesOn d a c
+  goes-two a b c first second = record {
+    file = omega (arith, first.file, second.file);
+    listener = omega (arith, first.listener, second.listener);
+    origin = second.origin ∙ first.origin;
+  }
+
+  -- a commit
+  pub goes-written : (a b : D) → d.file_faults a ≤ d.file_faults b → d.listener_faults b ≡ d.listener_faults a → d.origin b ≡ d.origin a → GoesOn d a b
+  goes-written a b later same origin = record { file = later; listener = omega (arith, same); origin = origin }
+
+  -- a piece that was told
+  pub goes-told : (a b : D) → d.listener_faults a ≤ d.listener_faults b → d.file_faults b ≡ d.file_faults a → d.origin b ≡ d.origin a → GoesOn d a b
+  goes-told a b later same origin = record { file = omega (arith, same); listener = later; origin = origin }
 
   -- a cause counts from an earlier moment, too, if no record came since
-  failed-later : (start old new : Log D) (f : CommitFault) → counts start.host ≤ counts old.host → all_records seen old ≡ all_records seen start
-      → HasFailed seen heard may_leave counts old new f → HasFailed seen heard may_leave counts start new f
-  failed-later start old new commits.Failed later same cause = omega (arith, later, cause)
-  failed-later start old new commits.Full later same cause = subst (λ (rs : List LogRecord). IsFull seen heard may_leave rs new) same cause
+  failed-later : (start old new : D) (known now : List LogRecord) (f : CommitFault) → GoesOn d start old → now ≡ known → HasFailed now (state_of d old) (state_of d new) f → HasFailed known (state_of d start) (state_of d new) f
+  failed-later start old new known now commits.Failed later same cause = omega (arith, later.file, cause)
+  failed-later start old new known now commits.Full later same cause = subst (λ (rs : List LogRecord). IsFullWith rs (d.seen new)) same cause
 
-  pub broken-later : (start old new : Log D) (f : RunFault) → counts start.host ≤ counts old.host → all_records seen old ≡ all_records seen start
-      → HasBroken seen heard may_leave counts old new f → HasBroken seen heard may_leave counts start new f
-  broken-later start old new faults.Read later same cause = tt
-  broken-later start old new faults.Write later same cause = omega (arith, later, cause)
-  broken-later start old new (faults.Log fault) later same cause = failed-later start old new fault later same cause
-  broken-later start old new faults.OutOfMemory later same cause = tt
-
-  -- the commit of a record that was added failed
-  pub append-failed : (old mid new : Log D) (added : LogRecord) (f : CommitFault) → mid.host ≡ old.host → waiting_in mid ≡ added ∷ []
-      → HasFailed seen heard may_leave counts mid new f → HasAppendFault seen heard may_leave counts old new added (appends.Log f)
-  append-failed old mid new added commits.Failed same waits cause = subst (λ (host : D). counts host < counts new.host) same cause
-  append-failed old mid new added commits.Full same waits cause =
-      let records : all_records seen mid ≡ records_of (seen old.host) ++ added ∷ [] = ap (λ (host : D). records_of (seen host) ++ waiting_in mid) same ∙ ap (λ (w : List LogRecord). records_of (seen old.host) ++ w) waits in
-      subst (λ (rs : List LogRecord). IsFull seen heard may_leave rs new) records cause
+  pub broken-later : (start old new : D) (known now : List LogRecord) (f : RunFault) → GoesOn d start old → now ≡ known → HasBroken now (state_of d old) (state_of d new) f → HasBroken known (state_of d start) (state_of d new) f
+  broken-later start old new known now faults.Read later same cause = tt
+  broken-later start old new known now faults.Write later same cause = omega (arith, later.listener, cause)
+  broken-later start old new known now (faults.Log fault) later same cause = failed-later start old new known now fault later same cause
+  broken-later start old new known now faults.OutOfMemory later same cause = tt

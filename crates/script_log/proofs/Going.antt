@@ -1,23 +1,28 @@
 -- A run over the lines of a reader, one line after another.
-use Rattle.std.proofs.Common.{◌≡◌, ℕ, List, [], ◌∷◌, ◌++◌, Bool, true, false, Option, None, Result, Ok, Err, refl, sym, ◌∙◌, subst}
+use Rattle.std.proofs.Common.{◌≡◌, ℕ, List, [], ◌∷◌, ◌++◌, Bool, true, false, Option, Some, None, Result, Ok, Err, refl, sym, ◌∙◌, ap, subst, append_assoc, arith}
 use Rattle.std.proofs.lemmas.Bool.{false≢true}
 use Rattle.log_host.specs.Host.{Outcomes, LeavesOnly}
 use Rattle.durable_log.specs.Format.{LogRecord}
 use Rattle.script_lines.specs.declared.line.Line.{Line}
 use Rattle.script_lines.specs.declared.line_fault.LineFault.{LineFault}
 use Rattle.script_lines.specs.declared.line_fault.LineFault.TheVariants as line_faults
+use Rattle.script_lines.specs.Cut.{whole_lines}
 use Rattle.script_lines.specs.Device.{Told}
 use Rattle.script_lines.specs.Unread.{Unread}
-use Rattle.script_lines.specs.Lines.{LineRead, lines_since}
-use Rattle.script_lines.proofs.Following.{Following, follow_none, follow_so_far, follow_short, follow_all, follow_fault}
-use Rattle.script_log.specs.Runs.{History, after_all, records_of_line, history_of}
+use Rattle.script_lines.specs.Lines.{LineRead, complete_lines, lines_since}
+use Rattle.script_lines.proofs.Following.{Following, follow_none, follow_next, follow_so_far, follow_short, follow_all, follow_fault}
+use Rattle.script_log.specs.Runs.{History, answering, Answering, after_all, replies, records_of_line, history_of}
+use Rattle.script_log.specs.Hosts.{Account, account}
+use Rattle.script_log.specs.Reading.{Reading, reading, IsPartRead, MayReadInTurn}
+use Rattle.script_log.specs.InTurn.{IsCutShort, IsCutShortIf}
 use Rattle.script_log.specs.Covered.{Covered}
 use Rattle.script_log.specs.Passing.{Standing, Passing, IsPassedOn}
-use Rattle.script_log.specs.Outcomes.{AreAnswered, HasAnswered}
+use Rattle.script_log.specs.Outcomes.{AreAnswered, HasAnswered, HasWanted}
 use Rattle.script_log.specs.Faults.{line_result, is_broken}
 use Rattle.script_log.specs.declared.fault.RunFault.{RunFault}
 use Rattle.script_log.specs.declared.fault.RunFault.TheVariants as faults
 use Rattle.script_log.proofs.Passed.{grown}
+use Rattle.script_log.proofs.Wanting.{left-lines, lines-at-hand, lines-so-far, lines-done-yet}
 use Rattle.script_log.proofs.Steps.{Steady, steady-none, steady-covers, steady-passed, steady-line, steady-answered, covered-longer, leaves-longer, leaves-passing}
 
 -- a call for the next line that failed for the log's sake
@@ -31,13 +36,13 @@ line-broken old new before after faults.OutOfMemory broken t = absurd (false≢t
 pub broken-unless : (P : Type 0) (f : RunFault) → is_broken f ≡ true → is_broken f ≡ false → P
 broken-unless P f broken whole = absurd (false≢true (sym whole ∙ broken))
 
-module _ (keeps : History → List ℕ → Bool) (reply : History → List ℕ → List ℕ) (records : List LogRecord) (heard : List ℕ) where
-  pub broken-answered : (lines : List (List ℕ)) (now : List LogRecord) (heard_now : List ℕ) (f : RunFault) → is_broken f ≡ true → HasAnswered keeps reply records lines heard now heard_now (Err f)
-  broken-answered lines now heard_now faults.Read broken = absurd (false≢true broken)
-  broken-answered lines now heard_now faults.Write broken = tt
-  broken-answered lines now heard_now (faults.Log fault) broken = tt
-  broken-answered lines now heard_now faults.OutOfMemory broken = absurd (false≢true broken)
+pub broken-answered : (e : Answering) (old new : Account) (x : Reading) (f : RunFault) → is_broken f ≡ true → HasAnswered e old x new (Err f)
+broken-answered e old new x faults.Read broken = absurd (false≢true broken)
+broken-answered e old new x faults.Write broken = tt
+broken-answered e old new x (faults.Log fault) broken = tt
+broken-answered e old new x faults.OutOfMemory broken = absurd (false≢true broken)
 
+module _ (keeps : History → List ℕ → Bool) (reply : History → List ℕ → List ℕ) (records : List LogRecord) (heard : List ℕ) where
   module _ {D : Type 0} (moment : D → ℕ) (left_since : D → ℕ → Outcomes) (begun : D) (start : Told) (before : Unread) where
     -- these lines were cut off and answered
     pub record Going (now : Told) (p : Unread) (host : D) (s : Standing) : Type 0 where
@@ -103,28 +108,61 @@ module _ (keeps : History → List ℕ → Bool) (reply : History → List ℕ �
         covered-longer keeps reply records heard G.done (lines_since start next before) all.0 f o all.1
         (steady-covers keeps reply records heard G.done s1 f o (steady-passed keeps reply records heard G.done s s1 G.steady on) at)
 
-    -- the lines before were answered
-    pub short-answered : (now next : Told) (p q : Unread) (r : Result (Option Line) LineFault) (host : D) (s s1 : Standing) → Going now p host s → LineRead now next p q r → IsPassedOn s s1
-        → HasAnswered keeps reply records (lines_since start next before) heard (s1.records ++ s1.waits) (s1.heard ++ s1.text) (Err faults.OutOfMemory)
-    short-answered now next p q r host s s1 G t on =
-        let all = follow_short start now next before p q G.done r G.following t in
-        (G.done, all.0, sym all.1, steady-answered keeps reply records heard G.done s1 (steady-passed keeps reply records heard G.done s s1 G.steady on))
-
     -- all lines were answered
     pub all-answered : (now next : Told) (p q : Unread) (host : D) (s s1 : Standing) → Going now p host s → LineRead now next p q (Ok None) → IsPassedOn s s1
-        → AreAnswered keeps reply records (lines_since start next before) heard (s1.records ++ s1.waits) (s1.heard ++ s1.text)
+        → AreAnswered (answering keeps reply) (account records heard) (lines_since start next before) (account (s1.records ++ s1.waits) (s1.heard ++ s1.text))
     all-answered now next p q host s s1 G t on =
         let all = follow_all start now next before p q G.done G.following t in
-        subst (λ (ls : List (List ℕ)). AreAnswered keeps reply records ls heard (s1.records ++ s1.waits) (s1.heard ++ s1.text)) (sym all.0)
+        subst (λ (ls : List (List ℕ)). AreAnswered (answering keeps reply) (account records heard) ls (account (s1.records ++ s1.waits) (s1.heard ++ s1.text))) (sym all.0)
         (steady-answered keeps reply records heard G.done s1 (steady-passed keeps reply records heard G.done s s1 G.steady on))
 
+    -- memory was refused for the next line
+    pub short-answered : (now next : Told) (p q : Unread) (host : D) (s s1 : Standing) → Going now p host s → (t : LineRead now next p q (Err line_faults.OutOfMemory)) → IsCutShort (p.bytes ++ t.more) p q → IsPassedOn s s1
+        → HasWanted (answering keeps reply) (account records heard) (reading start next before q) (account (s1.records ++ s1.waits) (s1.heard ++ s1.text))
+    short-answered now next p q host s s1 G t short on =
+        let left = left-lines short.part q.bytes short.no_feed in
+        let lines = lines-so-far start now next before p G.done t.more G.following t.told short.begun (t.going short.running) in
+        record {
+          done = G.done;
+          answered = steady-answered keeps reply records heard G.done s1 (steady-passed keeps reply records heard G.done s s1 G.steady on);
+          wants = left.wants;
+          one = left.one;
+          others = left.others;
+          split = ap (λ (ls : List (List ℕ)). G.done ++ ls) (sym left.whole ∙ ap whole_lines (sym short.split)) ∙ sym lines;
+          at_hand = (left.last.0, left.last.1 ∙ ap (λ (b : Bool). complete_lines b q.bytes) (sym short.running));
+        }
+
+    -- memory was refused for the reply to a line that was cut off
+    pub want-answered : (now next : Told) (p q : Unread) (l : Line) (host : D) (s s1 : Standing) → Going now p host s → LineRead now next p q (Ok (Some l)) → IsPassedOn s s1
+        → HasWanted (answering keeps reply) (account records heard) (reading start next before q) (account (s1.records ++ s1.waits) (s1.heard ++ s1.text))
+    want-answered now next p q l host s s1 G t on =
+        let cut = follow_next start now next before p q G.done l G.following t in
+        let others = complete_lines q.ended q.bytes in
+        record {
+          done = G.done;
+          answered = steady-answered keeps reply records heard G.done s1 (steady-passed keeps reply records heard G.done s s1 G.steady on);
+          wants = cut.0 ∷ [];
+          one = omega arith;
+          others = others;
+          split = sym (append_assoc G.done (cut.0 ∷ []) others) ∙ sym (lines-at-hand start next before q (G.done ++ cut.0 ∷ []) cut.2);
+          at_hand = ([], refl);
+        }
+
     -- what was answered when there is no next line
-    pub line-answered : (now next : Told) (p q : Unread) (host : D) (s s1 : Standing) (f : RunFault) → Going now p host s → LineRead now next p q (line_result (Err f)) → (is_broken f ≡ false → IsPassedOn s s1)
-        → HasAnswered keeps reply records (lines_since start next before) heard (s1.records ++ s1.waits) (s1.heard ++ s1.text) (Err f)
-    line-answered now next p q host s s1 faults.Read G t on =
+    pub line-answered : (now next : Told) (p q : Unread) (host : D) (s s1 : Standing) (f : RunFault) → Going now p host s → (t : LineRead now next p q (line_result (Err f))) → IsCutShortIf (p.bytes ++ t.more) p q (Err f)
+        → (is_broken f ≡ false → IsPassedOn s s1) → HasAnswered (answering keeps reply) (account records heard) (reading start next before q) (account (s1.records ++ s1.waits) (s1.heard ++ s1.text)) (Err f)
+    line-answered now next p q host s s1 faults.Read G t short on =
         let all = follow_fault start now next before p q G.done G.following t in
-        subst (λ (ls : List (List ℕ)). AreAnswered keeps reply records ls heard (s1.records ++ s1.waits) (s1.heard ++ s1.text)) (sym all.0)
+        subst (λ (ls : List (List ℕ)). AreAnswered (answering keeps reply) (account records heard) ls (account (s1.records ++ s1.waits) (s1.heard ++ s1.text))) (sym all.0)
         (steady-answered keeps reply records heard G.done s1 (steady-passed keeps reply records heard G.done s s1 G.steady (on refl)))
-    line-answered now next p q host s s1 faults.Write G t on = tt
-    line-answered now next p q host s s1 (faults.Log fault) G t on = tt
-    line-answered now next p q host s s1 faults.OutOfMemory G t on = short-answered now next p q (Err line_faults.OutOfMemory) host s s1 G t (on refl)
+    line-answered now next p q host s s1 faults.Write G t short on = tt
+    line-answered now next p q host s s1 (faults.Log fault) G t short on = tt
+    line-answered now next p q host s s1 faults.OutOfMemory G t short on = short-answered now next p q host s s1 G t short (on refl)
+
+    -- the reader may be called for the next line
+    pub asks-next : (now : Told) (p : Unread) (host : D) (s : Standing) (may_read : Told → List ℕ → Type 0) → Going now p host s → MayReadInTurn (answering keeps reply) (account records heard) start before may_read
+        → (to : Told) → IsPartRead now to p → may_read to (s.heard ++ s.text)
+    asks-next now p host s may_read G may to part =
+        let lines = lines-done-yet start now to before p G.done part.more G.following part.told part.running part.going part.no_feed in
+        may to (s.heard ++ s.text) (subst (λ (ls : List (List ℕ)). s.heard ++ s.text ≡ heard ++ replies keeps reply (history_of records) ls) (sym lines)
+        (steady-answered keeps reply records heard G.done s G.steady).heard_is)

@@ -4,6 +4,7 @@ pub mod Steps
 pub mod Telling
 pub mod Replaying
 pub mod Failing
+pub mod Wanting
 pub mod Going
 pub mod Catalogued
 pub mod Ending

@@ -4,7 +4,7 @@ use Rattle.std.specs.Prelude.{if◌then◌else◌}
 use Rattle.std.proofs.lemmas.List.{append-nil}
 use Rattle.durable_log.specs.Format.{LogRecord}
 use Rattle.script_log.specs.Runs.{History, is_catalogue, kept_lines}
-use Rattle.script_log.specs.Openings.{IsAlike, with_line, replayed, AreAlike, AnswersAlike, IsOtherReply}
+use Rattle.script_log.specs.Replays.{IsAlike, with_line, replayed, AreAlike, AnswersAlike, IsOtherReply}
 use Rattle.durable_log.specs.Shown.{record_shown}
 use Rattle.durable_log.specs.declared.record.Record.{Record}
 use Rattle.script_log.proofs.Lines.{kept-append}

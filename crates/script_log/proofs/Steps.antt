@@ -5,10 +5,11 @@ use Rattle.log_host.specs.Host.{Outcomes, LeavesOnly}
 use Rattle.durable_log.specs.Format.{LogRecord}
 use Rattle.durable_log.specs.Files.{StandsFor}
 use Rattle.durable_log.proofs.Moments.{weaker, then_leaves}
-use Rattle.script_log.specs.Runs.{History, after_all, replies, records_of_line, records_of_lines, history_of}
+use Rattle.script_log.specs.Runs.{History, answering, after_all, replies, records_of_line, records_of_lines, history_of}
 use Rattle.script_log.specs.Covered.{Covered}
 use Rattle.script_log.specs.Passing.{Standing, Passing, IsPassedOn}
 use Rattle.script_log.specs.Outcomes.{AreAnswered}
+use Rattle.script_log.specs.Hosts.{account}
 use Rattle.script_log.proofs.Lines.{replies-push, records-push}
 
 module _ (keeps : History → List ℕ → Bool) (reply : History → List ℕ → List ℕ) (records : List LogRecord) (heard : List ℕ) where
@@ -99,7 +100,7 @@ module _ (keeps : History → List ℕ → Bool) (reply : History → List ℕ �
       })
 
   -- all of it, once it is passed on
-  pub steady-answered : (lines : List (List ℕ)) (s : Standing) → Steady lines s → AreAnswered keeps reply records lines heard (s.records ++ s.waits) (s.heard ++ s.text)
+  pub steady-answered : (lines : List (List ℕ)) (s : Standing) → Steady lines s → AreAnswered (answering keeps reply) (account records heard) lines (account (s.records ++ s.waits) (s.heard ++ s.text))
   steady-answered lines s S = record {
     records_are = S.records_are;
     heard_is = ap (λ (x : List ℕ). x ++ s.text) S.heard_is ∙ append_assoc heard S.sent s.text ∙ ap (λ (x : List ℕ). heard ++ x) S.text_is;

@@ -11,17 +11,20 @@ use Rattle.durable_log.specs.declared.log.CommitFault.TheVariants as commits
 use Rattle.durable_log.proofs.Moments.{weaker, then_leaves}
 use Rattle.script_lines.specs.Device.{Told}
 use Rattle.script_lines.specs.Unread.{Unread}
-use Rattle.script_lines.specs.Lines.{lines_since}
-use Rattle.script_log.specs.Runs.{History, after_all, history_of}
-use Rattle.script_log.specs.Covered.{Covered}
+use Rattle.script_lines.specs.Lines.{lines_since, complete_lines}
+use Rattle.script_log.specs.Runs.{History, answering, Answering, after_all, history_of}
+use Rattle.script_log.specs.Hosts.{Hosting, State, state_of, Account, account, account_of, GoesOn}
+use Rattle.script_log.specs.Reading.{Reading, reading, lines_in}
 use Rattle.script_log.specs.Passing.{standing, Passing}
 use Rattle.script_log.specs.Outcomes.{HasAnswered}
-use Rattle.script_log.specs.Faults.{is_broken, has_broken, UnlessBroken, IsFull, IsFullBy, HasBroken, HasCause}
-use Rattle.script_log.specs.SoFar.{RanSoFar}
-use Rattle.script_log.specs.Ran.{Ran}
+use Rattle.script_log.specs.Faults.{is_broken, has_broken, UnlessBroken, all_records, IsFullWith, IsFullBy, HasBroken, HasCause}
+use Rattle.script_log.specs.SoFar.{CoveredIn, account_due, RanSoFar}
+use Rattle.script_log.specs.Ran.{IsIdle, Ran}
 use Rattle.script_log.specs.declared.fault.RunFault.{RunFault}
 use Rattle.script_log.specs.declared.fault.RunFault.TheVariants as faults
+use Rattle.script_log.proofs.Failing.{goes-none, goes-two}
 use Rattle.script_log.proofs.Lines.{history-after}
+use Rattle.script_log.proofs.Wanting.{lines-begun}
 use Rattle.script_log.proofs.Going.{broken-answered, broken-unless}
 use Rattle.script_log.proofs.Ending.{none-read}
 
@@ -41,110 +44,133 @@ ok-broken : (P : Type 0) (result : Result Unit RunFault) → has_broken result �
 ok-broken P (Ok u) broken = absurd (false≢true broken)
 ok-broken P (Err f) broken = tt
 
-module _ {D E : Type 0} (seen heard : D → List ℕ) (may_leave : D → Outcomes) (moment : D → ℕ) (left_since : D → ℕ → Outcomes) (counts : D → ℕ) (stands : E → History → Type 0) (keeps : History → List ℕ → Bool) (reply : History → List ℕ → List ℕ) (r r' : Told) (p p' : Unread) (log : Log D) where
-  cause-by : (lines : List (List ℕ)) (mid log1 : Log D) (f : RunFault) → is_broken f ≡ false → HasCause seen heard may_leave counts keeps reply lines log mid r r' p' f → HasCause seen heard may_leave counts keeps reply lines log log1 r r' p' f
-  cause-by lines mid log1 faults.Read whole cause = cause
-  cause-by lines mid log1 faults.Write whole cause = absurd (false≢true (sym whole))
-  cause-by lines mid log1 (faults.Log fault) whole cause = absurd (false≢true (sym whole))
-  cause-by lines mid log1 faults.OutOfMemory whole cause = tt
+answered-broken : (e : Answering) (old new : Account) (x : Reading) (result : Result Unit RunFault) → has_broken result ≡ true → HasAnswered e old x new result
+answered-broken e old new x (Ok u) broken = absurd (false≢true broken)
+answered-broken e old new x (Err f) broken = broken-answered e old new x f broken
 
-  cause-whole : (lines : List (List ℕ)) (mid log1 : Log D) (result : Result Unit RunFault) → has_broken result ≡ false
-      → IfErr result (HasCause seen heard may_leave counts keeps reply lines log mid r r' p') → IfErr result (HasCause seen heard may_leave counts keeps reply lines log log1 r r' p')
-  cause-whole lines mid log1 (Ok u) whole cause = tt
-  cause-whole lines mid log1 (Err f) whole cause = cause-by lines mid log1 f whole cause
+module _ {D : Type 0} (d : Hosting D) (keeps : History → List ℕ → Bool) (reply : History → List ℕ → List ℕ) (stands : History → Type 0) (x : Reading) (log : Log D) where
+  abbrev e : Answering
+  e = answering keeps reply
+
+  abbrev begun : State
+  begun = state_of d log.host
+
+  abbrev SoFar : Log D → List ℕ → Result Unit RunFault → Type 0
+  SoFar mid out result = RanSoFar d e stands log x mid out result
+
+  cause-by : (mid log1 : D) (f : RunFault) → is_broken f ≡ false → HasCause e begun x (state_of d mid) f → HasCause e begun x (state_of d log1) f
+  cause-by mid log1 faults.Read whole cause = cause
+  cause-by mid log1 faults.Write whole cause = absurd (false≢true (sym whole))
+  cause-by mid log1 (faults.Log fault) whole cause = absurd (false≢true (sym whole))
+  cause-by mid log1 faults.OutOfMemory whole cause = tt
+
+  cause-whole : (mid log1 : D) (result : Result Unit RunFault) → has_broken result ≡ false
+      → IfErr result (HasCause e begun x (state_of d mid)) → IfErr result (HasCause e begun x (state_of d log1))
+  cause-whole mid log1 (Ok u) whole cause = tt
+  cause-whole mid log1 (Err f) whole cause = cause-by mid log1 f whole cause
 
   -- the file is full with the lines that were answered
-  full-whole : (lines : List (List ℕ)) (now : List LogRecord) (heard_now : List ℕ) (log1 : Log D) (result : Result Unit RunFault) → has_broken result ≡ false
-      → HasAnswered keeps reply (records_of (seen log.host)) lines (heard log.host) now heard_now result → IsFull seen heard may_leave now log1
-      → IsFullBy seen heard may_leave keeps reply (records_of (seen log.host)) lines log1
-  full-whole lines now heard_now log1 (Ok u) whole answered full = (lines, [], append-nil lines, subst (λ (rs : List LogRecord). IsFull seen heard may_leave rs log1) answered.records_are full)
-  full-whole lines now heard_now log1 (Err faults.Read) whole answered full = (lines, [], append-nil lines, subst (λ (rs : List LogRecord). IsFull seen heard may_leave rs log1) answered.records_are full)
-  full-whole lines now heard_now log1 (Err faults.Write) whole answered full = absurd (false≢true (sym whole))
-  full-whole lines now heard_now log1 (Err (faults.Log fault)) whole answered full = absurd (false≢true (sym whole))
-  full-whole lines now heard_now log1 (Err faults.OutOfMemory) whole (done, others, split, answered) full =
-      (done, others, split, subst (λ (rs : List LogRecord). IsFull seen heard may_leave rs log1) answered.records_are full)
+  full-whole : (now : Account) (file : List ℕ) (result : Result Unit RunFault) → has_broken result ≡ false
+      → HasAnswered e (account_of begun) x now result → IsFullWith now.records file → IsFullBy e (records_of begun.file) (lines_in x) file
+  full-whole now file (Ok u) whole answered full = (lines_in x, [], append-nil (lines_in x), subst (λ (rs : List LogRecord). IsFullWith rs file) answered.records_are full)
+  full-whole now file (Err faults.Read) whole answered full = (lines_in x, [], append-nil (lines_in x), subst (λ (rs : List LogRecord). IsFullWith rs file) answered.records_are full)
+  full-whole now file (Err faults.Write) whole answered full = absurd (false≢true (sym whole))
+  full-whole now file (Err (faults.Log fault)) whole answered full = absurd (false≢true (sym whole))
+  full-whole now file (Err faults.OutOfMemory) whole w full = (w.done, w.wants ++ w.others, w.split, subst (λ (rs : List LogRecord). IsFullWith rs file) w.answered.records_are full)
 
   -- why what waits could not be passed on
-  stopped-cause : (mid log1 : Log D) (out : List ℕ) (engine : E) (result : Result Unit RunFault) (f : RunFault) → RanSoFar seen heard may_leave moment left_since counts stands keeps reply r r' p p' log mid out engine result → has_broken result ≡ false
-      → is_broken f ≡ true → HasBroken seen heard may_leave counts mid log1 f → HasCause seen heard may_leave counts keeps reply (lines_since r r' p) log log1 r r' p' f
-  stopped-cause mid log1 out engine result faults.Read R whole broken cause = absurd (false≢true broken)
-  stopped-cause mid log1 out engine result faults.Write R whole broken cause = omega (arith, R.later, cause)
-  stopped-cause mid log1 out engine result (faults.Log commits.Failed) R whole broken cause = omega (arith, R.later, cause)
-  stopped-cause mid log1 out engine result (faults.Log commits.Full) R whole broken cause = full-whole (lines_since r r' p) _ _ log1 result whole R.answered cause
-  stopped-cause mid log1 out engine result faults.OutOfMemory R whole broken cause = absurd (false≢true broken)
-
-  answered-broken : (lines : List (List ℕ)) (now : List LogRecord) (heard_now : List ℕ) (result : Result Unit RunFault) → has_broken result ≡ true → HasAnswered keeps reply (records_of (seen log.host)) lines (heard log.host) now heard_now result
-  answered-broken lines now heard_now (Ok u) broken = absurd (false≢true broken)
-  answered-broken lines now heard_now (Err f) broken = broken-answered keeps reply (records_of (seen log.host)) (heard log.host) lines now heard_now f broken
+  stopped-cause : (mid log1 : Log D) (out : List ℕ) (result : Result Unit RunFault) (f : RunFault) → SoFar mid out result → has_broken result ≡ false
+      → is_broken f ≡ true → HasBroken (all_records d.seen mid) (state_of d mid.host) (state_of d log1.host) f → HasCause e begun x (state_of d log1.host) f
+  stopped-cause mid log1 out result faults.Read R whole broken cause = absurd (false≢true broken)
+  stopped-cause mid log1 out result faults.Write R whole broken cause = omega (arith, R.goes_on.listener, cause)
+  stopped-cause mid log1 out result (faults.Log commits.Failed) R whole broken cause = omega (arith, R.goes_on.file, cause)
+  stopped-cause mid log1 out result (faults.Log commits.Full) R whole broken cause = full-whole (account_due d mid out) (d.seen log1.host) result whole R.answered cause
+  stopped-cause mid log1 out result faults.OutOfMemory R whole broken cause = absurd (false≢true broken)
 
   -- the file or the listener failed before
-  pub ran-broken : (mid : Log D) (out : List ℕ) (engine : E) (result : Result Unit RunFault) → RanSoFar seen heard may_leave moment left_since counts stands keeps reply r r' p p' log mid out engine result → has_broken result ≡ true
-      → Ran seen heard may_leave counts stands keeps reply r r' p p' log mid engine result
-  ran-broken mid out engine result R broken = record {
-    read = R.read;
-    answered = answered-broken (lines_since r r' p) _ _ result broken;
-    settled = unless-broken _ result broken;
-    ended = ok-broken _ result broken;
+  pub ran-broken : (mid : Log D) (out : List ℕ) (result : Result Unit RunFault) → SoFar mid out result → has_broken result ≡ true → Ran d e stands log x mid result
+  ran-broken mid out result R broken = record {
+    run = record {
+      read = R.read;
+      answered = answered-broken e (account_of begun) (account_of (state_of d mid.host)) x result broken;
+      ended = ok-broken _ result broken;
+      cause = R.cause;
+    };
+    goes_on = R.goes_on;
+    idle = unless-broken _ result broken;
     stands_now = ok-broken _ result broken;
-    cause = R.cause;
   }
 
   -- what waits could not be passed on
-  pub ran-stopped : (mid log1 : Log D) (out : List ℕ) (engine : E) (result : Result Unit RunFault) (f : RunFault) → RanSoFar seen heard may_leave moment left_since counts stands keeps reply r r' p p' log mid out engine result → has_broken result ≡ false
-      → is_broken f ≡ true → HasBroken seen heard may_leave counts mid log1 f → Ran seen heard may_leave counts stands keeps reply r r' p p' log log1 engine (Err f)
-  ran-stopped mid log1 out engine result f R whole broken cause = record {
-    read = R.read;
-    answered = answered-broken (lines_since r r' p) _ _ (Err f) broken;
-    settled = broken-unless _ f broken;
-    ended = tt;
+  pub ran-stopped : (mid log1 : Log D) (out : List ℕ) (result : Result Unit RunFault) (f : RunFault) → SoFar mid out result → has_broken result ≡ false → GoesOn d mid.host log1.host
+      → is_broken f ≡ true → HasBroken (all_records d.seen mid) (state_of d mid.host) (state_of d log1.host) f → Ran d e stands log x log1 (Err f)
+  ran-stopped mid log1 out result f R whole later broken cause = record {
+    run = record {
+      read = R.read;
+      answered = broken-answered e (account_of begun) (account_of (state_of d log1.host)) x f broken;
+      ended = tt;
+      cause = stopped-cause mid log1 out result f R whole broken cause;
+    };
+    goes_on = goes-two d log.host mid.host log1.host R.goes_on later;
+    idle = broken-unless _ f broken;
     stands_now = tt;
-    cause = stopped-cause mid log1 out engine result f R whole broken cause;
   }
 
   -- each moment, while what waits is passed on
-  pub leaves-whole : (mid log1 : Log D) (out : List ℕ) (engine : E) (result : Result Unit RunFault) → RanSoFar seen heard may_leave moment left_since counts stands keeps reply r r' p p' log mid out engine result → has_broken result ≡ false
-      → LeavesOnly moment left_since mid.host log1.host (Passing (standing seen heard mid out))
-      → LeavesOnly moment left_since log.host log1.host (Covered keeps reply (records_of (seen log.host)) (lines_since r r' p) (heard log.host))
-  leaves-whole mid log1 out engine result R whole leaves =
-      let P = Covered keeps reply (records_of (seen log.host)) (lines_since r r' p) (heard log.host) in
-      then_leaves moment left_since log.host mid.host log1.host P R.any_moment
-      (weaker moment left_since mid.host log1.host (Passing (standing seen heard mid out)) P leaves (unless-whole _ result whole R.covers))
+  pub leaves-whole : (mid log1 : Log D) (out : List ℕ) (result : Result Unit RunFault) → SoFar mid out result → has_broken result ≡ false
+      → LeavesOnly d.moment d.left_since mid.host log1.host (Passing (standing d.seen d.heard mid out))
+      → LeavesOnly d.moment d.left_since log.host log1.host (CoveredIn e (account_of begun) x)
+  leaves-whole mid log1 out result R whole leaves =
+      let P : Outcomes = CoveredIn e (account_of begun) x in
+      then_leaves d.moment d.left_since log.host mid.host log1.host P R.any_moment
+      (weaker d.moment d.left_since mid.host log1.host (Passing (standing d.seen d.heard mid out)) P leaves (unless-whole _ result whole R.covers))
 
-  answered-whole : (lines : List (List ℕ)) (now now1 : List LogRecord) (heard_now heard1 : List ℕ) (result : Result Unit RunFault) → now1 ≡ now → heard1 ≡ heard_now
-      → HasAnswered keeps reply (records_of (seen log.host)) lines (heard log.host) now heard_now result → HasAnswered keeps reply (records_of (seen log.host)) lines (heard log.host) now1 heard1 result
-  answered-whole lines now now1 heard_now heard1 result same same_heard answered =
-      subst (λ (n : List LogRecord). HasAnswered keeps reply (records_of (seen log.host)) lines (heard log.host) n heard1 result) (sym same)
-      (subst (λ (o : List ℕ). HasAnswered keeps reply (records_of (seen log.host)) lines (heard log.host) now o result) (sym same_heard) answered)
+  answered-whole : (now now1 : Account) (result : Result Unit RunFault) → now1.records ≡ now.records → now1.heard ≡ now.heard → HasAnswered e (account_of begun) x now result → HasAnswered e (account_of begun) x now1 result
+  answered-whole now now1 result same same_heard answered =
+      subst (λ (n : Account). HasAnswered e (account_of begun) x n result) (λ i. account (sym same i) (sym same_heard i)) answered
 
-  stands-whole : (lines : List (List ℕ)) (now : List LogRecord) (heard_now : List ℕ) (engine : E) (result : Result Unit RunFault) → HasAnswered keeps reply (records_of (seen log.host)) lines (heard log.host) now heard_now result
-      → OnOk result (stands engine (after_all keeps (history_of (records_of (seen log.host))) lines)) → OnOk result (stands engine (history_of now))
-  stands-whole lines now heard_now engine (Ok u) answered holds =
-      subst (λ (h : History). stands engine h) (sym (ap history_of answered.records_are ∙ history-after keeps reply (records_of (seen log.host)) lines)) holds
-  stands-whole lines now heard_now engine (Err f) answered holds = tt
+  stands-whole : (now : Account) (result : Result Unit RunFault) → HasAnswered e (account_of begun) x now result
+      → OnOk result (stands (after_all keeps (history_of (records_of begun.file)) (lines_in x))) → OnOk result (stands (history_of now.records))
+  stands-whole now (Ok u) answered holds = subst stands (sym (ap history_of answered.records_are ∙ history-after keeps reply (records_of begun.file) (lines_in x))) holds
+  stands-whole now (Err f) answered holds = tt
 
   -- all was passed on
-  pub ran-whole : (mid log1 : Log D) (out : List ℕ) (engine : E) (result : Result Unit RunFault) → RanSoFar seen heard may_leave moment left_since counts stands keeps reply r r' p p' log mid out engine result → has_broken result ≡ false
-      → records_of (seen log1.host) ≡ records_of (seen mid.host) ++ waiting_in mid → heard log1.host ≡ heard mid.host ++ out → IsSettled seen heard may_leave log1 → waiting_in log1 ≡ []
-      → Ran seen heard may_leave counts stands keeps reply r r' p p' log log1 engine result
-  ran-whole mid log1 out engine result R whole records heard_is settled none =
-      let answered = answered-whole (lines_since r r' p) (records_of (seen mid.host) ++ waiting_in mid) (records_of (seen log1.host)) (heard mid.host ++ out) (heard log1.host) result records heard_is R.answered in
+  pub ran-whole : (mid log1 : Log D) (out : List ℕ) (result : Result Unit RunFault) → SoFar mid out result → has_broken result ≡ false → GoesOn d mid.host log1.host
+      → records_of (d.seen log1.host) ≡ records_of (d.seen mid.host) ++ waiting_in mid → d.heard log1.host ≡ d.heard mid.host ++ out → IsSettled d.seen d.heard d.may_leave log1 → waiting_in log1 ≡ []
+      → Ran d e stands log x log1 result
+  ran-whole mid log1 out result R whole later records heard_is settled none =
+      let answered = answered-whole (account_due d mid out) (account_of (state_of d log1.host)) result records heard_is R.answered in
       record {
-        read = R.read;
-        answered = answered;
-        settled = unless-then _ result (settled, none);
-        ended = R.ended;
-        stands_now = stands-whole (lines_since r r' p) (records_of (seen log1.host)) (heard log1.host) engine result answered R.stands_now;
-        cause = cause-whole (lines_since r r' p) mid log1 result whole R.cause;
+        run = record {
+          read = R.read;
+          answered = answered;
+          ended = R.ended;
+          cause = cause-whole mid.host log1.host result whole R.cause;
+        };
+        goes_on = goes-two d log.host mid.host log1.host R.goes_on later;
+        idle = unless-then _ result (settled, none);
+        stands_now = stands-whole (account_of (state_of d log1.host)) result answered R.stands_now;
       }
 
 -- memory was refused before the first line
-pub ran-nothing : {D E : Type 0} (seen heard : D → List ℕ) (may_leave : D → Outcomes) (counts : D → ℕ) (stands : E → History → Type 0) (keeps : History → List ℕ → Bool) (reply : History → List ℕ → List ℕ) (r : Told) (p : Unread) (log : Log D) (engine : E)
-    → IsSettled seen heard may_leave log → waiting_in log ≡ [] → Ran seen heard may_leave counts stands keeps reply r r p p log log engine (Err faults.OutOfMemory)
-ran-nothing seen heard may_leave counts stands keeps reply r p log engine settled none = record {
-  read = none-read r p;
-  answered = ([], lines_since r r p, refl, record { records_are = sym (append-nil (records_of (seen log.host))); heard_is = sym (append-nil (heard log.host)) });
-  settled = λ _. (settled, none);
-  ended = tt;
+pub ran-nothing : {D : Type 0} (d : Hosting D) (keeps : History → List ℕ → Bool) (reply : History → List ℕ → List ℕ) (stands : History → Type 0) (r : Told) (p : Unread) (log : Log D)
+    → IsSettled d.seen d.heard d.may_leave log → waiting_in log ≡ [] → Ran d (answering keeps reply) stands log (reading r r p p) log (Err faults.OutOfMemory)
+ran-nothing d keeps reply stands r p log settled none = record {
+  run = record {
+    read = none-read r p;
+    answered = record {
+      done = [];
+      answered = record { records_are = sym (append-nil (records_of (d.seen log.host))); heard_is = sym (append-nil (d.heard log.host)) };
+      wants = [];
+      one = omega arith;
+      others = complete_lines p.ended p.bytes;
+      split = sym (lines-begun r p);
+      at_hand = ([], refl);
+    };
+    ended = tt;
+    cause = tt;
+  };
+  goes_on = goes-none d log.host;
+  idle = λ _. (settled, none);
   stands_now = tt;
-  cause = tt;
 }

@@ -1,19 +1,16 @@
 -- The reasons why a run ends before the end of its lines.
-use Rattle.std.specs.Prelude.{ℕ, ◌≡◌, ◌⊎◌, ◌<◌, ◌≤◌, ◌+◌, ◌^◌, List, [], ◌∷◌, ◌++◌, length, Bool, true, false, Option, Result, Ok, Err}
-use Rattle.log_host.specs.Host.{Outcomes}
+use Rattle.std.specs.Prelude.{ℕ, ◌≡◌, ◌<◌, ◌≤◌, ◌+◌, ◌^◌, List, ◌++◌, length, Bool, true, false, Option, Result, Ok, Err}
 use Rattle.durable_log.specs.Format.{LogRecord}
-use Rattle.durable_log.specs.Logs.{records_of, waiting_in, IsSettled}
+use Rattle.durable_log.specs.Logs.{records_of, waiting_in, behind_gate}
 use Rattle.durable_log.specs.declared.log.Log.{Log}
 use Rattle.durable_log.specs.declared.log.CommitFault.{CommitFault}
 use Rattle.durable_log.specs.declared.log.CommitFault.TheVariants as commits
-use Rattle.script_lines.specs.Device.{Told}
-use Rattle.script_lines.specs.Unread.{Unread}
 use Rattle.script_lines.specs.declared.line.Line.{Line}
 use Rattle.script_lines.specs.declared.line_fault.LineFault.{LineFault}
 use Rattle.script_lines.specs.declared.line_fault.LineFault.TheVariants as lines
-use Rattle.script_log.specs.Runs.{History, records_of_lines, history_of}
-use Rattle.script_log.specs.declared.fault.AppendFault.{AppendFault}
-use Rattle.script_log.specs.declared.fault.AppendFault.TheVariants as appends
+use Rattle.script_log.specs.Runs.{Answering, records_of_lines, history_of}
+use Rattle.script_log.specs.Hosts.{State}
+use Rattle.script_log.specs.Reading.{Reading, lines_in, HasReadFault}
 use Rattle.script_log.specs.declared.fault.RunFault.{RunFault}
 use Rattle.script_log.specs.declared.fault.RunFault.TheVariants as faults
 
@@ -56,42 +53,33 @@ UnlessBroken (Err fault) P = is_broken fault ≡ false → P
 abbrev pub all_records : {D : Type 0} (seen : D → List ℕ) → Log D → List LogRecord
 all_records seen log = records_of (seen log.host) ++ waiting_in log
 
--- THE FILE IS FULL: these are all records, and with the waiting records the file would have 2^62 bytes or
--- more
-pub record IsFull {D : Type 0} (seen heard : D → List ℕ) (may_leave : D → Outcomes) (records : List LogRecord) (log : Log D) : Type 0 where
-  pub settled : IsSettled seen heard may_leave log
-  pub records_are : all_records seen log ≡ records
-  pub size : 2 ^ 62 ≤ log.end + length log.waiting.items
+-- THE FILE IS FULL: these are its records with others that wait, and if those were written, it would have
+-- 2^62 bytes or more
+abbrev pub IsFullWith : List LogRecord → List ℕ → Type 0
+IsFullWith records file = (waits : List LogRecord) × (records_of file ++ waits ≡ records) × (2 ^ 62 ≤ length file + length (behind_gate waits))
 
-module _ {D : Type 0} (seen heard : D → List ℕ) (may_leave : D → Outcomes) (faults_of : D → ℕ) where
-  -- the reason why a commit failed
-  abbrev pub HasFailed : Log D → Log D → CommitFault → Type 0
-  HasFailed old new commits.Failed = faults_of old.host < faults_of new.host
-  HasFailed old new commits.Full = IsFull seen heard may_leave (all_records seen old) new
+-- the reason why a commit failed: the file failed, or it is full with all records, those that wait too
+abbrev pub HasFailed : List LogRecord → State → State → CommitFault → Type 0
+HasFailed records old new commits.Failed = old.file_faults < new.file_faults
+HasFailed records old new commits.Full = IsFullWith records new.file
 
-  -- the reason why the log is of no more use: the listener or the file failed, or the file is full
-  abbrev pub HasBroken : Log D → Log D → RunFault → Type 0
-  HasBroken old new faults.Read = Unit {0}
-  HasBroken old new faults.Write = faults_of old.host < faults_of new.host
-  HasBroken old new (faults.Log fault) = HasFailed old new fault
-  HasBroken old new faults.OutOfMemory = Unit {0}
+-- the reason why the log is of no more use: the listener failed, or a commit failed
+abbrev pub HasBroken : List LogRecord → State → State → RunFault → Type 0
+HasBroken records old new faults.Read = Unit {0}
+HasBroken records old new faults.Write = old.listener_faults < new.listener_faults
+HasBroken records old new (faults.Log fault) = HasFailed records old new fault
+HasBroken records old new faults.OutOfMemory = Unit {0}
 
-  -- the reason why a catalogue was not added to a log
-  abbrev pub HasAppendFault : Log D → Log D → LogRecord → AppendFault → Type 0
-  HasAppendFault old new added (appends.Log commits.Failed) = faults_of old.host < faults_of new.host
-  HasAppendFault old new added (appends.Log commits.Full) = IsFull seen heard may_leave (records_of (seen old.host) ++ added ∷ []) new
-  HasAppendFault old new added appends.OutOfMemory = Unit {0}
+-- the file is full with these records and those of the first of the lines
+abbrev pub IsFullBy : Answering → List LogRecord → List (List ℕ) → List ℕ → Type 0
+IsFullBy e records lines file = (done : List (List ℕ)) × (others : List (List ℕ)) × (done ++ others ≡ lines)
+    × IsFullWith (records ++ records_of_lines e.keeps e.reply (history_of records) done) file
 
--- the file is full with the records of the first of these lines
-abbrev pub IsFullBy : {D : Type 0} (seen heard : D → List ℕ) (may_leave : D → Outcomes) (keeps : History → List ℕ → Bool) (reply : History → List ℕ → List ℕ) → List LogRecord → List (List ℕ) → Log D → Type 0
-IsFullBy seen heard may_leave keeps reply records lines log = (done : List (List ℕ)) × (others : List (List ℕ)) × (done ++ others ≡ lines)
-    × IsFull seen heard may_leave (records ++ records_of_lines keeps reply (history_of records) done) log
-
--- the reason why a run of lines ended: the reader failed, or may not be called again; or the listener or the
--- file failed, or the file is full
-abbrev pub HasCause : {D : Type 0} (seen heard : D → List ℕ) (may_leave : D → Outcomes) (faults_of : D → ℕ) (keeps : History → List ℕ → Bool) (reply : History → List ℕ → List ℕ) (lines : List (List ℕ)) → Log D → Log D → Told → Told → Unread → RunFault → Type 0
-HasCause seen heard may_leave faults_of keeps reply lines old new r r' left faults.Read = (r'.failures ≡ r.failures + 1) ⊎ ((r'.failures ≡ r.failures) × (left.reads_left ≡ 0))
-HasCause seen heard may_leave faults_of keeps reply lines old new r r' left faults.Write = faults_of old.host < faults_of new.host
-HasCause seen heard may_leave faults_of keeps reply lines old new r r' left (faults.Log commits.Failed) = faults_of old.host < faults_of new.host
-HasCause seen heard may_leave faults_of keeps reply lines old new r r' left (faults.Log commits.Full) = IsFullBy seen heard may_leave keeps reply (records_of (seen old.host)) lines new
-HasCause seen heard may_leave faults_of keeps reply lines old new r r' left faults.OutOfMemory = Unit {0}
+-- the reason why a run ended: the reader failed, or may not be called again; or the listener or the file
+-- failed since the run's begin, or the file is full
+abbrev pub HasCause : Answering → State → Reading → State → RunFault → Type 0
+HasCause e old x new faults.Read = HasReadFault x
+HasCause e old x new faults.Write = old.listener_faults < new.listener_faults
+HasCause e old x new (faults.Log commits.Failed) = old.file_faults < new.file_faults
+HasCause e old x new (faults.Log commits.Full) = IsFullBy e (records_of old.file) (lines_in x) new.file
+HasCause e old x new faults.OutOfMemory = Unit {0}

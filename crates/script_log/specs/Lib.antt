@@ -1,11 +1,12 @@
 pub mod Runs
+pub mod Hosts
+pub mod Reading
 pub mod Covered
 pub mod Passing
 pub mod Faults
 pub mod Outcomes
-pub mod Openings
+pub mod Replays
 pub mod Catalogues
-pub mod Counts
 pub mod SoFar
 pub mod InTurn
 pub mod Ran

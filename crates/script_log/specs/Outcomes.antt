@@ -1,20 +1,45 @@
--- The end of a run.
-use Rattle.std.specs.Prelude.{ℕ, ◌≡◌, List, ◌++◌, Bool, Result, Ok, Err}
-use Rattle.durable_log.specs.Format.{LogRecord}
-use Rattle.script_log.specs.Runs.{History, replies, records_of_lines, history_of}
+-- The replies of a run.
+use Rattle.std.specs.Prelude.{ℕ, ◌≡◌, ◌≤◌, List, ◌++◌, length, Result, OnOk, IfErr, Ok, Err}
+use Rattle.script_lines.specs.Lines.{LinesRead, complete_lines}
+use Rattle.script_log.specs.Runs.{Answering, replies, records_of_lines, history_of}
+use Rattle.script_log.specs.Hosts.{State, Account, account_of}
+use Rattle.script_log.specs.Reading.{Reading, lines_in, HasReadAll}
+use Rattle.script_log.specs.Faults.{HasCause}
 use Rattle.script_log.specs.declared.fault.RunFault.{RunFault}
 use Rattle.script_log.specs.declared.fault.RunFault.TheVariants as faults
 
--- the records, and the bytes that the listener has heard, after the replies to these lines
-pub record AreAnswered (keeps : History → List ℕ → Bool) (reply : History → List ℕ → List ℕ) (records : List LogRecord) (lines : List (List ℕ)) (heard : List ℕ) (now : List LogRecord) (heard_now : List ℕ) : Type 0 where
-  pub records_are : now ≡ records ++ records_of_lines keeps reply (history_of records) lines
-  pub heard_is : heard_now ≡ heard ++ replies keeps reply (history_of records) lines
+-- the account after the replies to these lines
+pub record AreAnswered (e : Answering) (old : Account) (lines : List (List ℕ)) (new : Account) : Type 0 where
+  pub records_are : new.records ≡ old.records ++ records_of_lines e.keeps e.reply (history_of old.records) lines
+  pub heard_is : new.heard ≡ old.heard ++ replies e.keeps e.reply (history_of old.records) lines
 
--- the lines that have had their replies, by the result of the run: all, or the first of them, or unspecified
-abbrev pub HasAnswered : (keeps : History → List ℕ → Bool) (reply : History → List ℕ → List ℕ) (records : List LogRecord) (lines : List (List ℕ)) (heard : List ℕ) (now : List LogRecord) (heard_now : List ℕ) → Result Unit RunFault → Type 0
-HasAnswered keeps reply records lines heard now heard_now (Ok u) = AreAnswered keeps reply records lines heard now heard_now
-HasAnswered keeps reply records lines heard now heard_now (Err faults.Read) = AreAnswered keeps reply records lines heard now heard_now
-HasAnswered keeps reply records lines heard now heard_now (Err faults.Write) = Unit {0}
-HasAnswered keeps reply records lines heard now heard_now (Err (faults.Log fault)) = Unit {0}
-HasAnswered keeps reply records lines heard now heard_now (Err faults.OutOfMemory) =
-    (done : List (List ℕ)) × (others : List (List ℕ)) × (done ++ others ≡ lines) × AreAnswered keeps reply records done heard now heard_now
+-- these are the last of the lines
+abbrev pub AreLastOf : List (List ℕ) → List (List ℕ) → Type 0
+AreLastOf others lines = (first : List (List ℕ)) × (first ++ others ≡ lines)
+
+-- WANT OF MEMORY: the lines before the one that wanted memory have had their replies. Of the others, at most
+-- that one is not at hand any more
+pub record HasWanted (e : Answering) (old : Account) (x : Reading) (new : Account) : Type 0 where
+  pub done : List (List ℕ)
+  pub answered : AreAnswered e old done new
+  pub wants : List (List ℕ)
+  pub one : length wants ≤ 1
+  pub others : List (List ℕ)
+  pub split : done ++ (wants ++ others) ≡ lines_in x
+  pub at_hand : AreLastOf others (complete_lines x.left.ended x.left.bytes)
+
+-- the lines that have had their replies, by the result of a run: all, or with want of memory those before it;
+-- after a failure of the file or of the listener this is unspecified
+abbrev pub HasAnswered : Answering → Account → Reading → Account → Result Unit RunFault → Type 0
+HasAnswered e old x new (Ok u) = AreAnswered e old (lines_in x) new
+HasAnswered e old x new (Err faults.Read) = AreAnswered e old (lines_in x) new
+HasAnswered e old x new (Err faults.Write) = Unit {0}
+HasAnswered e old x new (Err (faults.Log fault)) = Unit {0}
+HasAnswered e old x new (Err faults.OutOfMemory) = HasWanted e old x new
+
+-- A RUN, by its result: what was read, the replies, and the cause of a fault
+pub record HasRun (e : Answering) (old : State) (x : Reading) (new : State) (result : Result Unit RunFault) : Type 0 where
+  pub read : LinesRead x.from x.to x.before x.left
+  pub answered : HasAnswered e (account_of old) x (account_of new) result
+  pub ended : OnOk result (HasReadAll x)
+  pub cause : IfErr result (HasCause e old x new)

@@ -8,6 +8,14 @@ pub record History : Type 0 where
   pub catalogue : List ℕ
   pub lines : List (List ℕ)
 
+-- THE MEANING OF AN ENGINE: whether it records a line after a history, and its reply to the line
+pub record Answering : Type 0 where
+  pub keeps : History → List ℕ → Bool
+  pub reply : History → List ℕ → List ℕ
+
+abbrev pub answering : (History → List ℕ → Bool) → (History → List ℕ → List ℕ) → Answering
+answering keeps reply = record { keeps = keeps; reply = reply }
+
 -- the history after a line: it grows if the line is recorded
 abbrev pub after : (History → List ℕ → Bool) → History → List ℕ → History
 after keeps h line = if keeps h line then record { catalogue = h.catalogue; lines = h.lines ++ line ∷ [] } else h

@@ -3,6 +3,7 @@ ghost use Rattle.std.specs.Prelude.{◌≡◌, ◌++◌, List, ℕ, IfOk, OnErr}
 ghost use Rattle.durable_log.specs.Logs.{IsSettled, waiting_in};
 ghost use Rattle.script_lines.specs.Lines.{Shows};
 ghost use Rattle.script_log.specs.Runs.{History, after, records_of_line};
+ghost use Rattle.script_log.specs.InTurn.{HasRoom};
 
 use crate::engine::Engine;
 use crate::mark::OPERATION_MARK;
@@ -18,6 +19,7 @@ pub(crate) fn answer_line<H: Host, E: Engine>(
     line: &Line,
 ) -> Result<Vec<u8>, AllocError>
     requires settled { IsSettled H.seen H.heard H.may_leave log.old }
+    requires room { HasRoom log.old }
     requires shown { (bytes : List ℕ) × Shows line.now bytes }
     ensures due { IfOk result (λ text. (h : History) (bytes : List ℕ) → Shows line.now bytes → E.stands engine.old h
         → (text.items ≡ E.reply h bytes) × (waiting_in log.new ≡ waiting_in log.old ++ records_of_line E.keeps E.reply h bytes)

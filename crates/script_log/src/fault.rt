@@ -1,6 +1,5 @@
 // The reasons why a run ended early.
 ghost use Rattle.std.specs.Prelude.{◌≡◌};
-ghost use Rattle.script_log.specs.declared.fault.AppendFault.TheVariants.{OutOfMemory as WantOfMemory};
 ghost use Rattle.script_log.specs.declared.fault.RunFault.TheVariants.{OutOfMemory};
 ghost use Rattle.script_log.specs.Faults.{run_fault, is_broken};
 
@@ -68,34 +67,5 @@ impl From<LineFault> for RunFault {
             LineFault::Write => RunFault::Write,
             LineFault::OutOfMemory => RunFault::OutOfMemory,
         }
-    }
-}
-
-/// The reason why a catalogue was not added to a log.
-#[derive(Clone, Copy, Debug, PartialEq, Eq)]
-pub enum AppendFault {
-    /// The file failed or is full. Open the file again.
-    Log(CommitFault),
-    /// Memory was refused. The log doesn't change.
-    OutOfMemory,
-}
-
-impl fmt::Display for AppendFault {
-    fn fmt<W: fmt::Write>(&self, f: &mut fmt::Formatter<W>) -> fmt::Result {
-        f.write_str(match self {
-            AppendFault::Log(CommitFault::Failed) => "the log failed",
-            AppendFault::Log(CommitFault::Full) => "the log is full",
-            AppendFault::OutOfMemory => "out of memory",
-        })
-    }
-}
-
-impl Error for AppendFault {}
-
-impl From<AllocError> for AppendFault {
-    ghost from_gives = { λ _ fault. fault ≡ WantOfMemory };
-
-    fn from(_error: AllocError) -> AppendFault {
-        AppendFault::OutOfMemory
     }
 }

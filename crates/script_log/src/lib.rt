@@ -4,20 +4,20 @@
 
 mod answer;
 mod catalogue;
-mod counter;
 mod engine;
 mod fault;
 mod mark;
-mod opening;
 mod passing;
+mod reader;
+mod replays;
 mod run;
 mod turn;
 
-pub use catalogue::{LogCatalogues, append_catalogue, find_catalogues};
-pub use counter::Counter;
+pub use catalogue::{LogCatalogues, find_catalogues};
 pub use durable_log::{CommitFault, Contents, End, Host, HostFault, Log, Record, check_of};
 pub use engine::{Answered, Engine};
-pub use fault::{AppendFault, RunFault};
+pub use fault::RunFault;
 pub use mark::{CATALOGUE_MARK, OPERATION_MARK};
-pub use opening::{OpenFault, open};
+pub use reader::Reader;
+pub use replays::{ReplayFault, replay};
 pub use run::answer_lines;

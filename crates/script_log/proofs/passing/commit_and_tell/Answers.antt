@@ -4,7 +4,8 @@ use Rattle.durable_log.specs.Logs.{records_of}
 use Rattle.durable_log.proofs.Moments.{weaker, then_leaves}
 use Rattle.script_log.specs.Passing.{standing, Passing}
 use Rattle.script_log.proofs.Passed.{commit-passing, told-passing}
-use Rattle.script_log.proofs.Failing.{commit-failed}
+use Rattle.script_log.specs.Hosts.{hosting}
+use Rattle.script_log.proofs.Failing.{commit-failed, goes-two, goes-written, none-short}
 use Rattle.script_log.proofs.passing.commit_and_tell.Goals as goal
 
 pub returns-in-Err-clause-any_moment : goal.returns-in-Err-clause-any_moment
@@ -34,5 +35,21 @@ returns-clause-any_moment g c =
 
 pub returns-in-Err-clause-cause : goal.returns-in-Err-clause-cause
 returns-in-Err-clause-cause g c =
-    commit-failed g.H.Host.seen g.H.Host.heard g.H.Host.may_leave g.H.Host.faults c.args.log.now c.commit.new.self c.in-Err.fault c.requires
+    commit-failed (hosting g.H.Host.seen g.H.Host.heard g.H.Host.may_leave g.H.Host.moment g.H.Host.left_since g.H.Host.origin g.H.Host.file_faults g.H.Host.listener_faults) c.args.log.now c.commit.new.self c.in-Err.fault c.requires
     (λ is. c.commit.ensures.failed (c.in-Err.is ∙ ap Err is)) (λ is. c.commit.ensures.full (c.in-Err.is ∙ ap Err is))
+
+pub returns-in-Err-clause-goes_on : goal.returns-in-Err-clause-goes_on
+returns-in-Err-clause-goes_on g c = goes-written (hosting g.H.Host.seen g.H.Host.heard g.H.Host.may_leave g.H.Host.moment g.H.Host.left_since g.H.Host.origin g.H.Host.file_faults g.H.Host.listener_faults) c.args.log.now.host c.commit.new.self.host c.commit.ensures.later c.commit.ensures.listener c.commit.ensures.origin
+
+pub returns-in_err-tell_all-clause-goes_on : goal.returns-in_err-tell_all-clause-goes_on
+returns-in_err-tell_all-clause-goes_on g c =
+    let d = hosting g.H.Host.seen g.H.Host.heard g.H.Host.may_leave g.H.Host.moment g.H.Host.left_since g.H.Host.origin g.H.Host.file_faults g.H.Host.listener_faults in
+    goes-two d c.args.log.now.host c.commit.new.self.host c.tell_all.new.log.host (goes-written d c.args.log.now.host c.commit.new.self.host c.commit.ensures.later c.commit.ensures.listener c.commit.ensures.origin) c.tell_all.ensures.goes_on
+
+pub returns-clause-goes_on : goal.returns-clause-goes_on
+returns-clause-goes_on g c =
+    let d = hosting g.H.Host.seen g.H.Host.heard g.H.Host.may_leave g.H.Host.moment g.H.Host.left_since g.H.Host.origin g.H.Host.file_faults g.H.Host.listener_faults in
+    goes-two d c.args.log.now.host c.commit.new.self.host c.tell_all.new.log.host (goes-written d c.args.log.now.host c.commit.new.self.host c.commit.ensures.later c.commit.ensures.listener c.commit.ensures.origin) c.tell_all.ensures.goes_on
+
+pub returns-clause-room : goal.returns-clause-room
+returns-clause-room g c = none-short (hosting g.H.Host.seen g.H.Host.heard g.H.Host.may_leave g.H.Host.moment g.H.Host.left_since g.H.Host.origin g.H.Host.file_faults g.H.Host.listener_faults) c.tell_all.new.log c.in_ok-tell_all.ensures.settled c.tell_all.ensures.nothing_waits

@@ -1,9 +1,9 @@
 use Rattle.std.proofs.Common.{[], Bool, slice_index_or, subst}
 use Rattle.durable_log.specs.Shown.{record_shown}
 use Rattle.durable_log.specs.declared.record.Record.{Record}
-use Rattle.script_log.specs.Openings.{AnswersAlike}
+use Rattle.script_log.specs.Replays.{AnswersAlike}
 use Rattle.script_log.proofs.Replaying.{replayed-slice}
-use Rattle.script_log.proofs.opening.replay.Goals as goal
+use Rattle.script_log.proofs.replays.replay.Goals as goal
 
 pub loop-rest-preserved : goal.loop-rest-preserved
 loop-rest-preserved g c =

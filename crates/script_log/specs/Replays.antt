@@ -1,11 +1,9 @@
 -- Replying to the lines of a log again.
-use Rattle.std.specs.Prelude.{ℕ, ◌≡◌, ◌<◌, List, [], ◌∷◌, ◌++◌, length, Bool, true, false, if◌then◌else◌}
-use Rattle.log_host.specs.Host.{Outcomes, LeavesOnly}
+use Rattle.std.specs.Prelude.{ℕ, ◌≡◌, List, [], ◌∷◌, ◌++◌, length, Bool, true, false, if◌then◌else◌}
 use Rattle.durable_log.specs.Format.{LogRecord, check_of}
-use Rattle.durable_log.specs.Logs.{Same}
 use Rattle.script_log.specs.Runs.{History, is_catalogue, kept_lines}
-use Rattle.script_log.specs.declared.opening.OpenFault.{OpenFault}
-use Rattle.script_log.specs.declared.opening.OpenFault.TheVariants as faults
+use Rattle.script_log.specs.declared.replays.ReplayFault.{ReplayFault}
+use Rattle.script_log.specs.declared.replays.ReplayFault.TheVariants as faults
 
 -- a record matches a history: its line is recorded after the history, and its reply has the check; a
 -- catalogue always matches
@@ -45,14 +43,6 @@ pub record IsOtherReply (keeps : History → List ℕ → Bool) (reply : History
   pub differs : IsAlike keeps reply (replayed catalogue before) entry → ⊥
 
 -- the reason why the lines of records could not be replied to again
-abbrev pub IsReplayFault : (History → List ℕ → Bool) → (History → List ℕ → List ℕ) → List ℕ → List LogRecord → OpenFault → Type 0
+abbrev pub IsReplayFault : (History → List ℕ → Bool) → (History → List ℕ → List ℕ) → List ℕ → List LogRecord → ReplayFault → Type 0
 IsReplayFault keeps reply catalogue records (faults.OtherReply number) = IsOtherReply keeps reply catalogue records number
 IsReplayFault keeps reply catalogue records faults.OutOfMemory = Unit {0}
-IsReplayFault keeps reply catalogue records faults.Failed = ⊥
-
--- the reason why a log was not opened: nothing was written; or the host failed, and a crash leaves the same
--- records
-abbrev pub IsRefusal : {D : Type 0} (moment : D → ℕ) (left_since : D → ℕ → Outcomes) (counts : D → ℕ) (keeps : History → List ℕ → Bool) (reply : History → List ℕ → List ℕ) (catalogue : List ℕ) (records : List LogRecord) (heard : List ℕ) (old new : D) → OpenFault → Type 0
-IsRefusal moment left_since counts keeps reply catalogue records heard old new (faults.OtherReply number) = IsOtherReply keeps reply catalogue records number × (new ≡ old)
-IsRefusal moment left_since counts keeps reply catalogue records heard old new faults.OutOfMemory = new ≡ old
-IsRefusal moment left_since counts keeps reply catalogue records heard old new faults.Failed = LeavesOnly moment left_since old new (Same records heard) × (counts old < counts new)

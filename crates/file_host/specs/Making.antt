@@ -1,0 +1,67 @@
+-- Making a file anew, and what a crash leaves under its name.
+use Rattle.std.specs.Prelude.{ℕ, ◌≡◌, ◌==◌, ◌&&◌, ◌||◌, List, [], ◌∷◌, ◌++◌, Bool, true, false, Option, None, Some}
+use Rattle.log_host.specs.Past.{Call, leaves_after}
+use Rattle.file_host.specs.Calls.{file_calls}
+
+-- what a name stands for after a crash: what it stood for before, if for anything; or the draft, with these bytes
+pub data Named : Type 0 where
+  AsBefore : Named
+  Draft : List ℕ → Named
+
+abbrev pub is_rename : Call → Bool
+is_rename call = call.0 == 8
+
+abbrev pub is_folder_sync : Call → Bool
+is_folder_sync call = call.0 == 9 && call.1.1.1 == 1
+
+-- whether a rename was tried, and whether one succeeded
+abbrev pub was_renamed : List Call → Bool
+was_renamed [] = false
+was_renamed (call ∷ calls) = is_rename call || was_renamed calls
+
+abbrev pub has_renamed : List Call → Bool
+has_renamed [] = false
+has_renamed (call ∷ calls) = (is_rename call && call.1.1.1 == 1) || has_renamed calls
+
+-- whether the name is certain to stand for the draft: its folder was synced after a rename
+abbrev pub is_certain : List Call → Bool
+is_certain [] = false
+is_certain (call ∷ calls) = (is_folder_sync call && has_renamed calls) || is_certain calls
+
+-- THE MEANING OF A NAME AFTER A CRASH, after these calls
+abbrev pub named : List Call → Named → Type 0
+named calls AsBefore = is_certain calls ≡ false
+named calls (Draft bytes) = (was_renamed calls ≡ true) × leaves_after [] (file_calls calls) bytes []
+
+-- at each moment of these calls, and before the first, what a crash leaves of the name has P
+abbrev pub AtEachMoment : List Call → (Named → Type 0) → Type 0
+AtEachMoment [] P = (n : Named) → named [] n → P n
+AtEachMoment (call ∷ calls) P = ((n : Named) → named (call ∷ calls) n → P n) × AtEachMoment calls P
+
+-- the name stands for what it stood for before, or for the draft with all of these bytes
+abbrev pub IsBeforeOrWhole : List ℕ → Named → Type 0
+IsBeforeOrWhole bytes AsBefore = Unit {0}
+IsBeforeOrWhole bytes (Draft left) = left ≡ bytes
+
+-- no draft was made so far
+pub record IsOpening (calls : List Call) : Type 0 where
+  pub no_bytes : file_calls calls ≡ []
+  pub no_rename : was_renamed calls ≡ false
+
+-- the calls by which a file of this name is made with these bytes, the newest first
+abbrev pub making : List ℕ → List ℕ → List Call
+making name bytes = (9, (0, (name, 1))) ∷ (8, (0, (name, 1))) ∷ (1, (0, ([], 1))) ∷ (0, (0, (bytes, 1))) ∷ (7, (0, (name, 1))) ∷ []
+
+-- the calls after bytes were kept beside the file, if there are any
+abbrev pub keeping : List ℕ → List Call → List Call
+keeping [] before = before
+keeping (b ∷ bytes) before = (10, (0, (b ∷ bytes, 1))) ∷ before
+
+-- the calls by which a file of this name was read, or was found missing
+abbrev pub reading : List ℕ → Option (List ℕ) → List Call → List Call
+reading name None before = (5, (0, (name, 0))) ∷ before
+reading name (Some bytes) before = (6, (0, (bytes, 1))) ∷ (5, (0, (name, 1))) ∷ before
+
+-- the file of this name was made with these bytes, after an opening
+abbrev pub IsMade : List Call → List ℕ → List ℕ → Type 0
+IsMade calls name bytes = (before : List Call) × IsOpening before × (calls ≡ making name bytes ++ before)
