@@ -1,9 +1,9 @@
 -- A record that is not in its place is found by its number.
-use Rattle.std.proofs.Common.{◌≡◌, ◌≢◌, inr, ℕ, ◌+◌, ◌%◌, ◌^◌, ◌<◌, List, [], ◌∷◌, ◌++◌, length, get_or, take, drop, Bool, false, refl, sym, ◌∙◌, ap, subst, arith, append_assoc, length-append}
-use Rattle.std.specs.Prelude.{◌==◌, ◌&&◌, nat_lt, if◌then◌else◌}
+use Rattle.std.proofs.Common.{◌≡◌, ◌≢◌, inr, ℕ, ◌+◌, ◌%◌, ◌^◌, ◌<◌, List, [], ◌∷◌, ◌++◌, length, false, refl, sym, ◌∙◌, ap, subst, arith, append_assoc, length-append}
+use Rattle.std.specs.Prelude.{◌==◌, if◌then◌else◌}
 use Rattle.std.proofs.lemmas.Bool.Decides.{nat_tests}
 use Rattle.durable_log.specs.declared.link.Link.{Link}
-use Rattle.durable_log.specs.Format.{LogRecord, record_check, link_after, links_after, column, columns, frame, blocks, shut, Damaged, record_by, fits, found, record_in, with_reply_check, with_check, with_number, with_again, with_length, after_front, next, Reading, then_read, read}
+use Rattle.durable_log.specs.Format.{LogRecord, record_check, link_after, links_after, column, column_of, columns, frame, blocks, shut, Damaged, with_check, with_number, with_again, with_length, after_front, next, Reading, then_read, read}
 use Rattle.durable_log.specs.Files.{header, first_link, link_behind}
 use Rattle.durable_log.specs.Logs.{AreSmall}
 use Rattle.durable_log.specs.Damage.{written, IsRefused}
@@ -26,35 +26,21 @@ differs : (n m : ℕ) → n ≢ m → (n == m) ≡ false
 differs n m apart = grind (arith, nat_tests)
 
 -- a record that was written with another link is no record here, if its number is another
-module _ (link other : Link) (r : LogRecord) (x : List ℕ) (small : length r.line < 2 ^ 32) (reply_small : r.reply_check < 2 ^ 32) (is : IsLink other) (apart : other.number ≢ link.number) where
+module _ (link other : Link) (r : LogRecord) (x : List ℕ) (small : length r.line < 2 ^ 32) (is : IsLink other) (apart : other.number ≢ link.number) where
   abbrev n : ℕ
   n = length r.line
 
-  abbrev body : List ℕ
-  body = r.line ++ 10 ∷ x
-
-  abbrev check : ℕ
-  check = record_check other r
-
-  abbrev behind : Bool
-  behind = nat_lt n (length body) && (get_or body n 0 == 10 && record_check link (record_by r.mark (take n body) r.reply_check) == check)
-
-  no-fit : fits link r.mark n n other.number check r.reply_check body ≡ false
-  no-fit = λ i. eq-same n i && (differs other.number link.number apart i && behind)
-
-  other-record : record_in link r.mark n n other.number check r.reply_check body ≡ Damaged
-  other-record = λ i. if no-fit i then found link (record_by r.mark (take n body) r.reply_check) (drop (n + 1) body) else Damaged
+  abbrev behind : List ℕ
+  behind = column (record_check other r) (column r.reply_check (r.line ++ 10 ∷ x))
 
   front-damaged : after_front link (frame other r ++ x) ≡ Damaged
   front-damaged =
-      let made = next-fits other r is in
-      ap (λ (l : List ℕ). after_front link (columns r.mark n other.number check r.reply_check l)) (append_assoc r.line (10 ∷ []) x)
-      ∙ ap (with_length link r.mark) (column-read n (column n (column other.number (column check (column r.reply_check body)))) small)
-      ∙ ap (with_again link r.mark n) (column-read n (column other.number (column check (column r.reply_check body))) small)
-      ∙ ap (with_number link r.mark n n) (column-read other.number (column check (column r.reply_check body)) is.number)
-      ∙ ap (with_check link r.mark n n other.number) (column-read check (column r.reply_check body) made.check)
-      ∙ ap (with_reply_check link r.mark n n other.number check) (column-read r.reply_check body reply_small)
-      ∙ other-record
+      ap (λ (l : List ℕ). after_front link (columns r.mark n other.number (record_check other r) r.reply_check l)) (append_assoc r.line (10 ∷ []) x)
+      ∙ ap (with_length link r.mark) (column-read n (column n (column other.number behind)) small)
+      ∙ ap (with_again link r.mark n) (column-read n (column other.number behind) small)
+      ∙ (λ i. if eq-same n i then with_number link r.mark n (column_of (column other.number behind)) else Damaged)
+      ∙ ap (with_number link r.mark n) (column-read other.number behind is.number)
+      ∙ (λ i. if differs other.number link.number apart i then with_check link r.mark n (column_of behind) else Damaged)
 
   read-damaged : (read link (49 ∷ 49 ∷ 49 ∷ (frame other r ++ x))).sound ≡ false
   read-damaged =
@@ -70,7 +56,7 @@ out-of-place front others r rest small here apart =
     let tail = written others (r ∷ []) ++ rest in
     let tail_is : tail ≡ 49 ∷ 49 ∷ 49 ∷ (frame other r ++ rest) = ap (λ (l : List ℕ). 49 ∷ 49 ∷ 49 ∷ l) (append_assoc (frame other r) [] rest) in
     let damaged : (read link tail).sound ≡ false =
-    ap (λ (l : List ℕ). (read link l).sound) tail_is ∙ read-damaged link other r rest here.0 here.1 (behind-fits others) numbers in
+    ap (λ (l : List ℕ). (read link l).sound) tail_is ∙ read-damaged link other r rest here.0 (behind-fits others) numbers in
     inr (inr (
       written [] front ++ tail,
       refl,

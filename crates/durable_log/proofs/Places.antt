@@ -39,10 +39,10 @@ module _ (link : Link) (r : LogRecord) (x : List ℕ) where
   check-is : (record_check link (record_by r.mark (take n body) r.reply_check) == check) ≡ true
   check-is = ap (λ (l : List ℕ). record_check link (record_by r.mark l r.reply_check) == check) front-is ∙ eq-same check
 
-  fits-same : fits link r.mark n n link.number check r.reply_check body ≡ true
-  fits-same = λ i. eq-same n i && (eq-same link.number i && (less-true n (length body) long i && ((feed-is i == 10) && check-is i)))
+  fits-same : fits link r.mark n check r.reply_check body ≡ true
+  fits-same = λ i. less-true n (length body) long i && ((feed-is i == 10) && check-is i)
 
-  record-same : record_in link r.mark n n link.number check r.reply_check body ≡ Found r (link_after link r) x
+  record-same : record_in link r.mark n check r.reply_check body ≡ Found r (link_after link r) x
   record-same =
       (λ i. if fits-same i then found link (record_by r.mark (take n body) r.reply_check) (drop (n + 1) body) else Damaged)
       ∙ (λ i. found link (record_by r.mark (front-is i) r.reply_check) (rest-is i))
@@ -53,57 +53,48 @@ module _ (link : Link) (r : LogRecord) (x : List ℕ) where
       ap (λ (l : List ℕ). after_front link (columns r.mark n link.number check r.reply_check l)) (append_assoc r.line (10 ∷ []) x)
       ∙ ap (with_length link r.mark) (column-read n (column n (column link.number (column check (column r.reply_check body)))) small)
       ∙ ap (with_again link r.mark n) (column-read n (column link.number (column check (column r.reply_check body))) small)
-      ∙ ap (with_number link r.mark n n) (column-read link.number (column check (column r.reply_check body)) is.number)
-      ∙ ap (with_check link r.mark n n link.number) (column-read check (column r.reply_check body) made.check)
-      ∙ ap (with_reply_check link r.mark n n link.number check) (column-read r.reply_check body reply_small)
+      ∙ (λ i. if eq-same n i then with_number link r.mark n (column_of (column link.number (column check (column r.reply_check body)))) else Damaged)
+      ∙ ap (with_number link r.mark n) (column-read link.number (column check (column r.reply_check body)) is.number)
+      ∙ (λ i. if eq-same link.number i then with_check link r.mark n (column_of (column check (column r.reply_check body))) else Damaged)
+      ∙ ap (with_check link r.mark n) (column-read check (column r.reply_check body) made.check)
+      ∙ ap (with_reply_check link r.mark n check) (column-read r.reply_check body reply_small)
       ∙ record-same
 
 -- What is read was written
 
-record RecordFound (link : Link) (mark n again number check reply_check : ℕ) (body : List ℕ) (r : LogRecord) (rest : List ℕ) : Type 0 where
+record RecordFound (link : Link) (mark n check reply_check : ℕ) (body : List ℕ) (r : LogRecord) (rest : List ℕ) : Type 0 where
   mark_is : mark ≡ r.mark
   size : n ≡ length r.line
-  again_is : again ≡ length r.line
-  number_is : number ≡ link.number
   check_is : check ≡ record_check link r
   reply_is : reply_check ≡ r.reply_check
   split : body ≡ r.line ++ 10 ∷ rest
 
-record Fits (link : Link) (mark n again number check reply_check : ℕ) (body : List ℕ) : Type 0 where
-  same : n ≡ again
-  numbered : number ≡ link.number
-  room : n < length body
-  feed : get_or body n 0 ≡ 10
-  check_is : record_check link (record_by mark (take n body) reply_check) ≡ check
+three-parts : (m l g c d : ℕ) → (nat_lt m l && (g == 10 && c == d)) ≡ true → (m < l) × (g ≡ 10) × (c ≡ d)
+three-parts m l g c d is = (grind (arith, nat_tests), grind (arith, nat_tests), grind (arith, nat_tests))
 
-five-parts : (a b p q m l g c d : ℕ) → (a == b && (p == q && (nat_lt m l && (g == 10 && c == d)))) ≡ true → (a ≡ b) × (p ≡ q) × (m < l) × (g ≡ 10) × (c ≡ d)
-five-parts a b p q m l g c d is = (grind (arith, nat_tests), grind (arith, nat_tests), grind (arith, nat_tests), grind (arith, nat_tests), grind (arith, nat_tests))
-
-fits-parts : (link : Link) (mark n again number check reply_check : ℕ) (body : List ℕ) → fits link mark n again number check reply_check body ≡ true
-    → Fits link mark n again number check reply_check body
-fits-parts link mark n again number check reply_check body is =
-    let p = five-parts n again number link.number n (length body) (get_or body n 0) (record_check link (record_by mark (take n body) reply_check)) check is in
-    record { same = p.0; numbered = p.1; room = p.2; feed = p.3; check_is = p.4 }
-
-record-by : (link : Link) (mark n again number check reply_check : ℕ) (body : List ℕ) (r : LogRecord) (after : Link) (rest : List ℕ) (v : Bool)
-    → fits link mark n again number check reply_check body ≡ v
+record-by : (link : Link) (mark n check reply_check : ℕ) (body : List ℕ) (r : LogRecord) (after : Link) (rest : List ℕ) (v : Bool) → fits link mark n check reply_check body ≡ v
     → (if v then found link (record_by mark (take n body) reply_check) (drop (n + 1) body) else Damaged) ≡ Found r after rest
-    → RecordFound link mark n again number check reply_check body r rest × (after ≡ link_after link r)
-record-by link mark n again number check reply_check body r after rest false fit is = absurd (cc)
-record-by link mark n again number check reply_check body r after rest true fit is =
+    → RecordFound link mark n check reply_check body r rest × (after ≡ link_after link r)
+record-by link mark n check reply_check body r after rest false fit is = absurd (cc)
+record-by link mark n check reply_check body r after rest true fit is =
     let made : LogRecord = record_by mark (take n body) reply_check in
     let r_is : made ≡ r = cc in
     let after_is : link_after link made ≡ after = cc in
     let rest_is : drop (n + 1) body ≡ rest = cc in
-    let f = fits-parts link mark n again number check reply_check body fit in
-    let size : length (take n body) ≡ n = length-take-le n body (omega (arith, f.room)) in
+    let p = three-parts n (length body) (get_or body n 0) (record_check link made) check fit in
+    let size : length (take n body) ≡ n = length-take-le n body (omega (arith, p.0)) in
     let split : body ≡ take n body ++ 10 ∷ drop (n + 1) body =
-    sym (take-append-drop n body) ∙ ap (λ (l : List ℕ). take n body ++ l) (drop_more body n 0 f.room ∙ ap (λ (k : ℕ). k ∷ drop (n + 1) body) f.feed) in (
-      subst (λ (q : LogRecord). RecordFound link mark n again number check reply_check body q rest) r_is
-          (subst (λ (l : List ℕ). RecordFound link mark n again number check reply_check body (record_by mark (take n body) reply_check) l) rest_is
-          (record { mark_is = refl; size = sym size; again_is = sym f.same ∙ sym size; number_is = f.numbered; check_is = sym f.check_is; reply_is = refl; split = split })),
+    sym (take-append-drop n body) ∙ ap (λ (l : List ℕ). take n body ++ l) (drop_more body n 0 p.0 ∙ ap (λ (k : ℕ). k ∷ drop (n + 1) body) p.1) in (
+      subst (λ (q : LogRecord). RecordFound link mark n check reply_check body q rest) r_is
+          (subst (λ (l : List ℕ). RecordFound link mark n check reply_check body (record_by mark (take n body) reply_check) l) rest_is
+          (record { mark_is = refl; size = sym size; check_is = sym p.2; reply_is = refl; split = split })),
       sym after_is ∙ ap (link_after link) r_is,
     )
+
+record-found : (link : Link) (mark n check reply_check : ℕ) (body : List ℕ) (r : LogRecord) (after : Link) (rest : List ℕ) → record_in link mark n check reply_check body ≡ Found r after rest
+    → RecordFound link mark n check reply_check body r rest × (after ≡ link_after link r)
+record-found link mark n check reply_check body r after rest is =
+    record-by link mark n check reply_check body r after rest (fits link mark n check reply_check body) refl is
 
 -- a column that stands there, and what is made of it
 record ColumnThen (col : Column) (more : ℕ → List ℕ → Next) (result : Next) : Type 0 where
@@ -112,33 +103,38 @@ record ColumnThen (col : Column) (more : ℕ → List ℕ → Next) (result : Ne
   is : col ≡ Number n behind
   then_is : more n behind ≡ result
 
-reply-then : (link : Link) (mark n again number check : ℕ) (col : Column) (r : LogRecord) (after : Link) (rest : List ℕ)
-    → with_reply_check link mark n again number check col ≡ Found r after rest
-    → ColumnThen col (λ k body. record_in link mark n again number check k body) (Found r after rest)
-reply-then link mark n again number check Absent r after rest is = absurd (cc)
-reply-then link mark n again number check (Number k behind) r after rest is = record { n = k; behind = behind; is = refl; then_is = is }
+reply-then : (link : Link) (mark n sum : ℕ) (col : Column) (result : Next) → (Damaged ≡ result → ⊥) → with_reply_check link mark n sum col ≡ result
+    → ColumnThen col (λ k body. record_in link mark n sum k body) result
+reply-then link mark n sum Absent result other is = absurd (other is)
+reply-then link mark n sum (Number k behind) result other is = record { n = k; behind = behind; is = refl; then_is = is }
 
-check-then : (link : Link) (mark n again number : ℕ) (col : Column) (r : LogRecord) (after : Link) (rest : List ℕ)
-    → with_check link mark n again number col ≡ Found r after rest
-    → ColumnThen col (λ k body. with_reply_check link mark n again number k (column_of body)) (Found r after rest)
-check-then link mark n again number Absent r after rest is = absurd (cc)
-check-then link mark n again number (Number k behind) r after rest is = record { n = k; behind = behind; is = refl; then_is = is }
+check-then : (link : Link) (mark n : ℕ) (col : Column) (result : Next) → (Damaged ≡ result → ⊥) → with_check link mark n col ≡ result
+    → ColumnThen col (λ k body. with_reply_check link mark n k (column_of body)) result
+check-then link mark n Absent result other is = absurd (other is)
+check-then link mark n (Number k behind) result other is = record { n = k; behind = behind; is = refl; then_is = is }
 
-number-then : (link : Link) (mark n again : ℕ) (col : Column) (r : LogRecord) (after : Link) (rest : List ℕ)
-    → with_number link mark n again col ≡ Found r after rest
-    → ColumnThen col (λ k body. with_check link mark n again k (column_of body)) (Found r after rest)
-number-then link mark n again Absent r after rest is = absurd (cc)
-number-then link mark n again (Number k behind) r after rest is = record { n = k; behind = behind; is = refl; then_is = is }
+number-then : (link : Link) (mark n : ℕ) (col : Column) (result : Next) → (Damaged ≡ result → ⊥) → with_number link mark n col ≡ result
+    → ColumnThen col (λ k body. if k == link.number then with_check link mark n (column_of body) else Damaged) result
+number-then link mark n Absent result other is = absurd (other is)
+number-then link mark n (Number k behind) result other is = record { n = k; behind = behind; is = refl; then_is = is }
 
-again-then : (link : Link) (mark n : ℕ) (col : Column) (r : LogRecord) (after : Link) (rest : List ℕ) → with_again link mark n col ≡ Found r after rest
-    → ColumnThen col (λ k body. with_number link mark n k (column_of body)) (Found r after rest)
-again-then link mark n Absent r after rest is = absurd (cc)
-again-then link mark n (Number k behind) r after rest is = record { n = k; behind = behind; is = refl; then_is = is }
+again-then : (link : Link) (mark n : ℕ) (col : Column) (result : Next) → (Damaged ≡ result → ⊥) → with_again link mark n col ≡ result
+    → ColumnThen col (λ k body. if k == n then with_number link mark n (column_of body) else Damaged) result
+again-then link mark n Absent result other is = absurd (other is)
+again-then link mark n (Number k behind) result other is = record { n = k; behind = behind; is = refl; then_is = is }
 
-length-then : (link : Link) (mark : ℕ) (col : Column) (r : LogRecord) (after : Link) (rest : List ℕ) → with_length link mark col ≡ Found r after rest
-    → ColumnThen col (λ k body. with_again link mark k (column_of body)) (Found r after rest)
-length-then link mark Absent r after rest is = absurd (cc)
-length-then link mark (Number k behind) r after rest is = record { n = k; behind = behind; is = refl; then_is = is }
+length-then : (link : Link) (mark : ℕ) (col : Column) (result : Next) → (Damaged ≡ result → ⊥) → with_length link mark col ≡ result
+    → ColumnThen col (λ k body. with_again link mark k (column_of body)) result
+length-then link mark Absent result other is = absurd (other is)
+length-then link mark (Number k behind) result other is = record { n = k; behind = behind; is = refl; then_is = is }
+
+-- a column that has the number that it has to have
+tested-by : (a b : ℕ) (x result : Next) (v : Bool) → (Damaged ≡ result → ⊥) → (a == b) ≡ v → (if v then x else Damaged) ≡ result → (a ≡ b) × (x ≡ result)
+tested-by a b x result false other test is = absurd (other is)
+tested-by a b x result true other test is = (grind (arith, nat_tests), is)
+
+tested : (a b : ℕ) (x result : Next) → (Damaged ≡ result → ⊥) → (if a == b then x else Damaged) ≡ result → (a ≡ b) × (x ≡ result)
+tested a b x result other is = tested-by a b x result (a == b) other refl is
 
 -- a record that was read: it stands there as it is written
 pub record FrontFound (link : Link) (bytes : List ℕ) (r : LogRecord) (after : Link) (rest : List ℕ) : Type 0 where
@@ -150,13 +146,18 @@ pub record FrontFound (link : Link) (bytes : List ℕ) (r : LogRecord) (after : 
 columns-found : (link : Link) (mark : ℕ) (bytes : List ℕ) (r : LogRecord) (after : Link) (rest : List ℕ) → with_length link mark (column_of bytes) ≡ Found r after rest
     → FrontFound link (32 ∷ mark ∷ 32 ∷ bytes) r after rest
 columns-found link mark bytes r after rest is =
-    let one = length-then link mark (column_of bytes) r after rest is in
-    let two = again-then link mark one.n (column_of one.behind) r after rest one.then_is in
-    let three = number-then link mark one.n two.n (column_of two.behind) r after rest two.then_is in
-    let four = check-then link mark one.n two.n three.n (column_of three.behind) r after rest three.then_is in
-    let five = reply-then link mark one.n two.n three.n four.n (column_of four.behind) r after rest four.then_is in
-    let by = record-by link mark one.n two.n three.n four.n five.n five.behind r after rest (fits link mark one.n two.n three.n four.n five.n five.behind) refl five.then_is in
+    let result = Found r after rest in
+    let other : Damaged ≡ result → ⊥ = λ same. cc in
+    let one = length-then link mark (column_of bytes) result other is in
+    let two = again-then link mark one.n (column_of one.behind) result other one.then_is in
+    let twice = tested two.n one.n (with_number link mark one.n (column_of two.behind)) result other two.then_is in
+    let three = number-then link mark one.n (column_of two.behind) result other twice.1 in
+    let numbered = tested three.n link.number (with_check link mark one.n (column_of three.behind)) result other three.then_is in
+    let four = check-then link mark one.n (column_of three.behind) result other numbered.1 in
+    let five = reply-then link mark one.n four.n (column_of four.behind) result other four.then_is in
+    let by = record-found link mark one.n four.n five.n five.behind r after rest five.then_is in
     let f = by.0 in
+    let again_is : two.n ≡ length r.line = twice.0 ∙ f.size in
     let c1 = column-found bytes one.n one.behind one.is in
     let c2 = column-found one.behind two.n two.behind two.is in
     let c3 = column-found two.behind three.n three.behind three.is in
@@ -165,7 +166,7 @@ columns-found link mark bytes r after rest is =
     record {
       split = ap (λ (l : List ℕ). 32 ∷ mark ∷ 32 ∷ l)
           (c1.is ∙ ap (column one.n) (c2.is ∙ ap (column two.n) (c3.is ∙ ap (column three.n) (c4.is ∙ ap (column four.n) (c5.is ∙ ap (column five.n) f.split)))))
-          ∙ (λ i. 32 ∷ f.mark_is i ∷ 32 ∷ column (f.size i) (column (f.again_is i) (column (f.number_is i) (column (f.check_is i) (column (f.reply_is i) (r.line ++ 10 ∷ rest))))))
+          ∙ (λ i. 32 ∷ f.mark_is i ∷ 32 ∷ column (f.size i) (column (again_is i) (column (numbered.0 i) (column (f.check_is i) (column (f.reply_is i) (r.line ++ 10 ∷ rest))))))
           ∙ ap (λ (l : List ℕ). columns r.mark (length r.line) link.number (record_check link r) r.reply_check l) (sym (append_assoc r.line (10 ∷ []) rest));
       small = subst (λ (k : ℕ). k < 2 ^ 32) f.size c1.small;
       reply_small = subst (λ (k : ℕ). k < 2 ^ 32) f.reply_is c5.small;
@@ -189,28 +190,36 @@ front-found link bytes r after rest is = absurd (cc)
 
 -- What stands behind an open gate is no end, but for nothing
 
-record-not_end : (link : Link) (mark n again number check reply_check : ℕ) (body : List ℕ) → record_in link mark n again number check reply_check body ≡ End → ⊥
-record-not_end link mark n again number check reply_check body =
-    elim (fits link mark n again number check reply_check body) as (λ v. (if v then found link (record_by mark (take n body) reply_check) (drop (n + 1) body) else Damaged) ≡ End → ⊥) [
+record-not_end : (link : Link) (mark n check reply_check : ℕ) (body : List ℕ) → record_in link mark n check reply_check body ≡ End → ⊥
+record-not_end link mark n check reply_check body =
+    elim (fits link mark n check reply_check body) as (λ v. (if v then found link (record_by mark (take n body) reply_check) (drop (n + 1) body) else Damaged) ≡ End → ⊥) [
       | true ↦ λ is. cc
       | false ↦ λ is. cc
     ]
 
-reply-not_end : (link : Link) (mark n again number check : ℕ) (col : Column) → with_reply_check link mark n again number check col ≡ End → ⊥
-reply-not_end link mark n again number check Absent is = cc
-reply-not_end link mark n again number check (Number k body) is = record-not_end link mark n again number check k body is
+reply-not_end : (link : Link) (mark n check : ℕ) (col : Column) → with_reply_check link mark n check col ≡ End → ⊥
+reply-not_end link mark n check Absent is = cc
+reply-not_end link mark n check (Number k body) is = record-not_end link mark n check k body is
 
-check-not_end : (link : Link) (mark n again number : ℕ) (col : Column) → with_check link mark n again number col ≡ End → ⊥
-check-not_end link mark n again number Absent is = cc
-check-not_end link mark n again number (Number k rest) is = reply-not_end link mark n again number k (column_of rest) is
+check-not_end : (link : Link) (mark n : ℕ) (col : Column) → with_check link mark n col ≡ End → ⊥
+check-not_end link mark n Absent is = cc
+check-not_end link mark n (Number k rest) is = reply-not_end link mark n k (column_of rest) is
 
-number-not_end : (link : Link) (mark n again : ℕ) (col : Column) → with_number link mark n again col ≡ End → ⊥
-number-not_end link mark n again Absent is = cc
-number-not_end link mark n again (Number k rest) is = check-not_end link mark n again k (column_of rest) is
+number-not_end : (link : Link) (mark n : ℕ) (col : Column) → with_number link mark n col ≡ End → ⊥
+number-not_end link mark n Absent is = cc
+number-not_end link mark n (Number k rest) is =
+    (elim (k == link.number) as (λ v. (if v then with_check link mark n (column_of rest) else Damaged) ≡ End → ⊥) [
+      | true ↦ check-not_end link mark n (column_of rest)
+      | false ↦ λ no. cc
+    ]) is
 
 again-not_end : (link : Link) (mark n : ℕ) (col : Column) → with_again link mark n col ≡ End → ⊥
 again-not_end link mark n Absent is = cc
-again-not_end link mark n (Number k rest) is = number-not_end link mark n k (column_of rest) is
+again-not_end link mark n (Number k rest) is =
+    (elim (k == n) as (λ v. (if v then with_number link mark n (column_of rest) else Damaged) ≡ End → ⊥) [
+      | true ↦ number-not_end link mark n (column_of rest)
+      | false ↦ λ no. cc
+    ]) is
 
 length-not_end : (link : Link) (mark : ℕ) (col : Column) → with_length link mark col ≡ End → ⊥
 length-not_end link mark Absent is = cc

@@ -1,7 +1,7 @@
 -- The records of a file.
 use Rattle.std.specs.Prelude.{ℕ, ◌≡◌, ◌==◌, ◌&&◌, List, [], ◌∷◌, ◌++◌, Bool, true, false}
 use Rattle.durable_log.specs.declared.link.Link.{Link}
-use Rattle.durable_log.specs.Format.{LogRecord, check_of, links_after, read, prepended, whole}
+use Rattle.durable_log.specs.Format.{LogRecord, check_of, links_after, blocks, shut, read, prepended, whole}
 
 -- the beginning of a file: that of a log of this version, of a log of another version, or of no log
 pub data Opening : Type 0 where
@@ -35,6 +35,10 @@ abbrev pub opening : List ℕ → Opening
 opening (a ∷ b ∷ c ∷ d ∷ e ∷ f ∷ g ∷ h ∷ rest) =
     version_of (is_known a b c d e f h) (g == 49) (g == 50) rest
 opening short = Foreign
+
+-- A LOG WITH THESE RECORDS: the header, each record after an open gate, and a shut gate
+abbrev pub log_of : List LogRecord → List ℕ
+log_of records = header ++ (blocks first_link records ++ shut)
 
 -- THE FILE HAS THESE RECORDS: it is a log of this version, and nothing after an open gate is damaged
 abbrev pub StandsFor : List LogRecord → List ℕ → Type 0

@@ -114,35 +114,35 @@ pub data Next : Type 0 where
 abbrev pub record_by : ℕ → List ℕ → ℕ → LogRecord
 record_by mark line reply_check = record { mark = mark; line = line; reply_check = reply_check }
 
--- whether the line has its length twice, its number, its line feed and its check
-abbrev pub fits : Link → ℕ → ℕ → ℕ → ℕ → ℕ → ℕ → List ℕ → Bool
-fits link mark n again number check reply_check body =
-    n == again && (number == link.number && (nat_lt n (length body) && (get_or body n 0 == 10 && record_check link (record_by mark (take n body) reply_check) == check)))
+-- whether the line has its line feed and its check
+abbrev pub fits : Link → ℕ → ℕ → ℕ → ℕ → List ℕ → Bool
+fits link mark n check reply_check body =
+    nat_lt n (length body) && (get_or body n 0 == 10 && record_check link (record_by mark (take n body) reply_check) == check)
 
 -- a record, its link to the next, and the bytes after it
 abbrev pub found : Link → LogRecord → List ℕ → Next
 found link r rest = Found r (link_after link r) rest
 
-abbrev pub record_in : Link → ℕ → ℕ → ℕ → ℕ → ℕ → ℕ → List ℕ → Next
-record_in link mark n again number check reply_check body =
-    if fits link mark n again number check reply_check body then found link (record_by mark (take n body) reply_check) (drop (n + 1) body) else Damaged
+abbrev pub record_in : Link → ℕ → ℕ → ℕ → ℕ → List ℕ → Next
+record_in link mark n check reply_check body =
+    if fits link mark n check reply_check body then found link (record_by mark (take n body) reply_check) (drop (n + 1) body) else Damaged
 
--- the columns one by one
-abbrev pub with_reply_check : Link → ℕ → ℕ → ℕ → ℕ → ℕ → Column → Next
-with_reply_check link mark n again number check Absent = Damaged
-with_reply_check link mark n again number check (Number reply_check body) = record_in link mark n again number check reply_check body
+-- the columns one by one, from the last: the check of the reply, the check, the number, and the length twice
+abbrev pub with_reply_check : Link → ℕ → ℕ → ℕ → Column → Next
+with_reply_check link mark n check Absent = Damaged
+with_reply_check link mark n check (Number reply_check body) = record_in link mark n check reply_check body
 
-abbrev pub with_check : Link → ℕ → ℕ → ℕ → ℕ → Column → Next
-with_check link mark n again number Absent = Damaged
-with_check link mark n again number (Number check rest) = with_reply_check link mark n again number check (column_of rest)
+abbrev pub with_check : Link → ℕ → ℕ → Column → Next
+with_check link mark n Absent = Damaged
+with_check link mark n (Number check rest) = with_reply_check link mark n check (column_of rest)
 
-abbrev pub with_number : Link → ℕ → ℕ → ℕ → Column → Next
-with_number link mark n again Absent = Damaged
-with_number link mark n again (Number number rest) = with_check link mark n again number (column_of rest)
+abbrev pub with_number : Link → ℕ → ℕ → Column → Next
+with_number link mark n Absent = Damaged
+with_number link mark n (Number number rest) = if number == link.number then with_check link mark n (column_of rest) else Damaged
 
 abbrev pub with_again : Link → ℕ → ℕ → Column → Next
 with_again link mark n Absent = Damaged
-with_again link mark n (Number again rest) = with_number link mark n again (column_of rest)
+with_again link mark n (Number again rest) = if again == n then with_number link mark n (column_of rest) else Damaged
 
 abbrev pub with_length : Link → ℕ → Column → Next
 with_length link mark Absent = Damaged

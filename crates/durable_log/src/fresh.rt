@@ -1,7 +1,6 @@
 // The bytes of a new log, of a log that was read, and of a log with one record more.
 ghost use Rattle.std.specs.Prelude.{◌≡◌, ◌≤◌, ◌^◌, ◌∷◌, ◌++◌, [], length, drop, IfOk, if◌then◌else◌};
-ghost use Rattle.durable_log.specs.Format.{blocks, shut};
-ghost use Rattle.durable_log.specs.Files.{header, first_link, StandsFor};
+ghost use Rattle.durable_log.specs.Files.{log_of, StandsFor};
 ghost use Rattle.durable_log.specs.Logs.{records_of, IsRest};
 ghost use Rattle.durable_log.specs.Shown.{record_shown, IsEnd};
 
@@ -31,7 +30,7 @@ pub struct CleanLog {
 /// `AllocError` if memory is refused.
 pub fn new_log(alloc: Global, added: Record<'_>) -> Result<LogFile, AllocError>
     requires { length added.line.now ≤ 2 ^ 24 }
-    ensures bytes { IfOk result (λ file. file.bytes.items ≡ header ++ (blocks first_link (record_shown added.entry ∷ []) ++ shut)) }
+    ensures bytes { IfOk result (λ file. file.bytes.items ≡ log_of (record_shown added.entry ∷ [])) }
     ensures records { IfOk result (λ file. StandsFor (record_shown added.entry ∷ []) file.bytes.items) }
     ensures rest { IfOk result (λ file. IsRest file.bytes.items file.rest) }
 {

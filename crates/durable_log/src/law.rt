@@ -1,6 +1,6 @@
 ghost use Rattle.std.specs.Prelude.{◌⊎◌, ◌≢◌, ◌<◌, ◌+◌, ◌%◌, ◌^◌, ◌∷◌, ◌++◌, [], List, ℕ, length};
-ghost use Rattle.durable_log.specs.Format.{LogRecord, blocks, shut};
-ghost use Rattle.durable_log.specs.Files.{header, first_link, StandsFor};
+ghost use Rattle.durable_log.specs.Format.{LogRecord, shut};
+ghost use Rattle.durable_log.specs.Files.{header, log_of, StandsFor};
 ghost use Rattle.durable_log.specs.Logs.{AreSmall};
 ghost use Rattle.durable_log.specs.Damage.{OneOff, written, IsRefused};
 
@@ -8,7 +8,7 @@ ghost use Rattle.durable_log.specs.Damage.{OneOff, written, IsRefused};
 /// holds for each byte: of the header, a gate, a space, a mark, a length, a number, a check, a line
 /// or a line feed.
 pub fn one_changed_byte_is_found()
-    ensures { (records : List LogRecord) (file : List ℕ) → AreSmall records → OneOff (header ++ (blocks first_link records ++ shut)) file
+    ensures { (records : List LogRecord) (file : List ℕ) → AreSmall records → OneOff (log_of records) file
         → StandsFor records file ⊎ IsRefused file }
 {}
 

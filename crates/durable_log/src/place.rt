@@ -29,20 +29,11 @@ fn is_open(a: u8, b: u8, c: u8) -> bool
     }
 }
 
-fn record_in(
-    link: Link,
-    mark: u8,
-    n: u32,
-    again: u32,
-    number: u32,
-    check: u32,
-    reply_check: u32,
-    body: &[u8],
-) -> Place<'_>
-    ensures { next_shown result ≡ record_in link mark n again number check reply_check body.now }
+fn record_in(link: Link, mark: u8, n: u32, check: u32, reply_check: u32, body: &[u8]) -> Place<'_>
+    ensures { next_shown result ≡ record_in link mark n check reply_check body.now }
 {
     let size = n as usize;
-    if n != again || number != link.number || size >= body.len() || body[size] != b'\n' {
+    if size >= body.len() || body[size] != b'\n' {
         return Place::Damaged;
     }
     let entry = Record {
@@ -58,57 +49,59 @@ fn record_in(
     }
 }
 
-fn with_check(
-    link: Link,
-    mark: u8,
-    n: u32,
-    again: u32,
-    number: u32,
-    check: u32,
-    bytes: &[u8],
-) -> Place<'_>
-    ensures { next_shown result ≡ with_reply_check link mark n again number check (column_of bytes.now) }
+fn at_reply_check(link: Link, mark: u8, n: u32, check: u32, bytes: &[u8]) -> Place<'_>
+    ensures { next_shown result ≡ with_reply_check link mark n check (column_of bytes.now) }
 {
     match column(bytes) {
-        ColumnRead::Number(reply_check, body) => {
-            record_in(link, mark, n, again, number, check, reply_check, body)
+        ColumnRead::Number(reply_check, body) => record_in(link, mark, n, check, reply_check, body),
+        ColumnRead::Absent => Place::Damaged,
+    }
+}
+
+fn at_check(link: Link, mark: u8, n: u32, bytes: &[u8]) -> Place<'_>
+    ensures { next_shown result ≡ with_check link mark n (column_of bytes.now) }
+{
+    match column(bytes) {
+        ColumnRead::Number(check, rest) => at_reply_check(link, mark, n, check, rest),
+        ColumnRead::Absent => Place::Damaged,
+    }
+}
+
+fn at_number(link: Link, mark: u8, n: u32, bytes: &[u8]) -> Place<'_>
+    ensures { next_shown result ≡ with_number link mark n (column_of bytes.now) }
+{
+    match column(bytes) {
+        ColumnRead::Number(number, rest) => {
+            if number == link.number {
+                at_check(link, mark, n, rest)
+            } else {
+                Place::Damaged
+            }
         }
         ColumnRead::Absent => Place::Damaged,
     }
 }
 
-fn with_number(link: Link, mark: u8, n: u32, again: u32, number: u32, bytes: &[u8]) -> Place<'_>
-    ensures { next_shown result ≡ with_check link mark n again number (column_of bytes.now) }
-{
-    match column(bytes) {
-        ColumnRead::Number(check, rest) => with_check(link, mark, n, again, number, check, rest),
-        ColumnRead::Absent => Place::Damaged,
-    }
-}
-
-fn with_again(link: Link, mark: u8, n: u32, again: u32, bytes: &[u8]) -> Place<'_>
-    ensures { next_shown result ≡ with_number link mark n again (column_of bytes.now) }
-{
-    match column(bytes) {
-        ColumnRead::Number(number, rest) => with_number(link, mark, n, again, number, rest),
-        ColumnRead::Absent => Place::Damaged,
-    }
-}
-
-fn with_length(link: Link, mark: u8, n: u32, bytes: &[u8]) -> Place<'_>
+fn at_again(link: Link, mark: u8, n: u32, bytes: &[u8]) -> Place<'_>
     ensures { next_shown result ≡ with_again link mark n (column_of bytes.now) }
 {
     match column(bytes) {
-        ColumnRead::Number(again, rest) => with_again(link, mark, n, again, rest),
+        ColumnRead::Number(again, rest) => {
+            if again == n {
+                at_number(link, mark, n, rest)
+            } else {
+                Place::Damaged
+            }
+        }
         ColumnRead::Absent => Place::Damaged,
     }
 }
 
-fn with_mark(link: Link, mark: u8, bytes: &[u8]) -> Place<'_>
+fn at_length(link: Link, mark: u8, bytes: &[u8]) -> Place<'_>
     ensures { next_shown result ≡ with_length link mark (column_of bytes.now) }
 {
     match column(bytes) {
-        ColumnRead::Number(n, rest) => with_length(link, mark, n, rest),
+        ColumnRead::Number(n, rest) => at_again(link, mark, n, rest),
         ColumnRead::Absent => Place::Damaged,
     }
 }
@@ -120,7 +113,7 @@ fn behind_gate(link: Link, bytes: &[u8]) -> Place<'_>
         [] => Place::End,
         [space, mark, also, rest @ ..] => {
             if *space == b' ' && *also == b' ' {
-                with_mark(link, *mark, rest)
+                at_length(link, *mark, rest)
             } else {
                 Place::Damaged
             }
