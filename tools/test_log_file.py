@@ -8,7 +8,7 @@ from __future__ import annotations
 import unittest
 
 from check_pages import blocks_in
-from log_trial.log_file import Record, Refused, log_of, opened, read
+from log_trial.log_file import HEADER, MAX_BATCH, Record, Refused, crc32c, log_of, opened, read
 from repository import ROOT
 
 PAGE = ROOT / "docs" / "DURABILITY.md"
@@ -16,7 +16,7 @@ PAGE = ROOT / "docs" / "DURABILITY.md"
 
 def example() -> bytes:
     """The log that the page shows."""
-    (lines,) = [block.lines for block in blocks_in(PAGE.name, PAGE.read_text()) if block.lines[0] == "bctlog1"]
+    (lines,) = [block.lines for block in blocks_in(PAGE.name, PAGE.read_text()) if block.lines[0] == "bctlog2"]
     return "\n".join(lines).encode()
 
 
@@ -26,6 +26,19 @@ def outcome(file: bytes) -> list[Record] | str:
         return read(file).records
     except Refused as refused:
         return refused.line.decode().split('"fault":"')[1].split('"')[0]
+
+
+class CheckBytes(unittest.TestCase):
+    """CRC-32C, by the examples of RFC 3720 and the usual one."""
+
+    def test_examples(self) -> None:
+        self.assertEqual(crc32c(b"123456789"), 0xE3069283)
+        self.assertEqual(crc32c(bytes(32)), 0x8A9136AA)
+        self.assertEqual(crc32c(b"\xff" * 32), 0x62A8AB43)
+        self.assertEqual(crc32c(bytes(range(32))), 0x46DD794E)
+
+    def test_in_two_parts(self) -> None:
+        self.assertEqual(crc32c(b"6789", crc32c(b"12345")), 0xE3069283)
 
 
 class ReadTheExample(unittest.TestCase):
@@ -49,6 +62,23 @@ class ReadTheExample(unittest.TestCase):
         beginnings = [records[:count] for count in range(len(records) + 1)]
         for cut in range(len(example())):
             self.assertIn(outcome(example()[:cut]), [*beginnings, "LogForeign", "LogDamaged"], cut)
+
+    def test_a_record_out_of_place_is_found(self) -> None:
+        blocks = example()[len(HEADER) : -3].splitlines(keepends=True)
+        for place, block in enumerate(blocks):
+            others = [*blocks[:place], *blocks[place + 1 :]]
+            if place + 1 < len(blocks):
+                self.assertEqual(outcome(HEADER + b"".join(others) + b"000"), "LogDamaged", place)
+            doubled = [*blocks[:place], block, *blocks[place:]]
+            self.assertEqual(outcome(HEADER + b"".join(doubled) + b"000"), "LogDamaged", place)
+            for moved in range(len(blocks)):
+                if moved != place:
+                    elsewhere = [*others[:moved], block, *others[moved:]]
+                    self.assertEqual(outcome(HEADER + b"".join(elsewhere) + b"000"), "LogDamaged", (place, moved))
+
+    def test_more_than_a_batch_behind_the_end(self) -> None:
+        self.assertEqual(outcome(example() + bytes(MAX_BATCH)), read(example()).records)
+        self.assertEqual(outcome(example() + bytes(MAX_BATCH + 1)), "LogDamaged")
 
     def test_two_digits_of_a_gate_end_the_log(self) -> None:
         self.assertEqual(outcome(example().replace(b"111 o", b"100 o", 1)), read(example()).records[:1])

@@ -123,7 +123,7 @@ def gates_of(sample: Sample) -> list[int]:
     """The bytes at which the gates stand, that of the end among them."""
     places = [len(HEADER)]
     for record in sample.records:
-        places.append(places[-1] + len(record.block()))
+        places.append(places[-1] + record.size())
     return places
 
 

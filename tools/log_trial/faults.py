@@ -6,7 +6,7 @@ from collections.abc import Iterator
 from dataclasses import dataclass, replace
 from pathlib import Path
 
-from log_trial.log_file import CATALOGUE, Record, catalogue_record, log_of, operation_record
+from log_trial.log_file import CATALOGUE, Record, catalogue_record, link_behind, log_of, operation_record
 from log_trial.program import LOG_REFUSED, Ended, Program, want, want_log
 from log_trial.samples import JOB, OTHER_JOB, catalogue_of
 
@@ -26,6 +26,8 @@ CLAIMING = operation_record(CLAIM, CLAIMED)
 GOOD = log_of([FIRST, STARTING, CLAIMING])
 # A record whose check is of another line, and one whose reply has another check.
 DAMAGED = log_of([FIRST, STARTING]).replace(b'"at":1', b'"at":7')
+# The check of record 1, as it is written.
+CHECK = b"%08x" % STARTING.check(link_behind([FIRST]))
 OTHER = replace(STARTING, reply_check=STARTING.reply_check ^ 1)
 
 
@@ -51,8 +53,9 @@ def other_catalogue(job: int) -> bytes:
     return b'{"fault":"LogOtherCatalogue","job":%d}\n' % job
 
 
-# The byte at which the gate of record 1 stands.
-SECOND = 8 + len(FIRST.block())
+# The bytes at which the gates of records 1 and 2 stand.
+SECOND = 8 + FIRST.size()
+THIRD = SECOND + STARTING.size()
 
 FOREIGNERS = [
     Refusal("an empty file", b"", FOREIGN),
@@ -61,6 +64,7 @@ FOREIGNERS = [
     Refusal("the header without its line feed", GOOD[:7], FOREIGN),
     Refusal("a header with a carriage return", GOOD.replace(b"\n", b"\r\n", 1), FOREIGN),
     Refusal("the header alone", GOOD[:8], FOREIGN),
+    Refusal("version 1", GOOD.replace(b"bctlog2", b"bctlog1"), FOREIGN),
     Refusal("a log without a record", log_of([]), FOREIGN),
     Refusal("a log that begins with an operation", log_of([STARTING, FIRST]), FOREIGN),
     Refusal("a log whose catalogue is none", log_of([Record(CATALOGUE, b'{"jobs":{}}'), STARTING]), FOREIGN),
@@ -70,17 +74,20 @@ FOREIGNERS = [
 ]
 
 LATERS = [
-    Refusal(f"version {digit!r}", GOOD.replace(b"bctlog1", b"bctlog" + digit), LATER)
-    for digit in (b"2", b"0", b"9", b"x", b"\n")
+    Refusal(f"version {digit!r}", GOOD.replace(b"bctlog2", b"bctlog" + digit), LATER)
+    for digit in (b"3", b"0", b"9", b"x", b"\n")
 ]
 
 DAMAGES = [
     Refusal("a changed line", DAMAGED, damaged(1, SECOND)),
     Refusal("a changed catalogue", GOOD.replace(b'"ok"', b'"no"', 1), damaged(0, 8)),
     Refusal("a mark that differs", GOOD.replace(b"111 o", b"111 c", 1), damaged(1, SECOND)),
-    Refusal("a digit in upper case", GOOD.replace(b"%08x" % STARTING.check(), b"%08X" % STARTING.check()), damaged(1, SECOND)),
+    Refusal("a digit in upper case", GOOD.replace(CHECK, CHECK.upper()), damaged(1, SECOND)),
     Refusal("a line without its feed", GOOD[: SECOND - 1] + b" " + GOOD[SECOND:], damaged(0, 8)),
     Refusal("half a record", GOOD[: SECOND + 20], damaged(1, SECOND)),
+    Refusal("a record left out", GOOD[:SECOND] + GOOD[THIRD:], damaged(1, SECOND)),
+    Refusal("a doubled record", GOOD[:THIRD] + GOOD[SECOND:], damaged(2, THIRD)),
+    Refusal("records exchanged", GOOD[:SECOND] + GOOD[THIRD:-3] + GOOD[SECOND:THIRD] + GOOD[-3:], damaged(1, SECOND)),
     Refusal("an open gate with a space behind it", GOOD[:-3] + b"111 ", damaged(3, len(GOOD) - 3)),
     Refusal("two records with a fault each", DAMAGED.replace(b'"ok"', b'"no"'), damaged(0, 8)),
 ]
@@ -113,11 +120,11 @@ def orders() -> list[Refusal]:
     """Logs with two faults: the earlier one is told."""
     faulty = Record(CATALOGUE, b"null")
     return [
-        Refusal("a later version that is damaged", DAMAGED.replace(b"log1", b"log2"), LATER),
-        Refusal("a later version of another catalogue", GOOD.replace(b"log1", b"log2"), LATER, catalogue_of()),
-        Refusal("another file of another version", b"BCTLOG2\n", FOREIGN),
+        Refusal("a later version that is damaged", DAMAGED.replace(b"log2", b"log3"), LATER),
+        Refusal("a later version of another catalogue", GOOD.replace(b"log2", b"log3"), LATER, catalogue_of()),
+        Refusal("another file of another version", b"BCTLOG3\n", FOREIGN),
         Refusal("a damaged record of another catalogue", DAMAGED, damaged(1, SECOND), catalogue_of()),
-        Refusal("a damaged record behind no catalogue", log_of([faulty])[:-3] + b"111x", damaged(1, 8 + len(faulty.block()))),
+        Refusal("a damaged record behind no catalogue", log_of([faulty])[:-3] + b"111x", damaged(1, 8 + faulty.size())),
         Refusal("no catalogue, and another reply", log_of([faulty, OTHER]), FOREIGN),
         Refusal("another catalogue, and another reply", log_of([FIRST, OTHER]), other_catalogue(0), catalogue_of(OTHER_JOB)),
         Refusal(

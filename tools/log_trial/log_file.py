@@ -4,15 +4,37 @@ from __future__ import annotations
 
 import json
 import re
-import zlib
 from collections.abc import Iterable
 from dataclasses import dataclass
 
-HEADER = b"bctlog1\n"
+HEADER = b"bctlog2\n"
 OPEN, SHUT = b"111", b"000"
 CATALOGUE, OPERATION = b"c", b"o"
-# Behind the gate: the mark, the length twice, the check of the record and the check of the reply.
-COLUMNS = re.compile(rb" (.) ([0-9a-f]{8}) ([0-9a-f]{8}) ([0-9a-f]{8}) ([0-9a-f]{8}) ", re.DOTALL)
+# A crash leaves no more bytes than these after a gate that is not open.
+MAX_BATCH = 2**25 + 128
+# Behind the gate: the mark, the length twice, the number, the check of the record and the check of the reply.
+COLUMNS = re.compile(rb" (.) " + 5 * rb"([0-9a-f]{8}) ", re.DOTALL)
+# Castagnoli's polynomial, a bit a power, that of x^31 in the lowest bit.
+POLYNOMIAL = 0x82F63B78
+ALL_ONES = 0xFFFFFFFF
+
+
+def shifted_out(state: int) -> int:
+    """The state after its lowest eight bits were shifted out."""
+    for _ in range(8):
+        state = state >> 1 ^ (POLYNOMIAL if state & 1 else 0)
+    return state
+
+
+TABLE = [shifted_out(byte) for byte in range(256)]
+
+
+def crc32c(data: bytes, check: int = 0) -> int:
+    """The check CRC-32C of some bytes, begun from that of the bytes before them."""
+    state = check ^ ALL_ONES
+    for byte in data:
+        state = state >> 8 ^ TABLE[(state ^ byte) & 0xFF]
+    return state ^ ALL_ONES
 
 
 class Refused(Exception):
@@ -25,6 +47,17 @@ class Refused(Exception):
 
 
 @dataclass(frozen=True)
+class Link:
+    """The link of a record to those before it: its number, modulo 2^32, and the check of the record before it."""
+
+    number: int
+    check: int
+
+
+FIRST_LINK = Link(0, crc32c(HEADER))
+
+
+@dataclass(frozen=True)
 class Record:
     """A record: its mark, its line, and the check of the reply to that line."""
 
@@ -32,14 +65,21 @@ class Record:
     line: bytes
     reply_check: int = 0
 
-    def check(self) -> int:
-        return zlib.adler32(self.mark + b"%08x" % self.reply_check + self.line)
+    def check(self, link: Link) -> int:
+        return crc32c(self.mark + b"%08x" % self.reply_check + self.line, link.check)
 
-    def block(self) -> bytes:
+    def link(self, link: Link) -> Link:
+        """Its link to the next record."""
+        return Link((link.number + 1) % 2**32, self.check(link))
+
+    def block(self, link: Link) -> bytes:
         """The record behind an open gate."""
-        size = len(self.line)
-        columns = b" %s %08x %08x %08x %08x " % (self.mark, size, size, self.check(), self.reply_check)
-        return OPEN + columns + self.line + b"\n"
+        numbers = (len(self.line), len(self.line), link.number, self.check(link), self.reply_check)
+        return OPEN + b" " + self.mark + b"".join(b" %08x" % number for number in numbers) + b" " + self.line + b"\n"
+
+    def size(self) -> int:
+        """How many bytes it takes, with its gate."""
+        return len(self.block(FIRST_LINK))
 
 
 def catalogue_record(line: bytes) -> Record:
@@ -47,12 +87,28 @@ def catalogue_record(line: bytes) -> Record:
 
 
 def operation_record(line: bytes, reply: bytes) -> Record:
-    return Record(OPERATION, line, zlib.adler32(reply))
+    return Record(OPERATION, line, crc32c(reply))
+
+
+def link_behind(records: Iterable[Record], link: Link = FIRST_LINK) -> Link:
+    """The link of these records to the next."""
+    for record in records:
+        link = record.link(link)
+    return link
+
+
+def blocks_of(records: Iterable[Record], link: Link = FIRST_LINK) -> bytes:
+    """The bytes of records, which follow others with this link."""
+    blocks = []
+    for record in records:
+        blocks.append(record.block(link))
+        link = record.link(link)
+    return b"".join(blocks)
 
 
 def log_of(records: Iterable[Record]) -> bytes:
     """The bytes of a log with these records."""
-    return HEADER + b"".join(record.block() for record in records) + SHUT
+    return HEADER + blocks_of(records) + SHUT
 
 
 @dataclass(frozen=True)
@@ -68,20 +124,21 @@ def is_open(gate: bytes) -> bool:
     return gate.count(b"1") >= 2
 
 
-def record_at(file: bytes, place: int) -> Record | None:
-    """The record whose open gate stands at this byte, if it is whole."""
+def record_at(file: bytes, place: int, link: Link) -> Record | None:
+    """The record whose open gate stands at this byte, if it is whole, and follows others with this link."""
     columns = COLUMNS.match(file, place + len(OPEN))
     if columns is None:
         return None
-    mark, (size, again, check, reply_check) = columns[1], (int(column, 16) for column in columns.groups()[1:])
+    mark, (size, again, number, check, reply_check) = columns[1], (int(column, 16) for column in columns.groups()[1:])
     line, feed = file[columns.end() : columns.end() + size], file[columns.end() + size : columns.end() + size + 1]
     record = Record(mark, line, reply_check)
-    return record if (size, feed, record.check()) == (again, b"\n", check) else None
+    return record if (size, number, feed, record.check(link)) == (again, link.number, b"\n", check) else None
 
 
 def check_header(file: bytes) -> None:
+    """Version 1 had no release, so its files are no logs."""
     header = file[: len(HEADER)]
-    if header[:6] + header[7:] != b"bctlog\n":
+    if header[:6] + header[7:] != b"bctlog\n" or header[6:7] == b"1":
         raise Refused("LogForeign")
     if header != HEADER:
         raise Refused("LogLater")
@@ -90,13 +147,16 @@ def check_header(file: bytes) -> None:
 def read(file: bytes) -> Contents:
     """The records up to the first gate that is not open. An open gate with nothing behind it is none."""
     check_header(file)
-    records, place = list[Record](), len(HEADER)
+    records, place, link = list[Record](), len(HEADER), FIRST_LINK
     while is_open(file[place : place + 3]) and place + 3 < len(file):
-        record = record_at(file, place)
+        record = record_at(file, place, link)
         if record is None:
             raise Refused("LogDamaged", record=len(records), byte=place)
         records.append(record)
-        place += len(record.block())
+        place += len(record.block(link))
+        link = record.link(link)
+    if len(file) > place + 3 + MAX_BATCH:
+        raise Refused("LogDamaged", record=len(records), byte=place)
     return Contents(records, place, file[:place] + SHUT)
 
 
@@ -122,4 +182,4 @@ def opened(file: bytes, given: bytes) -> bytes:
     """The bytes that a file has after it was opened with this catalogue, if each of its lines is answered as it was."""
     contents = read(file)
     added = with_given(contents, given)[len(contents.records) :]
-    return contents.after[: contents.end] + b"".join(record.block() for record in added) + SHUT
+    return contents.after[: contents.end] + blocks_of(added, link_behind(contents.records)) + SHUT

@@ -10,4 +10,5 @@ pub mod Waiting
 pub mod Found
 pub mod One
 pub mod Damages
+pub mod Misplaced
 pub mod NewLogs

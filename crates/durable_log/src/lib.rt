@@ -14,7 +14,10 @@ mod rest;
 
 pub use crc32c::check_of;
 pub use fresh::{CleanLog, new_log, restored, with_record};
-pub use law::one_changed_byte_is_found;
+pub use law::{
+    a_doubled_record_is_found, a_record_left_out_is_found, a_record_out_of_place_is_found,
+    exchanged_records_are_found, one_changed_byte_is_found,
+};
 pub use link::Link;
 pub use log::{CommitFault, Log};
 pub use log_host::{Host, HostFault};
