@@ -7,7 +7,7 @@ from collections.abc import Callable, Iterator
 from dataclasses import dataclass
 from pathlib import Path
 
-from log_trial.log_file import CATALOGUE, HEADER, MOST_BEHIND, OPEN, SHUT, Record, Refused, is_open, log_of, opened, read
+from log_trial.log_file import CATALOGUE, HEADER, MAX_BATCH, OPEN, SHUT, Record, Refused, is_open, log_of, opened, read
 from log_trial.program import DONE, LOG_REFUSED, Ended, Program, cut_of, lines_of, script_of, want, want_log
 from log_trial.samples import JOB, NIGHTLY, catalogue_of, lines_of_one, path_of
 
@@ -69,7 +69,7 @@ def check_opening(program: Program, sample: Sample, log: Path) -> None:
 def check_long_end(program: Program, sample: Sample, log: Path) -> None:
     """A log with more bytes behind its end than one batch can be is damaged, and one with as many is not."""
     file, place = sample.file(), len(sample.file()) - len(SHUT)
-    for size, faulty in ((MOST_BEHIND, False), (MOST_BEHIND + 1, True)):
+    for size, faulty in ((MAX_BATCH, False), (MAX_BATCH + 1, True)):
         log.write_bytes(file + bytes(size))
         damaged = Refused("LogDamaged", record=len(sample.records), byte=place)
         wanted, after = (Ended(LOG_REFUSED, damaged.line), file + bytes(size)) if faulty else (Ended(DONE), file)
