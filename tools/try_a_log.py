@@ -34,7 +34,7 @@ from pathlib import Path
 
 from log_trial.catalogues import check_catalogues
 from log_trial.copies import check_copies
-from log_trial.damages import check_damage, check_opening, damages_of, sample_of
+from log_trial.damages import check_damage, check_long_end, check_opening, damages_of, sample_of
 from log_trial.failures import check_failures
 from log_trial.faults import check_refusal, refusals
 from log_trial.files import check_files
@@ -74,6 +74,7 @@ def kill_trials(program: Program, kills: int, seed: int, folder: Path) -> Iterat
 def damage_trials(program: Program, seed: int, folder: Path) -> Iterator[Trial]:
     sample = sample_of(program)
     yield partial(check_opening, program, sample, path_of(folder / "unharmed"))
+    yield partial(check_long_end, program, sample, path_of(folder / "long-end"))
     for number, (law, what, file) in enumerate(damages_of(sample, seed)):
         yield partial(check_damage, program, sample, law, f"seed {seed}, {what}", file, folder / str(number))
 

@@ -7,8 +7,8 @@ from collections.abc import Callable, Iterator
 from dataclasses import dataclass
 from pathlib import Path
 
-from log_trial.log_file import CATALOGUE, HEADER, OPEN, Record, Refused, is_open, log_of, opened, read
-from log_trial.program import DONE, LOG_REFUSED, Ended, Program, lines_of, script_of, want, want_log
+from log_trial.log_file import CATALOGUE, HEADER, MAX_BATCH, OPEN, SHUT, Record, Refused, is_open, log_of, opened, read
+from log_trial.program import DONE, LOG_REFUSED, Ended, Program, cut_of, lines_of, script_of, want, want_log
 from log_trial.samples import JOB, NIGHTLY, catalogue_of, lines_of_one, path_of
 
 # How many pairs of bits are flipped anywhere, and how many in one record's gate and columns.
@@ -53,12 +53,30 @@ def check_file(program: Program, what: str, file: bytes, given: bytes, log: Path
 
 
 def check_opening(program: Program, sample: Sample, log: Path) -> None:
-    """An unharmed log opens, and nothing is written."""
+    """An unharmed log opens, as a new file with the same bytes and permissions. A new log is readable by its owner alone."""
     log.write_bytes(sample.file())
+    log.chmod(0o640)
     before = log.stat()
     want("an unharmed log", program.over(log, sample.given + b"\n"), Ended(DONE))
     want_log("an unharmed log", log, sample.file())
-    want("an unharmed log: its time", log.stat().st_mtime_ns, before.st_mtime_ns)
+    want("an unharmed log: its permissions", log.stat().st_mode, before.st_mode)
+    want("an unharmed log: a new file", log.stat().st_ino == before.st_ino, False)
+    log.unlink()
+    want("a new log", program.over(log, sample.given + b"\n"), Ended(DONE))
+    want("a new log: its permissions", log.stat().st_mode & 0o777, 0o600)
+
+
+def check_long_end(program: Program, sample: Sample, log: Path) -> None:
+    """A log with more bytes behind its end than one batch can be is damaged, and one with as many is not."""
+    file, place = sample.file(), len(sample.file()) - len(SHUT)
+    for size, faulty in ((MAX_BATCH, False), (MAX_BATCH + 1, True)):
+        log.write_bytes(file + bytes(size))
+        damaged = Refused("LogDamaged", record=len(sample.records), byte=place)
+        wanted, after = (Ended(LOG_REFUSED, damaged.line), file + bytes(size)) if faulty else (Ended(DONE), file)
+        want(f"{size} bytes behind the end", program.over(log, sample.given + b"\n"), wanted)
+        want_log(f"{size} bytes behind the end", log, after)
+    log.unlink()
+    cut_of(log).unlink()
 
 
 def cuts_of(sample: Sample) -> Iterator[tuple[str, bytes]]:

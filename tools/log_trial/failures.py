@@ -134,8 +134,8 @@ def check_full_disk(program: Program, folder: Path) -> None:
         begin = check_kept(what, script, log, told, 0)
         want(f"{what}: it has lines", begin > 0, True)
         records = records_in(what, log)
-        want(f"{what}, opened", program.over(log, script.text(0, 0)), Ended(DONE))
-        want_log(f"{what}, opened", log, log_of(records))
+        want(f"{what}, without room for a new file", program.over(log, script.text(0, 0)), FAILED)
+        want(f"{what}, without room for a new file: records", records_in(what, log), records)
         subprocess.run(["mount", "-o", f"remount,size={LARGE_DISK}", str(folder)], check=True)
         check_end("a disk with more room", program, script, begin, log)
 

@@ -77,7 +77,22 @@ def check_draft(program: Program, log: Path) -> None:
     want_log("a draft that was left", log, log_of([FIRST]))
     draft.write_bytes(b"old")
     want("a draft beside a log", program.over(log, GIVEN + b"\n" + START + b"\n"), Ended(DONE, STARTED))
-    want("a draft beside a log: it", draft.read_bytes(), b"old")
+    want_log("a draft beside a log", log, MADE)
+
+
+def check_cut_by_another(program: Program, log: Path) -> None:
+    """Another program cuts the file: the next call is not acknowledged."""
+    running = program.start(log)
+    assert running.stdin and running.stdout and running.stderr
+    with running:
+        running.stdin.write(GIVEN + b"\n" + START + b"\n")
+        running.stdin.flush()
+        want("a log before it is cut", running.stdout.readline(), STARTED)
+        os.truncate(log, 0)
+        running.stdin.write(CLAIM + b"\n")
+        running.stdin.close()
+        ended = Ended(running.wait(), running.stdout.read(), running.stderr.read())
+    want("a log that another program cuts", ended, FAILED)
 
 
 def check_links(program: Program, log: Path) -> None:
@@ -183,6 +198,7 @@ def check_permissions(program: Program, folder: Path) -> None:
         want_log(f"a log of mode {mode:o}", log, GOOD)
     with permission(folder, 0o500):
         want("a folder that is closed", program.over(folder / "other", SCRIPT), FAILED)
+        want("a log in a folder that is closed", program.over(log, GIVEN + b"\n"), FAILED)
     want_log("a folder that is closed", log, GOOD)
 
 
@@ -192,6 +208,7 @@ def check_files(program: Program, folder: Path) -> None:
     check_locked(program, path_of(folder / "locked"))
     check_rivals(program, path_of(folder / "rivals"))
     check_draft(program, path_of(folder / "draft"))
+    check_cut_by_another(program, path_of(folder / "cut"))
     check_links(program, path_of(folder / "link"))
     check_names(program, folder / "names")
     check_refused_words(program, folder / "words")

@@ -10,7 +10,7 @@ from functools import cached_property
 from itertools import accumulate
 from pathlib import Path
 
-from log_trial.log_file import Record, catalogue_record, log_of, operation_record
+from log_trial.log_file import SHUT, Record, Refused, catalogue_record, log_of, operation_record, read
 
 DONE = 0
 REFUSED_WORDS = 2
@@ -55,6 +55,20 @@ def want(what: str, found: object, wanted: object) -> None:
     raise Wrong(f"{what}: {shown(found)} in place of {shown(wanted)}")
 
 
+def cut_of(log: Path) -> Path:
+    """The file in which bytes behind the end of a log are kept."""
+    return log.with_name(f"{log.name}.cut")
+
+
+def tail_of(file: bytes) -> bytes:
+    """The bytes behind the records of a log, if it has no clean end."""
+    try:
+        tail = file[read(file).end :]
+    except Refused:
+        return b""
+    return b"" if tail == SHUT else tail
+
+
 def over(log: Path) -> list[str]:
     """The words of a script over this log."""
     return ["script", "--log", str(log)]
@@ -78,7 +92,15 @@ class Program:
         return self.run(["script"], given)
 
     def over(self, log: Path, given: bytes) -> Ended:
-        return self.run(over(log), given)
+        """Runs a script over a log. If its end is cut off, the bytes have to be kept, and standard error says so first."""
+        tail = tail_of(log.read_bytes()) if log.is_file() else b""
+        ended = self.run(over(log), given)
+        says = b"batchctl: the bytes behind the end of the log are in %s\n" % str(cut_of(log)).encode()
+        if not ended.faults.startswith(says):
+            want("bytes behind the end of an opened log", tail if ended.status == DONE else b"", b"")
+            return ended
+        want("the bytes that were kept", cut_of(log).read_bytes(), tail)
+        return Ended(ended.status, ended.output, ended.faults.removeprefix(says))
 
     def start(
         self, log: Path, source: int = subprocess.PIPE, limit: Callable[[], None] | None = None, room: int = -1
@@ -148,6 +170,7 @@ def lines_of(values: Iterable[object]) -> bytes:
 
 
 def want_log(what: str, log: Path, wanted: bytes) -> None:
-    """Demands that a log has these bytes, and that no draft stands beside it."""
-    want(f"{what}: files", sorted(path.name for path in log.parent.iterdir()), [log.name])
+    """Demands that a log has these bytes, and that no draft stands beside it. Bytes that were cut off may."""
+    files = {path.name for path in log.parent.iterdir()}
+    want(f"{what}: files", files - {cut_of(log).name}, {log.name})
     want(f"{what}: the log", log.read_bytes(), wanted)

@@ -1,8 +1,8 @@
 -- How a run over the lines of a reader ends, before what waits is passed on.
-use Rattle.std.proofs.Common.{◌≡◌, inl, inr, ℕ, ◌≤◌, List, [], ◌∷◌, ◌++◌, ◌||◌, Bool, true, false, nat_lt, Some, None, Ok, Err, refl, sym, ◌∙◌, ap, subst, arith}
+use Rattle.std.proofs.Common.{◌≡◌, inl, inr, ℕ, List, [], ◌∷◌, ◌++◌, ◌||◌, Bool, true, false, nat_lt, Some, None, Ok, Err, refl, sym, ◌∙◌, ap, subst, arith}
 use Rattle.std.proofs.lemmas.Bool.{false≢true}
 use Rattle.std.proofs.lemmas.List.{append-nil}
-use Rattle.log_host.specs.Host.{Outcomes, LeavesOnly}
+use Rattle.log_host.specs.Host.{LeavesOnly}
 use Rattle.durable_log.specs.Format.{LogRecord}
 use Rattle.durable_log.specs.Files.{StandsFor}
 use Rattle.durable_log.specs.Logs.{records_of, waiting_in, IsSettled}
@@ -19,9 +19,9 @@ use Rattle.script_lines.specs.Lines.{Shows, LineRead, LinesRead, told_since, com
 use Rattle.script_lines.proofs.Telling.{tells_nothing}
 use Rattle.script_lines.proofs.CutLaws.{lines_of-nil}
 use Rattle.script_lines.proofs.Following.{told_is, follow_next, follow_so_far, follow_short, follow_all, follow_fault, read_so_far, read_short}
-use Rattle.script_log.specs.Runs.{History, answering, Answering, after, after_all, records_of_line, history_of}
+use Rattle.script_log.specs.Runs.{History, answering, after, after_all, records_of_line, history_of}
 use Rattle.script_log.specs.Hosts.{Hosting, state_of, account, GoesOn}
-use Rattle.script_log.specs.Reading.{Reading, reading, lines_in}
+use Rattle.script_log.specs.Reading.{reading}
 use Rattle.script_log.specs.InTurn.{LineInTurn}
 use Rattle.script_log.specs.Covered.{Covered}
 use Rattle.script_log.specs.Passing.{Standing, standing, Passing, IsPassedOn}
@@ -79,22 +79,26 @@ module _ {D : Type 0} (d : Hosting D) (keeps : History → List ℕ → Bool) (r
 
   -- the reader had told its end before
   pub ended-before : (out : List ℕ) (stands : History → Type 0) → before.ended ≡ true → before.bytes ≡ [] → IsSettled d.seen d.heard d.may_leave log0 → waiting_in log0 ≡ [] → out ≡ [] → stands (history_of known) → Began
-      → RanSoFar d (answering keeps reply) stands log0 (reading start start before before) log0 out (Ok tt)
+      → RanSoFar d (answering keeps reply) stands (reading start start before before) log0 log0 out (Ok tt)
   ended-before out stands ended none settled waits empty stands_now only =
       let lines = lines_since start start before in
       let no = no-lines start before ended none in
       let s = standing d.seen d.heard log0 out in
       let steady = steady-none keeps reply known told0 s refl waits refl empty in
       record {
-        read = none-read start before;
-        any_moment = covered-begun lines settled only;
-        covers = λ f o at. covered-longer keeps reply known told0 [] lines lines f o refl (steady-covers keeps reply known told0 [] s f o steady at);
-        answered = subst (λ (ls : List (List ℕ)). AreAnswered (answering keeps reply) (account known told0) ls (account (known ++ waiting_in log0) (told0 ++ out))) (sym no) (steady-answered keeps reply known told0 [] s steady);
+        run = record {
+          read = none-read start before;
+          answered = subst (λ (ls : List (List ℕ)). AreAnswered (answering keeps reply) (account known told0) ls (account (known ++ waiting_in log0) (told0 ++ out))) (sym no) (steady-answered keeps reply known told0 [] s steady);
+          ended = inl ended;
+          cause = tt;
+        };
+        crashes = record {
+          any_moment = covered-begun lines settled only;
+          covers = λ f o at. covered-longer keeps reply known told0 [] lines lines f o refl (steady-covers keeps reply known told0 [] s f o steady at);
+        };
+        goes_on = goes-none d log0.host;
         settled = settled;
         stands_now = subst (λ (ls : List (List ℕ)). stands (after_all keeps (history_of known) ls)) (sym no) stands_now;
-        ended = inl ended;
-        goes_on = goes-none d log0.host;
-        cause = tt;
       }
 
   -- the reader has not told its end yet
@@ -134,81 +138,97 @@ module _ {D : Type 0} (d : Hosting D) (keeps : History → List ℕ → Bool) (r
   -- there is no next line
   pub line-failed : (now next : Told) (p q : Unread) (log log1 : Log D) (out out1 : List ℕ) (stands : History → Type 0) (f : RunFault) (G : GoingTo now p log out)
       → LineInTurn d (reading now next p q) log log1 out out1 (Err f) → GoesOn d log0.host log.host
-      → RanSoFar d (answering keeps reply) stands log0 (reading start next before q) log1 out1 (Err f)
+      → RanSoFar d (answering keeps reply) stands (reading start next before q) log0 log1 out1 (Err f)
   line-failed now next p q log log1 out out1 stands f G T before_it =
       let s = standing d.seen d.heard log out in
       let s1 = standing d.seen d.heard log1 out1 in
       record {
-        read = read_short start now next before p q G.done (line_result (Err f)) G.following T.line;
-        any_moment = short-leaves keeps reply known told0 d.moment d.left_since log0.host start before now next p q (line_result (Err f)) log.host log1.host s G T.line T.any_moment;
-        covers = λ whole f' o at. short-covers keeps reply known told0 d.moment d.left_since log0.host start before now next p q (line_result (Err f)) log.host s s1 G T.line (T.passed_on whole) f' o at;
-        answered = line-answered keeps reply known told0 d.moment d.left_since log0.host start before now next p q log.host s s1 f G T.line T.wants T.passed_on;
+        run = record {
+          read = read_short start now next before p q G.done (line_result (Err f)) G.following T.line;
+          answered = line-answered keeps reply known told0 d.moment d.left_since log0.host start before now next p q log.host s s1 f G T.line T.wants T.passed_on;
+          ended = tt;
+          cause = line-cause now next p q log log1 out f G T.line before_it T.cause;
+        };
+        crashes = record {
+          any_moment = short-leaves keeps reply known told0 d.moment d.left_since log0.host start before now next p q (line_result (Err f)) log.host log1.host s G T.line T.any_moment;
+          covers = λ whole f' o at. short-covers keeps reply known told0 d.moment d.left_since log0.host start before now next p q (line_result (Err f)) log.host s s1 G T.line (T.passed_on whole) f' o at;
+        };
+        goes_on = goes-two d log0.host log.host log1.host before_it T.goes_on;
         settled = T.settled;
         stands_now = tt;
-        ended = tt;
-        goes_on = goes-two d log0.host log.host log1.host before_it T.goes_on;
-        cause = line-cause now next p q log log1 out f G T.line before_it T.cause;
       }
 
   -- there are no more lines
   pub lines-done : (now next : Told) (p q : Unread) (log log1 : Log D) (out out1 : List ℕ) (stands : History → Type 0) (G : GoingTo now p log out)
       → stands (after_all keeps (history_of known) G.done) → LineInTurn d (reading now next p q) log log1 out out1 (Ok None) → GoesOn d log0.host log.host
-      → RanSoFar d (answering keeps reply) stands log0 (reading start next before q) log1 out1 (Ok tt)
+      → RanSoFar d (answering keeps reply) stands (reading start next before q) log0 log1 out1 (Ok tt)
   lines-done now next p q log log1 out out1 stands G stands_now T before_it =
       let s = standing d.seen d.heard log out in
       let s1 = standing d.seen d.heard log1 out1 in
       let all = follow_all start now next before p q G.done G.following T.line in
       record {
-        read = read_short start now next before p q G.done (Ok None) G.following T.line;
-        any_moment = short-leaves keeps reply known told0 d.moment d.left_since log0.host start before now next p q (Ok None) log.host log1.host s G T.line T.any_moment;
-        covers = λ f o at. short-covers keeps reply known told0 d.moment d.left_since log0.host start before now next p q (Ok None) log.host s s1 G T.line T.passed_on f o at;
-        answered = all-answered keeps reply known told0 d.moment d.left_since log0.host start before now next p q log.host s s1 G T.line T.passed_on;
+        run = record {
+          read = read_short start now next before p q G.done (Ok None) G.following T.line;
+          answered = all-answered keeps reply known told0 d.moment d.left_since log0.host start before now next p q log.host s s1 G T.line T.passed_on;
+          ended = inr all.1;
+          cause = tt;
+        };
+        crashes = record {
+          any_moment = short-leaves keeps reply known told0 d.moment d.left_since log0.host start before now next p q (Ok None) log.host log1.host s G T.line T.any_moment;
+          covers = λ f o at. short-covers keeps reply known told0 d.moment d.left_since log0.host start before now next p q (Ok None) log.host s s1 G T.line T.passed_on f o at;
+        };
+        goes_on = goes-two d log0.host log.host log1.host before_it T.goes_on;
         settled = T.settled;
         stands_now = subst (λ (ls : List (List ℕ)). stands (after_all keeps (history_of known) ls)) (sym all.0) stands_now;
-        ended = inr all.1;
-        goes_on = goes-two d log0.host log.host log1.host before_it T.goes_on;
-        cause = tt;
       }
 
   -- a line was cut off, and memory was refused for its answer
   pub no-memory : (now next : Told) (p q : Unread) (log log1 log2 : Log D) (out out1 : List ℕ) (stands : History → Type 0) (l : Line) (G : GoingTo now p log out)
       → LineInTurn d (reading now next p q) log log1 out out1 (Ok (Some l))
       → log2.host ≡ log1.host → waiting_in log2 ≡ waiting_in log1 → IsSettled d.seen d.heard d.may_leave log2 → GoesOn d log0.host log.host
-      → RanSoFar d (answering keeps reply) stands log0 (reading start next before q) log2 out1 (Err faults.OutOfMemory)
+      → RanSoFar d (answering keeps reply) stands (reading start next before q) log0 log2 out1 (Err faults.OutOfMemory)
   no-memory now next p q log log1 log2 out out1 stands l G T same waits settled before_it =
       let s = standing d.seen d.heard log out in
       let s2 = standing d.seen d.heard log2 out1 in
       let on2 : IsPassedOn s s2 = subst (λ (x : Standing). IsPassedOn s x) (sym (standing-same d.seen d.heard d.may_leave log1 log2 out1 same waits)) T.passed_on in
       record {
-        read = read_short start now next before p q G.done (Ok (Some l)) G.following T.line;
-        any_moment = subst (λ (h : D). LeavesOnly d.moment d.left_since log0.host h (Covered keeps reply known (lines_since start next before) told0)) (sym same)
-            (short-leaves keeps reply known told0 d.moment d.left_since log0.host start before now next p q (Ok (Some l)) log.host log1.host s G T.line T.any_moment);
-        covers = λ whole f o at. short-covers keeps reply known told0 d.moment d.left_since log0.host start before now next p q (Ok (Some l)) log.host s s2 G T.line on2 f o at;
-        answered = want-answered keeps reply known told0 d.moment d.left_since log0.host start before now next p q l log.host s s2 G T.line on2;
+        run = record {
+          read = read_short start now next before p q G.done (Ok (Some l)) G.following T.line;
+          answered = want-answered keeps reply known told0 d.moment d.left_since log0.host start before now next p q l log.host s s2 G T.line on2;
+          ended = tt;
+          cause = tt;
+        };
+        crashes = record {
+          any_moment = subst (λ (h : D). LeavesOnly d.moment d.left_since log0.host h (Covered keeps reply known (lines_since start next before) told0)) (sym same)
+              (short-leaves keeps reply known told0 d.moment d.left_since log0.host start before now next p q (Ok (Some l)) log.host log1.host s G T.line T.any_moment);
+          covers = λ whole f o at. short-covers keeps reply known told0 d.moment d.left_since log0.host start before now next p q (Ok (Some l)) log.host s s2 G T.line on2 f o at;
+        };
+        goes_on = subst (λ (h : D). GoesOn d log0.host h) (sym same) (goes-two d log0.host log.host log1.host before_it T.goes_on);
         settled = λ whole. settled;
         stands_now = tt;
-        ended = tt;
-        goes_on = subst (λ (h : D). GoesOn d log0.host h) (sym same) (goes-two d log0.host log.host log1.host before_it T.goes_on);
-        cause = tt;
       }
 
   -- a reply could not be passed on
   pub put-failed : (now : Told) (p : Unread) (log log1 : Log D) (out out1 : List ℕ) (stands : History → Type 0) (f : RunFault) (G : GoingTo now p log out)
       → LeavesOnly d.moment d.left_since log.host log1.host (Passing (standing d.seen d.heard log out)) → is_broken f ≡ true → GoesOn d log0.host log.host → GoesOn d log.host log1.host
       → HasBroken (all_records d.seen log) (state_of d log.host) (state_of d log1.host) f
-      → RanSoFar d (answering keeps reply) stands log0 (reading start now before p) log1 out1 (Err f)
+      → RanSoFar d (answering keeps reply) stands (reading start now before p) log0 log1 out1 (Err f)
   put-failed now p log log1 out out1 stands f G leaves broken before_it later cause =
       let s = standing d.seen d.heard log out in
       record {
-        read = read_so_far start now before p G.done G.following;
-        any_moment = going-leaves keeps reply known told0 d.moment d.left_since log0.host start before now p log.host log1.host s G leaves;
-        covers = broken-unless _ f broken;
-        answered = broken-answered (answering keeps reply) (account known told0) (account (all_records d.seen log1) (d.heard log1.host ++ out1)) (reading start now before p) f broken;
+        run = record {
+          read = read_so_far start now before p G.done G.following;
+          answered = broken-answered (answering keeps reply) (account known told0) (account (all_records d.seen log1) (d.heard log1.host ++ out1)) (reading start now before p) f broken;
+          ended = tt;
+          cause = put-cause now p log log1 out f G broken before_it cause;
+        };
+        crashes = record {
+          any_moment = going-leaves keeps reply known told0 d.moment d.left_since log0.host start before now p log.host log1.host s G leaves;
+          covers = broken-unless _ f broken;
+        };
+        goes_on = goes-two d log0.host log.host log1.host before_it later;
         settled = broken-unless _ f broken;
         stands_now = tt;
-        ended = tt;
-        goes_on = goes-two d log0.host log.host log1.host before_it later;
-        cause = put-cause now p log log1 out f G broken before_it cause;
       }
 
   -- what the engine stands for after a line

@@ -1,9 +1,9 @@
 -- A line that grows while what waits is passed on.
-use Rattle.std.proofs.Common.{◌≡◌, inl, inr, ℕ, ◌≤◌, List, [], ◌++◌, ◌||◌, ◌==◌, true, false, Option, Some, None, Ok, Err, refl, sym, ◌∙◌, ap, subst, append_assoc, arith}
+use Rattle.std.proofs.Common.{◌≡◌, inl, inr, ℕ, List, [], ◌++◌, ◌||◌, ◌==◌, true, false, Option, Some, None, Ok, Err, refl, sym, ◌∙◌, ap, subst, append_assoc}
 use Rattle.std.proofs.lemmas.Bool.{false≢true, false_from_ne_true}
 use Rattle.std.proofs.lemmas.List.Folds.{list_any-append}
 use Rattle.std.proofs.lemmas.List.{append-nil}
-use Rattle.log_host.specs.Host.{Outcomes, LeavesOnly}
+use Rattle.log_host.specs.Host.{LeavesOnly}
 use Rattle.durable_log.specs.Logs.{records_of, waiting_in, IsSettled}
 use Rattle.durable_log.specs.declared.log.Log.{Log}
 use Rattle.durable_log.proofs.Moments.{begun, weaker, then_leaves}

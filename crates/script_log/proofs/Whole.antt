@@ -3,7 +3,7 @@ use Rattle.std.proofs.Common.{◌≡◌, ℕ, List, [], ◌++◌, Bool, true, fa
 use Rattle.std.specs.Prelude.{IfErr}
 use Rattle.std.proofs.lemmas.Bool.{false≢true}
 use Rattle.std.proofs.lemmas.List.{append-nil}
-use Rattle.log_host.specs.Host.{Outcomes, LeavesOnly}
+use Rattle.log_host.specs.Host.{LeavesOnly}
 use Rattle.durable_log.specs.Format.{LogRecord}
 use Rattle.durable_log.specs.Logs.{records_of, waiting_in, IsSettled}
 use Rattle.durable_log.specs.declared.log.Log.{Log}
@@ -11,15 +11,15 @@ use Rattle.durable_log.specs.declared.log.CommitFault.TheVariants as commits
 use Rattle.durable_log.proofs.Moments.{weaker, then_leaves}
 use Rattle.script_lines.specs.Device.{Told}
 use Rattle.script_lines.specs.Unread.{Unread}
-use Rattle.script_lines.specs.Lines.{lines_since, complete_lines}
+use Rattle.script_lines.specs.Lines.{complete_lines}
 use Rattle.script_log.specs.Runs.{History, answering, Answering, after_all, history_of}
 use Rattle.script_log.specs.Hosts.{Hosting, State, state_of, Account, account, account_of, GoesOn}
 use Rattle.script_log.specs.Reading.{Reading, reading, lines_in}
 use Rattle.script_log.specs.Passing.{standing, Passing}
 use Rattle.script_log.specs.Outcomes.{HasAnswered}
 use Rattle.script_log.specs.Faults.{is_broken, has_broken, UnlessBroken, all_records, IsFullWith, IsFullBy, HasBroken, HasCause}
-use Rattle.script_log.specs.SoFar.{CoveredIn, account_due, RanSoFar}
-use Rattle.script_log.specs.Ran.{IsIdle, Ran}
+use Rattle.script_log.specs.SoFar.{CoveredSince, account_due, RanSoFar}
+use Rattle.script_log.specs.Ran.{Ran}
 use Rattle.script_log.specs.declared.fault.RunFault.{RunFault}
 use Rattle.script_log.specs.declared.fault.RunFault.TheVariants as faults
 use Rattle.script_log.proofs.Failing.{goes-none, goes-two}
@@ -56,7 +56,7 @@ module _ {D : Type 0} (d : Hosting D) (keeps : History → List ℕ → Bool) (r
   begun = state_of d log.host
 
   abbrev SoFar : Log D → List ℕ → Result Unit RunFault → Type 0
-  SoFar mid out result = RanSoFar d e stands log x mid out result
+  SoFar mid out result = RanSoFar d e stands x log mid out result
 
   cause-by : (mid log1 : D) (f : RunFault) → is_broken f ≡ false → HasCause e begun x (state_of d mid) f → HasCause e begun x (state_of d log1) f
   cause-by mid log1 faults.Read whole cause = cause
@@ -84,17 +84,17 @@ module _ {D : Type 0} (d : Hosting D) (keeps : History → List ℕ → Bool) (r
   stopped-cause mid log1 out result faults.Read R whole broken cause = absurd (false≢true broken)
   stopped-cause mid log1 out result faults.Write R whole broken cause = omega (arith, R.goes_on.listener, cause)
   stopped-cause mid log1 out result (faults.Log commits.Failed) R whole broken cause = omega (arith, R.goes_on.file, cause)
-  stopped-cause mid log1 out result (faults.Log commits.Full) R whole broken cause = full-whole (account_due d mid out) (d.seen log1.host) result whole R.answered cause
+  stopped-cause mid log1 out result (faults.Log commits.Full) R whole broken cause = full-whole (account_due d mid out) (d.seen log1.host) result whole R.run.answered cause
   stopped-cause mid log1 out result faults.OutOfMemory R whole broken cause = absurd (false≢true broken)
 
   -- the file or the listener failed before
-  pub ran-broken : (mid : Log D) (out : List ℕ) (result : Result Unit RunFault) → SoFar mid out result → has_broken result ≡ true → Ran d e stands log x mid result
+  pub ran-broken : (mid : Log D) (out : List ℕ) (result : Result Unit RunFault) → SoFar mid out result → has_broken result ≡ true → Ran d e stands x log mid result
   ran-broken mid out result R broken = record {
     run = record {
-      read = R.read;
+      read = R.run.read;
       answered = answered-broken e (account_of begun) (account_of (state_of d mid.host)) x result broken;
       ended = ok-broken _ result broken;
-      cause = R.cause;
+      cause = R.run.cause;
     };
     goes_on = R.goes_on;
     idle = unless-broken _ result broken;
@@ -103,10 +103,10 @@ module _ {D : Type 0} (d : Hosting D) (keeps : History → List ℕ → Bool) (r
 
   -- what waits could not be passed on
   pub ran-stopped : (mid log1 : Log D) (out : List ℕ) (result : Result Unit RunFault) (f : RunFault) → SoFar mid out result → has_broken result ≡ false → GoesOn d mid.host log1.host
-      → is_broken f ≡ true → HasBroken (all_records d.seen mid) (state_of d mid.host) (state_of d log1.host) f → Ran d e stands log x log1 (Err f)
+      → is_broken f ≡ true → HasBroken (all_records d.seen mid) (state_of d mid.host) (state_of d log1.host) f → Ran d e stands x log log1 (Err f)
   ran-stopped mid log1 out result f R whole later broken cause = record {
     run = record {
-      read = R.read;
+      read = R.run.read;
       answered = broken-answered e (account_of begun) (account_of (state_of d log1.host)) x f broken;
       ended = tt;
       cause = stopped-cause mid log1 out result f R whole broken cause;
@@ -119,11 +119,11 @@ module _ {D : Type 0} (d : Hosting D) (keeps : History → List ℕ → Bool) (r
   -- each moment, while what waits is passed on
   pub leaves-whole : (mid log1 : Log D) (out : List ℕ) (result : Result Unit RunFault) → SoFar mid out result → has_broken result ≡ false
       → LeavesOnly d.moment d.left_since mid.host log1.host (Passing (standing d.seen d.heard mid out))
-      → LeavesOnly d.moment d.left_since log.host log1.host (CoveredIn e (account_of begun) x)
+      → LeavesOnly d.moment d.left_since log.host log1.host (CoveredSince d e x log)
   leaves-whole mid log1 out result R whole leaves =
-      let P : Outcomes = CoveredIn e (account_of begun) x in
-      then_leaves d.moment d.left_since log.host mid.host log1.host P R.any_moment
-      (weaker d.moment d.left_since mid.host log1.host (Passing (standing d.seen d.heard mid out)) P leaves (unless-whole _ result whole R.covers))
+      let P = CoveredSince d e x log in
+      then_leaves d.moment d.left_since log.host mid.host log1.host P R.crashes.any_moment
+      (weaker d.moment d.left_since mid.host log1.host (Passing (standing d.seen d.heard mid out)) P leaves (unless-whole _ result whole R.crashes.covers))
 
   answered-whole : (now now1 : Account) (result : Result Unit RunFault) → now1.records ≡ now.records → now1.heard ≡ now.heard → HasAnswered e (account_of begun) x now result → HasAnswered e (account_of begun) x now1 result
   answered-whole now now1 result same same_heard answered =
@@ -137,15 +137,15 @@ module _ {D : Type 0} (d : Hosting D) (keeps : History → List ℕ → Bool) (r
   -- all was passed on
   pub ran-whole : (mid log1 : Log D) (out : List ℕ) (result : Result Unit RunFault) → SoFar mid out result → has_broken result ≡ false → GoesOn d mid.host log1.host
       → records_of (d.seen log1.host) ≡ records_of (d.seen mid.host) ++ waiting_in mid → d.heard log1.host ≡ d.heard mid.host ++ out → IsSettled d.seen d.heard d.may_leave log1 → waiting_in log1 ≡ []
-      → Ran d e stands log x log1 result
+      → Ran d e stands x log log1 result
   ran-whole mid log1 out result R whole later records heard_is settled none =
-      let answered = answered-whole (account_due d mid out) (account_of (state_of d log1.host)) result records heard_is R.answered in
+      let answered = answered-whole (account_due d mid out) (account_of (state_of d log1.host)) result records heard_is R.run.answered in
       record {
         run = record {
-          read = R.read;
+          read = R.run.read;
           answered = answered;
-          ended = R.ended;
-          cause = cause-whole mid.host log1.host result whole R.cause;
+          ended = R.run.ended;
+          cause = cause-whole mid.host log1.host result whole R.run.cause;
         };
         goes_on = goes-two d log.host mid.host log1.host R.goes_on later;
         idle = unless-then _ result (settled, none);
@@ -154,7 +154,7 @@ module _ {D : Type 0} (d : Hosting D) (keeps : History → List ℕ → Bool) (r
 
 -- memory was refused before the first line
 pub ran-nothing : {D : Type 0} (d : Hosting D) (keeps : History → List ℕ → Bool) (reply : History → List ℕ → List ℕ) (stands : History → Type 0) (r : Told) (p : Unread) (log : Log D)
-    → IsSettled d.seen d.heard d.may_leave log → waiting_in log ≡ [] → Ran d (answering keeps reply) stands log (reading r r p p) log (Err faults.OutOfMemory)
+    → IsSettled d.seen d.heard d.may_leave log → waiting_in log ≡ [] → Ran d (answering keeps reply) stands (reading r r p p) log log (Err faults.OutOfMemory)
 ran-nothing d keeps reply stands r p log settled none = record {
   run = record {
     read = none-read r p;

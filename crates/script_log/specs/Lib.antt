@@ -7,6 +7,6 @@ pub mod Faults
 pub mod Outcomes
 pub mod Replays
 pub mod Catalogues
+pub mod Ran
 pub mod SoFar
 pub mod InTurn
-pub mod Ran

@@ -33,13 +33,16 @@ pub record HasWanted (e : Answering) (old : Account) (x : Reading) (new : Accoun
 abbrev pub HasAnswered : Answering → Account → Reading → Account → Result Unit RunFault → Type 0
 HasAnswered e old x new (Ok u) = AreAnswered e old (lines_in x) new
 HasAnswered e old x new (Err faults.Read) = AreAnswered e old (lines_in x) new
-HasAnswered e old x new (Err faults.Write) = Unit {0}
-HasAnswered e old x new (Err (faults.Log fault)) = Unit {0}
 HasAnswered e old x new (Err faults.OutOfMemory) = HasWanted e old x new
+HasAnswered e old x new (Err fault) = Unit {0}
 
--- A RUN, by its result: what was read, the replies, and the cause of a fault
-pub record HasRun (e : Answering) (old : State) (x : Reading) (new : State) (result : Result Unit RunFault) : Type 0 where
+-- a run to an account and a state, by its result: what was read, the replies, and the cause of a fault
+pub record RunsTo (e : Answering) (old : State) (x : Reading) (now : Account) (new : State) (result : Result Unit RunFault) : Type 0 where
   pub read : LinesRead x.from x.to x.before x.left
-  pub answered : HasAnswered e (account_of old) x (account_of new) result
+  pub answered : HasAnswered e (account_of old) x now result
   pub ended : OnOk result (HasReadAll x)
   pub cause : IfErr result (HasCause e old x new)
+
+-- A RUN, by its result
+abbrev pub HasRun : Answering → State → Reading → State → Result Unit RunFault → Type 0
+HasRun e old x new result = RunsTo e old x (account_of new) new result

@@ -36,7 +36,7 @@ fn answer_all<R: Reader<H>, H: Host, E: Engine>(
     requires stands { E.stands engine.old (history_of (records_of (H.seen log.old.host))) }
     requires in_turn { MayReadInTurn (answering E.keeps E.reply) (account (records_of (H.seen log.old.host)) (H.heard log.old.host)) (R.tape source.old) input.old R.may_read }
     ensures { RanSoFar (hosting H.seen H.heard H.may_leave H.moment H.left_since H.origin H.file_faults H.listener_faults)
-        (answering E.keeps E.reply) (E.stands engine.new) log.old (reading (R.tape source.old) (R.tape source.new) input.old input.new) log.new output.new result }
+        (answering E.keeps E.reply) (E.stands engine.new) (reading (R.tape source.old) (R.tape source.new) input.old input.new) log.old log.new output.new result }
 {
     if input.has_ended() {
         return Ok(());
@@ -95,7 +95,7 @@ pub fn answer_lines<R: Reader<H>, H: Host, E: Engine>(
         (Covered E.keeps E.reply (records_of (H.seen log.old.host)) (lines_since (R.tape source.old) (R.tape source.new) input.old) (H.heard log.old.host)) }
 
     ensures ran { Ran (hosting H.seen H.heard H.may_leave H.moment H.left_since H.origin H.file_faults H.listener_faults)
-        (answering E.keeps E.reply) (E.stands engine.new) log.old (reading (R.tape source.old) (R.tape source.new) input.old input.new) log.new result }
+        (answering E.keeps E.reply) (E.stands engine.new) (reading (R.tape source.old) (R.tape source.new) input.old input.new) log.old log.new result }
 {
     let mut output = OutputBuffer::new(alloc)?;
     let outcome = answer_all(alloc, input, source, log, engine, &mut output);

@@ -17,7 +17,7 @@ returns-in_err-output-clause-ran g c =
     rw (r.1, r.2) (ran-nothing d g.E.Engine.keeps g.E.Engine.reply (g.E.Engine.stands c.args.engine.now) (g.R.Reader.tape c.args.source.now) c.args.input.now c.args.log.now c.requires.settled c.requires.nothing_waits)
 
 pub returns-then-has_broken-clause-any_moment : goal.returns-then-has_broken-clause-any_moment
-returns-then-has_broken-clause-any_moment g c = c.answer_all-outcome.ensures.any_moment
+returns-then-has_broken-clause-any_moment g c = c.answer_all-outcome.ensures.crashes.any_moment
 
 pub returns-then-has_broken-clause-ran : goal.returns-then-has_broken-clause-ran
 returns-then-has_broken-clause-ran g c =
