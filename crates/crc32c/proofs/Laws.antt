@@ -4,7 +4,7 @@ use Rattle.std.specs.Prelude.{bit_xor}
 use Rattle.std.specs.Int.{bit_at}
 use Rattle.std.proofs.lemmas.Nat.{xor_comm, xor_lt}
 use Rattle.std.proofs.lemmas.Nat.Bits.{bit_at_xor, bit_at_above}
-use Rattle.crc32c.specs.Check.{polynomial, after_bit, after_bits, after_byte, after_bytes, turned, check_after, check_of}
+use Rattle.crc32c.specs.Check.{polynomial, after_bit, after_bits, after_byte, after_bytes, inverted, check_after, check_of}
 use Rattle.crc32c.proofs.Linear.{xor_cancel, xor_twice, bit-is}
 
 -- a state has 32 bits
@@ -32,12 +32,12 @@ bytes-small : (state : ℕ) (bytes : List ℕ) → state < 2 ^ 32 → after_byte
 bytes-small state [] small = small
 bytes-small state (byte ∷ bytes) small = bytes-small (after_byte state byte) bytes (byte-small state byte small)
 
-turned-small : (state : ℕ) → state < 2 ^ 32 → turned state < 2 ^ 32
-turned-small state small = xor_lt 32 state 0xFFFF_FFFF small (omega arith)
+inverted-small : (state : ℕ) → state < 2 ^ 32 → inverted state < 2 ^ 32
+inverted-small state small = xor_lt 32 state 0xFFFF_FFFF small (omega arith)
 
 pub check-small : (check : ℕ) (bytes : List ℕ) → check < 2 ^ 32 → check_after check bytes < 2 ^ 32
 unfolding check_after
-check-small check bytes small = turned-small (after_bytes (turned check) bytes) (bytes-small (turned check) bytes (turned-small check small))
+check-small check bytes small = inverted-small (after_bytes (inverted check) bytes) (bytes-small (inverted check) bytes (inverted-small check small))
 
 -- The highest bit of a state is the bit that was shifted out, since the polynomial has that bit.
 
@@ -89,23 +89,23 @@ bytes-same state [] back a b small is =
     byte-same state a b small (states-same (after_byte state a) (after_byte state b) back (byte-small state a small) (byte-small state b small) is)
 bytes-same state (x ∷ front) back a b small is = bytes-same (after_byte state x) front back a b (byte-small state x small) is
 
-turned-same : (a b : ℕ) → turned a ≡ turned b → a ≡ b
-turned-same a b is = xor_cancel a b 0xFFFF_FFFF is
+inverted-same : (a b : ℕ) → inverted a ≡ inverted b → a ≡ b
+inverted-same a b is = xor_cancel a b 0xFFFF_FFFF is
 
 pub checks-same : (check other : ℕ) (bytes : List ℕ) → check < 2 ^ 32 → other < 2 ^ 32 → check_after check bytes ≡ check_after other bytes → check ≡ other
 unfolding check_after
 checks-same check other bytes small also is =
-    turned-same check other
-    (states-same (turned check) (turned other) bytes (turned-small check small) (turned-small other also)
-    (turned-same (after_bytes (turned check) bytes) (after_bytes (turned other) bytes) is))
+    inverted-same check other
+    (states-same (inverted check) (inverted other) bytes (inverted-small check small) (inverted-small other also)
+    (inverted-same (after_bytes (inverted check) bytes) (after_bytes (inverted other) bytes) is))
 
 pub one-byte : (check : ℕ) (front back : List ℕ) (a b : ℕ) → check < 2 ^ 32 → a < 256 → b < 256
     → check_after check (front ++ a ∷ back) ≡ check_after check (front ++ b ∷ back) → a ≡ b
 unfolding check_after
 one-byte check front back a b small as_ bs is =
     let same : a % 256 ≡ b % 256 =
-    bytes-same (turned check) front back a b (turned-small check small)
-    (turned-same (after_bytes (turned check) (front ++ a ∷ back)) (after_bytes (turned check) (front ++ b ∷ back)) is) in
+    bytes-same (inverted check) front back a b (inverted-small check small)
+    (inverted-same (after_bytes (inverted check) (front ++ a ∷ back)) (after_bytes (inverted check) (front ++ b ∷ back)) is) in
     omega arith
 
 -- bytes in parts
@@ -114,15 +114,15 @@ bytes-parts : (state : ℕ) (front back : List ℕ) → after_bytes state (front
 bytes-parts state [] back = refl
 bytes-parts state (x ∷ front) back = bytes-parts (after_byte state x) front back
 
-turned-twice : (state : ℕ) → turned (turned state) ≡ state
-turned-twice state = xor_twice state 0xFFFF_FFFF
+inverted-twice : (state : ℕ) → inverted (inverted state) ≡ state
+inverted-twice state = xor_twice state 0xFFFF_FFFF
 
 pub parts : (check : ℕ) (front back : List ℕ) → check_after check (front ++ back) ≡ check_after (check_after check front) back
 unfolding check_after
 parts check front back =
-    ap turned
-    (bytes-parts (turned check) front back
-    ∙ ap (λ (v : ℕ). after_bytes v back) (sym (turned-twice (after_bytes (turned check) front))))
+    ap inverted
+    (bytes-parts (inverted check) front back
+    ∙ ap (λ (v : ℕ). after_bytes v back) (sym (inverted-twice (after_bytes (inverted check) front))))
 
 pub known : check_of (49 ∷ 50 ∷ 51 ∷ 52 ∷ 53 ∷ 54 ∷ 55 ∷ 56 ∷ 57 ∷ []) ≡ 0xE306_9283
 unfolding check_after after_byte after_bit

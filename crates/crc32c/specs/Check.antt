@@ -9,6 +9,7 @@ polynomial = 0x82F63B78
 unfoldable pub after_bit : ℕ → ℕ
 after_bit state = if state % 2 == 1 then bit_xor (state / 2) polynomial else state / 2
 
+-- this many steps
 abbrev pub after_bits : ℕ → ℕ → ℕ
 after_bits zero state = state
 after_bits (suc n) state = after_bits n (after_bit state)
@@ -17,17 +18,18 @@ after_bits (suc n) state = after_bits n (after_bit state)
 unfoldable pub after_byte : ℕ → ℕ → ℕ
 after_byte state byte = after_bits 8 (bit_xor state (byte % 256))
 
+-- bytes, one after another
 abbrev pub after_bytes : ℕ → List ℕ → ℕ
 after_bytes state [] = state
 after_bytes state (byte ∷ bytes) = after_bytes (after_byte state byte) bytes
 
--- each of the 32 bits is turned
-abbrev pub turned : ℕ → ℕ
-turned state = bit_xor state 0xFFFF_FFFF
+-- each of the 32 bits inverted
+abbrev pub inverted : ℕ → ℕ
+inverted state = bit_xor state 0xFFFF_FFFF
 
 -- THE CHECK OF BYTES, begun from the check of the bytes before them
 unfoldable pub check_after : ℕ → List ℕ → ℕ
-check_after check bytes = turned (after_bytes (turned check) bytes)
+check_after check bytes = inverted (after_bytes (inverted check) bytes)
 
 -- THE CHECK OF BYTES
 abbrev pub check_of : List ℕ → ℕ

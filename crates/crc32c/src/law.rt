@@ -3,7 +3,8 @@ ghost use Rattle.crc32c.specs.Check.{check_after, check_of};
 
 /// A law: the check of bytes in two parts is that of the second, begun from that of the first.
 pub fn parts_are_one()
-    ensures { (check : ℕ) (front back : List ℕ) → check_after check (front ++ back) ≡ check_after (check_after check front) back }
+    ensures { (check : ℕ) (front back : List ℕ)
+        → check_after check (front ++ back) ≡ check_after (check_after check front) back }
 {}
 
 /// A law: begun from different checks, the same bytes have different checks.
@@ -18,7 +19,7 @@ pub fn one_byte_is_seen()
         → check_after check (front ++ a ∷ back) ≡ check_after check (front ++ b ∷ back) → a ≡ b }
 {}
 
-/// A law: the digits 1 to 9 in ASCII have the check that catalogues of such checks give of CRC-32C.
+/// A law: the check of the digits 1 to 9 in ASCII is the one that catalogues of CRCs have.
 pub fn the_known_check()
     ensures { check_of (49 ∷ 50 ∷ 51 ∷ 52 ∷ 53 ∷ 54 ∷ 55 ∷ 56 ∷ 57 ∷ []) ≡ 0xe306_9283 }
 {}

@@ -123,6 +123,7 @@ fits link mark n check reply_check body =
 abbrev pub found : Link → LogRecord → List ℕ → Next
 found link r rest = Found r (link_after link r) rest
 
+-- a record whose columns were read, and its line and what follows it are at hand
 abbrev pub record_in : Link → ℕ → ℕ → ℕ → ℕ → List ℕ → Next
 record_in link mark n check reply_check body =
     if fits link mark n check reply_check body then found link (record_by mark (take n body) reply_check) (drop (n + 1) body) else Damaged

@@ -33,7 +33,7 @@ pub record IsAtRest (file : List ℕ) (end : ℕ) : Type 0 where
   pub place : end ≡ length base
   pub holds : Holding (records_of file) base
 
--- a log goes on there: its file is at rest
+-- the file is at rest, and the log goes on there
 pub record IsRest (file : List ℕ) (rest : Rest) : Type 0 where
   pub at : IsAtRest file rest.end
   pub link : rest.link ≡ link_of file

@@ -81,7 +81,8 @@ pub fn restored(alloc: Global, mut bytes: Vec<u8>, end: End) -> Result<CleanLog,
 pub fn with_record(alloc: Global, file: LogFile, added: Record<'_>) -> Result<LogFile, AllocError>
     requires rest { IsRest file.bytes.items file.rest }
     requires small { length added.line.now ≤ 2 ^ 24 }
-    ensures records { IfOk result (λ more. records_of more.bytes.items ≡ records_of file.bytes.items ++ record_shown added.entry ∷ []) }
+    ensures records { IfOk result (λ more.
+        records_of more.bytes.items ≡ records_of file.bytes.items ++ record_shown added.entry ∷ []) }
     ensures rest { IfOk result (λ more. IsRest more.bytes.items more.rest) }
 {
     let link = file.rest.link;

@@ -15,8 +15,9 @@ pub fn one_changed_byte_is_found()
 /// A law: if a record follows other records than those that it was written after, so that its
 /// number isn't theirs, the file is refused, whatever else it has. The number counts modulo 2^32.
 pub fn a_record_out_of_place_is_found()
-    ensures { (front others : List LogRecord) (r : LogRecord) (rest : List ℕ) → AreSmall front → AreSmall (r ∷ [])
-        → length front % 2 ^ 32 ≢ length others % 2 ^ 32 → IsRefused (header ++ (written [] front ++ (written others (r ∷ []) ++ rest))) }
+    ensures { (front others : List LogRecord) (r : LogRecord) (rest : List ℕ)
+        → AreSmall front → AreSmall (r ∷ []) → length front % 2 ^ 32 ≢ length others % 2 ^ 32
+        → IsRefused (header ++ (written [] front ++ (written others (r ∷ []) ++ rest))) }
 {}
 
 /// A law: a file in which a record was left out is refused, unless that record was the last.
@@ -34,7 +35,11 @@ pub fn a_doubled_record_is_found()
 /// A law: a file in which two records changed places is refused. Fewer than 2^32 records may be
 /// between them.
 pub fn exchanged_records_are_found()
-    ensures { (front between back : List LogRecord) (r q : LogRecord) → AreSmall (front ++ (r ∷ between) ++ q ∷ back) → length between + 1 < 2 ^ 32
-        → IsRefused (header ++ (written [] front ++ (written (front ++ r ∷ between) (q ∷ [])
-        ++ (written (front ++ r ∷ []) between ++ (written front (r ∷ []) ++ (written (front ++ (r ∷ between) ++ q ∷ []) back ++ shut)))))) }
+    ensures { (front between back : List LogRecord) (r q : LogRecord)
+        → AreSmall (front ++ (r ∷ between) ++ q ∷ back) → length between + 1 < 2 ^ 32
+        → IsRefused (header ++ (written [] front
+        ++ (written (front ++ r ∷ between) (q ∷ [])
+        ++ (written (front ++ r ∷ []) between
+        ++ (written front (r ∷ [])
+        ++ (written (front ++ (r ∷ between) ++ q ∷ []) back ++ shut)))))) }
 {}

@@ -68,11 +68,13 @@ fn put_batch<H: Host>(host: &mut H, end: usize, batch: &[u8]) -> Result<(), Host
     requires room { end + length batch.now < 2 ^ 63 }
     requires durable { Only (H.seen host.old) (H.heard host.old) (H.may_leave host.old) }
     ensures rest { OnOk result (IsAtRest (H.seen host.new) (end + length batch.now)) }
-    ensures records { OnOk result (records_of (H.seen host.new) ≡ records_of (H.seen host.old) ++ batch_records (link_of (H.seen host.old)) batch.now) }
+    ensures records { OnOk result (records_of (H.seen host.new)
+        ≡ records_of (H.seen host.old) ++ batch_records (link_of (H.seen host.old)) batch.now) }
     ensures durable { OnOk result (Only (H.seen host.new) (H.heard host.new) (H.may_leave host.new)) }
     ensures heard { H.heard host.new ≡ H.heard host.old }
     ensures any_moment { LeavesOnly H.moment H.left_since host.old host.new
-        (BeforeOrAfter (records_of (H.seen host.old)) (batch_records (link_of (H.seen host.old)) batch.now) (H.heard host.old)) }
+        (BeforeOrAfter (records_of (H.seen host.old))
+        (batch_records (link_of (H.seen host.old)) batch.now) (H.heard host.old)) }
     ensures later { H.file_faults host.old ≤ H.file_faults host.new }
     ensures failed { OnErr result (H.file_faults host.old < H.file_faults host.new) }
     ensures listener { H.listener_faults host.new ≡ H.listener_faults host.old }
