@@ -1,4 +1,4 @@
-"""Tests of tools/try_plants.py: which function a plant is in, and when a verdict is old.
+"""Tests of tools/try_plants.py and tools/contracts.py: which function a plant is in, and when a verdict is old.
 
     python3 tools/test_try_plants.py
 """
@@ -9,7 +9,8 @@ import tempfile
 import unittest
 from pathlib import Path
 
-from try_plants import Plant, code_at, plant_of, still_said, verdict_kept, wanted_of
+from contracts import checksum_of_file, contracts_of
+from try_plants import Plant, newly_said, plant_of, still_said, verdict_kept, wanted_of
 
 SOURCE = """
 const FIRST: usize = 1;
@@ -70,6 +71,153 @@ class Functions(unittest.TestCase):
         self.assertEqual(place_of("count < 3"), ("", "is_low"))
 
 
+BODIES = """
+#![tactic(auto)]
+
+ghost use Rattle.std.specs.Prelude.{◌≡◌};
+
+use crate::rows::{Kind, Row};
+use std::mem;
+
+mod rows;
+pub use rows::Row;
+
+#[derive(Drop)]
+pub struct Rows {
+    rows: Vec<Row>,
+    ghost rising: { AreRising rows },
+}
+
+impl Rows {
+    #[tactic(auto, unfolding(
+        crate::specs::Rows::added,
+    ))]
+    pub fn add(
+        &mut self,
+        row: Row,
+    ) -> Result<(), OutOfMemory>
+        ensures added { OnOk result (self.new ≡ record self.old {
+          rows = self.old.rows ++ row ∷ [];
+        }) }
+    {
+        let is_low = |count: u64| requires { count < 3 } { count < 2 };
+        mem::swap(self, row)
+    }
+
+    fn len(&self) -> usize {
+        self.rows.len()
+    }
+}
+
+impl<'a> Iterator for Left<'a> {
+    fn next(&mut self) -> Option<Kind> {
+        None
+    }
+}
+
+fn law(x: u64)
+    ensures { x ≡ x }
+{}
+
+pub(crate) fn last(rows: [u8; 3]) -> u64;
+"""
+FROM_ABOVE = """ghost use Rattle.std.specs.Prelude.{◌≡◌};
+use crate::rows::Kind;
+use crate::rows::Row;
+pub use rows::Row;
+#[derive(Drop)]
+pub struct Rows {
+    rows: Vec<Row>,
+    ghost rising: { AreRising rows },
+}
+impl Rows {
+    pub fn add(
+        &mut self,
+        row: Row,
+    ) -> Result<(), OutOfMemory>
+        ensures added { OnOk result (self.new ≡ record self.old {
+          rows = self.old.rows ++ row ∷ [];
+        }) }
+}
+impl<'a> Iterator for Left<'a> {
+    fn next(&mut self) -> Option<Kind>
+}
+"""
+
+
+class Contracts(unittest.TestCase):
+    def test_bodies_tactics_and_what_is_private_are_left_out(self) -> None:
+        self.assertEqual(contracts_of(BODIES, from_above=True), FROM_ABOVE)
+
+    def test_the_crate_itself_sees_its_private_functions(self) -> None:
+        seen = contracts_of(BODIES, from_above=False)
+        self.assertIn("    fn len(&self) -> usize\n}\n", seen)
+        self.assertIn("fn law(x: u64)\n    ensures { x ≡ x }\npub(crate) fn last(rows: [u8; 3]) -> u64;\n", seen)
+        self.assertIn("mod rows;\n", seen)
+        self.assertNotIn("count < 3", seen)
+        self.assertNotIn("mem", seen)
+
+
+CODE = {
+    "crates.txt": "# Crates\nlow:\nbeside: low\nmid: low serde_json\nhigh: mid\n",
+    "crates/low/specs/Rows.antt": "-- the rows\nabbrev pub rows : ℕ\nrows = 1\n",
+    "crates/low/src/lib.rt": "pub fn row() -> u64\n    ensures { result ≡ 1 }\n{\n    1\n}\n\nfn own() -> u64 {\n    1\n}\n",
+    "crates/beside/src/lib.rt": "pub fn beside() -> u64 {\n    1\n}\n",
+    "crates/mid/src/lib.rt": "pub fn mid() -> u64 {\n    1\n}\n",
+    "crates/high/src/lib.rt": "/// Counts.\npub fn count() -> u64 {\n    1\n}\n",
+    "crates/high/src/rows.rt": "fn first() -> u64\n    ensures { result ≡ 1 }\n{\n    1\n}\n",
+}
+
+
+def checksum(changes: dict[str, tuple[str, str]]) -> str:
+    """The checksum of a file of the highest crate, with a text of some files in place of another."""
+    with tempfile.TemporaryDirectory() as folder:
+        for name, text in CODE.items():
+            old, new = changes.get(name, ("", ""))
+            path = Path(folder) / name
+            path.parent.mkdir(parents=True, exist_ok=True)
+            path.write_text(text.replace(old, new) if old else text)
+        return checksum_of_file(Path(folder), "high", "src/lib.rt")
+
+
+class Checksums(unittest.TestCase):
+    def assert_other_code(self, name: str, old: str, new: str) -> None:
+        self.assertNotEqual(checksum({name: (old, new)}), checksum({}))
+
+    def assert_same_code(self, name: str, old: str, new: str) -> None:
+        self.assertEqual(checksum({name: (old, new)}), checksum({}))
+
+    def test_a_definition_of_a_crate_below_counts(self) -> None:
+        self.assert_other_code("crates/low/specs/Rows.antt", "rows = 1", "rows = 2")
+
+    def test_a_contract_of_a_crate_below_counts(self) -> None:
+        self.assert_other_code("crates/low/src/lib.rt", "result ≡ 1", "result ≡ 2")
+        self.assert_other_code("crates/mid/src/lib.rt", "-> u64", "-> u32")
+
+    def test_a_contract_of_the_crate_counts(self) -> None:
+        self.assert_other_code("crates/high/src/rows.rt", "result ≡ 1", "result ≡ 2")
+
+    def test_a_new_crate_below_counts(self) -> None:
+        self.assert_other_code("crates.txt", "high: mid", "high: mid beside")
+
+    def test_the_file_itself_counts(self) -> None:
+        self.assert_other_code("crates/high/src/lib.rt", "    1", "    2")
+
+    def test_other_bodies_do_not_count(self) -> None:
+        self.assert_same_code("crates/low/src/lib.rt", "    1", "    2")
+        self.assert_same_code("crates/high/src/rows.rt", "    1", "    2")
+
+    def test_a_private_function_of_a_crate_below_does_not_count(self) -> None:
+        self.assert_same_code("crates/low/src/lib.rt", "fn own() -> u64", "fn own(x: u64) -> u64")
+
+    def test_a_crate_that_is_not_below_does_not_count(self) -> None:
+        self.assert_same_code("crates/beside/src/lib.rt", "-> u64", "-> u32")
+
+    def test_a_comment_does_not_count(self) -> None:
+        self.assert_same_code("crates/high/src/lib.rt", "/// Counts.", "/// Counts all.")
+        self.assert_same_code("crates/low/specs/Rows.antt", "-- the rows", "-- all rows")
+
+
 class Entries(unittest.TestCase):
     entry = {"name": "name", "file": "src/lib.rt", "old": "1", "new": "2", "reason": "why"}
 
@@ -92,22 +240,15 @@ class Verdicts(unittest.TestCase):
         self.assertEqual(verdict_kept(kept, Plant("name", "src/lib.rt", "1", "3"), "code"), "not tried")
         self.assertEqual(verdict_kept({}, self.plant, "code"), "not tried")
 
-    def test_a_comment_makes_no_other_code(self) -> None:
-        sources = [
-            "/// Counts.\nfn count() -> u64 {\n    1\n}\n",
-            "/// Counts all.\nfn count() -> u64 {\n    // why\n    1\n}\n",
-            "/// Counts.\nfn count() -> u64 {\n    2\n}\n",
-        ]
+    def test_a_verdict_names_the_copy_that_was_tried(self) -> None:
         with tempfile.TemporaryDirectory() as folder:
-            codes = [self.code_of(Path(folder) / str(place), source) for place, source in enumerate(sources)]
-        self.assertEqual(codes[0], codes[1])
-        self.assertNotEqual(codes[0], codes[2])
-
-    @staticmethod
-    def code_of(crate: Path, source: str) -> str:
-        (crate / "src").mkdir(parents=True)
-        (crate / "src" / "lib.rt").write_text(source)
-        return code_at(crate, "src/lib.rt")
+            source = Path(folder) / "crates" / "high" / "src" / "lib.rt"
+            source.parent.mkdir(parents=True)
+            source.write_text("fn count() -> u64 {\n    1\n}\n")
+            (Path(folder) / "crates.txt").write_text("high:\n")
+            said = newly_said({"name": "refused"}, [self.plant, Plant("other", "src/lib.rt", "1", "2")], source.parent.parent)
+            tried_on = checksum_of_file(Path(folder), "high", "src/lib.rt")
+        self.assertEqual(said, {"name": [self.plant.mark(), "refused", tried_on]})
 
     def test_a_verdict_of_no_plant_is_dropped(self) -> None:
         kept = {"name": [self.plant.mark(), "refused", "code"], "gone": ["mark", "refused", "code"]}

@@ -20,10 +20,10 @@ became trivial: a plant against which nothing else is said counts as proved.
 The copy has nothing of `out/`. Each crate is checked once with no plant, and has to be proved: that takes as long as a first
 check of the crate and of those below it, or less if checks in other copies on this machine kept them.
 
-Verdicts are kept in `plants/verdicts.json`, and all of them are printed as a table in the end. Each names what it was tried on,
-by a checksum of the file that the plant is in and of the crate's specs/, without lines that are comments. If any of these was
-changed since, the verdict is old, and counts for nothing. A plant whose own text was changed is not tried. Must-fail edits are
-the telling plants, and the gate tries them; these here are tried by hand.
+Verdicts are kept in `plants/verdicts.json`, and all of them are printed as a table in the end. Each has a checksum of what its
+plant was tried on: the plant's file, and the definitions and contracts of its crate and of all crates below (contracts.py). If
+any of these was changed since, the verdict is old, and counts for nothing. A plant whose own text was changed is not tried.
+Must-fail edits are the telling plants, and the gate tries them; these here are tried by hand.
 """
 
 from __future__ import annotations
@@ -37,10 +37,10 @@ import sys
 import tempfile
 import tomllib
 from dataclasses import dataclass
-from functools import cache
 from pathlib import Path
 from typing import Any
 
+from contracts import FUNCTION, checksum_of_file, parts_of_function
 from repository import ROOT, copy_of
 
 VERDICTS = ROOT / "plants" / "verdicts.json"
@@ -48,12 +48,8 @@ VERDICTS = ROOT / "plants" / "verdicts.json"
 FELL_AWAY = "the two types are `Unit {0}` (expected)"
 FIRST_CHECK = ["rt", "check"]
 CHECK = ["timeout", "1500", *FIRST_CHECK]
-# By plant: its mark, what became of it, and the code that it was tried on.
+# By plant: its mark, what became of it, and a checksum of the code that it was tried on.
 Kept = dict[str, list[str]]
-# A line that is a comment, of a source or of a definition.
-COMMENT = re.compile(rb"^[ ]*(?://|--)[^\n]*\n", re.M)
-# The begin of a function, in the layout of `rt fmt`.
-FUNCTION = re.compile(r"^([ ]*)(?:pub(?:\([a-z]+\))? )?(?:const )?(?:unsafe )?fn ([a-z_0-9]+)", re.M)
 
 
 @dataclass(frozen=True)
@@ -97,19 +93,7 @@ class Plant:
 def function_at(text: str, place: int) -> str:
     """The name of the innermost function that goes on at this place of a file in `rt fmt`'s layout; none behind its end."""
     begun = [found for found in FUNCTION.finditer(text) if found.start() < place]
-    return next((found[2] for found in reversed(begun) if place <= end_of_function(text, found)), "")
-
-
-def end_of_function(text: str, begun: re.Match[str]) -> int:
-    """Where a function ends: at the brace that stands under its first word, or where it is declared without a body."""
-    for line in re.finditer(r"^.*$", text[begun.start() :], re.M):
-        if line[0] == begun[1] + "{" or line[0].endswith(" {"):
-            body = begun.start() + line.end()
-            closed = re.compile(rf"^{begun[1]}\}}", re.M).search(text, body)
-            return closed.end() if closed else len(text)
-        if line[0].endswith((";", "{}")):
-            return begun.start() + line.end()
-    return len(text)
+    return next((found[3] for found in reversed(begun) if place <= parts_of_function(text, found)[1]), "")
 
 
 def plant_of(entry: dict[str, Any]) -> Plant:
@@ -234,21 +218,12 @@ def try_plants(crate: Path, plants: list[Plant]) -> None:
     stale = [plant.name for plant in plants if plant.put(sources[plant.file]) is None]
     for plant in stale:
         print(f"{crate.name}: {plant}: its text does not stand there once", flush=True)
-    keep(crate.name, dict.fromkeys(stale, "stale"))
+    keep(crate, dict.fromkeys(stale, "stale"), plants)
     left = [plant for plant in plants if plant.name not in stale]
     while left:
         group = group_of(left, sources)
-        keep(crate.name, try_group(crate, group, sources))
+        keep(crate, try_group(crate, group, sources), plants)
         left = [plant for plant in left if plant not in group]
-
-
-@cache
-def code_at(crate: Path, file: str) -> str:
-    """What tells the code that a plant of this file is tried on: the file and the crate's definitions, without comments."""
-    digest = hashlib.sha256()
-    for path in [crate / file, *sorted((crate / "specs").rglob("*.antt"))]:
-        digest.update(path.relative_to(crate).as_posix().encode() + b"\0" + COMMENT.sub(b"", path.read_bytes()) + b"\0")
-    return digest.hexdigest()[:12]
 
 
 def crates_with_plants() -> list[str]:
@@ -273,7 +248,7 @@ def verdict_kept(kept: Kept, plant: Plant, code: str) -> str:
 
 def verdicts_of(name: str, plants: list[Plant]) -> dict[Plant, str]:
     kept = kept_verdicts().get(name, {})
-    return {plant: verdict_kept(kept, plant, code_at(ROOT / "crates" / name, plant.file)) for plant in plants}
+    return {plant: verdict_kept(kept, plant, checksum_of_file(ROOT, name, plant.file)) for plant in plants}
 
 
 def still_said(kept: Kept, plants: list[Plant]) -> Kept:
@@ -282,16 +257,17 @@ def still_said(kept: Kept, plants: list[Plant]) -> Kept:
 
 
 def newly_said(found: dict[str, str], plants: list[Plant], crate: Path) -> Kept:
-    """The verdicts that were found, each with its plant's mark and the code that it was tried on."""
+    """The verdicts that were found in this copy of a crate, each with its plant's mark and the code that it was tried on."""
+    root = crate.parent.parent
     tried = [plant for plant in plants if plant.name in found]
-    return {plant.name: [plant.mark(), found[plant.name], code_at(crate, plant.file)] for plant in tried}
+    return {plant.name: [plant.mark(), found[plant.name], checksum_of_file(root, crate.name, plant.file)] for plant in tried}
 
 
-def keep(name: str, found: dict[str, str]) -> None:
-    """Keeps what was found of the plants of a crate, and drops the verdicts that are of no plant."""
+def keep(crate: Path, found: dict[str, str], plants: list[Plant]) -> None:
+    """Keeps what was found of these plants in a copy of their crate, and drops the verdicts that are of no plant."""
     kept = kept_verdicts()
-    new = {crate: still_said(kept.get(crate, {}), plants_of(crate)) for crate in crates_with_plants()}
-    new[name] |= newly_said(found, plants_of(name), ROOT / "crates" / name)
+    new = {name: still_said(kept.get(name, {}), plants_of(name)) for name in crates_with_plants()}
+    new[crate.name] |= still_said(newly_said(found, plants, crate), plants_of(crate.name))
     VERDICTS.write_text(json.dumps(new, indent=1, sort_keys=True) + "\n")
 
 
