@@ -1,4 +1,5 @@
-"""Tests of tools/try_plants.py and tools/contracts.py: which function a plant is in, and when a verdict is old.
+"""Tests of tools/try_plants.py and tools/contracts.py: which function a plant is in, and when a verdict is old. Each plant of
+the repository has to stand once in its file, and the tests that it names have to be there.
 
     python3 tools/test_try_plants.py
 """
@@ -7,10 +8,27 @@ from __future__ import annotations
 
 import tempfile
 import unittest
+from collections import Counter
 from pathlib import Path
 
 from contracts import checksum_of_file, contracts_of
-from try_plants import Plant, newly_said, plant_of, still_said, verdict_kept, wanted_of
+from counts import table_in
+from repository import ROOT
+from try_plants import (
+    Plant,
+    crates_with_plants,
+    faults,
+    faults_of,
+    is_there,
+    kind_of,
+    newly_said,
+    plant_of,
+    plants_of,
+    still_said,
+    verdict_kept,
+    wanted_of,
+)
+from want_of_memory import places_in
 
 SOURCE = """
 const FIRST: usize = 1;
@@ -261,6 +279,67 @@ class Verdicts(unittest.TestCase):
         self.assertEqual(wanted_of(said, True, []), [two, three])
         self.assertEqual(wanted_of(said, False, ["one", "three"]), [one, three])
         self.assertEqual(wanted_of(said, True, ["one", "three"]), [three])
+
+
+class Kinds(unittest.TestCase):
+    def test_what_is_proved_counts_by_what_refuses_it(self) -> None:
+        entry = {"name": "name", "file": "src/lib.rt", "old": "1", "new": "2", "reason": "why"}
+        self.assertEqual(kind_of(plant_of({**entry, "refused_by": ["a test"]}), "PROVED"), "proved, refused by a test")
+        self.assertEqual(kind_of(plant_of({**entry, "costs": "time"}), "PROVED"), "proved, costs time alone")
+        self.assertEqual(kind_of(plant_of(entry), "PROVED"), "proved")
+
+    def test_other_verdicts_count_as_they_are(self) -> None:
+        plant = Plant("name", "src/lib.rt", "1", "2", refused_by=("a test",))
+        verdicts = ("refused", "old", "not tried", "stale", "no Rust")
+        kinds = ["refused by a contract", "old", "not tried", "not tried", "not tried"]
+        self.assertEqual([kind_of(plant, verdict) for verdict in verdicts], kinds)
+
+
+class Pages(unittest.TestCase):
+    def test_a_table_is_found_though_a_column_came(self) -> None:
+        page = ["| crate | tests |", "|---|---|", "", "| crate | planted | old |", "|---|---|---|", "| a | 2 | 1 |", "", "text"]
+        self.assertEqual(table_in(page, "| crate | planted | proved | old |"), (3, 6))
+        self.assertEqual(table_in(page, "| crate | edits |"), (8, 8))
+
+
+class ThisRepository(unittest.TestCase):
+    crate = ROOT / "crates" / "seat_rules"
+
+    def test_each_plant_stands_once_and_its_tests_are_there(self) -> None:
+        self.assertEqual(faults(), [])
+
+    def test_a_text_that_does_not_stand_once_is_a_fault(self) -> None:
+        fault = ["its text does not stand there once"]
+        for file, old in [("src/stop_word.rt", "no such text"), ("src/stop_word.rt", "result"), ("src/none.rt", "result")]:
+            self.assertEqual(faults_of(Plant("name", file, old, "other"), self.crate), fault)
+
+    def test_costs_are_time_and_refused_by_no_test(self) -> None:
+        entry = {"name": "name", "file": "src/stop_word.rt", "old": "execution.value()", "new": "0"}
+        fault = ["`costs` is time, and is left out if a test refuses the plant"]
+        self.assertEqual(faults_of(plant_of({**entry, "costs": "time"}), self.crate), [])
+        self.assertEqual(faults_of(plant_of({**entry, "costs": "memory"}), self.crate), fault)
+        tested = plant_of({**entry, "costs": "time", "refused_by": ["cases/operator/stop_seen"]})
+        self.assertEqual(faults_of(tested, self.crate), fault)
+
+    def test_a_reason_that_names_a_test_is_a_fault(self) -> None:
+        plant = Plant("name", "src/stop_word.rt", "execution.value()", "0", reason="the case stop_seen shows it")
+        self.assertEqual(faults_of(plant, self.crate), ["its reason names a test, which `refused_by` has to name"])
+
+    def test_tests_are_there_by_their_kind(self) -> None:
+        there = ["cases/scripts/nightly_chain", "cases/operator/stop_seen", "cases/commands.toml", "tools/fail_each_call.py"]
+        for test in [*there, "crates/service_tests: a_ring_is_a_cycle"]:
+            self.assertTrue(is_there(test), test)
+        gone = ["cases/scripts/stop_seen", "cases/scripts", "tools/repository.py", "crates/service_cases", "README.md"]
+        for test in [*gone, "crates/service_tests: spot_of", "crates/no_tests: a_ring_is_a_cycle"]:
+            self.assertFalse(is_there(test), test)
+
+    def test_want_of_memory_is_found_where_plants_say_so(self) -> None:
+        for crate in crates_with_plants():
+            for plant in plants_of(crate):
+                if "tools/want_of_memory.py" in plant.refused_by:
+                    text = (ROOT / "crates" / crate / plant.file).read_text()
+                    found = Counter(places_in(plant.put(text) or "")) - Counter(places_in(text))
+                    self.assertTrue(found, f"{crate}: {plant.name}")
 
 
 if __name__ == "__main__":

@@ -4,10 +4,12 @@
     python3 tools/try_plants.py --new CRATE..      only those that have no verdict on the code as it stands
     python3 tools/try_plants.py --only NAME CRATE  only the plant of this name; --only may be given again
     python3 tools/try_plants.py                    tries nothing
+    python3 tools/try_plants.py --check            tries nothing, and says which plants do not stand once in their files, and
+                                                   which of the tests that plants name are not there
 
-A plant that is still proved is a gap in a contract, unless its `reason` says what else refuses it. Each function is
-proved by itself, so one check tries a plant in each of many functions; a second plant of a function waits for the next
-check. A plant is
+A plant that is still proved is a gap in a contract, unless `refused_by` names a test that refuses it, or it costs time alone.
+Each function is proved by itself, so one check tries a plant in each of many functions; a second plant of a function waits
+for the next check. A plant is
 
 - `refused` where its function gets no proof for a goal of its own,
 - `PROVED` where its function is proved,
@@ -36,6 +38,7 @@ import subprocess
 import sys
 import tempfile
 import tomllib
+from collections import Counter
 from dataclasses import dataclass
 from pathlib import Path
 from typing import Any
@@ -50,13 +53,17 @@ FIRST_CHECK = ["rt", "check"]
 CHECK = ["timeout", "1500", *FIRST_CHECK]
 # By plant: its mark, what became of it, and a checksum of the code that it was tried on.
 Kept = dict[str, list[str]]
+# The columns of the table.
+KINDS = ["refused by a contract", "proved, refused by a test", "proved, costs time alone", "proved", "old", "not tried"]
 
 
 @dataclass(frozen=True)
 class Plant:
     """A wrong body: a text that stands once in a file, and what stands there instead.
 
-    A `reason` says what refuses the plant where no contract can.
+    A `reason` says why no contract refuses the plant. `refused_by` names the tests that do: scripts (cases/scripts/NAME),
+    command lines (cases/commands.toml), tests in Rattle (crates/CRATE: NAME) or tools of the gate (tools/NAME.py). A plant with
+    `costs` has the same results as the code that it replaces, and costs time alone.
     """
 
     name: str
@@ -65,6 +72,8 @@ class Plant:
     new: str
     more: tuple[tuple[str, str], ...] = ()
     reason: str = ""
+    refused_by: tuple[str, ...] = ()
+    costs: str = ""
 
     def mark(self) -> str:
         """What tells this plant from an edited one of the same name."""
@@ -97,9 +106,9 @@ def function_at(text: str, place: int) -> str:
 
 
 def plant_of(entry: dict[str, Any]) -> Plant:
-    """The plant of an entry, whose further pairs are lists. A member that a plant does not have is an error."""
+    """The plant of an entry, which has lists. A member that a plant does not have is an error."""
     pairs = tuple((old, new) for old, new in entry.get("more", []))
-    members: dict[str, Any] = {**entry, "more": pairs}
+    members: dict[str, Any] = {**entry, "more": pairs, "refused_by": tuple(entry.get("refused_by", []))}
     return Plant(**members)
 
 
@@ -287,24 +296,28 @@ def try_crates(crates: list[str], only_new: bool, names: list[str]) -> None:
                 try_plants(copied / name, wanted[name])
 
 
+def kind_of(plant: Plant, verdict: str) -> str:
+    """The column of the table in which a plant with this verdict counts."""
+    if verdict == "refused":
+        return "refused by a contract"
+    if verdict == "PROVED" and plant.refused_by:
+        return "proved, refused by a test"
+    if verdict == "PROVED":
+        return "proved, costs time alone" if plant.costs else "proved"
+    return "old" if verdict == "old" else "not tried"
+
+
 def row_of(name: str) -> tuple[list[int], list[str]]:
-    """How many plants a crate has, and of each kind; and what is proved with no reason given."""
-    said = verdicts_of(name, plants_of(name))
-    proved = [plant for plant in said if said[plant] == "PROVED"]
-    counts = [
-        len(said),
-        sum(verdict == "refused" for verdict in said.values()),
-        sum(bool(plant.reason) for plant in proved),
-        sum(not plant.reason for plant in proved),
-        sum(verdict == "old" for verdict in said.values()),
-        sum(verdict not in ("refused", "PROVED", "old") for verdict in said.values()),
-    ]
-    return counts, [f"{name}: {plant.name}" for plant in proved if not plant.reason]
+    """How many plants a crate has, and of each kind; and what is proved and refused by nothing."""
+    kinds = {plant: kind_of(plant, verdict) for plant, verdict in verdicts_of(name, plants_of(name)).items()}
+    counts = Counter(kinds.values())
+    gaps = [f"{name}: {plant.name}" for plant, kind in kinds.items() if kind == "proved"]
+    return [len(kinds), *(counts[kind] for kind in KINDS)], gaps
 
 
 def table() -> tuple[list[str], list[str]]:
-    """What became of all plants by crate, as the lines of a table; and those that are proved with no reason given."""
-    heads = ["planted", "refused by a contract", "proved, refused by a test", "proved", "old", "not tried"]
+    """What became of all plants by crate, as the lines of a table; and those that are proved and refused by nothing."""
+    heads = ["planted", *KINDS]
     lines = ["| crate | " + " | ".join(heads) + " |", "|---|" + "---|" * len(heads)]
     totals = [0] * len(heads)
     gaps: list[str] = []
@@ -317,12 +330,49 @@ def table() -> tuple[list[str], list[str]]:
     return lines, gaps
 
 
+def is_there(test: str) -> bool:
+    """Whether the repository has this test: a test in Rattle, a tool of the gate, or a file of cases with its replies."""
+    folder, colon, name = test.partition(": ")
+    if colon:
+        head = re.compile(rf"^#\[test\]\n(?:#\[.*\n)*fn {re.escape(name)}\(", re.M)
+        return any(head.search(path.read_text()) for path in (ROOT / folder / "src").rglob("*.rt"))
+    if test.startswith("tools/"):
+        return f" {test}\n" in (ROOT / ".ci" / "run").read_text()
+    has_script = any((ROOT / f"{test}{ending}").is_file() for ending in (".script", ".scripts"))
+    return (has_script and (ROOT / f"{test}.replies").is_file()) or (test == "cases/commands.toml" and (ROOT / test).is_file())
+
+
+def faults_of(plant: Plant, crate: Path) -> list[str]:
+    """What is wrong with a plant of this crate as it stands."""
+    path = crate / plant.file
+    faults = [] if path.is_file() and plant.put(path.read_text()) is not None else ["its text does not stand there once"]
+    faults += [f"there is no test {test}" for test in plant.refused_by if not is_there(test)]
+    if plant.costs not in ("", "time") or (plant.costs and plant.refused_by):
+        faults.append("`costs` is time, and is left out if a test refuses the plant")
+    if re.search(r"[/_`]", plant.reason):
+        faults.append("its reason names a test, which `refused_by` has to name")
+    return faults
+
+
+def faults() -> list[str]:
+    """What is wrong with plants as they stand."""
+    plants = [(name, plant) for name in crates_with_plants() for plant in plants_of(name)]
+    found = [(name, plant, fault) for name, plant in plants for fault in faults_of(plant, ROOT / "crates" / name)]
+    return [f"plants/{name}.toml: {plant.name}: {fault}" for name, plant, fault in found]
+
+
 def main() -> int:
     parser = argparse.ArgumentParser(description=__doc__.splitlines()[0])
     parser.add_argument("--new", action="store_true", help="only plants without a verdict")
     parser.add_argument("--only", action="append", default=[], metavar="NAME", help="only the plant of this name")
+    parser.add_argument("--check", action="store_true", help="try nothing, and look whether texts and tests are there")
     parser.add_argument("crates", nargs="*")
     words = parser.parse_args()
+    if words.check:
+        found = faults()
+        for fault in found:
+            print(fault)
+        return 1 if found else 0
     try_crates(words.crates, words.new, words.only)
     lines, gaps = table()
     print("\n".join(lines))
