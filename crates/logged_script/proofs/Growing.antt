@@ -1,5 +1,5 @@
 -- A catalogue that grows.
-use Rattle.std.proofs.Common.{◌≡◌, ◌∙◌, ℕ, ◌<◌, ◌≤◌, ◌^◌, Bool, true, false, cond, List, [], ◌∷◌, length, Result, Ok, Err, inr, refl, sym, ap, subst, arith, ltb-false}
+use Rattle.std.proofs.Common.{◌≡◌, ◌∙◌, ℕ, ◌<◌, ◌≤◌, ◌^◌, Bool, true, false, cond, List, [], ◌∷◌, length, Result, Ok, Err, inr, refl, sym, ap, subst, arith, ltb-false, ltb-true}
 use Rattle.std.specs.Prelude.{nat_lt, ◌+◌, ◌++◌}
 use Rattle.std.proofs.lemmas.Bool.{false≢true}
 use Rattle.std.proofs.lemmas.List.{append-nil, length-append}
@@ -22,13 +22,13 @@ short_by line catalogue true e is = absurd (cc is)
 short_by line catalogue false e is = ltb-false MAX_LINE (length line) e
 
 -- the line of a catalogue is short
-pub catalogue_is_short : (line : List ℕ) (catalogue : List JobTree) → catalogue_at line ≡ Ok catalogue → length line < 2 ^ 32
+pub catalogue_is_short : (line : List ℕ) (catalogue : List JobTree) → catalogue_at line ≡ Ok catalogue → length line ≤ 2 ^ 24
 catalogue_is_short line catalogue is =
     let short : length line ≤ 16777216 = short_by line catalogue (nat_lt MAX_LINE (length line)) refl is in
     omega (arith, short)
 
 grown_by : (kept more given : List JobTree) (b : Bool) → given ≡ kept ++ more → nat_lt (length kept) (length given) ≡ b → HasGrown kept given b
-grown_by kept more given true is e = (more, is)
+grown_by kept more given true is e = ((more, is), ltb-true (length kept) (length given) e)
 grown_by kept [] given false is e = is ∙ append-nil kept
 grown_by kept (job ∷ more) given false is e =
     let size : length given ≡ length kept + length (job ∷ more) = ap length is ∙ length-append kept (job ∷ more) in

@@ -19,7 +19,7 @@ use Rattle.script_text.specs.declared.command.Command.TheVariants.{BadLine, Text
 use Rattle.script_engine.specs.Script.{begin, catalogue_at, command_at, history_for, history_past, line_after, line_text}
 use Rattle.script_engine.specs.Standing.{Stands}
 use Rattle.script_engine.proofs.Applying.{begun, counted_all}
-use Rattle.script_log.specs.Openings.{replayed}
+use Rattle.script_log.specs.Replays.{replayed}
 use Rattle.script_log.specs.Runs.{History as LogHistory, after}
 use Rattle.logged_script.specs.Histories.{history_at, is_kept, jobs_read, reply_at}
 

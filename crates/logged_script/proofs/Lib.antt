@@ -2,4 +2,3 @@ pub mod Floats
 pub mod Growing
 pub mod Keeping
 pub mod Opened
-pub mod Running

@@ -1,30 +1,41 @@
--- The opening of a script's log.
-use Rattle.std.specs.Prelude.{ℕ, ◌≡◌, ◌⊎◌, List, [], ◌∷◌, ◌++◌, Bool, Ok}
-use Rattle.jsl_model.specs.Jobs.{JobTree}
+-- Restoring a script's log.
+use Rattle.std.specs.Prelude.{ℕ, ◌≡◌, ◌⊎◌, List, [], ◌∷◌, ◌++◌, drop, Bool, if◌then◌else◌}
 use Rattle.jsl_json.specs.declared.fault.ReadFault.{ReadFault as CatalogueFault}
 use Rattle.jsl_json.specs.declared.fault.ReadFault.TheVariants as catalogues
 use Rattle.durable_log.specs.Format.{LogRecord}
+use Rattle.durable_log.specs.Files.{StandsFor}
+use Rattle.durable_log.specs.Logs.{records_of, IsAtRest, EndsAt}
 use Rattle.durable_log.specs.declared.reading.ReadFault.{ReadFault}
 use Rattle.durable_log.specs.declared.reading.ReadFault.TheVariants as reads
-use Rattle.script_engine.specs.Script.{catalogue_at}
-use Rattle.script_log.specs.Runs.{catalogue_record, last_catalogue}
-use Rattle.script_log.specs.declared.fault.AppendFault.{AppendFault}
-use Rattle.script_log.specs.declared.fault.AppendFault.TheVariants as appends
-use Rattle.script_log.specs.declared.opening.OpenFault.{OpenFault}
-use Rattle.script_log.specs.declared.opening.OpenFault.TheVariants as opens
-use Rattle.logged_script.specs.Faults.{HasGrown}
+use Rattle.script_log.specs.Runs.{catalogue_record}
+use Rattle.script_log.specs.Replays.{AreAlike, replayed}
+use Rattle.script_log.specs.declared.replays.ReplayFault.{ReplayFault}
+use Rattle.script_log.specs.declared.replays.ReplayFault.TheVariants as replays
+use Rattle.logged_script.specs.Histories.{is_kept, reply_at}
+use Rattle.logged_script.specs.Faults.{GoesOnFrom}
 use Rattle.logged_script.specs.declared.fault.LogFault.TheVariants.{Foreign, Later, Damaged, OtherReply}
 use Rattle.logged_script.specs.declared.opening.OpeningFault.{OpeningFault}
-use Rattle.logged_script.specs.declared.opening.OpeningFault.TheVariants.{Refused, Failed, OutOfMemory}
+use Rattle.logged_script.specs.declared.opening.OpeningFault.TheVariants.{Refused, OutOfMemory}
 
 -- the records with which a run begins: those of the file, and after them the given catalogue if it has grown
-abbrev pub IsBegun : List LogRecord → List ℕ → List LogRecord → Type 0
-IsBegun records line now = (now ≡ records) ⊎ (now ≡ records ++ catalogue_record line ∷ [])
+abbrev pub records_begun : List LogRecord → List ℕ → Bool → List LogRecord
+records_begun records line grown = if grown then records ++ catalogue_record line ∷ [] else records
 
--- the catalogue of the line has all jobs of the records' last one, and more if it has grown
-abbrev pub GoesOnFrom : List LogRecord → List ℕ → Bool → Type 0
-GoesOnFrom records line grown = (kept : List JobTree) × (given : List JobTree)
-    × (catalogue_at (last_catalogue [] records) ≡ Ok kept) × (catalogue_at line ≡ Ok given) × HasGrown kept given grown
+-- A LOG GOES ON: the file stands for its records. Their last catalogue has the first jobs of the given one, and
+-- each kept line is kept again with a reply of its check. The given catalogue becomes one more record exactly
+-- if it has more jobs
+pub record IsBegun (file line : List ℕ) (now : List LogRecord) : Type 0 where
+  pub whole : StandsFor (records_of file) file
+  pub grown : Bool
+  pub goes_on : GoesOnFrom (records_of file) line grown
+  pub alike : AreAlike is_kept reply_at (replayed line []) (records_of file)
+  pub records : now ≡ records_begun (records_of file) line grown
+
+-- the bytes that are cut off: those after the records, and none if the file is at rest
+pub record IsCutOff (file cut : List ℕ) : Type 0 where
+  pub at : ℕ
+  pub ends : EndsAt file at
+  pub bytes : (IsAtRest file at × (cut ≡ [])) ⊎ (cut ≡ drop at file)
 
 -- the fault of a log that was not read
 abbrev pub fault_of_read : ReadFault → OpeningFault
@@ -34,15 +45,9 @@ fault_of_read (reads.Damaged number byte) = Refused (Damaged number byte)
 fault_of_read reads.OutOfMemory = OutOfMemory
 
 -- the fault of a log whose lines can't be run again
-abbrev pub fault_of_open : OpenFault → OpeningFault
-fault_of_open (opens.OtherReply number) = Refused (OtherReply number)
-fault_of_open opens.OutOfMemory = OutOfMemory
-fault_of_open opens.Failed = Failed
-
--- the fault of a log to which the given catalogue was not added
-abbrev pub fault_of_append : AppendFault → OpeningFault
-fault_of_append (appends.Log fault) = Failed
-fault_of_append appends.OutOfMemory = OutOfMemory
+abbrev pub fault_of_replay : ReplayFault → OpeningFault
+fault_of_replay (replays.OtherReply number) = Refused (OtherReply number)
+fault_of_replay replays.OutOfMemory = OutOfMemory
 
 -- the fault of a log whose last catalogue can't be read
 abbrev pub fault_of_catalogue : CatalogueFault → OpeningFault

@@ -1,19 +1,19 @@
 // The catalogue of a log, and the given catalogue.
-ghost use Rattle.std.specs.Prelude.{◌≡◌, ◌∷◌, [], false, List, ℕ, map, Ok, Err, IfOk, IfErr, nat_lt, length};
+ghost use Rattle.std.specs.Prelude.{◌≡◌, ◌∷◌, [], false, List, map, Ok, Err, IfOk, IfErr};
 ghost use Rattle.jsl_model.specs.Jobs.{JobTree};
 ghost use Rattle.jsl_json.specs.Catalogues.{is_out_of_memory};
 ghost use Rattle.durable_log.specs.Files.{StandsFor};
-ghost use Rattle.durable_log.specs.Logs.{IsAtRest};
+ghost use Rattle.durable_log.specs.Logs.{IsRest};
 ghost use Rattle.durable_log.specs.Shown.{record_shown};
 ghost use Rattle.script_engine.specs.Script.{catalogue_at};
-ghost use Rattle.script_log.specs.Runs.{catalogue_record, last_catalogue};
+ghost use Rattle.script_log.specs.Runs.{catalogue_record};
 ghost use Rattle.logged_script.specs.Openings.{fault_of_catalogue};
-ghost use Rattle.logged_script.specs.Faults.{IsCatalogueFault, IsGrowthFault, HasGrown};
+ghost use Rattle.logged_script.specs.Faults.{HasCatalogue, IsCatalogueFault, IsGrowthFault, HasGrown};
 
 use crate::fault::LogFault;
 use crate::opening::OpeningFault;
 use catalogue_growth::first_other_job;
-use durable_log::{Record, new_log as log_of};
+use durable_log::{LogFile, Record, new_log as log_of};
 use jsl_json::{ReadFault, read_catalogue};
 use jsl_model::Catalogue;
 use script_lines::MAX_LINE;
@@ -36,16 +36,16 @@ pub fn catalogue_at(alloc: Global, line: &[u8]) -> Result<Catalogue, ReadFault>
     read_catalogue(alloc, line)
 }
 
-/// Returns the bytes of a new log over the catalogue of a line.
+/// Returns a new log over the catalogue of a line.
 ///
 /// # Errors
 ///
 /// Returns `OutOfMemory` if memory is refused.
 #[tactic(auto, using(crate::proofs::Growing::catalogue_is_short))]
-pub fn new_log(alloc: Global, line: &[u8]) -> Result<Vec<u8>, AllocError>
+pub fn new_log(alloc: Global, line: &[u8]) -> Result<LogFile, AllocError>
     requires { (catalogue : List JobTree) × (catalogue_at line.now ≡ Ok catalogue) }
-    ensures records { IfOk result (λ file. StandsFor (catalogue_record line.now ∷ []) file.items) }
-    ensures clean { IfOk result (λ file. (end : ℕ) × IsAtRest file.items end) }
+    ensures records { IfOk result (λ file. StandsFor (catalogue_record line.now ∷ []) file.bytes.items) }
+    ensures rest { IfOk result (λ file. IsRest file.bytes.items file.rest) }
 {
     let first = Record {
         mark: CATALOGUE_MARK,
@@ -67,7 +67,7 @@ fn unreadable(fault: ReadFault) -> OpeningFault
 
 // Reads the last catalogue of a log.
 fn last_catalogue(alloc: Global, records: &[Record<'_>]) -> Result<Catalogue, OpeningFault>
-    ensures read { IfOk result (λ kept. catalogue_at (last_catalogue [] (map record_shown records.now)) ≡ Ok kept) }
+    ensures has { IfOk result (HasCatalogue (map record_shown records.now)) }
     ensures fault { IfErr result (IsCatalogueFault (map record_shown records.now)) }
 {
     let found = find_catalogues(records);
@@ -90,8 +90,7 @@ pub(crate) fn has_grown(
     records: &[Record<'_>],
     catalogue: &Catalogue,
 ) -> Result<bool, OpeningFault>
-    ensures grown { IfOk result (λ grown. (kept : List JobTree) × (catalogue_at (last_catalogue [] (map record_shown records.now)) ≡ Ok kept)
-        × HasGrown kept catalogue.now grown) }
+    ensures grown { IfOk result (λ grown. (kept : List JobTree) × HasCatalogue (map record_shown records.now) kept × HasGrown kept catalogue.now grown) }
     ensures fault { IfErr result (IsGrowthFault (map record_shown records.now) catalogue.now) }
 {
     let kept = last_catalogue(alloc, records)?;

@@ -1,7 +1,7 @@
 // A job repository that replies to the lines of a script.
 ghost use Rattle.std.specs.Prelude.{◌≡◌, [], List, ℕ, Ok, IfOk};
 ghost use Rattle.script_engine.specs.Script.{catalogue_at};
-ghost use Rattle.script_log.specs.Openings.{replayed};
+ghost use Rattle.script_log.specs.Replays.{replayed};
 ghost use Rattle.logged_script.specs.Histories.{Answers, is_kept, reply_at};
 
 use batch_ids::OutOfMemory;

@@ -1,5 +1,5 @@
-//! Runs a script over a log on the disk: an engine that is a job repository, the faults of a log,
-//! and the run.
+//! Runs a script over a log on the disk: an engine that is a job repository, the restoring of a log
+//! with its faults, and the run.
 #![tactic(auto)]
 
 mod catalogue;
@@ -13,7 +13,7 @@ mod text;
 pub use catalogue::{catalogue_at, new_log};
 pub use engine::ScriptEngine;
 pub use fault::LogFault;
-pub use opening::{OpenedLog, OpeningFault, open_log};
+pub use opening::{OpeningFault, RestoredLog, restore};
 pub use outcome::LoggedFault;
-pub use run::answer_logged;
+pub use run::answer_restored;
 pub use text::log_fault_text;

@@ -1,35 +1,46 @@
-// Opening the log of a script.
-ghost use Rattle.std.specs.Prelude.{◌≡◌, ◌∷◌, [], map, Ok, IfOk, IfErr};
-ghost use Rattle.log_host.specs.Host.{Only, LeavesOnly};
+// Restoring the log of a script: pure functions over the bytes of its file.
+ghost use Rattle.std.specs.Prelude.{◌≡◌, ◌≤◌, ◌^◌, [], length, map, Ok, IfOk, IfErr};
 ghost use Rattle.durable_log.specs.Files.{StandsFor};
-ghost use Rattle.durable_log.specs.Logs.{records_of, IsSettled, waiting_in, BeforeOrAfter};
+ghost use Rattle.durable_log.specs.Logs.{records_of, IsRest};
 ghost use Rattle.durable_log.specs.Shown.{record_shown, IsEnd};
 ghost use Rattle.script_engine.specs.Script.{catalogue_at};
-ghost use Rattle.script_log.specs.Runs.{catalogue_record, history_of};
-ghost use Rattle.script_log.specs.Openings.{replayed};
+ghost use Rattle.script_log.specs.Runs.{history_of};
+ghost use Rattle.script_log.specs.Replays.{AreAlike, replayed, IsReplayFault};
+ghost use Rattle.script_log.specs.declared.replays.ReplayFault.{ReplayFault as WhyNot};
 ghost use Rattle.logged_script.specs.declared.opening.OpeningFault.TheVariants.{OutOfMemory};
-ghost use Rattle.logged_script.specs.Histories.{Answers};
-ghost use Rattle.logged_script.specs.Faults.{IsAddingFault, IsOpeningFault};
-ghost use Rattle.logged_script.specs.Openings.{IsBegun, GoesOnFrom, fault_of_read, fault_of_open, fault_of_append};
+ghost use Rattle.logged_script.specs.Histories.{Answers, is_kept, reply_at};
+ghost use Rattle.logged_script.specs.Faults.{GoesOnFrom, IsOpeningFault};
+ghost use Rattle.logged_script.specs.Openings.{IsBegun, IsCutOff, records_begun, fault_of_read, fault_of_replay};
 
 use crate::catalogue::has_grown;
 use crate::engine::ScriptEngine;
 use crate::fault::LogFault;
-use durable_log::{Contents, Host, Log, ReadFault, read_log};
+use durable_log::{CleanLog, End, LogFile, ReadFault, Record, read_log, restored, with_record};
 use jsl_model::Catalogue;
-use script_log::{AppendFault, OpenFault, append_catalogue, open};
+use script_log::{CATALOGUE_MARK, ReplayFault, replay};
 use std::alloc::{AllocError, Global};
+use std::error::Error;
+use std::fmt;
 
-/// The reason why the log of a script is not opened.
+/// The reason why the log of a script is not restored.
 #[derive(Clone, Copy, Debug, PartialEq, Eq)]
 pub enum OpeningFault {
-    /// The log is refused. The file is as it was.
+    /// The log is refused.
     Refused(LogFault),
-    /// The file failed, or is full. It has the same records, or those and the given catalogue.
-    Failed,
-    /// Memory was refused. The file has the same records, or those and the given catalogue.
+    /// Memory was refused.
     OutOfMemory,
 }
+
+impl fmt::Display for OpeningFault {
+    fn fmt<W: fmt::Write>(&self, f: &mut fmt::Formatter<W>) -> fmt::Result {
+        f.write_str(match self {
+            OpeningFault::Refused(fault) => fault.name(),
+            OpeningFault::OutOfMemory => "out of memory",
+        })
+    }
+}
+
+impl Error for OpeningFault {}
 
 impl From<AllocError> for OpeningFault {
     ghost from_gives = { λ _ fault. fault ≡ OutOfMemory };
@@ -39,13 +50,23 @@ impl From<AllocError> for OpeningFault {
     }
 }
 
-/// The opened log of a script, and the engine that represents the history of its records.
+/// The restored log of a script, and the engine that represents the history of its records.
 #[derive(Drop)]
-pub struct OpenedLog<H: Host> {
-    /// The log. Nothing waits in it.
-    pub log: Log<H>,
+pub struct RestoredLog {
+    /// The bytes of the new file, and the place at which its log goes on.
+    pub file: LogFile,
+    /// The bytes after the records of the old file, if its end wasn't clean.
+    pub cut: Vec<u8>,
     /// The engine.
     pub engine: ScriptEngine,
+}
+
+// A log whose lines were run again.
+#[derive(Drop)]
+struct Replayed {
+    end: End,
+    grown: bool,
+    engine: ScriptEngine,
 }
 
 // Returns the fault of a log whose file can't be read as one.
@@ -63,124 +84,135 @@ fn unreadable(fault: ReadFault) -> OpeningFault
 }
 
 // Returns the fault of a log whose lines can't be run again.
-fn unanswered(fault: OpenFault) -> OpeningFault
-    ensures { result ≡ fault_of_open fault }
+fn unanswered(fault: ReplayFault) -> OpeningFault
+    ensures { result ≡ fault_of_replay fault }
 {
     match fault {
-        OpenFault::OtherReply { number } => OpeningFault::Refused(LogFault::OtherReply { number }),
-        OpenFault::OutOfMemory => OpeningFault::OutOfMemory,
-        OpenFault::Failed => OpeningFault::Failed,
+        ReplayFault::OtherReply { number } => {
+            OpeningFault::Refused(LogFault::OtherReply { number })
+        }
+        ReplayFault::OutOfMemory => OpeningFault::OutOfMemory,
     }
 }
 
-// Returns the fault of a log to which the catalogue can't be added.
-fn unadded(fault: AppendFault) -> OpeningFault
-    ensures { result ≡ fault_of_append fault }
-{
-    match fault {
-        AppendFault::Log(_) => OpeningFault::Failed,
-        AppendFault::OutOfMemory => OpeningFault::OutOfMemory,
-    }
-}
-
-// Adds the catalogue to the log if it has grown.
-fn with_catalogue<H: Host>(
+// Runs the lines of records again, over a fresh engine.
+fn replay_records(
     alloc: Global,
-    mut log: Log<H>,
-    engine: ScriptEngine,
-    line: &[u8],
-    grown: bool,
-) -> Result<OpenedLog<H>, (OpeningFault, H)>
-    requires settled { IsSettled H.seen H.heard H.may_leave log }
-    requires nothing_waits { waiting_in log ≡ [] }
-    requires stands { Answers engine (replayed line.now (records_of (H.seen log.host))) }
-    requires grown { GoesOnFrom (records_of (H.seen log.host)) line.now grown }
-    ensures settled { IfOk result (λ opened. IsSettled H.seen H.heard H.may_leave opened.log × (waiting_in opened.log ≡ [])) }
-    ensures begun { IfOk result (λ opened. IsBegun (records_of (H.seen log.host)) line.now (records_of (H.seen opened.log.host))) }
-    ensures stands { IfOk result (λ opened. Answers opened.engine (history_of (records_of (H.seen opened.log.host)))) }
-    ensures heard { IfOk result (λ opened. H.heard opened.log.host ≡ H.heard log.host) }
-    ensures any_moment { IfOk result (λ opened. LeavesOnly H.moment H.left_since log.host opened.log.host
-        (BeforeOrAfter (records_of (H.seen log.host)) (catalogue_record line.now ∷ []) (H.heard log.host))) }
-    ensures fault { IfErr result (λ e. IsAddingFault H.seen H.moment H.left_since H.faults (records_of (H.seen log.host)) line.now (H.heard log.host) log.host e.1 e.0) }
-{
-    if !grown {
-        return Ok(OpenedLog { log, engine });
-    }
-    match append_catalogue(alloc, &mut log, line) {
-        Ok(()) => Ok(OpenedLog { log, engine }),
-        Err(fault) => Err((unadded(fault), log.into_host())),
-    }
-}
-
-// Runs the lines of the records again, and adds the catalogue if it has grown.
-fn open_records<H: Host>(
-    alloc: Global,
-    host: H,
-    contents: &Contents<'_>,
+    records: &[Record<'_>],
     mut engine: ScriptEngine,
     line: &[u8],
-    grown: bool,
-) -> Result<OpenedLog<H>, (OpeningFault, H)>
-    requires records { StandsFor (map record_shown contents.now.records.items) (H.seen host) }
-    requires end { IsEnd (H.seen host) contents.now.end }
-    requires durable { Only (H.seen host) (H.heard host) (H.may_leave host) }
-    requires fresh { Answers engine (replayed line.now []) }
-    requires grown { GoesOnFrom (records_of (H.seen host)) line.now grown }
-    ensures settled { IfOk result (λ opened. IsSettled H.seen H.heard H.may_leave opened.log × (waiting_in opened.log ≡ [])) }
-    ensures begun { IfOk result (λ opened. IsBegun (records_of (H.seen host)) line.now (records_of (H.seen opened.log.host))) }
-    ensures stands { IfOk result (λ opened. Answers opened.engine (history_of (records_of (H.seen opened.log.host)))) }
-    ensures heard { IfOk result (λ opened. H.heard opened.log.host ≡ H.heard host) }
-    ensures any_moment { IfOk result (λ opened. LeavesOnly H.moment H.left_since host opened.log.host
-        (BeforeOrAfter (records_of (H.seen host)) (catalogue_record line.now ∷ []) (H.heard host))) }
-    ensures fault { IfErr result (λ e. IsOpeningFault H.seen H.moment H.left_since H.faults (H.seen host) line.now (H.heard host) host e.1 e.0) }
+) -> Result<ScriptEngine, OpeningFault>
+    requires { Answers engine (replayed line.now []) }
+    ensures alike { IfOk result (λ _. AreAlike is_kept reply_at (replayed line.now []) (map record_shown records.now)) }
+    ensures answers { IfOk result (λ ran. Answers ran (replayed line.now (map record_shown records.now))) }
+    ensures fault { IfErr result (λ fault. (why : WhyNot) × (fault ≡ fault_of_replay why)
+        × IsReplayFault is_kept reply_at line.now (map record_shown records.now) why) }
 {
-    match open(alloc, host, contents, &mut engine, line) {
-        Ok(log) => with_catalogue(alloc, log, engine, line, grown),
-        Err((fault, host)) => Err((unanswered(fault), host)),
+    match replay(alloc, &mut engine, line, records) {
+        Ok(()) => Ok(engine),
+        Err(fault) => Err(unanswered(fault)),
     }
 }
 
-/// Opens a file as the log of a script with this catalogue, and brings an engine to the log's
-/// history. Each line of the log is run again. A clean file is taken as it is, unless the catalogue
-/// has more jobs than the log's. Then the catalogue is added as a record.
-///
-/// # Errors
-///
-/// Returns the host with one of these faults:
-///
-/// - `Refused`, in this order: `Foreign`, `Later`, `Damaged`; `Foreign` if record 0 is no catalogue
-///   or the last catalogue can't be read; `OtherCatalogue`; `OtherReply`. The file is as it was.
-/// - `Failed` if the host failed, or the file is full.
-/// - `OutOfMemory` if memory is refused.
-pub fn open_log<H: Host>(
+// Reads a log, and runs its lines again.
+fn replay_file(
     alloc: Global,
-    host: H,
     file: &[u8],
     line: &[u8],
     catalogue: Catalogue,
-) -> Result<OpenedLog<H>, (OpeningFault, H)>
-    requires seen { H.seen host ≡ file.now }
-    // After a restart, the bytes that are read are those on the disk.
-    requires durable { Only (H.seen host) (H.heard host) (H.may_leave host) }
-    requires catalogue { catalogue_at line.now ≡ Ok catalogue }
-    ensures settled { IfOk result (λ opened. IsSettled H.seen H.heard H.may_leave opened.log × (waiting_in opened.log ≡ [])) }
-    ensures begun { IfOk result (λ opened. IsBegun (records_of file.now) line.now (records_of (H.seen opened.log.host))) }
-    ensures stands { IfOk result (λ opened. Answers opened.engine (history_of (records_of (H.seen opened.log.host)))) }
-    ensures heard { IfOk result (λ opened. H.heard opened.log.host ≡ H.heard host) }
-    ensures any_moment { IfOk result (λ opened. LeavesOnly H.moment H.left_since host opened.log.host
-        (BeforeOrAfter (records_of file.now) (catalogue_record line.now ∷ []) (H.heard host))) }
-    ensures fault { IfErr result (λ e. IsOpeningFault H.seen H.moment H.left_since H.faults file.now line.now (H.heard host) host e.1 e.0) }
+) -> Result<Replayed, OpeningFault>
+    requires { catalogue_at line.now ≡ Ok catalogue }
+    ensures whole { IfOk result (λ _. StandsFor (records_of file.now) file.now) }
+    ensures end { IfOk result (λ ran. IsEnd file.now ran.end) }
+    ensures goes_on { IfOk result (λ ran. GoesOnFrom (records_of file.now) line.now ran.grown) }
+    ensures alike { IfOk result (λ _. AreAlike is_kept reply_at (replayed line.now []) (records_of file.now)) }
+    ensures answers { IfOk result (λ ran. Answers ran.engine (replayed line.now (records_of file.now))) }
+    ensures fault { IfErr result (IsOpeningFault file.now line.now) }
 {
     let contents = match read_log(alloc, file) {
         Ok(contents) => contents,
-        Err(fault) => return Err((unreadable(fault), host)),
+        Err(fault) => return Err(unreadable(fault)),
     };
     let grown = match has_grown(alloc, &contents.records, &catalogue) {
         Ok(grown) => grown,
-        Err(fault) => return Err((fault, host)),
+        Err(fault) => return Err(fault),
     };
-    match ScriptEngine::new(alloc, catalogue) {
-        Ok(engine) => open_records(alloc, host, &contents, engine, line, grown),
-        Err(error) => Err((OpeningFault::from(error), host)),
+    let engine = match ScriptEngine::new(alloc, catalogue) {
+        Ok(engine) => engine,
+        Err(error) => return Err(OpeningFault::from(error)),
+    };
+    match replay_records(alloc, &contents.records, engine, line) {
+        Ok(engine) => Ok(Replayed {
+            end: contents.end,
+            grown,
+            engine,
+        }),
+        Err(fault) => Err(fault),
+    }
+}
+
+// Returns the bytes of the new file: a clean end, and one more record if the catalogue has grown.
+fn new_file(
+    alloc: Global,
+    file: Vec<u8>,
+    end: End,
+    line: &[u8],
+    grown: bool,
+) -> Result<CleanLog, AllocError>
+    requires end { IsEnd file.items end }
+    requires short { length line.now ≤ 2 ^ 24 }
+    ensures records { IfOk result (λ made. records_of made.file.bytes.items ≡ records_begun (records_of file.items) line.now grown) }
+    ensures rest { IfOk result (λ made. IsRest made.file.bytes.items made.file.rest) }
+    ensures cut { IfOk result (λ made. IsCutOff file.items made.cut.items) }
+{
+    let clean = restored(alloc, file, end)?;
+    if !grown {
+        return Ok(clean);
+    }
+    let CleanLog { file, cut } = clean;
+    let entry = Record {
+        mark: CATALOGUE_MARK,
+        line,
+        reply_check: 0,
+    };
+    let file = with_record(alloc, file, entry)?;
+    Ok(CleanLog { file, cut })
+}
+
+/// Restores the log of a script with this catalogue: reads its file, runs each line of the log
+/// again, and returns the bytes of a new file with the same records and a clean end. If the
+/// catalogue has more jobs than the log's, it is one more record. `line` is the line of the
+/// catalogue. There is no host here: a log that is refused is not touched.
+///
+/// # Errors
+///
+/// - `Refused`, with the first fault in this order: `Foreign`, `Later`, `Damaged`; `Foreign` if
+///   record 0 is no catalogue or the last catalogue can't be read; `OtherCatalogue`; `OtherReply`.
+/// - `OutOfMemory` if memory is refused, instead of any result.
+pub fn restore(
+    alloc: Global,
+    file: Vec<u8>,
+    line: &[u8],
+    catalogue: Catalogue,
+) -> Result<RestoredLog, OpeningFault>
+    requires { catalogue_at line.now ≡ Ok catalogue }
+    ensures begun { IfOk result (λ log. IsBegun file.items line.now (records_of log.file.bytes.items)) }
+    ensures rest { IfOk result (λ log. IsRest log.file.bytes.items log.file.rest) }
+    ensures cut { IfOk result (λ log. IsCutOff file.items log.cut.items) }
+    ensures answers { IfOk result (λ log. Answers log.engine (history_of (records_of log.file.bytes.items))) }
+    ensures fault { IfErr result (IsOpeningFault file.items line.now) }
+{
+    let ran = match replay_file(alloc, &file, line, catalogue) {
+        Ok(ran) => ran,
+        Err(fault) => return Err(fault),
+    };
+    let Replayed { end, grown, engine } = ran;
+    match new_file(alloc, file, end, line, grown) {
+        Ok(made) => Ok(RestoredLog {
+            file: made.file,
+            cut: made.cut,
+            engine,
+        }),
+        Err(error) => Err(OpeningFault::from(error)),
     }
 }

@@ -1,16 +1,12 @@
 // The faults that end a script over a log early.
 ghost use Rattle.std.specs.Prelude.{◌≡◌};
-ghost use Rattle.logged_script.specs.Logged.{fault_of_opening, fault_of_run};
+ghost use Rattle.logged_script.specs.Logged.{fault_of_run};
 
-use crate::fault::LogFault;
-use crate::opening::OpeningFault;
 use script_log::RunFault;
 
 /// The reason why a script over a log ended before the end of its lines.
 #[derive(Clone, Copy, Debug, PartialEq, Eq)]
 pub enum LoggedFault {
-    /// The log is refused. Its file is as it was, and nothing was sent to the listener.
-    Refused(LogFault),
     /// The reader failed, or may not be called again. The replies to all complete lines were sent.
     Read,
     /// The listener failed. It heard a beginning of the replies to lines that are on the disk.
@@ -19,17 +15,6 @@ pub enum LoggedFault {
     Log,
     /// Memory was refused. The replies to the lines before were sent.
     OutOfMemory,
-}
-
-// Returns the fault of a script whose log was not opened.
-pub(crate) fn unopened(fault: OpeningFault) -> LoggedFault
-    ensures { result ≡ fault_of_opening fault }
-{
-    match fault {
-        OpeningFault::Refused(fault) => LoggedFault::Refused(fault),
-        OpeningFault::Failed => LoggedFault::Log,
-        OpeningFault::OutOfMemory => LoggedFault::OutOfMemory,
-    }
 }
 
 // Returns the fault of a script whose lines didn't all get their replies.

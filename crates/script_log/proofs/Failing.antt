@@ -3,7 +3,8 @@ use Rattle.std.proofs.Common.{◌≡◌, ℕ, ◌<◌, ◌≤◌, ◌^◌, ◌+�
 use Rattle.std.proofs.lemmas.List.{length-append}
 use Rattle.log_host.specs.Host.{Outcomes}
 use Rattle.durable_log.specs.Format.{LogRecord, shut}
-use Rattle.durable_log.specs.Logs.{waiting_in, behind_gate, IsSettled}
+use Rattle.durable_log.specs.Logs.{waiting_in, behind_gate, link_of, IsSettled}
+use Rattle.durable_log.specs.declared.link.Link.{Link}
 use Rattle.durable_log.specs.declared.log.Log.{Log}
 use Rattle.durable_log.specs.declared.log.CommitFault.{CommitFault}
 use Rattle.durable_log.specs.declared.log.CommitFault.TheVariants as commits
@@ -18,7 +19,7 @@ full-file : {D : Type 0} (seen heard : D → List ℕ) (may_leave : D → Outcom
 full-file seen heard may_leave log settled size =
     let rest = settled.rest in
     let file : length (seen log.host) ≡ length rest.base + length shut = ap length rest.split ∙ length-append rest.base shut in
-    let waits : length log.waiting.items ≡ length (behind_gate (waiting_in log)) = ap length settled.waits in
+    let waits : length log.waiting.items ≡ length (behind_gate (link_of (seen log.host)) (waiting_in log)) = ap length (settled.waits ∙ ap (λ (link : Link). behind_gate link (waiting_in log)) settled.link) in
     (waiting_in log, refl, omega (arith, size, rest.place, file, waits))
 
 module _ {D : Type 0} (d : Hosting D) where
@@ -32,7 +33,7 @@ module _ {D : Type 0} (d : Hosting D) where
 
   -- there is room for a record if none waits
   pub none-short : (log : Log D) → IsSettled d.seen d.heard d.may_leave log → waiting_in log ≡ [] → HasRoom log
-  none-short log settled none = let is : length log.waiting.items ≡ 0 = ap length (settled.waits ∙ ap behind_gate none) in omega (arith, is)
+  none-short log settled none = let is : length log.waiting.items ≡ 0 = ap length (settled.waits ∙ ap (behind_gate log.link) none) in omega (arith, is)
 
   pub goes-none : (host : D) → GoesOn d host host
   goes-none host = record { file = omega arith; listener = omega arith; origin = refl }

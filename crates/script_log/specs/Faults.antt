@@ -1,7 +1,7 @@
 -- The reasons why a run ends before the end of its lines.
 use Rattle.std.specs.Prelude.{ℕ, ◌≡◌, ◌<◌, ◌≤◌, ◌+◌, ◌^◌, List, ◌++◌, length, Bool, true, false, Option, Result, Ok, Err}
 use Rattle.durable_log.specs.Format.{LogRecord}
-use Rattle.durable_log.specs.Logs.{records_of, waiting_in, behind_gate}
+use Rattle.durable_log.specs.Logs.{records_of, waiting_in, behind_gate, link_of}
 use Rattle.durable_log.specs.declared.log.Log.{Log}
 use Rattle.durable_log.specs.declared.log.CommitFault.{CommitFault}
 use Rattle.durable_log.specs.declared.log.CommitFault.TheVariants as commits
@@ -56,7 +56,7 @@ all_records seen log = records_of (seen log.host) ++ waiting_in log
 -- THE FILE IS FULL: these are its records with others that wait, and if those were written, it would have
 -- 2^62 bytes or more
 abbrev pub IsFullWith : List LogRecord → List ℕ → Type 0
-IsFullWith records file = (waits : List LogRecord) × (records_of file ++ waits ≡ records) × (2 ^ 62 ≤ length file + length (behind_gate waits))
+IsFullWith records file = (waits : List LogRecord) × (records_of file ++ waits ≡ records) × (2 ^ 62 ≤ length file + length (behind_gate (link_of file) waits))
 
 -- the reason why a commit failed: the file failed, or it is full with all records, those that wait too
 abbrev pub HasFailed : List LogRecord → State → State → CommitFault → Type 0

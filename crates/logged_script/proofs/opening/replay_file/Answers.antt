@@ -1,0 +1,44 @@
+use Rattle.std.proofs.Common.{List, map, sym, subst, ◌∙◌, ap}
+use Rattle.durable_log.specs.Files.{StandsFor}
+use Rattle.durable_log.specs.Logs.{records_of}
+use Rattle.durable_log.specs.Format.{LogRecord}
+use Rattle.durable_log.specs.Shown.{record_shown}
+use Rattle.durable_log.proofs.Fronts.{records-stand}
+use Rattle.script_log.specs.Replays.{IsReplayFault}
+use Rattle.logged_script.specs.Histories.{is_kept, reply_at}
+use Rattle.logged_script.specs.Faults.{HasCatalogue, IsGrowthFault, GoesOnFrom, IsOpeningFault}
+use Rattle.logged_script.specs.declared.opening.OpeningFault.{OpeningFault}
+use Rattle.logged_script.proofs.Opened.{not-grown, not-replayed}
+use Rattle.logged_script.proofs.opening.replay_file.Goals as goal
+
+pub returns-in-Err-has_grown-clause-fault : goal.returns-in-Err-has_grown-clause-fault
+returns-in-Err-has_grown-clause-fault c =
+    let file = c.args.file.now in
+    let fault = c.in-Err-has_grown.fault in
+    let records = map record_shown c.in-Ok.contents.records.items in
+    let at = records-stand records file c.in-Ok.ensures.records in
+    let same = ap (map record_shown) c.deref.ensures.value ∙ sym at in
+    not-grown file c.args.line.now c.args.catalogue fault (subst (λ (rs : List LogRecord). StandsFor rs file) (sym at) c.in-Ok.ensures.records) c.requires
+    (subst (λ (rs : List LogRecord). IsGrowthFault rs c.args.catalogue fault) same c.in-Err-has_grown.ensures.fault)
+
+pub returns-clause-fault : goal.returns-clause-fault
+returns-clause-fault c =
+    let file = c.args.file.now in
+    let line = c.args.line.now in
+    let records = map record_shown c.in-Ok.contents.records.items in
+    let at = records-stand records file c.in-Ok.ensures.records in
+    let same = ap (map record_shown) c.deref.ensures.value ∙ sym at in
+    let same-2 = ap (map record_shown) c.deref-2.ensures.value ∙ sym at in
+    let grown = c.in-Ok-has_grown.ensures.grown in
+    let goes_on : GoesOnFrom (records_of file) line c.in-Ok-has_grown.grown =
+    record {
+      kept = grown.0;
+      given = c.args.catalogue;
+      has = subst (λ (rs : List LogRecord). HasCatalogue rs grown.0) same grown.1;
+      is_given = c.requires;
+      has_grown = grown.2;
+    } in
+    let why = c.in-Err-replay_records.ensures.fault in
+    subst (λ (fault : OpeningFault). IsOpeningFault file line fault) (sym why.1)
+    (not-replayed file line c.in-Ok-has_grown.grown why.0 (subst (λ (rs : List LogRecord). StandsFor rs file) (sym at) c.in-Ok.ensures.records) goes_on
+    (subst (λ (rs : List LogRecord). IsReplayFault is_kept reply_at line rs why.0) same-2 why.2))
