@@ -49,10 +49,9 @@ def table_of_crates(heads: list[str]) -> list[str]:
 
 
 def table_in(page: list[str], head: str) -> tuple[int, int]:
-    """Where the table with this head begins in the page, and the place behind its end."""
-    if head not in page:
-        return len(page), len(page)
-    begin = page.index(head)
+    """Where the table with the first two columns of this head begins in the page, and the place behind its end."""
+    front = "|".join(head.split("|")[:3]) + "|"
+    begin = next((at for at, line in enumerate(page) if line.startswith(front)), len(page))
     end = next((at for at in range(begin, len(page)) if not page[at].startswith("|")), len(page))
     return begin, end
 

@@ -8,19 +8,19 @@ from pathlib import Path
 ROOT = Path(__file__).resolve().parent.parent
 
 
-def uses_by_crate() -> dict[str, list[str]]:
-    """The crates of crates.txt, each with the libraries that it uses."""
+def uses_by_crate(root: Path = ROOT) -> dict[str, list[str]]:
+    """The crates of a repository's crates.txt, each with the libraries that it uses."""
     uses: dict[str, list[str]] = {}
-    for line in (ROOT / "crates.txt").read_text().splitlines():
+    for line in (root / "crates.txt").read_text().splitlines():
         name, colon, libraries = line.partition(":")
         if colon and not line.startswith("#"):
             uses[name.split()[0]] = libraries.split()
     return uses
 
 
-def with_libraries(crates: set[str]) -> set[str]:
+def with_libraries(crates: set[str], root: Path = ROOT) -> set[str]:
     """These crates and those of the repository that they stand on."""
-    uses = uses_by_crate()
+    uses = uses_by_crate(root)
     found: set[str] = set()
     waiting = list(crates)
     while waiting:

@@ -64,6 +64,10 @@ class Places(unittest.TestCase):
     def test_a_method_without_a_body_makes_nothing(self) -> None:
         self.assertEqual(places_in(PROMISES), [])
 
+    def test_an_error_that_is_named_by_its_path_is_found(self) -> None:
+        line = "None => return Err(std::alloc::AllocError),"
+        self.assertEqual(places_in("match vertex {\n    " + line + "\n}"), [line])
+
     def test_a_closure_that_makes_it_is_found(self) -> None:
         line = "let at = self.place(key).ok_or(AllocError)?;"
         self.assertEqual(places_in(line), [line])

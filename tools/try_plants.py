@@ -4,10 +4,12 @@
     python3 tools/try_plants.py --new CRATE..      only those that have no verdict on the code as it stands
     python3 tools/try_plants.py --only NAME CRATE  only the plant of this name; --only may be given again
     python3 tools/try_plants.py                    tries nothing
+    python3 tools/try_plants.py --check            tries nothing, and says which plants do not stand once in their files, and
+                                                   which of the tests that plants name are not there
 
-A plant that is still proved is a gap in a contract, unless its `reason` says what else refuses it. Each function is
-proved by itself, so one check tries a plant in each of many functions; a second plant of a function waits for the next
-check. A plant is
+A plant that is still proved is a gap in a contract, unless `refused_by` names a test that refuses it, or it costs time alone.
+Each function is proved by itself, so one check tries a plant in each of many functions; a second plant of a function waits
+for the next check. A plant is
 
 - `refused` where its function gets no proof for a goal of its own,
 - `PROVED` where its function is proved,
@@ -20,10 +22,10 @@ became trivial: a plant against which nothing else is said counts as proved.
 The copy has nothing of `out/`. Each crate is checked once with no plant, and has to be proved: that takes as long as a first
 check of the crate and of those below it, or less if checks in other copies on this machine kept them.
 
-Verdicts are kept in `plants/verdicts.json`, and all of them are printed as a table in the end. Each names what it was tried on,
-by a checksum of the file that the plant is in and of the crate's specs/, without lines that are comments. If any of these was
-changed since, the verdict is old, and counts for nothing. A plant whose own text was changed is not tried. Must-fail edits are
-the telling plants, and the gate tries them; these here are tried by hand.
+Verdicts are kept in `plants/verdicts.json`, and all of them are printed as a table in the end. Each has a checksum of what its
+plant was tried on: the plant's file, and the definitions and contracts of its crate and of all crates below (contracts.py). If
+any of these was changed since, the verdict is old, and counts for nothing. A plant whose own text was changed is not tried.
+Must-fail edits are the telling plants, and the gate tries them; these here are tried by hand.
 """
 
 from __future__ import annotations
@@ -36,11 +38,12 @@ import subprocess
 import sys
 import tempfile
 import tomllib
+from collections import Counter
 from dataclasses import dataclass
-from functools import cache
 from pathlib import Path
 from typing import Any
 
+from contracts import FUNCTION, checksum_of_file, parts_of_function
 from repository import ROOT, copy_of
 
 VERDICTS = ROOT / "plants" / "verdicts.json"
@@ -48,19 +51,19 @@ VERDICTS = ROOT / "plants" / "verdicts.json"
 FELL_AWAY = "the two types are `Unit {0}` (expected)"
 FIRST_CHECK = ["rt", "check"]
 CHECK = ["timeout", "1500", *FIRST_CHECK]
-# By plant: its mark, what became of it, and the code that it was tried on.
+# By plant: its mark, what became of it, and a checksum of the code that it was tried on.
 Kept = dict[str, list[str]]
-# A line that is a comment, of a source or of a definition.
-COMMENT = re.compile(rb"^[ ]*(?://|--)[^\n]*\n", re.M)
-# The begin of a function, in the layout of `rt fmt`.
-FUNCTION = re.compile(r"^([ ]*)(?:pub(?:\([a-z]+\))? )?(?:const )?(?:unsafe )?fn ([a-z_0-9]+)", re.M)
+# The columns of the table.
+KINDS = ["refused by a contract", "proved, refused by a test", "proved, costs time alone", "proved", "old", "not tried"]
 
 
 @dataclass(frozen=True)
 class Plant:
     """A wrong body: a text that stands once in a file, and what stands there instead.
 
-    A `reason` says what refuses the plant where no contract can.
+    A `reason` says why no contract refuses the plant. `refused_by` names the tests that do: scripts (cases/scripts/NAME),
+    command lines (cases/commands.toml), tests in Rattle (crates/CRATE: NAME) or tools of the gate (tools/NAME.py). A plant with
+    `costs` has the same results as the code that it replaces, and costs time alone.
     """
 
     name: str
@@ -69,6 +72,8 @@ class Plant:
     new: str
     more: tuple[tuple[str, str], ...] = ()
     reason: str = ""
+    refused_by: tuple[str, ...] = ()
+    costs: str = ""
 
     def mark(self) -> str:
         """What tells this plant from an edited one of the same name."""
@@ -97,25 +102,13 @@ class Plant:
 def function_at(text: str, place: int) -> str:
     """The name of the innermost function that goes on at this place of a file in `rt fmt`'s layout; none behind its end."""
     begun = [found for found in FUNCTION.finditer(text) if found.start() < place]
-    return next((found[2] for found in reversed(begun) if place <= end_of_function(text, found)), "")
-
-
-def end_of_function(text: str, begun: re.Match[str]) -> int:
-    """Where a function ends: at the brace that stands under its first word, or where it is declared without a body."""
-    for line in re.finditer(r"^.*$", text[begun.start() :], re.M):
-        if line[0] == begun[1] + "{" or line[0].endswith(" {"):
-            body = begun.start() + line.end()
-            closed = re.compile(rf"^{begun[1]}\}}", re.M).search(text, body)
-            return closed.end() if closed else len(text)
-        if line[0].endswith((";", "{}")):
-            return begun.start() + line.end()
-    return len(text)
+    return next((found[3] for found in reversed(begun) if place <= parts_of_function(text, found)[1]), "")
 
 
 def plant_of(entry: dict[str, Any]) -> Plant:
-    """The plant of an entry, whose further pairs are lists. A member that a plant does not have is an error."""
+    """The plant of an entry, which has lists. A member that a plant does not have is an error."""
     pairs = tuple((old, new) for old, new in entry.get("more", []))
-    members: dict[str, Any] = {**entry, "more": pairs}
+    members: dict[str, Any] = {**entry, "more": pairs, "refused_by": tuple(entry.get("refused_by", []))}
     return Plant(**members)
 
 
@@ -234,21 +227,12 @@ def try_plants(crate: Path, plants: list[Plant]) -> None:
     stale = [plant.name for plant in plants if plant.put(sources[plant.file]) is None]
     for plant in stale:
         print(f"{crate.name}: {plant}: its text does not stand there once", flush=True)
-    keep(crate.name, dict.fromkeys(stale, "stale"))
+    keep(crate, dict.fromkeys(stale, "stale"), plants)
     left = [plant for plant in plants if plant.name not in stale]
     while left:
         group = group_of(left, sources)
-        keep(crate.name, try_group(crate, group, sources))
+        keep(crate, try_group(crate, group, sources), plants)
         left = [plant for plant in left if plant not in group]
-
-
-@cache
-def code_at(crate: Path, file: str) -> str:
-    """What tells the code that a plant of this file is tried on: the file and the crate's definitions, without comments."""
-    digest = hashlib.sha256()
-    for path in [crate / file, *sorted((crate / "specs").rglob("*.antt"))]:
-        digest.update(path.relative_to(crate).as_posix().encode() + b"\0" + COMMENT.sub(b"", path.read_bytes()) + b"\0")
-    return digest.hexdigest()[:12]
 
 
 def crates_with_plants() -> list[str]:
@@ -273,7 +257,7 @@ def verdict_kept(kept: Kept, plant: Plant, code: str) -> str:
 
 def verdicts_of(name: str, plants: list[Plant]) -> dict[Plant, str]:
     kept = kept_verdicts().get(name, {})
-    return {plant: verdict_kept(kept, plant, code_at(ROOT / "crates" / name, plant.file)) for plant in plants}
+    return {plant: verdict_kept(kept, plant, checksum_of_file(ROOT, name, plant.file)) for plant in plants}
 
 
 def still_said(kept: Kept, plants: list[Plant]) -> Kept:
@@ -282,16 +266,17 @@ def still_said(kept: Kept, plants: list[Plant]) -> Kept:
 
 
 def newly_said(found: dict[str, str], plants: list[Plant], crate: Path) -> Kept:
-    """The verdicts that were found, each with its plant's mark and the code that it was tried on."""
+    """The verdicts that were found in this copy of a crate, each with its plant's mark and the code that it was tried on."""
+    root = crate.parent.parent
     tried = [plant for plant in plants if plant.name in found]
-    return {plant.name: [plant.mark(), found[plant.name], code_at(crate, plant.file)] for plant in tried}
+    return {plant.name: [plant.mark(), found[plant.name], checksum_of_file(root, crate.name, plant.file)] for plant in tried}
 
 
-def keep(name: str, found: dict[str, str]) -> None:
-    """Keeps what was found of the plants of a crate, and drops the verdicts that are of no plant."""
+def keep(crate: Path, found: dict[str, str], plants: list[Plant]) -> None:
+    """Keeps what was found of these plants in a copy of their crate, and drops the verdicts that are of no plant."""
     kept = kept_verdicts()
-    new = {crate: still_said(kept.get(crate, {}), plants_of(crate)) for crate in crates_with_plants()}
-    new[name] |= newly_said(found, plants_of(name), ROOT / "crates" / name)
+    new = {name: still_said(kept.get(name, {}), plants_of(name)) for name in crates_with_plants()}
+    new[crate.name] |= still_said(newly_said(found, plants, crate), plants_of(crate.name))
     VERDICTS.write_text(json.dumps(new, indent=1, sort_keys=True) + "\n")
 
 
@@ -311,24 +296,28 @@ def try_crates(crates: list[str], only_new: bool, names: list[str]) -> None:
                 try_plants(copied / name, wanted[name])
 
 
+def kind_of(plant: Plant, verdict: str) -> str:
+    """The column of the table in which a plant with this verdict counts."""
+    if verdict == "refused":
+        return "refused by a contract"
+    if verdict == "PROVED" and plant.refused_by:
+        return "proved, refused by a test"
+    if verdict == "PROVED":
+        return "proved, costs time alone" if plant.costs else "proved"
+    return "old" if verdict == "old" else "not tried"
+
+
 def row_of(name: str) -> tuple[list[int], list[str]]:
-    """How many plants a crate has, and of each kind; and what is proved with no reason given."""
-    said = verdicts_of(name, plants_of(name))
-    proved = [plant for plant in said if said[plant] == "PROVED"]
-    counts = [
-        len(said),
-        sum(verdict == "refused" for verdict in said.values()),
-        sum(bool(plant.reason) for plant in proved),
-        sum(not plant.reason for plant in proved),
-        sum(verdict == "old" for verdict in said.values()),
-        sum(verdict not in ("refused", "PROVED", "old") for verdict in said.values()),
-    ]
-    return counts, [f"{name}: {plant.name}" for plant in proved if not plant.reason]
+    """How many plants a crate has, and of each kind; and what is proved and refused by nothing."""
+    kinds = {plant: kind_of(plant, verdict) for plant, verdict in verdicts_of(name, plants_of(name)).items()}
+    counts = Counter(kinds.values())
+    gaps = [f"{name}: {plant.name}" for plant, kind in kinds.items() if kind == "proved"]
+    return [len(kinds), *(counts[kind] for kind in KINDS)], gaps
 
 
 def table() -> tuple[list[str], list[str]]:
-    """What became of all plants by crate, as the lines of a table; and those that are proved with no reason given."""
-    heads = ["planted", "refused by a contract", "proved, refused by a test", "proved", "old", "not tried"]
+    """What became of all plants by crate, as the lines of a table; and those that are proved and refused by nothing."""
+    heads = ["planted", *KINDS]
     lines = ["| crate | " + " | ".join(heads) + " |", "|---|" + "---|" * len(heads)]
     totals = [0] * len(heads)
     gaps: list[str] = []
@@ -341,12 +330,49 @@ def table() -> tuple[list[str], list[str]]:
     return lines, gaps
 
 
+def is_there(test: str) -> bool:
+    """Whether the repository has this test: a test in Rattle, a tool of the gate, or a file of cases with its replies."""
+    folder, colon, name = test.partition(": ")
+    if colon:
+        head = re.compile(rf"^#\[test\]\n(?:#\[.*\n)*fn {re.escape(name)}\(", re.M)
+        return any(head.search(path.read_text()) for path in (ROOT / folder / "src").rglob("*.rt"))
+    if test.startswith("tools/"):
+        return f" {test}\n" in (ROOT / ".ci" / "run").read_text()
+    has_script = any((ROOT / f"{test}{ending}").is_file() for ending in (".script", ".scripts"))
+    return (has_script and (ROOT / f"{test}.replies").is_file()) or (test == "cases/commands.toml" and (ROOT / test).is_file())
+
+
+def faults_of(plant: Plant, crate: Path) -> list[str]:
+    """What is wrong with a plant of this crate as it stands."""
+    path = crate / plant.file
+    faults = [] if path.is_file() and plant.put(path.read_text()) is not None else ["its text does not stand there once"]
+    faults += [f"there is no test {test}" for test in plant.refused_by if not is_there(test)]
+    if plant.costs not in ("", "time") or (plant.costs and plant.refused_by):
+        faults.append("`costs` is time, and is left out if a test refuses the plant")
+    if re.search(r"[/_`]", plant.reason):
+        faults.append("its reason names a test, which `refused_by` has to name")
+    return faults
+
+
+def faults() -> list[str]:
+    """What is wrong with plants as they stand."""
+    plants = [(name, plant) for name in crates_with_plants() for plant in plants_of(name)]
+    found = [(name, plant, fault) for name, plant in plants for fault in faults_of(plant, ROOT / "crates" / name)]
+    return [f"plants/{name}.toml: {plant.name}: {fault}" for name, plant, fault in found]
+
+
 def main() -> int:
     parser = argparse.ArgumentParser(description=__doc__.splitlines()[0])
     parser.add_argument("--new", action="store_true", help="only plants without a verdict")
     parser.add_argument("--only", action="append", default=[], metavar="NAME", help="only the plant of this name")
+    parser.add_argument("--check", action="store_true", help="try nothing, and look whether texts and tests are there")
     parser.add_argument("crates", nargs="*")
     words = parser.parse_args()
+    if words.check:
+        found = faults()
+        for fault in found:
+            print(fault)
+        return 1 if found else 0
     try_crates(words.crates, words.new, words.only)
     lines, gaps = table()
     print("\n".join(lines))

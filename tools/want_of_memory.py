@@ -24,7 +24,7 @@ from pathlib import Path
 ROOT = Path(__file__).resolve().parent.parent
 LISTED = ROOT / "tools" / "want_of_memory.toml"
 
-MAKER = re.compile(r"\b(?:\w+::OutOfMemory|AllocError|AllocFailed|OutOfMemory)\b")
+MAKER = re.compile(r"\b(?:\w+::)*(?:AllocError|AllocFailed|OutOfMemory)\b")
 # Behind a pattern comes the arm, a further pattern, a guard, or the value that is taken apart.
 PATTERN_GOES_ON = re.compile(r"^[\s)}]*(?:=>|\||if\b|=[^=])")
 READ_ONLY = re.compile(r"matches!\([^;]*$")
