@@ -8,4 +8,4 @@ pub mod Opening
 pub mod Ending
 pub mod Taking
 pub mod Building
-pub mod Logging
+pub mod Readying

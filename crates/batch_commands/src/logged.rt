@@ -140,7 +140,7 @@ fn fresh_log(alloc: Global, line: &[u8], catalogue: Catalogue) -> Result<Restore
             cut: Vec::new(alloc),
             engine,
         }),
-        Err(_) => Err(OpeningFault::OutOfMemory),
+        Err(error) => Err(OpeningFault::from(error)),
     }
 }
 
