@@ -1,24 +1,23 @@
 -- A log that is restored, or refused.
-use Rattle.std.proofs.Common.{◌≡◌, ◌∙◌, inl, inr, ℕ, Bool, true, false, List, [], ◌∷◌, ◌++◌, drop, map, Ok, refl, sym, ap, subst}
-use Rattle.std.specs.Prelude.{box_value, if◌then◌else◌}
+use Rattle.std.proofs.Common.{◌≡◌, ◌∙◌, inl, inr, ℕ, Bool, true, false, List, [], Ok, sym, ap, subst}
+use Rattle.std.specs.Prelude.{box_value}
 use Rattle.jsl_model.specs.Jobs.{JobTree}
 use Rattle.durable_log.specs.Format.{LogRecord}
 use Rattle.durable_log.specs.Files.{StandsFor}
 use Rattle.durable_log.specs.Logs.{records_of}
-use Rattle.durable_log.specs.Shown.{IsEnd, HasFault}
-use Rattle.durable_log.specs.declared.reading.End.{End as LogEnd}
+use Rattle.durable_log.specs.Shown.{HasFault}
 use Rattle.durable_log.specs.declared.reading.ReadFault.{ReadFault}
 use Rattle.durable_log.specs.declared.reading.ReadFault.TheVariants as reads
 use Rattle.script_engine.specs.Script.{begin, catalogue_at, history_past}
 use Rattle.script_engine.specs.Standing.{Stands}
-use Rattle.script_log.specs.Runs.{History as LogHistory, catalogue_record, last_catalogue, kept_lines, history_of}
+use Rattle.script_log.specs.Runs.{History as LogHistory, last_catalogue, kept_lines, history_of}
 use Rattle.script_log.specs.Replays.{IsReplayFault, replayed}
 use Rattle.script_log.specs.declared.replays.ReplayFault.{ReplayFault}
 use Rattle.script_log.specs.declared.replays.ReplayFault.TheVariants as replays
 use Rattle.script_log.proofs.Lines.{history-catalogue}
 use Rattle.logged_script.specs.Histories.{Answers, is_kept, reply_at, jobs_read}
 use Rattle.logged_script.specs.Faults.{IsGrowthFault, IsOpeningFault, GoesOnFrom}
-use Rattle.logged_script.specs.Openings.{IsCutOff, records_begun, fault_of_read, fault_of_replay}
+use Rattle.logged_script.specs.Openings.{records_begun, fault_of_read, fault_of_replay}
 use Rattle.logged_script.specs.declared.engine.ScriptEngine.{ScriptEngine}
 use Rattle.logged_script.specs.declared.fault.LogFault.TheVariants.{InUse, Foreign, Later, Damaged, OtherCatalogue, OtherReply}
 use Rattle.logged_script.specs.declared.opening.OpeningFault.{OpeningFault}

@@ -42,7 +42,7 @@ pub record IsPartRead (from to : Told) (before : Unread) : Type 0 where
 abbrev pub HasCaughtUp : Answering → Account → Told → Unread → Told → List ℕ → Type 0
 HasCaughtUp e old from before to heard = heard ≡ old.heard ++ replies e.keeps e.reply (history_of old.records) (lines_since from to before)
 
--- REPLIES LEAVE BEFORE THE NEXT READ: the reader may be called after the listener has caught up. A run is
--- proved for each reader, also for one that may be called at no other time; so it calls none before
+-- REPLIES LEAVE BEFORE THE NEXT READ: the reader may be called if the listener has caught up. A run is proved
+-- for each reader, also for one that may not be called at any other time; so it makes no other call
 abbrev pub MayReadInTurn : Answering → Account → Told → Unread → (Told → List ℕ → Type 0) → Type 0
 MayReadInTurn e old from before may_read = (to : Told) (heard : List ℕ) → HasCaughtUp e old from before to heard → may_read to heard

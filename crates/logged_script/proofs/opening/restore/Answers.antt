@@ -1,4 +1,4 @@
-use Rattle.std.proofs.Common.{List, ℕ, ◌∙◌, subst, ap}
+use Rattle.std.proofs.Common.{List, ℕ, subst}
 use Rattle.durable_log.specs.Logs.{records_of}
 use Rattle.script_log.specs.Replays.{replayed}
 use Rattle.logged_script.specs.Histories.{Answers}
