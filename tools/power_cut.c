@@ -235,10 +235,12 @@ int fsync(int file) { return sync_noted(file); }
 
 int fdatasync(int file) { return sync_noted(file); }
 
+/* Part of a page is never dropped. So advice counts if it is for all of the file. */
 int posix_fadvise(int file, off_t place, off_t size, int advice) {
     uint64_t number;
-    (void)place, (void)size;
-    if (advice == POSIX_FADV_DONTNEED && is_noted(file, &number))
+    struct stat found;
+    int is_all = place == 0 && (size == 0 || (fstat(file, &found) == 0 && size >= found.st_size));
+    if (advice == POSIX_FADV_DONTNEED && is_all && is_noted(file, &number))
         drop_memory(file, number);
     return 0;
 }

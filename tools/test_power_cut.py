@@ -150,41 +150,54 @@ os.fsync(os.open(".", os.O_RDONLY))
 """
 
 
+# A program that reads a file past memory.
+DIRECT = """
+import os
+os.write(1, os.pread(os.open("log", os.O_RDONLY | os.O_DIRECT), 99, 0))
+"""
+
+
 class Library(unittest.TestCase):
     """The journal of a program of Python."""
 
-    def run_under(self, folder: Path, **settings: str) -> tuple[bytes, list[tuple[str, int, bytes]]]:
+    def setUp(self) -> None:
+        self.folder = Path(self.enterContext(tempfile.TemporaryDirectory()))
+        (self.folder / "logs").mkdir()
+
+    def run_under(self, text: str = CALLS, **settings: str) -> tuple[bytes, list[tuple[str, int, bytes]]]:
         """What a program wrote, and its journal."""
-        library = library_in(folder, LIBRARY)
-        given = {**os.environ, "LD_PRELOAD": str(library), "CUT_JOURNAL": str(folder / "journal"), **settings}
-        logs = folder / "logs"
-        written = subprocess.run([sys.executable, "-c", CALLS], cwd=logs, env=given, stdout=subprocess.PIPE, check=True).stdout
-        events = events_in((folder / "journal").read_bytes())
-        return written, [(event.kind, event.place, event.data) for event in events]
+        noted, pipe = self.folder / "journal", subprocess.PIPE
+        given = {"LD_PRELOAD": str(library_in(self.folder, LIBRARY)), "CUT_JOURNAL": str(noted), **settings}
+        words = [sys.executable, "-c", text]
+        run = subprocess.run(words, cwd=self.folder / "logs", env={**os.environ, **given}, stdout=pipe, check=True)
+        return run.stdout, [(event.kind, event.place, event.data) for event in events_in(noted.read_bytes())]
+
+    def lay(self, memory: bytes, disk: bytes) -> str:
+        """Lays a file of which the disk has other bytes, and returns the folder of these."""
+        (self.folder / "disk").mkdir()
+        (self.folder / "disk" / "log").write_bytes(disk)
+        (self.folder / "logs" / "log").write_bytes(memory)
+        return str(self.folder / "disk")
 
     def test_calls_are_noted_in_order(self) -> None:
-        with tempfile.TemporaryDirectory() as name:
-            Path(name, "logs").mkdir()
-            written, events = self.run_under(Path(name))
+        written, events = self.run_under()
         self.assertEqual(written, b"\n\0AB\0\0\n")
         head = [("m", 0, b"log"), ("t", 0, b"\n"), ("w", 1, b"AB"), ("c", 5, b""), ("s", 0, b""), ("s", 0, b""), ("a", 0, b"")]
         names = [("r", 0, b"log\0other"), ("l", 0, b"other\0log"), ("u", 0, b"other"), ("d", 0, b"")]
         self.assertEqual(events, [*head, ("t", 0, b"\0AB\0\0\n"), *names])
 
     def test_a_sync_fails(self) -> None:
-        with tempfile.TemporaryDirectory() as name:
-            Path(name, "logs").mkdir()
-            written, events = self.run_under(Path(name), CUT_FAIL_AT="1")
+        written, events = self.run_under(CUT_FAIL_AT="1")
         self.assertEqual(written, b"\n5\n\0AB\0\0\n")
         self.assertEqual([kind for kind, _, _ in events], list("mtwcftsatrlud"))
 
     def test_lost_bytes_are_read_until_they_are_dropped(self) -> None:
-        with tempfile.TemporaryDirectory() as name:
-            for folder, file in [("logs", b"memory"), ("disk", b"dis")]:
-                Path(name, folder).mkdir()
-                Path(name, folder, "log").write_bytes(file)
-            written, _ = self.run_under(Path(name), CUT_DISK=f"{name}/disk")
+        written, _ = self.run_under(CUT_DISK=self.lay(b"memory", b"dis"))
         self.assertEqual(written, b"memory\ndAB\0\0\n")
+
+    def test_a_direct_read_is_of_the_disk(self) -> None:
+        written, events = self.run_under(DIRECT, CUT_DISK=self.lay(b"memory", b"disk"))
+        self.assertEqual((written, [kind for kind, _, _ in events]), (b"disk\0\0", ["a", "t"]))
 
 
 class WrongPrograms(unittest.TestCase):

@@ -14,7 +14,7 @@ from log_trial.program import DONE, Ended, Wrong, shown, want
 from power_trial import journal
 from power_trial.disk import Disk, Left
 from power_trial.runs import Program, Run
-from power_trial.stories import PROBE, Story
+from power_trial.stories import PROBE, QUESTIONS, Story
 
 
 def key_of(left: Left, catalogue: bytes) -> bytes:
@@ -30,16 +30,16 @@ class Opener:
 
     program: Program
     lock: Lock = field(default_factory=Lock)
-    opened: dict[bytes, Future[tuple[Ended, Left]]] = field(default_factory=dict)
+    opened: dict[bytes, Future[list[Ended]]] = field(default_factory=dict)
 
-    def open(self, left: Left, catalogue: bytes) -> tuple[Ended, Left]:
-        """How a run ends that is told the probe, and the files after it."""
-        key, mine = key_of(left, catalogue), Future[tuple[Ended, Left]]()
+    def open(self, left: Left, catalogue: bytes) -> list[Ended]:
+        """How a run ends that is told the probe, and one after it that is told the questions."""
+        key, mine = key_of(left, catalogue), Future[list[Ended]]()
         with self.lock:
             found = self.opened.setdefault(key, mine)
         if found is mine:
             try:
-                mine.set_result(self.program.opened(left, catalogue + b"".join(PROBE)))
+                mine.set_result(self.program.opened(left, *(catalogue + b"".join(lines) for lines in (PROBE, QUESTIONS)))[0])
             except BaseException as fault:
                 mine.set_exception(fault)
         return found.result()
@@ -88,7 +88,7 @@ def moments_of(run: Run, draws: Random) -> Iterator[Moment]:
 
 def check_left(trial: Trial, what: str, story: Story, left: Left, seen: int) -> None:
     """What was left opens with a beginning of the history, which has as many operations as somebody saw."""
-    ended, _ = trial.opener.open(left, story.book.catalogue)
+    ended, again = trial.opener.open(left, story.book.catalogue)
     trial.files.add(key_of(left, story.book.catalogue))
     sizes = {name: len(file) for name, file in left}
     if (ended.status, ended.faults) != (DONE, b""):
@@ -98,6 +98,8 @@ def check_left(trial: Trial, what: str, story: Story, left: Left, seen: int) -> 
         raise Wrong(f"{what} leaves {sizes}, and no beginning of the accepted calls: {shown(ended.output)}")
     if count < seen:
         raise Wrong(f"{what} leaves {sizes} with {count} accepted calls, and {seen} were seen")
+    last = ended.output.splitlines(keepends=True)[-len(QUESTIONS) :]
+    want(f"{what} leaves {sizes}, opened and opened again", again, Ended(DONE, b"".join(last)))
 
 
 def check_moments(trial: Trial, what: str, story: Story, run: Run) -> None:

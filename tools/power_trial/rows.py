@@ -49,7 +49,7 @@ def new_log(program: Program, sizes: tuple[int, int]) -> Start:
 
 def old_log(program: Program, sizes: tuple[int, int], catalogue: bytes = CATALOGUE) -> Start:
     """A log of the first lines, over which a run is told the next ones."""
-    ended, left = program.opened((), CATALOGUE + b"".join(night_of(1, sizes)[:BEFORE]))
+    (ended,), left = program.opened((), CATALOGUE + b"".join(night_of(1, sizes)[:BEFORE]))
     want("a log that is made", (ended.status, ended.faults), (DONE, b""))
     return Start(night_over(program, catalogue, sizes), left, BEFORE)
 
@@ -61,7 +61,7 @@ def torn_log(program: Program, sizes: tuple[int, int]) -> Start:
     before = b"".join(book.replies(start.story().before, QUESTIONS))
     lefts = {left for moment in moments_of(run, Random(0)) for disk in moment.disks for left in disk.left(Random(0))}
     given = book.catalogue + b"".join(QUESTIONS)
-    torn = [left for left in lefts if left != start.left and program.opened(left, given)[0] == Ended(DONE, before)]
+    torn = [left for left in lefts if left != start.left and program.opened(left, given)[0] == [Ended(DONE, before)]]
     return replace(start, left=max(torn, key=lambda left: (len(left[0][1]), left)))
 
 

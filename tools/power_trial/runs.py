@@ -132,13 +132,14 @@ class Program:
             ended = way([str(self.path), *over(logs / LOG)], caller, {**os.environ, **settings, **self.settings})
             return Run(disk, ended, list(events_in(noted.read_bytes())), files_in(logs))
 
-    def opened(self, left: Left, given: bytes) -> tuple[Ended, Left]:
-        """How a run ends over what a power cut left, and the files after it."""
+    def opened(self, left: Left, *inputs: bytes) -> tuple[list[Ended], Left]:
+        """How runs end over what a power cut left, one after another, each with an input, and the files after them."""
         with self.place() as place:
             for name, file in left:
                 (place / name).write_bytes(file)
-            ended = subprocess.run([self.path, *over(place / LOG)], input=given, capture_output=True, check=False)
-            return Ended(ended.returncode, ended.stdout, ended.stderr), files_in(place)
+            words = [str(self.path), *over(place / LOG)]
+            runs = [subprocess.run(words, input=given, capture_output=True, check=False) for given in inputs]
+            return [Ended(run.returncode, run.stdout, run.stderr) for run in runs], files_in(place)
 
     def replies(self, catalogue: bytes, lines: Iterable[bytes]) -> list[bytes]:
         """The replies without a log."""
