@@ -18,7 +18,7 @@ SECTOR = 512
 # If there are no more ways than these, each is tried. Else so many are drawn.
 MOST_WAYS, DRAWN = 64, 24
 # So many ways are drawn in which sectors are torn.
-TORN = 8
+TORN = 12
 # So many states of the disk are followed up after a failed sync, beside the old and the new one.
 LOST = 2
 

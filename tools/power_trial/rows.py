@@ -14,13 +14,13 @@ from power_trial.checks import Trial, check_moments, moments_of
 from power_trial.disk import Disk, Left, folder_of
 from power_trial.journal import FOLDER_SYNC, SYNC, SYNCS
 from power_trial.lines import BEFORE, CATALOGUE, FIRST, GROWN, LARGE, SMALL, night_of
-from power_trial.runs import WAYS, Caller, Program, Run
+from power_trial.runs import LOG, WAYS, Caller, Program, Run
 from power_trial.stories import QUESTIONS, Book, Night, Story, story_of
 
 # A run that goes on after a failure, a kill or a power cut is told so many lines.
 MORE = 3
 # So many torn logs are repaired under another power cut.
-REPAIRED = 6
+REPAIRED = 10
 
 
 @dataclass(frozen=True)
@@ -65,8 +65,15 @@ def torn_log(program: Program, sizes: tuple[int, int]) -> Start:
     return replace(start, left=max(torn, key=lambda left: (len(left[0][1]), left)))
 
 
+def old_draft(program: Program, sizes: tuple[int, int]) -> Start:
+    """No log, and a draft that an earlier run left: it is longer than the new log."""
+    ((_, file),) = old_log(program, sizes).left
+    return replace(new_log(program, sizes), left=((f"{LOG}.new", file),))
+
+
 STARTS: dict[str, Callable[[Program, tuple[int, int]], Start]] = {
     "a new log": new_log,
+    "a new log beside a draft": old_draft,
     "a log": old_log,
     "a torn log": torn_log,
     "a log whose catalogue grows": partial(old_log, catalogue=GROWN),
