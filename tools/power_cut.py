@@ -77,8 +77,8 @@ def fault_of(row: Row, trial: Trial, pool: ThreadPoolExecutor) -> Wrong | None:
     return None
 
 
-def check(opener: Opener, row: Row, seed: int, pool: ThreadPoolExecutor) -> None:
-    """Tries a row, and says what it had. A row that is known to fail has to fail."""
+def check(opener: Opener, row: Row, seed: int, pool: ThreadPoolExecutor) -> int:
+    """Tries a row, says what it had, and returns how many moments. A row that is known to fail has to fail."""
     trial = Trial(row.name(), opener, seed)
     fault, reason = fault_of(row, trial, pool), KNOWN.get(row.name())
     if fault and not reason:
@@ -89,14 +89,14 @@ def check(opener: Opener, row: Row, seed: int, pool: ThreadPoolExecutor) -> None
         print(f"{row.name()}: fails as known, {reason}")
     else:
         print(f"{row.name()}: {len(trial.moments)} moments, {len(trial.files)} files")
+    return len(trial.moments)
 
 
 def check_rows(program: Program, chosen: list[Row], seed: int) -> None:
     opener = Opener(program)
     with ThreadPoolExecutor(os.cpu_count()) as pool:
-        for row in chosen:
-            check(opener, row, seed, pool)
-    print(f"all: {len(opener.opened)} files")
+        moments = sum(check(opener, row, seed, pool) for row in chosen)
+    print(f"all: {moments} moments, {len(opener.opened)} different files")
 
 
 def main() -> int:
