@@ -7,7 +7,8 @@
  * call that fails does nothing, and says EIO; the calls behind it are served.
  *
  * FAIL_AT     The number of the call to fail, from 1 on. Without it none fails.
- * FAIL_COUNT  A file that holds how many calls there were (8 bytes, the machine's order), however the program ended. */
+ * FAIL_COUNT  A file that holds two numbers of 8 bytes, in the machine's order, however the program ended: how many calls
+ *             there were, and 1 if the one that failed was a sync, else 0. */
 #define _GNU_SOURCE
 #include <dlfcn.h>
 #include <errno.h>
@@ -19,17 +20,20 @@
 #include <sys/syscall.h>
 #include <unistd.h>
 
-static uint64_t unshared, *calls = &unshared, fail_at;
+static struct noted {
+    uint64_t calls, failed_sync;
+} unshared, *noted = &unshared;
+static uint64_t fail_at;
 
-/* Puts the count into the file, which the program shares from now on. */
-static void share_count(const char *path) {
+/* Puts the numbers into the file, which the program shares from now on. */
+static void share_numbers(const char *path) {
     int file = (int)syscall(SYS_open, path, O_RDWR | O_CREAT | O_TRUNC | O_CLOEXEC, 0600);
-    if (file < 0 || syscall(SYS_ftruncate, file, sizeof *calls) != 0)
+    if (file < 0 || syscall(SYS_ftruncate, file, sizeof *noted) != 0)
         abort();
-    void *shared = mmap(NULL, sizeof *calls, PROT_READ | PROT_WRITE, MAP_SHARED, file, 0);
+    void *shared = mmap(NULL, sizeof *noted, PROT_READ | PROT_WRITE, MAP_SHARED, file, 0);
     if (shared == MAP_FAILED)
         abort();
-    calls = shared;
+    noted = shared;
     close(file);
 }
 
@@ -37,14 +41,21 @@ __attribute__((constructor)) static void begin(void) {
     const char *text = getenv("FAIL_AT"), *path = getenv("FAIL_COUNT");
     fail_at = text ? strtoull(text, NULL, 10) : 0;
     if (path)
-        share_count(path);
+        share_numbers(path);
 }
 
 /* Counts a call, and says whether it is the one to fail. */
 static int fails(void) {
-    if (++*calls != fail_at)
+    if (++noted->calls != fail_at)
         return 0;
     errno = EIO;
+    return 1;
+}
+
+static int fails_sync(void) {
+    if (!fails())
+        return 0;
+    noted->failed_sync = 1;
     return 1;
 }
 
@@ -74,9 +85,9 @@ ssize_t write(int file, const void *bytes, size_t size) {
     return fails() ? -1 : NEXT(ssize_t, "write", int, const void *, size_t)(file, bytes, size);
 }
 
-int fsync(int file) { return fails() ? -1 : NEXT(int, "fsync", int)(file); }
+int fsync(int file) { return fails_sync() ? -1 : NEXT(int, "fsync", int)(file); }
 
-int fdatasync(int file) { return fails() ? -1 : NEXT(int, "fdatasync", int)(file); }
+int fdatasync(int file) { return fails_sync() ? -1 : NEXT(int, "fdatasync", int)(file); }
 
 int rename(const char *from, const char *to) {
     return fails() ? -1 : NEXT(int, "rename", const char *, const char *)(from, to);

@@ -6,7 +6,8 @@ A script is given to the proved program, which `rt ci` has built, line by line: 
 library of our own, fail_a_call.c, is loaded ahead of the program: it counts the calls of files, of standard streams too, and
 fails one of them. Each call is failed in one run, with no log there, and with one. Then:
 
-- The run ends with status 4 or 6 and its words on standard error, or the failure cost nothing and the run is as without it.
+- The run ends with status 4 or 6 and its words on standard error, or the failure cost nothing and the run is as without it. If
+  the call is a sync, the run ends with status 6.
 - What was written is a beginning of the replies.
 - The file has a beginning of the accepted lines, with each whose reply was written. It is opened again and goes on to the same
   end. Or there is no file, and nothing was written.
@@ -18,13 +19,14 @@ from __future__ import annotations
 
 import argparse
 import os
-import shutil
+import struct
 import subprocess
 import sys
 import tempfile
-from dataclasses import dataclass
+from dataclasses import dataclass, field
 from pathlib import Path
 
+from c_libraries import library_in
 from log_trial import log_file
 from repository import ROOT
 
@@ -34,7 +36,8 @@ LIBRARY = ROOT / "tools" / "fail_a_call.c"
 # A run that never ends is ended after so many seconds.
 MOST_SECONDS = 20
 
-ENDS = {(4, b"batchctl: read fault\n"), (4, b"batchctl: write fault\n"), (6, b"batchctl: log fault\n")}
+LOG_FAULT = (6, b"batchctl: log fault\n")
+ENDS = {(4, b"batchctl: read fault\n"), (4, b"batchctl: write fault\n"), LOG_FAULT}
 
 
 class Wrong(Exception):
@@ -48,6 +51,17 @@ class Run:
     status: int
     output: bytes
     faults: bytes
+
+    def end(self) -> tuple[int, bytes]:
+        return self.status, self.faults
+
+
+@dataclass(frozen=True)
+class Calls:
+    """How many calls a run made, and whether the one that failed was a sync."""
+
+    count: int
+    failed_sync: bool
 
 
 def fed(process: subprocess.Popen[bytes], lines: list[bytes]) -> bytes:
@@ -70,24 +84,27 @@ def fed(process: subprocess.Popen[bytes], lines: list[bytes]) -> bytes:
 
 @dataclass(frozen=True)
 class Program:
-    """The program, the library that fails its calls, and a folder for logs and counts."""
+    """The program, the libraries that are loaded ahead of it, of which the last fails its calls, and a folder for its files."""
 
     path: Path
-    library: Path
+    libraries: tuple[Path, ...]
     folder: Path
+    settings: dict[str, str] = field(default_factory=dict)
 
-    def run(self, lines: list[bytes], fail_at: int = 0) -> tuple[Run, int]:
-        """A run over the log in which the call of this number fails (none, if it is 0), and how many calls there were."""
+    def run(self, lines: list[bytes], fail_at: int = 0) -> tuple[Run, Calls]:
+        """A run over the log in which the call of this number fails (none, if it is 0), and its calls."""
         counted = self.folder / "calls"
         counted.unlink(missing_ok=True)
-        settings = {"LD_PRELOAD": str(self.library), "FAIL_AT": str(fail_at), "FAIL_COUNT": str(counted)}
+        ahead = " ".join(map(str, self.libraries))
+        settings = {"LD_PRELOAD": ahead, "FAIL_AT": str(fail_at), "FAIL_COUNT": str(counted), **self.settings}
         words = [str(self.path), "script", "--log", str(self.log())]
         pipe = subprocess.PIPE
         with subprocess.Popen(words, stdin=pipe, stdout=pipe, stderr=pipe, env=settings, bufsize=0) as process:
             output = fed(process, lines)
             status = process.wait(MOST_SECONDS)
             faults = process.stderr.read() if process.stderr else b""
-        return Run(status, output, faults), int.from_bytes(counted.read_bytes(), sys.byteorder)
+        count, failed_sync = struct.unpack("=2Q", counted.read_bytes())
+        return Run(status, output, faults), Calls(count, failed_sync == 1)
 
     def log(self) -> Path:
         return self.folder / "night.log"
@@ -135,9 +152,9 @@ def case_of(program: Program, name: str, lines: list[bytes], start: bytes | None
     program.lay(start)
     before = program.kept() or []
     whole, calls = program.run(lines)
-    if (whole.status, whole.faults) != (0, b""):
+    if whole.end() != (0, b""):
         raise Wrong(f"{name}, with no failure: status {whole.status}, {whole.faults!r}")
-    return Case(name, lines, whole, start, before, accepted_of(lines[1:], whole.output)), calls
+    return Case(name, lines, whole, start, before, accepted_of(lines[1:], whole.output)), calls.count
 
 
 def check_log(program: Program, case: Case, place: str, output: bytes) -> None:
@@ -152,17 +169,25 @@ def check_log(program: Program, case: Case, place: str, output: bytes) -> None:
         raise Wrong(f"{place}: the log has {kept!r}, and {output!r} was written")
     rest = [line + b"\n" for line in case.accepted[len(added) :]]
     again, _ = program.run([case.lines[0], *rest])
-    if (again.status, again.faults) != (0, b"") or program.kept() != [*case.before, *case.accepted]:
+    if again.end() != (0, b"") or program.kept() != [*case.before, *case.accepted]:
         raise Wrong(f"{place}: the log goes on to {program.kept()!r}, with status {again.status}")
+
+
+def ends_well(run: Run, whole: Run, calls: Calls) -> bool:
+    """Whether a run may end so. If a sync failed, what was written may be lost, and nobody may go on."""
+    if calls.failed_sync:
+        return run.end() == LOG_FAULT
+    return run == whole or run.end() in ENDS
 
 
 def check_call(program: Program, case: Case, number: int) -> None:
     """Fails the call of this number."""
     place = f"{case.name}, call {number}"
     program.lay(case.start)
-    run, _ = program.run(case.lines, number)
-    if run != case.whole and (run.status, run.faults) not in ENDS:
-        raise Wrong(f"{place}: status {run.status}, {run.faults!r}, {run.output!r}")
+    run, calls = program.run(case.lines, number)
+    if not ends_well(run, case.whole, calls):
+        what = "a sync failed, " if calls.failed_sync else ""
+        raise Wrong(f"{place}: {what}status {run.status}, {run.faults!r}, {run.output!r}")
     if not case.whole.output.startswith(run.output):
         raise Wrong(f"{place}: {run.output!r} is no beginning of the replies")
     check_log(program, case, place, run.output)
@@ -191,11 +216,7 @@ def program_in(path: Path, folder: Path) -> Program:
     """The program at this path, with the library, which is compiled in this folder."""
     if not os.access(path, os.X_OK):
         raise Wrong(f"there is no program {path}: `rt ci`, or `rt run` in crates/batchctl, makes it")
-    if not shutil.which("cc"):
-        raise Wrong("there is no C compiler `cc`")
-    library = folder / "fail.so"
-    subprocess.run(["cc", "-O2", "-shared", "-fPIC", "-o", library, LIBRARY, "-ldl"], check=True)
-    return Program(path, library, folder)
+    return Program(path, (library_in(folder, LIBRARY),), folder)
 
 
 def main() -> int:
