@@ -34,8 +34,17 @@ Command = Callable[[Client, argparse.Namespace], Awaitable[int]]
 
 def address_of(given: argparse.Namespace) -> Address:
     """Where the service is, by options or by the environment."""
-    user = re.sub(r"[^A-Za-z0-9._-]", "-", f"{getpass.getuser()}-{socket.gethostname()}").lstrip("._-") or "somebody"
-    return Address(urls_of(given.url), given.client or user, read_token(given.token), given.authority, given.patience)
+    client = given.client or own_name()
+    return Address(urls_of(given.url), client, read_token(given.token), given.authority, given.patience)
+
+
+def own_name() -> str:
+    """The user's name and the machine's. A user id without a name, as containers have, stands for itself."""
+    try:
+        user = getpass.getuser()
+    except (KeyError, OSError):
+        user = str(os.getuid())
+    return re.sub(r"[^A-Za-z0-9._-]", "-", f"{user}-{socket.gethostname()}").lstrip("._-") or "somebody"
 
 
 def parameters_of(words: list[str]) -> dict[str, str]:
@@ -206,7 +215,7 @@ def add_address(parser: argparse.ArgumentParser) -> None:
     parser.add_argument("--url", default=url, help="the service, or its instances with commas between them (JOBHOST_URL)")
     parser.add_argument("--token", type=Path, default=token, metavar="FILE", help="a file with the token (JOBHOST_TOKEN_FILE)")
     parser.add_argument("--authority", type=Path, metavar="FILE", help="the certificate that signed the service's")
-    parser.add_argument("--client", help="the client's name (the user's and the machine's)")
+    parser.add_argument("--client", help="the client's name (the user's or its number, and the machine's)")
     parser.add_argument("--patience", type=float, default=30.0, metavar="SECONDS", help="for how long the service is tried")
 
 
