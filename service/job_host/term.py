@@ -11,7 +11,7 @@ from contextlib import suppress
 from dataclasses import dataclass, replace
 
 from job_host.calls import SERVICE, Call, Item, Kept, KeptRequest, WorkLog
-from job_host.claims import ClaimDesk
+from job_host.claims import ClaimDesk, ClaimWithdrawn
 from job_host.engine import Answers, Engine
 from job_host.follow_ups import follow_ups
 from job_host.lines import Moments, command, is_accepted, read
@@ -92,10 +92,21 @@ class Term(ABC):
             return await self.desk.claim(call)
         return await (await self.begin(call)).done
 
+    async def withdraw(self, claim: Call) -> Kept | None:
+        """Withdraws a claim by its key. Returns its reply if it was made before; else it never is."""
+        self.desk.withdraw(claim)
+        try:
+            return await self.submit(claim)
+        except ClaimWithdrawn:
+            await self.confirm()
+            return None
+
     def check(self, call: Call) -> None:
         """Raises what keeps a call from being made."""
         if self.failure is not None:
             raise self.failure
+        if self.desk.is_withdrawn(call):
+            raise ClaimWithdrawn()
         if call.do in ("start", "restart") and self.engine.entered >= self.settings.refuse_from:
             told = f"the history has {self.engine.entered} operations: what runs can end, and nothing can be started"
             raise unavailable("HistoryAlmostFull", told, operations=self.engine.entered)
