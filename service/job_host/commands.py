@@ -28,6 +28,8 @@ STATUS = {"COMPLETED": 0, "FAILED": 3, "STOPPED": 4, "ABANDONED": 5}
 COLOURS = {"COMPLETED": "green", "FAILED": "red", "STOPPED": "yellow", "ABANDONED": "magenta"}
 POLL = 0.5
 LOG_LINES = 10
+# The service's bound of a page.
+PAGE_SIZE = 1_000
 
 Command = Callable[[Client, argparse.Namespace], Awaitable[int]]
 
@@ -53,6 +55,13 @@ def parameters_of(words: list[str]) -> dict[str, str]:
         if "=" not in word:
             raise ValueError(f"{word}: a parameter is written NAME=VALUE")
     return dict(word.split("=", 1) for word in words)
+
+
+def positive(text: str) -> int:
+    """A whole number from 1 on."""
+    if not text.isascii() or not text.isdigit() or int(text) < 1:
+        raise argparse.ArgumentTypeError(f"{text!r} is no whole number from 1 on")
+    return int(text)
 
 
 async def execution_of(client: Client, execution: int) -> dict[str, Any]:
@@ -157,12 +166,27 @@ async def list_instances(client: Client, given: argparse.Namespace) -> int:
 async def failed(client: Client, given: argparse.Namespace) -> int:
     """Says of each job instance that is FAILED which step it was, what its log ends with, and how it is restarted."""
     console = Console(highlight=False)
-    told = [one for one in await instances(client, given.job, given.count) if one["batchStatus"] == "FAILED"]
+    if given.job is not None:
+        await instances(client, given.job, 1)  # refused if there is no such job
+    told, more = await failed_executions(client, given.job, given.count)
     for one in told:
         await show_failed(client, console, one)
     if not told:
         console.print("no job instance is FAILED")
+    if more:
+        console.print(f"more job instances are FAILED: these are the newest {len(told)} (--count)")
     return 0
+
+
+async def failed_executions(client: Client, job: str | None, count: int) -> tuple[list[dict[str, Any]], bool]:
+    """The newest job executions by which a job instance is FAILED, so many at most, and whether there are more."""
+    asked = {"status": "FAILED", "mostRecent": "true", "pageSize": min(count, PAGE_SIZE), **({"jobName": job} if job else {})}
+    found: list[dict[str, Any]] = []
+    more, page = True, 0
+    while more and len(found) < count:
+        told = await client.read(f"/batch/jobexecutions?{urlencode({**asked, 'page': page})}")
+        found, more, page = found + told["jobExecutions"], told["more"], page + 1
+    return found[:count], more or len(found) > count
 
 
 async def show_failed(client: Client, console: Console, one: dict[str, Any]) -> None:
@@ -251,7 +275,7 @@ def add_commands(commands: argparse._SubParsersAction[argparse.ArgumentParser]) 
     ):
         parser = add(name, command, told)
         parser.add_argument("--job", help="of this job alone")
-        parser.add_argument("--count", type=int, default=50)
+        parser.add_argument("--count", type=positive, default=50, help="so many at most (%(default)s)")
     parser = add("watch", watch, "shows progress until the end, or the newest job instances")
     parser.add_argument("execution", type=int, nargs="?")
 

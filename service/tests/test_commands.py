@@ -1,19 +1,45 @@
-"""The words of `jobhost`, apart from a service."""
+"""Commands for people, called in this process."""
 
 from __future__ import annotations
 
 import argparse
+import asyncio
 import os
 import pwd
 import socket
+from collections.abc import Awaitable, Callable
 from typing import Any
 
 import pytest
+from instances import Caller, running
 
+from job_host import commands
 from job_host.command_line import main
-from job_host.commands import address_of
+from job_host.settings import ServeSettings
 
+Make = Callable[..., ServeSettings]
+Say = Callable[..., Awaitable[tuple[int, str]]]
 NOBODY = ["list", "--url", "http://127.0.0.1:9", "--patience", "0"]
+
+
+@pytest.fixture
+def say(capsys: pytest.CaptureFixture[str]) -> Say:
+    """Calls a command of a service. Returns its exit status, and what it wrote."""
+
+    async def call(url: str, command: str, *words: str) -> tuple[int, str]:
+        capsys.readouterr()
+        status = await asyncio.to_thread(main, [command, "--url", url, *words])
+        told = capsys.readouterr()
+        return status, told.out + told.err
+
+    return call
+
+
+async def fail(caller: Caller) -> None:
+    """Starts a job, and says that its step failed."""
+    await caller.start("short")
+    work = (await caller.claim()).told["work"]["work"]
+    await caller.finish(work, "FAILED", exit="DISK FULL", log="no space left")
 
 
 @pytest.fixture
@@ -33,7 +59,7 @@ def nameless(monkeypatch: pytest.MonkeyPatch) -> list[int]:
 
 def test_a_user_id_without_a_name_stands_for_itself(nameless: list[int], capsys: pytest.CaptureFixture[str]) -> None:
     given = argparse.Namespace(url="http://one", client=None, token=None, authority=None, patience=1.0)
-    assert address_of(given).client == f"{os.getuid()}-{socket.gethostname()}"
+    assert commands.address_of(given).client == f"{os.getuid()}-{socket.gethostname()}"
     assert main(NOBODY) == 1
     assert capsys.readouterr().err.startswith("jobhost: GET /batch/jobinstances")
 
@@ -42,3 +68,42 @@ def test_a_client_that_is_named_needs_no_user(nameless: list[int], capsys: pytes
     assert main([*NOBODY, "--client", "desk"]) == 1
     assert capsys.readouterr().err.startswith("jobhost: GET /batch/jobinstances")
     assert nameless == []
+
+
+async def test_what_failed_is_told_whatever_its_age(settings: Make, say: Say) -> None:
+    async with running(settings()) as instance:
+        caller = Caller(instance.url)
+        assert await say(instance.url, "failed") == (0, "no job instance is FAILED\n")
+        await fail(caller)
+        await asyncio.gather(*(caller.start("nightly") for _ in range(55)))
+        of_first = [
+            "short: job execution 1 is FAILED, exit status FAILED",
+            "  step only: exit status DISK FULL",
+            "    no space left",
+            "  jobhost restart 1",
+        ]
+        status, text = await say(instance.url, "failed")
+        assert (status, text.splitlines()) == (0, of_first)
+        assert await say(instance.url, "failed", "--job", "nightly") == (0, "no job instance is FAILED\n")
+        assert await say(instance.url, "failed", "--job", "none") == (1, "jobhost: NoSuchJobException\n")
+
+
+async def test_of_what_failed_the_newest_are_told_and_that_there_are_more(
+    settings: Make, say: Say, monkeypatch: pytest.MonkeyPatch
+) -> None:
+    async with running(settings()) as instance:
+        caller = Caller(instance.url)
+        for _ in range(3):
+            await fail(caller)
+        await caller.change(2, "restart")
+
+        async def heads(*words: str) -> list[str]:
+            """The lines that aren't of a step."""
+            return [line for line in (await say(instance.url, "failed", *words))[1].splitlines() if line[0] != " "]
+
+        third, first = [f"short: job execution {number} is FAILED, exit status FAILED" for number in (3, 1)]
+        assert await heads() == await heads("--count", "2") == [third, first]
+        more = "more job instances are FAILED: these are the newest 1 (--count)"
+        assert await heads("--count", "1") == [third, more]
+        monkeypatch.setattr(commands, "PAGE_SIZE", 1)
+        assert await heads() == [third, first]
