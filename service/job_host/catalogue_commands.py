@@ -19,6 +19,7 @@ from job_host.catalogue_text import laid_out, one_line, plain
 from job_host.catalogue_tree import count_elements
 from job_host.lines import compact
 from job_host.settings import find_batchctl
+from job_host.terminal import printable
 
 ACCEPTED, REFUSED, WRONG_WORDS = 0, 1, 2
 STANDARD_INPUT = "-"
@@ -27,11 +28,6 @@ Subcommands = argparse._SubParsersAction  # argparse has no public name for it
 
 class WrongWords(Exception):
     """What is asked for can't be done."""
-
-
-def printable(text: str) -> str:
-    """The text with its control characters written out, so that it can't act on a terminal."""
-    return "".join(mark if mark.isprintable() else f"\\u{ord(mark):04x}" for mark in text)
 
 
 def tell(file: CatalogueFile, notes: Sequence[Fault | Note], to: TextIO) -> None:

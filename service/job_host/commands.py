@@ -21,6 +21,7 @@ from rich.text import Text
 
 from job_host.client import Address, Client, Refused, Unreachable, read_token, urls_of
 from job_host.settings import DEFAULT_URL
+from job_host.terminal import parameter_words
 
 UNFINISHED = ("STARTING", "STARTED", "STOPPING")
 # Exit statuses of `--wait`.
@@ -76,20 +77,27 @@ async def wait_for_end(client: Client, execution: int) -> int:
     return STATUS[told["batchStatus"]]
 
 
-async def begin(client: Client, given: argparse.Namespace, method: str, path: str, body: dict[str, Any]) -> int:
-    begun = await client.operate(method, path, body)
+def tell_begun(begun: dict[str, Any]) -> None:
     print(f"job execution {begun['executionId']} of job instance {begun.get('instanceId', '?')} was made")
-    return await wait_for_end(client, begun["executionId"]) if given.wait else 0
 
 
 async def start(client: Client, given: argparse.Namespace) -> int:
     body = {"jobName": given.job, "jobParameters": parameters_of(given.parameter)}
-    return await begin(client, given, "POST", "/batch/jobinstances", body)
+    begun = await client.operate("POST", "/batch/jobinstances", body)
+    tell_begun(begun)
+    return await wait_for_end(client, begun["executionId"]) if given.wait else 0
 
 
 async def restart(client: Client, given: argparse.Namespace) -> int:
-    body = {"jobParameters": parameters_of(given.parameter)}
-    return await begin(client, given, "PUT", f"/batch/jobexecutions/{given.execution}?action=restart", body)
+    """Restarts with the parameters of the earlier job execution and those that are given, and shows them."""
+    added = parameters_of(given.parameter)
+    earlier = {} if given.no_parameters else (await execution_of(client, given.execution))["jobParameters"]
+    parameters = {**earlier, **added}
+    path = f"/batch/jobexecutions/{given.execution}?action=restart"
+    begun = await client.operate("PUT", path, {"jobParameters": parameters})
+    tell_begun(begun)
+    print(f"parameters: {parameter_words(parameters)}")
+    return await wait_for_end(client, begun["executionId"]) if given.wait else 0
 
 
 async def stop(client: Client, given: argparse.Namespace) -> int:
@@ -255,9 +263,11 @@ def add_commands(commands: argparse._SubParsersAction[argparse.ArgumentParser]) 
     parser.add_argument("job")
     parser.add_argument("--parameter", "-p", action="append", default=[], metavar="NAME=VALUE")
     parser.add_argument("--wait", action="store_true", help=waits)
-    parser = add("restart", restart, "restarts a job execution that is FAILED or STOPPED")
+    parser = add("restart", restart, "restarts a job execution that is FAILED or STOPPED, with its parameters")
     parser.add_argument("execution", type=int)
-    parser.add_argument("--parameter", "-p", action="append", default=[], metavar="NAME=VALUE")
+    added = "a parameter to add, or to replace by another value"
+    parser.add_argument("--parameter", "-p", action="append", default=[], metavar="NAME=VALUE", help=added)
+    parser.add_argument("--no-parameters", action="store_true", help="without the earlier job execution's parameters")
     parser.add_argument("--wait", action="store_true", help=waits)
     parser = add("stop", stop, "asks a job execution to stop")
     parser.add_argument("execution", type=int)

@@ -35,9 +35,13 @@ def say(capsys: pytest.CaptureFixture[str]) -> Say:
     return call
 
 
-async def fail(caller: Caller) -> None:
+async def fail(caller: Caller, **parameters: str) -> None:
     """Starts a job, and says that its step failed."""
-    await caller.start("short")
+    await caller.start("short", **parameters)
+    await fail_next(caller)
+
+
+async def fail_next(caller: Caller) -> None:
     work = (await caller.claim()).told["work"]["work"]
     await caller.finish(work, "FAILED", exit="DISK FULL", log="no space left")
 
@@ -107,3 +111,29 @@ async def test_of_what_failed_the_newest_are_told_and_that_there_are_more(
         assert await heads("--count", "1") == [third, more]
         monkeypatch.setattr(commands, "PAGE_SIZE", 1)
         assert await heads() == [third, first]
+
+
+async def test_a_restart_has_the_parameters_of_the_earlier_job_execution(settings: Make, say: Say) -> None:
+    async with running(settings()) as instance:
+        caller = Caller(instance.url)
+        await fail(caller, date="2026-11-27", place="New York", bell="\a")
+
+        async def restart(execution: int, *words: str) -> tuple[str, dict[str, str]]:
+            """What the command shows of its parameters, and which ones the new job execution has."""
+            status, text = await say(instance.url, "restart", str(execution), *words)
+            made, shown = text.splitlines()
+            assert (status, made) == (0, f"job execution {execution + 1} of job instance 1 was made")
+            told = await caller.ask("GET", f"/batch/jobexecutions/{execution + 1}")
+            await fail_next(caller)
+            return shown, told.told["jobParameters"]
+
+        whole = {"bell": "\a", "date": "2026-11-27", "place": "New York"}
+        assert await restart(1) == ("parameters: 'bell=\\u0007' date=2026-11-27 'place=New York'", whole)
+        shown, parameters = await restart(2, "-p", "date=2026-11-28", "--parameter", "more=a=b")
+        assert shown == "parameters: 'bell=\\u0007' date=2026-11-28 'place=New York' more=a=b"
+        assert parameters == {**whole, "date": "2026-11-28", "more": "a=b"}
+        assert await restart(3, "--no-parameters", "-p", "date=") == ("parameters: date=", {"date": ""})
+        assert await restart(4, "--no-parameters") == ("parameters: none", {})
+        assert await restart(5) == ("parameters: none", {})
+        assert await say(instance.url, "restart", "1") == (1, "jobhost: JobExecutionNotMostRecentException\n")
+        assert await say(instance.url, "restart", "9") == (1, "jobhost: NoSuchJobExecutionException\n")
