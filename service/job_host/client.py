@@ -91,7 +91,7 @@ class Client:
     ) -> Any:
         """Makes one operation, by one request key for all attempts, so that it is made once. `wait` is how long it may poll."""
         longest = self._address.patience if patience is None else patience
-        return await self._until_answered(method, path, body, key or uuid.uuid4().hex, wait, longest)
+        return await self._until_answered(method, path, body, uuid.uuid4().hex if key is None else key, wait, longest)
 
     async def _until_answered(self, method: str, path: str, body: Any, key: str | None, wait: float, patience: float) -> Any:
         deadline, pause, fault = time.monotonic() + patience + wait, PAUSE, "nothing was tried"

@@ -20,6 +20,7 @@ from rich.table import Table
 from rich.text import Text
 
 from job_host.client import Address, Client, Refused, Unreachable, read_token, urls_of
+from job_host.lines import fingerprint
 from job_host.settings import DEFAULT_URL
 from job_host.terminal import parameter_words
 
@@ -82,8 +83,11 @@ def tell_begun(begun: dict[str, Any]) -> None:
 
 
 async def start(client: Client, given: argparse.Namespace) -> int:
-    body = {"jobName": given.job, "jobParameters": parameters_of(given.parameter)}
-    begun = await client.operate("POST", "/batch/jobinstances", body)
+    """Starts a job. If it was started by this key before, nothing is started, and that job execution is told."""
+    parameters = parameters_of(given.parameter)
+    key = f"once:{fingerprint(given.job, parameters).hex()}" if given.once else given.key
+    path = "/batch/jobinstances" if key is None else "/batch/jobinstances?once=true"
+    begun = await client.operate("POST", path, {"jobName": given.job, "jobParameters": parameters}, key=key)
     tell_begun(begun)
     return await wait_for_end(client, begun["executionId"]) if given.wait else 0
 
@@ -262,6 +266,10 @@ def add_commands(commands: argparse._SubParsersAction[argparse.ArgumentParser]) 
     parser = add("start", start, "starts a job")
     parser.add_argument("job")
     parser.add_argument("--parameter", "-p", action="append", default=[], metavar="NAME=VALUE")
+    keys = parser.add_mutually_exclusive_group()
+    once = "starts nothing if this job was started once with these parameters, and tells of that job execution"
+    keys.add_argument("--once", action="store_true", help=once)
+    keys.add_argument("--key", help="like --once, by this key in place of the job with its parameters")
     parser.add_argument("--wait", action="store_true", help=waits)
     parser = add("restart", restart, "restarts a job execution that is FAILED or STOPPED, with its parameters")
     parser.add_argument("execution", type=int)

@@ -61,6 +61,11 @@ class Caller:
         body = {"jobName": job, "jobParameters": parameters}
         return await self.ask("POST", "/batch/jobinstances", body, key or uuid.uuid4().hex)
 
+    async def start_once(self, key: str, job: str = "short", **parameters: str) -> Answer:
+        """Starts a job by a key that says once."""
+        body = {"jobName": job, "jobParameters": parameters}
+        return await self.ask("POST", "/batch/jobinstances?once=true", body, key)
+
     async def claim(self, wait: float = 0, key: str | None = None) -> Answer:
         return await self.ask("POST", "/batch/work", {"wait": wait}, key)
 

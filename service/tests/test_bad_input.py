@@ -68,6 +68,7 @@ QUERIES += [
     "?search=" + "s" * 300,
     "?jobName=nightly",
     "?type=text",
+    "?once=true",
     "?atLeast=7",
     "?atLeast=x",
     "?" + "a=1&" * 500,

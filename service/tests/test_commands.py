@@ -7,10 +7,11 @@ import asyncio
 import os
 import pwd
 import socket
-from collections.abc import Awaitable, Callable
+from collections.abc import Callable
 from typing import Any
 
 import pytest
+from conftest import Say
 from instances import Caller, running
 
 from job_host import commands
@@ -18,21 +19,7 @@ from job_host.command_line import main
 from job_host.settings import ServeSettings
 
 Make = Callable[..., ServeSettings]
-Say = Callable[..., Awaitable[tuple[int, str]]]
 NOBODY = ["list", "--url", "http://127.0.0.1:9", "--patience", "0"]
-
-
-@pytest.fixture
-def say(capsys: pytest.CaptureFixture[str]) -> Say:
-    """Calls a command of a service. Returns its exit status, and what it wrote."""
-
-    async def call(url: str, command: str, *words: str) -> tuple[int, str]:
-        capsys.readouterr()
-        status = await asyncio.to_thread(main, [command, "--url", url, *words])
-        told = capsys.readouterr()
-        return status, told.out + told.err
-
-    return call
 
 
 async def fail(caller: Caller, **parameters: str) -> None:
