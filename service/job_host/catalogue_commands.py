@@ -174,21 +174,23 @@ def add_command(
         default=[],
         choices=sorted(jsl.REFUSED),
         metavar="NAME",
-        help="a form of JSL to leave out: " + ", ".join(sorted(jsl.REFUSED)),
+        help="a form of JSL to leave out (default: none): " + ", ".join(sorted(jsl.REFUSED)),
     )
     if command is not line:
-        parser.add_argument("--batchctl", help="the program (JOBHOST_BATCHCTL, else the path's)")
+        batchctl = "the program batchctl (default: JOBHOST_BATCHCTL, else the path's, else this clone's)"
+        parser.add_argument("--batchctl", metavar="PROGRAM", help=batchctl)
     parser.set_defaults(run=run(command))
     return parser
 
 
 def add_catalogue(subcommands: Subcommands[argparse.ArgumentParser]) -> None:
-    parser = subcommands.add_parser("catalogue", help="checks, converts, draws and compares catalogues")
+    told = "checks, converts, draws and compares catalogues"
+    parser = subcommands.add_parser("catalogue", help=told, description=told)
     commands = parser.add_subparsers(required=True, metavar="COMMAND")
     a_file = f"a catalogue in JSON, or JSL; {STANDARD_INPUT} is standard input"
     checking = add_command(commands, "check", check, "says where a catalogue is at fault, and warns of what is seldom meant")
     checking.add_argument("files", nargs="+", metavar="FILE", help=a_file)
-    checking.add_argument("--artifacts", type=Path, metavar="DIR", help="the folder of executables of the workers")
+    checking.add_argument("--artifacts", type=Path, metavar="DIR", help="the workers' folder of executables (default: none)")
     add_command(commands, "line", line, "writes a catalogue as one line, for a pipe").add_argument(
         "file", metavar="FILE", help=a_file
     )
@@ -196,7 +198,7 @@ def add_catalogue(subcommands: Subcommands[argparse.ArgumentParser]) -> None:
     turning.add_argument("files", nargs="+", metavar="FILE", help="a job in JSL")
     drawing = add_command(commands, "diagram", diagram, "draws a catalogue's jobs as SVG, by Graphviz")
     drawing.add_argument("file", metavar="FILE", help=a_file)
-    drawing.add_argument("--job", metavar="ID", help="the one job to draw")
+    drawing.add_argument("--job", metavar="ID", help="the one job to draw (default: all jobs)")
     comparing = add_command(commands, "diff", diff, "says what a new catalogue adds, changes and drops beside an old one")
     comparing.add_argument("old", metavar="OLD", help=a_file)
     comparing.add_argument("new", metavar="NEW", help=a_file)

@@ -1,4 +1,4 @@
-"""The client's commands: start, status, list, failed, stop, restart, abandon, purge, log, watch."""
+"""The client's commands: start, restart, stop, abandon, purge, lose; and status, list, failed, work, log, watch, which show."""
 
 from __future__ import annotations
 
@@ -10,24 +10,19 @@ import re
 import socket
 import sys
 from collections.abc import Awaitable, Callable
-from pathlib import Path
 from typing import Any
 from urllib.parse import urlencode
 
 from rich.console import Console
 from rich.live import Live
-from rich.table import Table
-from rich.text import Text
 
 from job_host.client import Address, Client, Refused, Unreachable, read_token, urls_of
 from job_host.lines import fingerprint
-from job_host.settings import DEFAULT_URL
-from job_host.terminal import parameter_words
+from job_host.terminal import execution_table, instance_table, parameter_words, plain, work_table
 
 UNFINISHED = ("STARTING", "STARTED", "STOPPING")
 # Exit statuses of `--wait`.
 STATUS = {"COMPLETED": 0, "FAILED": 3, "STOPPED": 4, "ABANDONED": 5}
-COLOURS = {"COMPLETED": "green", "FAILED": "red", "STOPPED": "yellow", "ABANDONED": "magenta"}
 POLL = 0.5
 LOG_LINES = 10
 # The service's bound of a page.
@@ -57,13 +52,6 @@ def parameters_of(words: list[str]) -> dict[str, str]:
         if "=" not in word:
             raise ValueError(f"{word}: a parameter is written NAME=VALUE")
     return dict(word.split("=", 1) for word in words)
-
-
-def positive(text: str) -> int:
-    """A whole number from 1 on."""
-    if not text.isascii() or not text.isdigit() or int(text) < 1:
-        raise argparse.ArgumentTypeError(f"{text!r} is no whole number from 1 on")
-    return int(text)
 
 
 async def execution_of(client: Client, execution: int) -> dict[str, Any]:
@@ -122,38 +110,14 @@ async def purge(client: Client, given: argparse.Namespace) -> int:
     return 0
 
 
-def plain(text: Any) -> Text:
-    """A text of the service as it is, whatever brackets it has."""
-    return Text("" if text is None else str(text))
-
-
-def status_text(status: str) -> Text:
-    return Text(status, style=COLOURS.get(status, "cyan"))
-
-
-def short(moment: str | None) -> Text:
-    """A moment to the second, in UTC."""
-    return plain(moment.partition(".")[0] if moment else None)
-
-
-def metrics_text(metrics: dict[str, int]) -> str:
-    return " ".join(f"{name.removesuffix('_COUNT').lower()}={count}" for name, count in metrics.items())
-
-
-def execution_table(told: dict[str, Any]) -> Table:
-    """A job execution with its step executions."""
-    title = f"{told['jobName']}: job execution {told['executionId']} of job instance {told['instanceId']}"
-    table = Table("step", "status", "exit status", "start", "end", "counts", title=Text(title))
-    for step in told["stepExecutions"]:
-        shown = [plain(step["stepName"]), status_text(step["batchStatus"]), plain(step["exitStatus"])]
-        table.add_row(*shown, short(step["startTime"]), short(step["endTime"]), metrics_text(step["metrics"]))
-    whole = [Text("(job)"), status_text(told["batchStatus"]), plain(told["exitStatus"])]
-    table.add_row(*whole, short(told["startTime"]), short(told["endTime"]), "")
-    return table
+async def lose(client: Client, given: argparse.Namespace) -> int:
+    await client.operate("PUT", f"/batch/work/{given.work}?action=lose")
+    print(f"work item {given.work} is lost: it is FAILED")
+    return 0
 
 
 async def status(client: Client, given: argparse.Namespace) -> int:
-    Console().print(execution_table(await execution_of(client, given.execution)))
+    Console().print(execution_table(await execution_of(client, given.execution), given.utc))
     return 0
 
 
@@ -162,16 +126,14 @@ async def instances(client: Client, job: str | None, count: int) -> list[dict[st
     return list(await client.read(f"/batch/jobinstances?{urlencode(given)}"))
 
 
-def instance_table(told: list[dict[str, Any]]) -> Table:
-    table = Table("job instance", "job", "job execution", "status", "exit status", "last updated")
-    for one in told:
-        shown = [plain(one["instanceId"]), plain(one["jobName"]), plain(one["executionId"]), status_text(one["batchStatus"])]
-        table.add_row(*shown, plain(one["exitStatus"]), short(one["lastUpdatedTime"]))
-    return table
-
-
 async def list_instances(client: Client, given: argparse.Namespace) -> int:
-    Console().print(instance_table(await instances(client, given.job, given.count)))
+    Console().print(instance_table(await instances(client, given.job, given.count), given.utc))
+    return 0
+
+
+async def show_work(client: Client, given: argparse.Namespace) -> int:
+    told = await client.read("/batch/work?withJobs=true")
+    Console().print(work_table(told, given.utc) if told else "no work item is under way")
     return 0
 
 
@@ -228,74 +190,21 @@ async def show_log(client: Client, given: argparse.Namespace) -> int:
 async def watch(client: Client, given: argparse.Namespace) -> int:
     """Shows a job execution until its end; without one, the newest job instances, until it is interrupted."""
     if given.execution is None:
-        return await watch_all(client)
+        return await watch_all(client, given.utc)
     with Live(console=Console(), refresh_per_second=4) as live:
         while True:
             told = await execution_of(client, given.execution)
-            live.update(execution_table(told))
+            live.update(execution_table(told, given.utc))
             if told["batchStatus"] not in UNFINISHED:
                 return STATUS[told["batchStatus"]]
             await asyncio.sleep(POLL)
 
 
-async def watch_all(client: Client) -> int:
+async def watch_all(client: Client, in_utc: bool) -> int:
     with Live(console=Console(), refresh_per_second=4) as live:
         while True:
-            live.update(instance_table(await instances(client, None, 20)))
+            live.update(instance_table(await instances(client, None, 20), in_utc))
             await asyncio.sleep(POLL)
-
-
-def add_address(parser: argparse.ArgumentParser) -> None:
-    url = os.environ.get("JOBHOST_URL", DEFAULT_URL)
-    token = os.environ.get("JOBHOST_TOKEN_FILE")
-    parser.add_argument("--url", default=url, help="the service, or its instances with commas between them (JOBHOST_URL)")
-    parser.add_argument("--token", type=Path, default=token, metavar="FILE", help="a file with the token (JOBHOST_TOKEN_FILE)")
-    parser.add_argument("--authority", type=Path, metavar="FILE", help="the certificate that signed the service's")
-    parser.add_argument("--client", help="the client's name (the user's or its number, and the machine's)")
-    parser.add_argument("--patience", type=float, default=30.0, metavar="SECONDS", help="for how long the service is tried")
-
-
-def add_commands(commands: argparse._SubParsersAction[argparse.ArgumentParser]) -> None:
-    def add(name: str, command: Command, told: str) -> argparse.ArgumentParser:
-        parser = commands.add_parser(name, help=told, description=told)
-        add_address(parser)
-        parser.set_defaults(run=lambda given: run(command, given))
-        return parser
-
-    waits = "waits for the end: the exit status is 0 COMPLETED, 3 FAILED, 4 STOPPED, 5 ABANDONED"
-    parser = add("start", start, "starts a job")
-    parser.add_argument("job")
-    parser.add_argument("--parameter", "-p", action="append", default=[], metavar="NAME=VALUE")
-    keys = parser.add_mutually_exclusive_group()
-    once = "starts nothing if this job was started once with these parameters, and tells of that job execution"
-    keys.add_argument("--once", action="store_true", help=once)
-    keys.add_argument("--key", help="like --once, by this key in place of the job with its parameters")
-    parser.add_argument("--wait", action="store_true", help=waits)
-    parser = add("restart", restart, "restarts a job execution that is FAILED or STOPPED, with its parameters")
-    parser.add_argument("execution", type=int)
-    added = "a parameter to add, or to replace by another value"
-    parser.add_argument("--parameter", "-p", action="append", default=[], metavar="NAME=VALUE", help=added)
-    parser.add_argument("--no-parameters", action="store_true", help="without the earlier job execution's parameters")
-    parser.add_argument("--wait", action="store_true", help=waits)
-    parser = add("stop", stop, "asks a job execution to stop")
-    parser.add_argument("execution", type=int)
-    parser.add_argument("--wait", action="store_true", help="waits for the end")
-    for name, command, told in (
-        ("status", status, "shows a job execution"),
-        ("abandon", abandon, "abandons a job execution that is finished"),
-        ("log", show_log, "shows the logs of a job execution's work items"),
-    ):
-        add(name, command, told).add_argument("execution", type=int)
-    add("purge", purge, "removes a job instance").add_argument("instance", type=int)
-    for name, command, told in (
-        ("list", list_instances, "shows the newest job instances"),
-        ("failed", failed, "says what failed, why, and how it is restarted"),
-    ):
-        parser = add(name, command, told)
-        parser.add_argument("--job", help="of this job alone")
-        parser.add_argument("--count", type=positive, default=50, help="so many at most (%(default)s)")
-    parser = add("watch", watch, "shows progress until the end, or the newest job instances")
-    parser.add_argument("execution", type=int, nargs="?")
 
 
 def run(command: Command, given: argparse.Namespace) -> int:

@@ -8,7 +8,7 @@ from aiohttp import web
 
 from job_host import views
 from job_host.calls import Call, Kept
-from job_host.lines import Members, fingerprint, read
+from job_host.lines import Members, fingerprint, query, read
 from job_host.problems import Problem, bad_request
 from job_host.requests import REQUEST_KEY, Asked, Handler, expect_members
 from job_host.routes_jobs import answer_of
@@ -51,9 +51,10 @@ async def withdraw(asked: Asked) -> web.StreamResponse:
 
 
 async def list_held(asked: Asked) -> web.StreamResponse:
-    """Which client holds which work item since when."""
+    """Which client holds which work item since when. With `withJobs` each has the job's name."""
+    with_jobs = asked.query_flag("withJobs")
     held, seen = await asked.keeper.held_work(asked.at_least)
-    told = [
+    told: list[dict[str, Any]] = [
         {
             "work": one.held.work,
             "executionId": one.held.execution,
@@ -65,6 +66,10 @@ async def list_held(asked: Asked) -> web.StreamResponse:
         }
         for one in held
     ]
+    if told and with_jobs:
+        answers = await asked.keeper.ask([query("job_instance", execution=one["executionId"]) for one in told], seen)
+        told = [{**one, "jobName": read(reply).get("job")} for one, reply in zip(told, answers.replies)]
+        seen = answers.seen
     return asked.answer(told, seen)
 
 

@@ -69,6 +69,7 @@ QUERIES += [
     "?jobName=nightly",
     "?type=text",
     "?once=true",
+    "?withJobs=true",
     "?atLeast=7",
     "?atLeast=x",
     "?" + "a=1&" * 500,

@@ -6,8 +6,12 @@ import argparse
 import asyncio
 import os
 import pwd
+import re
 import socket
-from collections.abc import Callable
+import time
+import tomllib
+from collections.abc import Callable, Iterator
+from pathlib import Path
 from typing import Any
 
 import pytest
@@ -15,8 +19,9 @@ from conftest import Say
 from instances import Caller, running
 
 from job_host import commands
-from job_host.command_line import main
+from job_host.command_line import main, make_parser
 from job_host.settings import ServeSettings
+from job_host.terminal import clock
 
 Make = Callable[..., ServeSettings]
 NOBODY = ["list", "--url", "http://127.0.0.1:9", "--patience", "0"]
@@ -61,6 +66,107 @@ def test_a_client_that_is_named_needs_no_user(nameless: list[int], capsys: pytes
     assert nameless == []
 
 
+def actions_of(parser: argparse.ArgumentParser) -> Iterator[tuple[str, argparse.Action]]:
+    """The options and words of a command and of those below it."""
+    for action in parser._actions:
+        if isinstance(action, argparse._SubParsersAction):
+            for below in action.choices.values():
+                yield from actions_of(below)
+        else:
+            yield parser.prog, action
+
+
+def test_each_option_has_its_help_and_its_default() -> None:
+    told = list(actions_of(make_parser()))
+    assert {"jobhost serve", "jobhost lose", "jobhost catalogue diff"} <= {command for command, _ in told}
+    bare = [(command, action.dest) for command, action in told if not action.help]
+    takes_value = [(command, action) for command, action in told if action.option_strings and action.nargs != 0]
+    hidden = [
+        (command, action.dest) for command, action in takes_value if not action.required and "default" not in str(action.help)
+    ]
+    assert (bare, hidden) == ([], [])
+
+
+def test_the_help_of_serve_shows_values(capsys: pytest.CaptureFixture[str]) -> None:
+    with pytest.raises(SystemExit):
+        main(["serve", "--help"])
+    text = " ".join(capsys.readouterr().out.split())
+    for default in ("jobhost-data", "127.0.0.1", "8570", "30", "5"):
+        assert f"(default: {default})" in text
+
+
+def test_the_versions_are_shown(tmp_path: Path, monkeypatch: pytest.MonkeyPatch, capsys: pytest.CaptureFixture[str]) -> None:
+    program = tmp_path / "batchctl"
+    program.write_text('#!/bin/sh\n[ "$*" = --version ] && echo batchctl 7\n')
+    program.chmod(0o755)
+    told = []
+    for path in (program, tmp_path / "none"):
+        monkeypatch.setenv("JOBHOST_BATCHCTL", str(path))
+        with pytest.raises(SystemExit) as ended:
+            main(["--version"])
+        assert ended.value.code == 0
+        told.append(capsys.readouterr().out.splitlines())
+    project = Path(__file__).resolve().parents[1] / "pyproject.toml"
+    version = tomllib.loads(project.read_text())["project"]["version"]
+    assert told[0] == [f"jobhost {version}", f"batchctl 7 ({program})"]
+    assert told[1][0] == f"jobhost {version}" and told[1][1].startswith("batchctl: [Errno 2] No such file or directory")
+
+
+@pytest.fixture
+def far_east(monkeypatch: pytest.MonkeyPatch) -> Iterator[None]:
+    """A zone of this machine that is 5 hours and 30 minutes ahead of UTC. Tables are wide."""
+    monkeypatch.setenv("COLUMNS", "200")
+    monkeypatch.setenv("TZ", "FAR-5:30")
+    time.tzset()
+    yield
+    monkeypatch.undo()
+    time.tzset()
+
+
+def test_a_moment_has_the_offset_of_its_zone(far_east: None) -> None:
+    late = "2026/11/27 23:59:59.999 +0000"
+    assert [str(clock(late, in_utc)) for in_utc in (False, True)] == ["2026/11/28 05:29:59 +0530", "2026/11/27 23:59:59 +0000"]
+    assert [str(clock(moment, False)) for moment in (None, "9999999999999999")] == ["", "9999999999999999"]
+    assert str(clock("9999/12/31 23:59:59.000 +0000", False)) == "9999/12/31 23:59:59.000 +0000"
+
+
+def offsets(text: str) -> set[str]:
+    return set(re.findall(r"\d\d:\d\d:\d\d ([+-]\d{4})", text))
+
+
+async def test_times_are_of_this_machine_or_of_utc(settings: Make, say: Say, far_east: None) -> None:
+    async with running(settings()) as instance:
+        caller = Caller(instance.url)
+        await fail(caller)
+        await caller.start("wide")
+        await caller.claim()
+        for words in ("status 1", "list", "work"):
+            texts = [(await say(instance.url, *f"{words} {more}".split()))[1] for more in ("", "--utc")]
+            assert [offsets(text) for text in texts] == [{"+0530"}, {"+0000"}]
+        assert offsets((await say(instance.url, "watch", "1", "--utc"))[1]) == {"+0000"}
+
+
+async def test_work_items_under_way_are_shown_and_lost(
+    settings: Make, say: Say, far_east: None, monkeypatch: pytest.MonkeyPatch
+) -> None:
+    async with running(settings()) as instance:
+        caller, url = Caller(instance.url, "farm-1"), instance.url
+        assert await say(url, "work") == (0, "no work item is under way\n")
+        await caller.start("wide")
+        await caller.start("nightly")
+        await caller.claim()
+        await caller.claim()
+        status, text = await say(url, "work")
+        rows = [[cell.strip() for cell in line.split("│")[1:-2]] for line in text.splitlines() if "farm-1" in line]
+        assert (status, rows) == (0, [[str(part + 1), "wide", "1", "print", str(part), "farm-1"] for part in range(2)])
+        monkeypatch.setenv("COLUMNS", "50")
+        assert "…" not in (await say(url, "work"))[1]
+        assert await say(url, "lose", "2") == (0, "work item 2 is lost: it is FAILED\n")
+        assert await say(url, "lose", "2") == (1, "jobhost: WorkNotRunning\n")
+        assert [(one["work"], "jobName" in one) for one in (await caller.ask("GET", "/batch/work")).told] == [(1, False)]
+        assert (await caller.ask("GET", "/batch/work?withJobs=1")).name == "BadRequest"
+
+
 async def test_what_failed_is_told_whatever_its_age(settings: Make, say: Say) -> None:
     async with running(settings()) as instance:
         caller = Caller(instance.url)
@@ -98,6 +204,9 @@ async def test_of_what_failed_the_newest_are_told_and_that_there_are_more(
         assert await heads("--count", "1") == [third, more]
         monkeypatch.setattr(commands, "PAGE_SIZE", 1)
         assert await heads() == [third, first]
+        for count in ("0", "-1", "x"):
+            with pytest.raises(SystemExit):
+                await heads("--count", count)
 
 
 async def test_a_restart_has_the_parameters_of_the_earlier_job_execution(settings: Make, say: Say) -> None:
