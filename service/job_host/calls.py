@@ -7,10 +7,12 @@ from collections.abc import Awaitable, Callable
 from dataclasses import dataclass, field
 from typing import Any
 
-from job_host.lines import Members, read
+from job_host.lines import Members, is_accepted, read
 
 SERVICE = ""
 SERVICE_SESSION = 1
+# No client's session: keys that say once stand under it, as they are for all clients.
+EVERYBODY_SESSION = 0
 
 
 def nobody_left() -> bool:
@@ -22,7 +24,8 @@ class Call:
     """A command of a client.
 
     `resolve` gives members that a query tells. With `wait`, a claim that is answered Nothing is made again until so many
-    seconds are over, or until the client is gone.
+    seconds are over, or until the client is gone. With `is_once` the key is for all clients, as long as the job instance that
+    the call made is there. A refusal isn't kept then.
     """
 
     client: str
@@ -35,6 +38,7 @@ class Call:
     wait: float = 0.0
     is_gone: Callable[[], bool] = nobody_left
     keeps_nothing: bool = True
+    is_once: bool = False
 
 
 @dataclass(frozen=True)
@@ -100,7 +104,14 @@ class Item:
         """Whether the reply is kept beside a request key."""
         if self.call is None or self.call.key is None:
             return False
+        if self.call.is_once:
+            return is_accepted(self.reply)
         return self.call.keeps_nothing or not self.reply.startswith(b'{"nothing":')
+
+    @property
+    def key_session(self) -> int:
+        """The session under which the request key stands."""
+        return EVERYBODY_SESSION if self.call is not None and self.call.is_once else self.session
 
     def kept(self) -> Kept:
         return Kept(self.reply, self.answers, self.seen)

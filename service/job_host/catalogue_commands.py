@@ -19,6 +19,7 @@ from job_host.catalogue_text import laid_out, one_line, plain
 from job_host.catalogue_tree import count_elements
 from job_host.lines import compact
 from job_host.settings import find_batchctl
+from job_host.terminal import printable
 
 ACCEPTED, REFUSED, WRONG_WORDS = 0, 1, 2
 STANDARD_INPUT = "-"
@@ -27,11 +28,6 @@ Subcommands = argparse._SubParsersAction  # argparse has no public name for it
 
 class WrongWords(Exception):
     """What is asked for can't be done."""
-
-
-def printable(text: str) -> str:
-    """The text with its control characters written out, so that it can't act on a terminal."""
-    return "".join(mark if mark.isprintable() else f"\\u{ord(mark):04x}" for mark in text)
 
 
 def tell(file: CatalogueFile, notes: Sequence[Fault | Note], to: TextIO) -> None:
@@ -178,21 +174,23 @@ def add_command(
         default=[],
         choices=sorted(jsl.REFUSED),
         metavar="NAME",
-        help="a form of JSL to leave out: " + ", ".join(sorted(jsl.REFUSED)),
+        help="a form of JSL to leave out (default: none): " + ", ".join(sorted(jsl.REFUSED)),
     )
     if command is not line:
-        parser.add_argument("--batchctl", help="the program (JOBHOST_BATCHCTL, else the path's)")
+        batchctl = "the program batchctl (default: JOBHOST_BATCHCTL, else the path's, else this clone's)"
+        parser.add_argument("--batchctl", metavar="PROGRAM", help=batchctl)
     parser.set_defaults(run=run(command))
     return parser
 
 
 def add_catalogue(subcommands: Subcommands[argparse.ArgumentParser]) -> None:
-    parser = subcommands.add_parser("catalogue", help="checks, converts, draws and compares catalogues")
+    told = "checks, converts, draws and compares catalogues"
+    parser = subcommands.add_parser("catalogue", help=told, description=told)
     commands = parser.add_subparsers(required=True, metavar="COMMAND")
     a_file = f"a catalogue in JSON, or JSL; {STANDARD_INPUT} is standard input"
     checking = add_command(commands, "check", check, "says where a catalogue is at fault, and warns of what is seldom meant")
     checking.add_argument("files", nargs="+", metavar="FILE", help=a_file)
-    checking.add_argument("--artifacts", type=Path, metavar="DIR", help="the folder of executables of the workers")
+    checking.add_argument("--artifacts", type=Path, metavar="DIR", help="the workers' folder of executables (default: none)")
     add_command(commands, "line", line, "writes a catalogue as one line, for a pipe").add_argument(
         "file", metavar="FILE", help=a_file
     )
@@ -200,7 +198,7 @@ def add_catalogue(subcommands: Subcommands[argparse.ArgumentParser]) -> None:
     turning.add_argument("files", nargs="+", metavar="FILE", help="a job in JSL")
     drawing = add_command(commands, "diagram", diagram, "draws a catalogue's jobs as SVG, by Graphviz")
     drawing.add_argument("file", metavar="FILE", help=a_file)
-    drawing.add_argument("--job", metavar="ID", help="the one job to draw")
+    drawing.add_argument("--job", metavar="ID", help="the one job to draw (default: all jobs)")
     comparing = add_command(commands, "diff", diff, "says what a new catalogue adds, changes and drops beside an old one")
     comparing.add_argument("old", metavar="OLD", help=a_file)
     comparing.add_argument("new", metavar="NEW", help=a_file)

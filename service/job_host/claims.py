@@ -12,6 +12,16 @@ from job_host.problems import Problem
 
 Begin = Callable[[Call], Awaitable[Item]]
 
+# So many withdrawn claims are known: the oldest are forgotten, whose requests came long ago.
+MOST_WITHDRAWN = 10_000
+
+
+class ClaimWithdrawn(Problem):
+    """The claim was withdrawn before it was made."""
+
+    def __init__(self) -> None:
+        super().__init__("ClaimWithdrawn", 409, "the client has withdrawn the claim with this key")
+
 
 @dataclass(eq=False)
 class Waiter:
@@ -26,6 +36,7 @@ class ClaimDesk:
     def __init__(self, begin: Begin) -> None:
         self._begin = begin
         self._waiting: deque[Waiter] = deque()
+        self._withdrawn: dict[tuple[str, str | None], None] = {}
         self._wake = asyncio.Event()
 
     def wake(self) -> None:
@@ -34,6 +45,18 @@ class ClaimDesk:
     @property
     def waiting(self) -> int:
         return len(self._waiting)
+
+    def is_withdrawn(self, call: Call) -> bool:
+        return call.do == "claim" and (call.client, call.key) in self._withdrawn
+
+    def withdraw(self, call: Call) -> None:
+        """From now on no claim of this client and key is made, also if its request comes late. One that waits ends."""
+        self._withdrawn[call.client, call.key] = None
+        if len(self._withdrawn) > MOST_WITHDRAWN:
+            del self._withdrawn[next(iter(self._withdrawn))]
+        for waiter in [one for one in self._waiting if self.is_withdrawn(one.call)]:
+            self._waiting.remove(waiter)
+            waiter.served.set_exception(ClaimWithdrawn())
 
     async def claim(self, call: Call) -> Kept:
         """Waits for work. After `call.wait` seconds a last claim is made, and its reply counts."""
@@ -74,14 +97,16 @@ class ClaimDesk:
         except Exception as problem:
             waiter.served.set_exception(problem)
             return True
-        if reply.startswith(b'{"nothing":'):
-            if waiter.is_late:
-                waiter.served.set_result(None)
-            else:
-                self._waiting.appendleft(waiter)
-            return False
-        waiter.served.set_result(item)
-        return True
+        if not reply.startswith(b'{"nothing":'):
+            waiter.served.set_result(item)
+            return True
+        if self.is_withdrawn(waiter.call):
+            waiter.served.set_exception(ClaimWithdrawn())
+        elif waiter.is_late:
+            waiter.served.set_result(None)
+        else:
+            self._waiting.appendleft(waiter)
+        return False
 
     def fail(self, problem: Exception) -> None:
         while self._waiting:

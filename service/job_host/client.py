@@ -80,10 +80,18 @@ class Client:
     async def read(self, path: str) -> Any:
         return await self._until_answered("GET", path, None, None, 0.0, self._address.patience)
 
-    async def operate(self, method: str, path: str, body: Any = None, wait: float = 0.0, patience: float | None = None) -> Any:
+    async def operate(
+        self,
+        method: str,
+        path: str,
+        body: Any = None,
+        wait: float = 0.0,
+        patience: float | None = None,
+        key: str | None = None,
+    ) -> Any:
         """Makes one operation, by one request key for all attempts, so that it is made once. `wait` is how long it may poll."""
         longest = self._address.patience if patience is None else patience
-        return await self._until_answered(method, path, body, uuid.uuid4().hex, wait, longest)
+        return await self._until_answered(method, path, body, uuid.uuid4().hex if key is None else key, wait, longest)
 
     async def _until_answered(self, method: str, path: str, body: Any, key: str | None, wait: float, patience: float) -> Any:
         deadline, pause, fault = time.monotonic() + patience + wait, PAUSE, "nothing was tried"

@@ -9,32 +9,47 @@ import sys
 from collections.abc import Sequence
 from pathlib import Path
 
-from job_host import catalogue_commands, commands
+from job_host import catalogue_commands, commands, options
+from job_host.options import Subcommands
 from job_host.settings import DEFAULT_PORT, ServeSettings, find_batchctl
+from job_host.versions import ShowVersion
 
 # A slot that claims has a request in hand, and the service allows 64 of one client: the others are for heartbeats and reports.
 MOST_SLOTS = 32
 
-Commands = argparse._SubParsersAction  # argparse has no public name for it
 
-
-def add_serve(subcommands: Commands[argparse.ArgumentParser]) -> None:
-    parser = subcommands.add_parser("serve", help="serves a catalogue's jobs over HTTP")
-    parser.add_argument("--catalogue", type=Path, required=True, help="the jobs, as docs/CATALOGUE.md has them")
-    parser.add_argument("--data", type=Path, default=Path("jobhost-data"), help="the folder of an embedded service's log")
-    parser.add_argument("--postgres", action="append", default=[], metavar="DSN", help="a server that may be the primary")
-    parser.add_argument("--batchctl", help="the program (JOBHOST_BATCHCTL, else the path's)")
-    parser.add_argument("--host", default="127.0.0.1")
-    parser.add_argument("--port", type=int, default=DEFAULT_PORT)
-    parser.add_argument(
-        "--advertise", default="", metavar="URL", help="the URL at which other instances' clients find this one"
-    )
-    parser.add_argument("--tokens", type=Path, help="a file with lines of role, name and token")
-    parser.add_argument("--certificate", type=Path)
-    parser.add_argument("--certificate-key", type=Path)
-    parser.add_argument("--lease", type=float, default=30.0, metavar="SECONDS")
-    parser.add_argument("--takeover-after", type=float, default=5.0, metavar="SECONDS")
+def add_serve(subcommands: Subcommands[argparse.ArgumentParser]) -> None:
+    told = "serves a catalogue's jobs over HTTP"
+    parser = subcommands.add_parser("serve", help=told, description=told)
+    add = parser.add_argument
+    catalogue = "the jobs, as docs/CATALOGUE.md has them"
+    add("--catalogue", type=Path, required=True, metavar="FILE", help=catalogue)
+    data = "the folder of the history, if it isn't in PostgreSQL (default: %(default)s)"
+    add("--data", type=Path, default=Path("jobhost-data"), metavar="DIR", help=data)
+    postgres = "a PostgreSQL server that may be the primary; the option may come several times (default: none, and --data)"
+    add("--postgres", action="append", default=[], metavar="DSN", help=postgres)
+    batchctl = "the program batchctl (default: JOBHOST_BATCHCTL, else the path's, else this clone's)"
+    add("--batchctl", metavar="PROGRAM", help=batchctl)
+    add_listening(parser)
+    lease = "a work item is lost after so long without a sign of its worker (default: %(default)g)"
+    add("--lease", type=float, default=30.0, metavar="SECONDS", help=lease)
+    takeover = "over PostgreSQL, this instance takes over after so long without a sign of the leader (default: %(default)g)"
+    add("--takeover-after", type=float, default=5.0, metavar="SECONDS", help=takeover)
     parser.set_defaults(run=run_serve)
+
+
+def add_listening(parser: argparse.ArgumentParser) -> None:
+    """Where the service listens, and who may ask."""
+    add = parser.add_argument
+    host = "the address to listen on; one that isn't loopback needs tokens and a certificate (default: %(default)s)"
+    add("--host", default="127.0.0.1", help=host)
+    add("--port", type=int, default=DEFAULT_PORT, help="the port to listen on; 0 means a free one (default: %(default)s)")
+    advertise = "the URL at which clients of other instances find this one (default: that of --host and --port)"
+    add("--advertise", default="", metavar="URL", help=advertise)
+    tokens = "a file with lines of role, name and token (default: none, and everybody on this machine may do everything)"
+    add("--tokens", type=Path, metavar="FILE", help=tokens)
+    add("--certificate", type=Path, metavar="FILE", help="the certificate for TLS (default: none, and HTTP without TLS)")
+    add("--certificate-key", type=Path, metavar="FILE", help="the private key of the certificate (default: none)")
 
 
 def run_serve(given: argparse.Namespace) -> int:
@@ -63,11 +78,13 @@ def run_serve(given: argparse.Namespace) -> int:
         return 2
 
 
-def add_worker(subcommands: Commands[argparse.ArgumentParser]) -> None:
-    parser = subcommands.add_parser("worker", help="runs work items by the executables of a folder")
-    commands.add_address(parser)
+def add_worker(subcommands: Subcommands[argparse.ArgumentParser]) -> None:
+    told = "runs work items by the executables of a folder"
+    parser = subcommands.add_parser("worker", help=told, description=told)
+    options.add_address(parser, f"{options.OWN_NAME}, and a mark of this start")
     parser.add_argument("--artifacts", type=Path, required=True, metavar="DIR", help="the folder of executables")
-    parser.add_argument("--slots", type=int, default=1, help=f"how many work items run at a time, up to {MOST_SLOTS}")
+    slots = f"how many work items run at a time, 1 to {MOST_SLOTS} (default: %(default)s)"
+    parser.add_argument("--slots", type=int, default=1, metavar="N", help=slots)
     parser.set_defaults(run=run_worker)
 
 
@@ -82,12 +99,17 @@ def run_worker(given: argparse.Namespace) -> int:
     return 0
 
 
-def main(arguments: Sequence[str] | None = None) -> int:
+def make_parser() -> argparse.ArgumentParser:
     parser = argparse.ArgumentParser(prog="jobhost", description="Serves, runs and watches batch jobs over batchctl script.")
+    parser.add_argument("--version", action=ShowVersion, help="prints the versions of jobhost and of batchctl")
     subcommands = parser.add_subparsers(required=True, metavar="COMMAND")
     add_serve(subcommands)
     add_worker(subcommands)
-    commands.add_commands(subcommands)
+    options.add_commands(subcommands)
     catalogue_commands.add_catalogue(subcommands)
-    given = parser.parse_args(arguments)
+    return parser
+
+
+def main(arguments: Sequence[str] | None = None) -> int:
+    given = make_parser().parse_args(arguments)
     return int(given.run(given))

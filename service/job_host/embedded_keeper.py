@@ -66,6 +66,9 @@ class EmbeddedTerm(Term):
     async def find(self, session: int, key: str) -> KeptRequest | None:
         return await self._beside.do(lambda store: store.request(session, key))
 
+    async def forget(self, key: str, kept: Kept) -> None:
+        await self._beside.do(lambda store: store.drop_once({key: kept.reply}))
+
     async def begin(self, call: Call) -> Item:
         self.check(call)
         item = self.item_of(call)
@@ -240,6 +243,8 @@ class EmbeddedKeeper(Keeper):
         days = self._settings.bounds.days_of_keys
         while True:
             await beside.do(lambda store: store.drop_old_keys(days))
+            once = await self.of_purged(await beside.do(lambda store: store.old_once(days)))
+            await beside.do(lambda store, once=once: store.drop_once(once))  # type: ignore[misc]
             gone = await self.purged(await beside.do(lambda store: store.logged_executions()))
             await beside.do(lambda store, gone=gone: store.drop_logs(gone))  # type: ignore[misc]
             await asyncio.sleep(PRUNE_SECONDS)

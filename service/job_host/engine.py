@@ -80,6 +80,8 @@ class Engine:
             self.executions.note_purged(told["instance"], self.entered)
         else:
             self.executions.note_changed(self._execution_of(told, reply), self.entered)
+        if do == "restart":
+            self.executions.note_restarted(told["execution"], self.entered)
         if do not in ("claim", "checkpoint"):
             self.may_give_work()
         return moment

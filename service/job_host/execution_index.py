@@ -35,15 +35,19 @@ class Row(NamedTuple):
 
 @dataclass(frozen=True)
 class Wanted:
-    """A list's filter. Without statuses all of them are meant; `search` is in lower case."""
+    """A list's filter. Without statuses all of them are meant; `search` is in lower case.
+
+    With `most_recent` only the most recent job execution of each job instance is meant.
+    """
 
     statuses: frozenset[str] = frozenset()
     job: str | None = None
     search: str = ""
+    most_recent: bool = False
 
     @property
     def is_by_status_alone(self) -> bool:
-        return self.job is None and not self.search
+        return self.job is None and not self.search and not self.most_recent
 
     def takes(self, execution: int, row: Row, parameters: str) -> bool:
         if not row.status or (self.statuses and row.status not in self.statuses):
@@ -77,6 +81,8 @@ class ExecutionIndex:
         # The last operation on each job execution, by its number, and on each purged job instance.
         self._changed = array("Q", [0])
         self._purged: dict[int, int] = {}
+        # The operation that restarted a job execution: since then another one is its job instance's most recent one.
+        self._restarted: dict[int, int] = {}
         self._turn = asyncio.Lock()
 
     @property
@@ -92,6 +98,13 @@ class ExecutionIndex:
 
     def note_purged(self, instance: int, operation: int) -> None:
         self._purged[instance] = operation
+
+    def note_restarted(self, execution: int, operation: int) -> None:
+        self._restarted[execution] = operation
+
+    def is_most_recent(self, execution: int, seen: int) -> bool:
+        """Whether it is the most recent job execution of its job instance after so many operations."""
+        return self._restarted.get(execution, seen + 1) > seen
 
     def _is_known(self, execution: int) -> bool:
         row = self._rows.get(execution)
@@ -120,7 +133,12 @@ class ExecutionIndex:
         while high > 0 and len(found) < enough:
             block = range(high, max(0, high - BLOCK), -1)
             await self._know(block, bool(wanted.search))
-            found += [one for one in block if wanted.takes(one, self._rows[one], self._parameters.get(one, ""))]
+            found += [one for one in block if self._is_wanted(wanted, one)]
             high -= BLOCK
             await asyncio.sleep(0)
         return found[start : start + count], len(found) > start + count
+
+    def _is_wanted(self, wanted: Wanted, execution: int) -> bool:
+        if wanted.most_recent and execution in self._restarted:
+            return False
+        return wanted.takes(execution, self._rows[execution], self._parameters.get(execution, ""))

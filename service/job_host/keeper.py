@@ -4,7 +4,7 @@ from __future__ import annotations
 
 import asyncio
 from abc import ABC, abstractmethod
-from collections.abc import AsyncIterator, Awaitable, Sequence
+from collections.abc import AsyncIterator, Awaitable, Mapping, Sequence
 from contextlib import asynccontextmanager
 from dataclasses import dataclass
 from typing import Any
@@ -117,6 +117,12 @@ class Keeper(ABC):
             answers = await self.ask([query("job_instance", execution=one) for one in some])
             gone += [one for one, reply in zip(some, answers.replies) if of_refusal(read(reply)) is not None]
         return gone
+
+    async def of_purged(self, once: Mapping[str, bytes]) -> dict[str, bytes]:
+        """Those of these keys that say once, with their first replies, whose job instance a purge has removed."""
+        executions = {key: int(read(reply)["execution"]) for key, reply in once.items()}
+        gone = set(await self.purged(list(executions.values())))
+        return {key: reply for key, reply in once.items() if executions[key] in gone}
 
     async def held_work(self, at_least: int) -> tuple[list[HeldBy], int]:
         """Who holds which work item since when, and how many operations that saw."""

@@ -13,7 +13,7 @@ from contextlib import suppress
 from typing import Any
 
 from job_host import job_catalogue
-from job_host.calls import Item, KeptRequest, WorkLog
+from job_host.calls import Item, Kept, KeptRequest, WorkLog
 from job_host.coprocess import CoProcess, CoProcessEnded
 from job_host.engine import Engine, ReplayDiffers
 from job_host.keeper import Fatal, Keeper, check_catalogue, first_of
@@ -52,6 +52,12 @@ class PostgresTerm(Term):
         except LOST as fault:
             raise unavailable("StoreLost", f"{type(fault).__name__}: {fault}") from fault
 
+    async def forget(self, key: str, kept: Kept) -> None:
+        try:
+            await self._store.drop_once({key: kept.reply})
+        except LOST as fault:
+            raise unavailable("StoreLost", f"{type(fault).__name__}: {fault}") from fault
+
     async def keep(self, items: Sequence[Item]) -> None:
         clients = self.sessions.take_fresh()
         try:
@@ -61,7 +67,7 @@ class PostgresTerm(Term):
             raise unavailable("CommitFailed", "the operation may have been kept: ask again by its key") from fault
         if not stands:
             raise unavailable("NotLeader", "another instance has taken over")
-        self._keys.update(hash((item.session, item.call.key)) for item in items if item.is_keyed and item.call)
+        self._keys.update(hash((item.key_session, item.call.key)) for item in items if item.is_keyed and item.call)
 
 
 class CatalogueGrew(Exception):
@@ -196,8 +202,10 @@ class PostgresKeeper(Keeper):
             term.fail(unavailable("NotLeader", "this instance leads no more"))
 
     async def _prune(self, store: PostgresStore) -> None:
+        days = self._settings.bounds.days_of_keys
         while True:
-            await store.drop_old_keys(self._settings.bounds.days_of_keys)
+            await store.drop_old_keys(days)
+            await store.drop_once(await self.of_purged(await store.old_once(days)))
             await store.drop_logs(await self.purged(await store.logged_executions()))
             await asyncio.sleep(PRUNE_SECONDS)
 

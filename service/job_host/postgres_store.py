@@ -5,13 +5,13 @@ from __future__ import annotations
 import asyncio
 import json
 import logging
-from collections.abc import Coroutine, Sequence
+from collections.abc import Coroutine, Mapping, Sequence
 from dataclasses import dataclass
 from typing import Any
 
 import asyncpg
 
-from job_host.calls import Item, Kept, KeptRequest, WorkLog
+from job_host.calls import EVERYBODY_SESSION, Item, Kept, KeptRequest, WorkLog
 from job_host.engine import Record
 from job_host.postgres_schema import BEAT, RESIGN, ROUND, SCHEMA, SCHEMA_LOCK, TAKE_OVER
 
@@ -197,9 +197,25 @@ class PostgresStore:
             await self._reads.execute("delete from job_host_work_log where execution = any($1::bigint[])", list(executions))
 
     async def drop_old_keys(self, days: int) -> None:
-        statement = "delete from job_host_request where kept_at < now() - make_interval(days => $1)"
+        """Drops keys that are older. Those that say once stay."""
+        statement = "delete from job_host_request where kept_at < now() - make_interval(days => $1) and session <> $2"
         async with self._turn:
-            await self._reads.execute(statement, days)
+            await self._reads.execute(statement, days, EVERYBODY_SESSION)
+
+    async def old_once(self, days: int) -> dict[str, bytes]:
+        """The older keys that say once, with their first replies."""
+        statement = "select key, reply from job_host_request where kept_at < now() - make_interval(days => $1) and session = $2"
+        return {row["key"]: row["reply"].encode() for row in await self._fetch(statement, days, EVERYBODY_SESSION)}
+
+    async def drop_once(self, once: Mapping[str, bytes]) -> None:
+        """Drops keys that say once, as far as these are still their first replies."""
+        statement = """
+            delete from job_host_request r using unnest($2::text[], $3::text[]) as o(key, reply)
+            where r.session = $1 and r.key = o.key and r.reply = o.reply
+        """
+        replies = [reply.decode() for reply in once.values()]
+        async with self._turn:
+            await self._reads.execute(statement, EVERYBODY_SESSION, list(once), replies)
 
 
 def _columns(items: Sequence[Item], clients: dict[str, int]) -> list[list[Any]]:
@@ -214,7 +230,7 @@ def _columns(items: Sequence[Item], clients: dict[str, int]) -> list[list[Any]]:
         [item.call.key if item.call else None for item in entered],
         list(clients.keys()),
         list(clients.values()),
-        [item.session for item in keyed],
+        [item.key_session for item in keyed],
         [item.call.key if item.call else None for item in keyed],
         [item.call.fingerprint if item.call else b"" for item in keyed],
         [item.reply.decode() for item in keyed],

@@ -114,6 +114,12 @@ class Asked:
     def query_number(self, name: str, default: int) -> int:
         return number(self.request.query.get(name, str(default)), name)
 
+    def query_flag(self, name: str) -> bool:
+        given = self.request.query.get(name, "false")
+        if given not in ("true", "false"):
+            raise bad_request(f"{name} is true or false")
+        return given == "true"
+
     async def body(self) -> dict[str, Any]:
         """The body, an object of JSON. Without a body it is the empty object."""
         text = await self._bytes()

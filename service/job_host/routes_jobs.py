@@ -10,7 +10,7 @@ from job_host import views
 from job_host.calls import Call, Kept
 from job_host.lines import Members, fingerprint, query, read
 from job_host.problems import OPERATIONS, bad_request, of_refusal
-from job_host.requests import Asked, Handler, expect_members
+from job_host.requests import REQUEST_KEY, Asked, Handler, expect_members
 
 
 def answer_of(reply: bytes, seen: int | None = None) -> dict[str, Any]:
@@ -46,8 +46,11 @@ async def start_instance(asked: Asked) -> web.StreamResponse:
     job = body.get("jobName", body.get("jobXMLName"))
     if job is None:
         raise bad_request("jobName or jobXMLName is missing")
+    is_once = asked.query_flag("once")
+    if is_once and asked.key is None:
+        raise bad_request(f"a start that says once needs the header {REQUEST_KEY}")
     members = {"job": job, "parameters": body.get("jobParameters", {})}
-    call = Call(asked.client, "start", members, asked.key, fingerprint("start", members))
+    call = Call(asked.client, "start", members, asked.key, fingerprint("start", members), is_once=is_once)
     return begun(asked, await asked.keeper.submit(call), 201)
 
 

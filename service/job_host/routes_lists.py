@@ -60,7 +60,7 @@ def wanted_of(asked: Asked) -> Wanted:
     search = given.get("search", "").strip().lower()
     if len(search) > SEARCH_CHARACTERS:
         raise bad_request(f"search has at most {SEARCH_CHARACTERS} characters")
-    return Wanted(statuses, given.get("jobName"), search)
+    return Wanted(statuses, given.get("jobName"), search, asked.query_flag("mostRecent"))
 
 
 async def list_all_executions(asked: Asked) -> web.StreamResponse:
@@ -70,8 +70,10 @@ async def list_all_executions(asked: Asked) -> web.StreamResponse:
     if not 0 < size <= most or page * size > MOST_OPERATIONS:
         raise bad_request(f"a page has 1 to {most} job executions")
     counted = await asked.keeper.ask([query("status_counts")], asked.at_least)
-    total = total_of(wanted, answer_of(counted.replies[0])["counts"])
-    numbers, more = await asked.keeper.reading().executions.find(wanted, page * size, size, total)
+    before = answer_of(counted.replies[0])["counts"]
+    known = 0 if with_status(wanted, before) == 0 else total_of(wanted, before)
+    executions = asked.keeper.reading().executions
+    numbers, more = await executions.find(wanted, page * size, size, known)
     asks = ("job_execution", "parameters")
     lines = [query("status_counts"), *(query(ask, execution=one) for one in numbers for ask in asks)]
     answers = await asked.keeper.ask(lines, counted.seen)
@@ -79,14 +81,18 @@ async def list_all_executions(asked: Asked) -> web.StreamResponse:
     pairs = zip(replies[::2], replies[1::2])
     rows = [brief(told["job_execution"], parameters["parameters"]) for told, parameters in pairs if "job_execution" in told]
     shown = [row for row in rows if not wanted.statuses or row["batchStatus"] in wanted.statuses]
+    if wanted.most_recent:
+        shown = [row for row in shown if executions.is_most_recent(row["executionId"], answers.seen)]
     told = {"jobExecutions": shown, "more": more, "statusCounts": counts["counts"], "total": total_of(wanted, counts["counts"])}
     return asked.answer(told, answers.seen)
 
 
 def total_of(wanted: Wanted, counts: dict[str, int]) -> int | None:
     """How many job executions there are, if the counts by batch status say so."""
-    if not wanted.is_by_status_alone:
-        return None
+    return with_status(wanted, counts) if wanted.is_by_status_alone else None
+
+
+def with_status(wanted: Wanted, counts: dict[str, int]) -> int:
     return sum(count for status, count in counts.items() if not wanted.statuses or status in wanted.statuses)
 
 

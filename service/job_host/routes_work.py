@@ -1,4 +1,4 @@
-"""Routes for workers: claim, checkpoint, finish, heartbeat, lose; and who holds what."""
+"""Routes for workers: claim, withdraw, checkpoint, finish, heartbeat, lose; and who holds what."""
 
 from __future__ import annotations
 
@@ -7,10 +7,10 @@ from typing import Any
 from aiohttp import web
 
 from job_host import views
-from job_host.calls import Call
-from job_host.lines import Members, fingerprint, read
+from job_host.calls import Call, Kept
+from job_host.lines import Members, fingerprint, query, read
 from job_host.problems import Problem, bad_request
-from job_host.requests import Asked, Handler, expect_members
+from job_host.requests import REQUEST_KEY, Asked, Handler, expect_members
 from job_host.routes_jobs import answer_of
 
 ACTIONS = {
@@ -28,9 +28,11 @@ async def claim(asked: Asked) -> web.StreamResponse:
     longest = asked.host.settings.bounds.longest_poll
     if isinstance(wait, bool) or not isinstance(wait, (int, float)) or not 0 <= wait <= longest:
         raise bad_request(f"wait is a number of seconds from 0 to {longest:g}")
-    client = asked.named_client()
-    call = Call(client, "claim", {}, asked.key, fingerprint("claim"), wait=float(wait), is_gone=asked.is_gone)
-    kept = await asked.keeper.submit(call)
+    call = Call(asked.named_client(), "claim", {}, asked.key, fingerprint("claim"), wait=float(wait), is_gone=asked.is_gone)
+    return claimed(asked, await asked.keeper.submit(call))
+
+
+def claimed(asked: Asked, kept: Kept) -> web.StreamResponse:
     told = answer_of(kept.reply, kept.seen)
     if "work" in told:
         told = views.work_item(told["work"], read(kept.answers[0]), read(kept.answers[1]))
@@ -38,10 +40,21 @@ async def claim(asked: Asked) -> web.StreamResponse:
     return asked.answer(told, kept.seen)
 
 
+async def withdraw(asked: Asked) -> web.StreamResponse:
+    """Withdraws the claim of a key, so that it is never made. If it was made before, it is answered as it was then."""
+    if asked.key is None:
+        raise bad_request(f"the header {REQUEST_KEY} is needed: it says which claim is withdrawn")
+    expect_members(await asked.body())
+    term = asked.keeper.leading()
+    kept = await term.withdraw(Call(asked.named_client(), "claim", {}, asked.key, fingerprint("claim")))
+    return asked.answer({"withdrawn": True}, term.committed) if kept is None else claimed(asked, kept)
+
+
 async def list_held(asked: Asked) -> web.StreamResponse:
-    """Which client holds which work item since when."""
+    """Which client holds which work item since when. With `withJobs` each has the job's name."""
+    with_jobs = asked.query_flag("withJobs")
     held, seen = await asked.keeper.held_work(asked.at_least)
-    told = [
+    told: list[dict[str, Any]] = [
         {
             "work": one.held.work,
             "executionId": one.held.execution,
@@ -53,6 +66,10 @@ async def list_held(asked: Asked) -> web.StreamResponse:
         }
         for one in held
     ]
+    if told and with_jobs:
+        answers = await asked.keeper.ask([query("job_instance", execution=one["executionId"]) for one in told], seen)
+        told = [{**one, "jobName": read(reply).get("job")} for one, reply in zip(told, answers.replies)]
+        seen = answers.seen
     return asked.answer(told, seen)
 
 
@@ -102,5 +119,6 @@ async def heartbeat(asked: Asked) -> web.StreamResponse:
 ROUTES: list[tuple[str, str, str, Handler]] = [
     ("GET", "/batch/work", "read", list_held),
     ("POST", "/batch/work", "work", claim),
+    ("DELETE", "/batch/work", "work", withdraw),
     ("PUT", "/batch/work/{id}", "read", change_work),
 ]

@@ -9,7 +9,7 @@ from collections.abc import Mapping, Sequence
 from dataclasses import dataclass
 from pathlib import Path
 
-from job_host.calls import Item, Kept, KeptRequest, WorkLog
+from job_host.calls import EVERYBODY_SESSION, Item, Kept, KeptRequest, WorkLog
 
 SCHEMA = """
 create table if not exists client (name text primary key, session integer not null unique);
@@ -72,7 +72,7 @@ class SqliteStore:
         """Keeps what is about to be handed over: new clients, and of keyed calls the key, the line and its moment."""
         now = time.time()
         rows = [
-            (item.session, item.call.key, item.call.fingerprint, item.moment, item.line, now)
+            (item.key_session, item.call.key, item.call.fingerprint, item.moment, item.line, now)
             for item in items
             if item.call is not None and item.call.key is not None
         ]
@@ -83,7 +83,7 @@ class SqliteStore:
 
     def answer(self, items: Sequence[Item]) -> None:
         """Keeps first replies, and logs."""
-        keyed = [(item.session, item.call.key, item.kept()) for item in items if item.is_keyed and item.call is not None]
+        keyed = [(item.key_session, item.call.key, item.kept()) for item in items if item.is_keyed and item.call is not None]
         logs = [item.log for item in items if item.log is not None]
         if not keyed and not logs:
             return
@@ -132,5 +132,19 @@ class SqliteStore:
             self._connection.executemany("delete from work_log where execution = ?", [(one,) for one in executions])
 
     def drop_old_keys(self, days: int) -> None:
+        """Drops keys that are older. Those that say once stay, if they have a reply: a refusal isn't kept."""
+        statement = "delete from request where kept_at < ? and (session <> ? or reply is null)"
         with self._connection:
-            self._connection.execute("delete from request where kept_at < ?", (time.time() - days * 86_400,))
+            self._connection.execute(statement, (time.time() - days * 86_400, EVERYBODY_SESSION))
+
+    def old_once(self, days: int) -> dict[str, bytes]:
+        """The older keys that say once, with their first replies."""
+        statement = "select key, reply from request where kept_at < ? and session = ? and reply is not null"
+        return dict(self._connection.execute(statement, (time.time() - days * 86_400, EVERYBODY_SESSION)))
+
+    def drop_once(self, once: Mapping[str, bytes]) -> None:
+        """Drops keys that say once, as far as these are still their first replies."""
+        rows = [(EVERYBODY_SESSION, key, reply) for key, reply in once.items()]
+        with self._connection:
+            self._connection.execute("begin")
+            self._connection.executemany("delete from request where session = ? and key = ? and reply = ?", rows)

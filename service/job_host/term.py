@@ -10,11 +10,11 @@ from collections.abc import Callable, Sequence
 from contextlib import suppress
 from dataclasses import dataclass, replace
 
-from job_host.calls import SERVICE, Call, Item, Kept, KeptRequest, WorkLog
-from job_host.claims import ClaimDesk
+from job_host.calls import EVERYBODY_SESSION, SERVICE, Call, Item, Kept, KeptRequest, WorkLog
+from job_host.claims import ClaimDesk, ClaimWithdrawn
 from job_host.engine import Answers, Engine
 from job_host.follow_ups import follow_ups
-from job_host.lines import Moments, command, is_accepted, read
+from job_host.lines import Moments, command, is_accepted, query, read, refusal_of
 from job_host.problems import Problem, unavailable
 from job_host.sessions import Sessions
 
@@ -46,13 +46,17 @@ class Term(ABC):
         self.desk = ClaimDesk(self.begin)
         self._queue: deque[Item] = deque()
         self._wake = asyncio.Event()
-        self._under_way: dict[tuple[str, str], tuple[bytes, asyncio.Task[Kept]]] = {}
+        self._under_way: dict[tuple[str | None, str], tuple[bytes, asyncio.Task[Kept]]] = {}
         self._readers: list[tuple[int, asyncio.Future[None]]] = []
         engine.may_give_work = self.desk.wake
 
     @abstractmethod
     async def find(self, session: int, key: str) -> KeptRequest | None:
         """What is kept of a request key."""
+
+    @abstractmethod
+    async def forget(self, key: str, kept: Kept) -> None:
+        """Drops a key that says once, if this is still its first reply."""
 
     @abstractmethod
     async def keep(self, items: Sequence[Item]) -> None:
@@ -62,7 +66,7 @@ class Term(ABC):
         """Makes a call, or gives the first reply of its request key. One call with a key is under way at a time."""
         if call.key is None:
             return await self._perform(call)
-        slot = (call.client, call.key)
+        slot = (None if call.is_once else call.client, call.key)
         before = self._under_way.get(slot)
         if before is None:
             task = asyncio.get_running_loop().create_task(self._once(call, call.key))
@@ -72,18 +76,26 @@ class Term(ABC):
             raise key_reused()
         return await asyncio.shield(before[1])
 
-    def _leave(self, slot: tuple[str, str], done: asyncio.Task[Kept]) -> None:
+    def _leave(self, slot: tuple[str | None, str], done: asyncio.Task[Kept]) -> None:
         self._under_way.pop(slot, None)
         if not done.cancelled():
             done.exception()
 
     async def _once(self, call: Call, key: str) -> Kept:
-        found = await self.find(self.sessions.number(call.client), key)
+        found = await self.find(EVERYBODY_SESSION if call.is_once else self.sessions.number(call.client), key)
+        if found is not None and call.is_once and await self._is_purged(found.kept):
+            await self.forget(key, found.kept)
+            found = None
         if found is None:
             return await self._perform(call)
         if found.fingerprint != call.fingerprint:
             raise key_reused()
         return found.kept
+
+    async def _is_purged(self, started: Kept) -> bool:
+        """Whether the job instance that a start made is there no more."""
+        answers = await self.ask([query("job_instance", execution=started.told()["execution"])])
+        return refusal_of(read(answers.replies[0])) is not None
 
     async def _perform(self, call: Call) -> Kept:
         if call.resolve is not None:
@@ -92,10 +104,21 @@ class Term(ABC):
             return await self.desk.claim(call)
         return await (await self.begin(call)).done
 
+    async def withdraw(self, claim: Call) -> Kept | None:
+        """Withdraws a claim by its key. Returns its reply if it was made before; else it never is."""
+        self.desk.withdraw(claim)
+        try:
+            return await self.submit(claim)
+        except ClaimWithdrawn:
+            await self.confirm()
+            return None
+
     def check(self, call: Call) -> None:
         """Raises what keeps a call from being made."""
         if self.failure is not None:
             raise self.failure
+        if self.desk.is_withdrawn(call):
+            raise ClaimWithdrawn()
         if call.do in ("start", "restart") and self.engine.entered >= self.settings.refuse_from:
             told = f"the history has {self.engine.entered} operations: what runs can end, and nothing can be started"
             raise unavailable("HistoryAlmostFull", told, operations=self.engine.entered)

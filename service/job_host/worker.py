@@ -41,9 +41,14 @@ async def until_told(call: Awaitable[T], event: asyncio.Event, seconds: float) -
             raise Lost("the service doesn't answer, and the worker was told to end")
         return calling.result()
     finally:
-        calling.cancel()
-        telling.cancel()
-        await asyncio.gather(calling, telling, return_exceptions=True)
+        await cancel(calling, telling)
+
+
+async def cancel(*tasks: asyncio.Future[Any]) -> None:
+    """Cancels tasks, and returns after they have ended."""
+    for task in tasks:
+        task.cancel()
+    await asyncio.gather(*tasks, return_exceptions=True)
 
 
 class Told:
@@ -114,17 +119,33 @@ class Worker:
 
     async def _slot(self) -> None:
         while not self.ending.is_set():
-            claim = self._client.operate("POST", "/batch/work", {"wait": CLAIM_SECONDS}, CLAIM_SECONDS, FOREVER)
+            key = uuid.uuid4().hex
             try:
-                claimed = await until_told(claim, self.ending, CLAIM_SECONDS)
+                claimed = await self._claim(key) or await self._withdraw(key)
             except Refused as refused:
                 log.warning("a claim was refused: %s", refused)
                 await asyncio.sleep(1.0)
                 continue
-            except Lost:
+            except (Lost, Unreachable) as fault:
+                log.warning("a claim couldn't be withdrawn: %s", fault)
                 return
             if "work" in claimed:
                 await self._run(claimed)
+
+    async def _claim(self, key: str) -> dict[str, Any] | None:
+        """Claims, until the worker is told to end: then the connection is closed, and there is no answer."""
+        call = self._client.operate("POST", "/batch/work", {"wait": CLAIM_SECONDS}, CLAIM_SECONDS, FOREVER, key)
+        claiming, telling = asyncio.ensure_future(call), asyncio.ensure_future(self.ending.wait())
+        try:
+            await asyncio.wait([claiming, telling], return_when=asyncio.FIRST_COMPLETED)
+            return dict(claiming.result()) if claiming.done() else None
+        finally:
+            await cancel(claiming, telling)
+
+    async def _withdraw(self, key: str) -> dict[str, Any]:
+        """Withdraws a claim. If it was made before, its work item is this worker's, which runs it."""
+        call = self._client.operate("DELETE", "/batch/work", patience=CLAIM_SECONDS, key=key)
+        return dict(await until_told(call, self.ending, CLAIM_SECONDS))
 
     async def _run(self, claimed: dict[str, Any]) -> None:
         """Runs a work item under its lease, and reports how it ended, if it is still this worker's."""

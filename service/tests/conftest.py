@@ -2,10 +2,11 @@
 
 from __future__ import annotations
 
+import asyncio
 import json
 import subprocess
 import sys
-from collections.abc import Callable, Iterator
+from collections.abc import Awaitable, Callable, Iterator
 from pathlib import Path
 from typing import Any
 
@@ -16,7 +17,10 @@ sys.path.insert(0, str(Path(__file__).resolve().parents[1]))
 
 from postgres_server import PostgresServer  # noqa: E402
 
+from job_host.command_line import main  # noqa: E402
 from job_host.settings import ServeSettings, find_batchctl  # noqa: E402
+
+Say = Callable[..., Awaitable[tuple[int, str]]]
 
 
 def batchlet(name: str, ref: str, **more: Any) -> dict[str, Any]:
@@ -65,6 +69,37 @@ def settings(dsn: str, catalogue: Path) -> Callable[..., ServeSettings]:
         return ServeSettings(catalogue=given.pop("catalogue", catalogue), batchctl=find_batchctl(None), **given)
 
     return make
+
+
+@pytest.fixture
+def embedded(tmp_path: Path, catalogue: Path, has_log: None) -> Callable[..., ServeSettings]:
+    """Settings of a service over a log of its own."""
+
+    def make(**more: Any) -> ServeSettings:
+        given: dict[str, Any] = {"port": 0, "lease": 10.0, "data": tmp_path / "data", **more}
+        return ServeSettings(catalogue=given.pop("catalogue", catalogue), batchctl=find_batchctl(None), **given)
+
+    return make
+
+
+@pytest.fixture(params=["settings", "embedded"])
+def either(request: pytest.FixtureRequest) -> Callable[..., ServeSettings]:
+    """Settings of a service over PostgreSQL, and of one over a log of its own."""
+    made: Callable[..., ServeSettings] = request.getfixturevalue(request.param)
+    return made
+
+
+@pytest.fixture
+def say(capsys: pytest.CaptureFixture[str]) -> Say:
+    """Calls a command of a service in this process. Returns its exit status, and what it wrote."""
+
+    async def call(url: str, command: str, *words: str) -> tuple[int, str]:
+        capsys.readouterr()
+        status = await asyncio.to_thread(main, [command, "--url", url, *words])
+        told = capsys.readouterr()
+        return status, told.out + told.err
+
+    return call
 
 
 @pytest.fixture(scope="session")

@@ -61,8 +61,17 @@ class Caller:
         body = {"jobName": job, "jobParameters": parameters}
         return await self.ask("POST", "/batch/jobinstances", body, key or uuid.uuid4().hex)
 
+    async def start_once(self, key: str, job: str = "short", **parameters: str) -> Answer:
+        """Starts a job by a key that says once."""
+        body = {"jobName": job, "jobParameters": parameters}
+        return await self.ask("POST", "/batch/jobinstances?once=true", body, key)
+
     async def claim(self, wait: float = 0, key: str | None = None) -> Answer:
         return await self.ask("POST", "/batch/work", {"wait": wait}, key)
+
+    async def withdraw(self, key: str) -> Answer:
+        """Withdraws the claim of a key."""
+        return await self.ask("DELETE", "/batch/work", key=key)
 
     async def finish(self, work: int, outcome: str = "COMPLETED", **more: Any) -> Answer:
         return await self.ask("PUT", f"/batch/work/{work}?action=finish", {"outcome": outcome, **more})
@@ -103,6 +112,15 @@ class Instance:
             return self.service.keeper.role in roles
 
         await until(has_role)
+
+    async def until_claims_wait(self, count: int, seconds: float = READY_SECONDS) -> None:
+        """Returns after so many claims wait for work."""
+
+        async def do_wait() -> bool:
+            term = self.service.keeper.term
+            return term is not None and term.desk.waiting == count
+
+        await until(do_wait, seconds)
 
     async def ended(self) -> None:
         """Returns, or raises, after the keeper has ended."""

@@ -16,18 +16,9 @@ from instances import Caller, Process, running
 from job_host import log_file
 from job_host.embedded_keeper import LOG_NAME, EmbeddedTerm
 from job_host.keeper import Fatal
-from job_host.settings import ServeSettings, find_batchctl
+from job_host.settings import ServeSettings
 
 Make = Callable[..., ServeSettings]
-
-
-@pytest.fixture
-def embedded(tmp_path: Path, catalogue: Path, has_log: None) -> Make:
-    def make(**more: Any) -> ServeSettings:
-        given: dict[str, Any] = {"port": 0, "lease": 10.0, "data": tmp_path / "data", **more}
-        return ServeSettings(catalogue=given.pop("catalogue", catalogue), batchctl=find_batchctl(None), **given)
-
-    return make
 
 
 async def test_an_operation_is_in_the_log_when_it_is_answered(embedded: Make) -> None:

@@ -9,14 +9,15 @@ import subprocess
 import time
 from collections.abc import Callable
 from pathlib import Path
-from typing import Any
+from typing import Any, cast
 
 import aiohttp
 import pytest
-from instances import Caller, Instance, running
+from instances import Caller, Instance, running, until
 
 from job_host.access import Access, SettingsRefused
 from job_host.settings import Bounds, ServeSettings
+from job_host.term import Term
 
 Make = Callable[..., ServeSettings]
 READER, OPERATOR, WORKER = ("r" * 20, "o" * 20, "w" * 20)
@@ -117,6 +118,56 @@ async def test_a_client_that_is_gone_is_given_no_work(settings: Make) -> None:
         assert (await caller.claim(wait=5)).told["work"]["work"] == 1
         held = (await caller.ask("GET", "/batch/work")).told
         assert [(one["work"], one["client"], one["stepName"]) for one in held] == [(1, "here", "load")]
+
+
+async def test_a_claim_that_is_withdrawn_is_never_made(settings: Make) -> None:
+    async with running(settings()) as instance:
+        caller = Caller(instance.url)
+        waiting = asyncio.create_task(caller.claim(wait=20, key="a"))
+        await instance.until_claims_wait(1)
+        assert (await caller.withdraw("a")).told == {"withdrawn": True}
+        assert ((await waiting).status, (await waiting).name) == (409, "ClaimWithdrawn")
+        await caller.start("short")
+        for late in (await caller.claim(wait=20, key="a"), await caller.claim(key="a")):
+            assert late.name == "ClaimWithdrawn"
+        again = await caller.withdraw("a")
+        assert (again.told, again.operations) == ({"withdrawn": True}, 1)
+        assert (await caller.ask("GET", "/batch/work")).told == []
+        assert (await caller.claim(wait=20, key="b")).told["work"]["work"] == 1
+
+
+async def test_a_claim_that_is_withdrawn_while_it_is_made_comes_to_one_of_both(settings: Make) -> None:
+    async with running(settings()) as instance:
+        caller, term = Caller(instance.url), cast(Term, instance.service.keeper.term)
+        await caller.start("short")
+
+        async def is_first() -> bool:
+            return ("tester", "a") in term._under_way and term.desk.waiting == 0
+
+        async def is_known() -> bool:
+            return ("tester", "a") in term.desk._withdrawn
+
+        async with term.engine.turn:
+            claiming = asyncio.create_task(caller.claim(wait=20, key="a"))
+            await until(is_first)
+            withdrawing = asyncio.create_task(caller.withdraw("a"))
+            await until(is_known)
+        assert ((await withdrawing).told, (await claiming).name) == ({"withdrawn": True}, "ClaimWithdrawn")
+        assert instance.service.keeper.operations == 1
+
+
+async def test_a_claim_that_was_made_is_told_to_those_who_withdraw_it(settings: Make) -> None:
+    async with running(settings()) as instance:
+        caller = Caller(instance.url)
+        await caller.start("wide", key="s")
+        claimed = await caller.claim(wait=20, key="a")
+        withdrawn = await caller.withdraw("a")
+        assert (withdrawn.told, withdrawn.operations) == (claimed.told, claimed.operations)
+        assert claimed.told["work"]["work"] == 1 and claimed.told["lease"] == 10.0
+        assert (await Caller(instance.url, "other").withdraw("a")).told == {"withdrawn": True}
+        assert (await caller.withdraw("s")).name == "RequestKeyReused"
+        assert (await caller.ask("DELETE", "/batch/work")).name == "BadRequest"
+        assert instance.service.keeper.operations == 2
 
 
 async def test_a_lease_that_runs_out_loses_the_work_item(settings: Make) -> None:

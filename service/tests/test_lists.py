@@ -92,10 +92,39 @@ async def test_a_list_follows_operations_and_a_purge(settings: Make) -> None:
             assert answer.name == "NoSuchJobExecutionException"
 
 
+async def test_the_most_recent_job_execution_of_each_job_instance(settings: Make) -> None:
+    """Also after a new start, and of a state that knows nothing of a later restart."""
+    async with running(settings()) as instance:
+        caller = Caller(instance.url)
+        for _ in range(3):
+            await caller.start("short")
+            await fail(caller)
+        assert await numbers(caller, "?status=FAILED&mostRecent=true") == [3, 2, 1]
+        await caller.change(1, "restart")
+        await caller.change(3, "restart")
+        await fail(caller)
+        assert await numbers(caller, "?status=FAILED") == [4, 3, 2, 1]
+        assert await numbers(caller, "?status=FAILED&mostRecent=true") == [4, 2]
+        assert await numbers(caller, "?mostRecent=true") == [5, 4, 2]
+        told = (await caller.ask("GET", "/batch/jobexecutions?status=FAILED&mostRecent=true&pageSize=1")).told
+        assert ([one["executionId"] for one in told["jobExecutions"]], told["more"], told["total"]) == ([4], True, None)
+        await caller.ask("DELETE", "/batch/jobinstances/2")
+        assert await numbers(caller, "?status=FAILED&mostRecent=true") == [4]
+    async with running(settings()) as instance:
+        assert await numbers(Caller(instance.url), "?mostRecent=true&jobName=short") == [5, 4]
+
+
+async def test_a_restart_that_an_answer_has_not_seen_changes_nothing_of_it() -> None:
+    index = ExecutionIndex(cast(Engine, SlowEngine()))
+    index.note_restarted(1, 7)
+    assert [index.is_most_recent(1, seen) for seen in (6, 7)] == [True, False]
+
+
 async def test_words_of_a_list_that_are_wrong(settings: Make) -> None:
     async with running(settings()) as instance:
         caller = Caller(instance.url)
-        for words in ("?status=RUNNING", "?pageSize=0", "?pageSize=1001", "?page=x", "?page=1000001", "?search=" + "x" * 257):
+        wrong = ("?status=RUNNING", "?pageSize=0", "?pageSize=1001", "?page=x", "?page=1000001", "?mostRecent=1")
+        for words in (*wrong, "?search=" + "x" * 257):
             assert (await caller.ask("GET", "/batch/jobexecutions" + words)).name == "BadRequest"
         assert await numbers(caller, "?page=20000&pageSize=50") == []
 

@@ -247,6 +247,25 @@ async def test_a_worker_that_is_told_to_end_ends_its_work_first(settings: Make, 
         assert await caller.status(1) == "COMPLETED"
 
 
+async def test_a_worker_that_is_told_to_end_claims_nothing_more(settings: Make, night: Path, artifacts: Path) -> None:
+    """One slot is busy, and the claim of the other one waits: it is withdrawn at once."""
+
+    async def is_running() -> bool:
+        return (artifacts / "is-running").exists()
+
+    async with running(settings(catalogue=night)) as instance, working(instance.url, artifacts, 2) as worker:
+        caller = Caller(instance.url)
+        await caller.start("stubborn")
+        await until(is_running)
+        await instance.until_claims_wait(1)
+        worker.process.send_signal(signal.SIGTERM)
+        await instance.until_claims_wait(0, 5)
+        await caller.start("says")
+        (artifacts / "go-on").touch()
+        assert await asyncio.to_thread(worker.process.wait, 30) == 0
+        assert [await caller.status(execution) for execution in (1, 2)] == ["COMPLETED", "STARTING"]
+
+
 async def test_a_worker_ends_though_the_service_is_gone(settings: Make, night: Path, artifacts: Path) -> None:
     async with running(settings(catalogue=night)) as instance:
         worker = WorkerProcess(instance.url, artifacts)
