@@ -6,7 +6,7 @@ import asyncio
 import logging
 import signal
 import time
-from collections.abc import Awaitable, Callable
+from collections.abc import Awaitable, Callable, Sequence
 
 from aiohttp import web
 from prometheus_client import CONTENT_TYPE_LATEST
@@ -22,7 +22,7 @@ from job_host.leases import Leases
 from job_host.metrics import Metrics
 from job_host.postgres_keeper import PostgresKeeper
 from job_host.problems import Problem, unavailable
-from job_host.requests import Asked, Gate, Handler, Host
+from job_host.requests import Asked, Gate, Host, Route, refuse_others
 from job_host.routes_console import EVENTS_PATH, ConsoleFiles, Watchers, show_events
 from job_host.settings import MOST_OPERATIONS, ServeSettings
 
@@ -30,6 +30,9 @@ log = logging.getLogger(__name__)
 
 WARN_SECONDS = 60.0
 SHUTDOWN_SECONDS = 10.0
+# Open Liberty has the same paths below another root.
+LIBERTY_ROOT = "/ibm/api"
+ROOTS = ("", LIBERTY_ROOT)
 
 Serve = Callable[[web.Request], Awaitable[web.StreamResponse]]
 
@@ -57,50 +60,54 @@ class Service:
 
     def application(self) -> web.Application:
         application = web.Application(middlewares=[self._answer], client_max_size=self.settings.bounds.body_bytes)
-        for method, path, right, handler in [*routes_jobs.ROUTES, *routes_lists.ROUTES, *routes_work.ROUTES, *self._routes()]:
-            application.router.add_route(method, path, self._route(right, handler))
+        for root in ROOTS:
+            for route in [*routes_jobs.ROUTES, *routes_lists.ROUTES, *routes_work.ROUTES]:
+                application.router.add_route(route.method, root + route.path, self._serve(route))
+            application.router.add_get(root + EVENTS_PATH, self._follow, allow_head=False)
+        for route in self._routes():
+            application.router.add_route(route.method, route.path, self._serve(route))
         files = ConsoleFiles(self.browsers)
         application.router.add_get(CONSOLE, self._open(files.show_page))
         application.router.add_get("/console/{name}", self._open(files.show_file))
-        application.router.add_get(EVENTS_PATH, self._follow, allow_head=False)
         return application
 
-    def _routes(self) -> list[tuple[str, str, str, Handler]]:
+    def _routes(self) -> list[Route]:
         return [
-            ("GET", "/metrics", "read", self._show_metrics),
-            ("GET", "/health/live", "read", self._show_live),
-            ("GET", "/health/ready", "read", self._show_ready),
-            ("GET", "/health/leader", "read", self._show_leader),
+            Route("GET", "/metrics", "read", self._show_metrics),
+            Route("GET", "/health/live", "read", self._show_live),
+            Route("GET", "/health/ready", "read", self._show_ready),
+            Route("GET", "/health/leader", "read", self._show_leader),
         ]
 
-    def _route(self, right: str, handler: Handler) -> Serve:
-        """A route for callers with a right."""
-
+    def _serve(self, route: Route) -> Serve:
         async def serve(request: web.Request) -> web.StreamResponse:
-            asked = self._asked(request, right)
+            asked = self._asked(request, route.right, route.words)
             with self.host.gate.enter(asked.client):
-                return await handler(asked)
+                return await route.handler(asked)
 
         return serve
 
-    def _asked(self, request: web.Request, right: str) -> Asked:
+    def _asked(self, request: web.Request, right: str, words: Sequence[str]) -> Asked:
         caller = self.access.caller(request)
         if right not in caller.rights:
             raise Problem("RoleLacksRight", 403, "this isn't for the token's role")
-        return Asked(request, self.host, caller)
+        asked = Asked(request, self.host, caller)
+        asked.expect_words(words)
+        return asked
 
     def _open(self, handler: Serve) -> Serve:
         """A route for everybody who calls the service by its own name."""
 
         async def serve(request: web.Request) -> web.StreamResponse:
             self.access.check_host(request)
+            refuse_others("the query has words", request.query, ())
             return await handler(request)
 
         return serve
 
     async def _follow(self, request: web.Request) -> web.StreamResponse:
         """The events. They last, so they have a bound of their own."""
-        asked = self._asked(request, "read")
+        asked = self._asked(request, "read", ())
         with self.watchers.enter():
             return await show_events(asked)
 
@@ -115,7 +122,7 @@ class Service:
         if isinstance(connection, GuardedHandler):
             connection.note_served(False)
         resource = request.match_info.route.resource
-        route = resource.canonical if resource is not None else "none"
+        route = resource.canonical.removeprefix(LIBERTY_ROOT) if resource is not None else "none"
         response.headers.setdefault("X-Content-Type-Options", "nosniff")
         method = request.method if request.method in ("GET", "POST", "PUT", "DELETE", "HEAD") else "other"
         self.metrics.requests.labels(method, route, response.status).inc()
