@@ -11,6 +11,7 @@ from contextlib import suppress
 from typing import Any, TypeVar
 
 from job_host import job_catalogue, log_file
+from job_host.beside_files import open_store
 from job_host.calls import Call, Item, Kept, KeptRequest, WorkLog
 from job_host.coprocess import CatalogueRefused, CoProcess, CoProcessEnded
 from job_host.engine import Engine
@@ -35,7 +36,6 @@ REFUSED_WORDS = 2
 PRUNE_SECONDS = 3_600.0
 IN_USE_SECONDS = 10.0
 LOG_NAME = "history.log"
-STORE_NAME = "beside.sqlite"
 
 
 class Beside:
@@ -101,7 +101,7 @@ class EmbeddedTerm(Term):
             self.fail(problem)
 
     async def keep(self, items: Sequence[Item]) -> None:
-        if any(item.is_keyed or item.log is not None for item in items):
+        if any(item.is_keyed or item.log is not None or item.number == 1 for item in items):
             await self._beside.do(lambda store: store.answer(items))
 
 
@@ -141,7 +141,7 @@ class EmbeddedKeeper(Keeper):
         thread = ThreadPoolExecutor(1, "beside")
         store: SqliteStore | None = None
         try:
-            store = SqliteStore(self._settings.data / STORE_NAME)
+            store = open_store(self._settings.data, log_file.beginning_of(self._log))
             self._beside = Beside(store, thread)
             engine = Engine(process)
             self.engine = engine
@@ -227,6 +227,8 @@ class EmbeddedKeeper(Keeper):
     async def _lead(self, engine: Engine, beside: Beside, settled: list[tuple[OpenRequest, Kept | None]]) -> None:
         for request, kept in settled:
             await beside.do(lambda store, one=request, what=kept: store.settle(one, what))  # type: ignore[misc]
+        await beside.do(lambda store: store.drop_unseen(engine.entered))
+        self.history = await beside.do(lambda store: store.identity())
         self._sessions = Sessions(await beside.do(lambda store: store.clients()), self._settings.bounds.clients)
         settings = TermSettings(self._settings.refuse_from)
         term = EmbeddedTerm(beside, engine, self._sessions, settings, self._observers)

@@ -150,7 +150,7 @@ class PostgresKeeper(Keeper):
             await self._catch_up(store, engine, leader.epoch)
             if leader != last:
                 last, since = leader, time.monotonic()
-            self.leader_url, self.epoch = leader.url, leader.epoch
+            self.leader_url, self.epoch, self.history = leader.url, leader.epoch, leader.history
             self.role = "follower"
             is_free = leader.holder in ("", self._holder)
             if is_free or time.monotonic() - since >= self._settings.takeover_after:
@@ -181,6 +181,7 @@ class PostgresKeeper(Keeper):
         begun = time.monotonic()
         await self._catch_up(store, engine, epoch)
         self._sessions = Sessions(await store.clients(), self._settings.bounds.clients)
+        self.history = (await store.leader()).history
         keys = {hash(slot) for slot in await store.request_keys()}
         settings = TermSettings(self._settings.refuse_from, min(1.0, self._settings.takeover_after / BEATS))
         term = PostgresTerm(store, epoch, keys, engine, self._sessions, settings, self._observers)

@@ -171,6 +171,7 @@ async def show_history(asked: Asked) -> web.StreamResponse:
     """How full the history is, and which instance this is."""
     keeper, settings = asked.keeper, asked.host.settings
     told = {
+        "history": keeper.history,
         "operations": keeper.operations,
         "mostOperations": MOST_OPERATIONS,
         "warnFrom": settings.warn_from,
