@@ -10,9 +10,10 @@ from concurrent.futures import ThreadPoolExecutor
 from contextlib import suppress
 from typing import Any, TypeVar
 
-from job_host import job_catalogue, log_file
+from job_host import catalogue_growth, job_catalogue, log_file
 from job_host.beside_files import open_store
 from job_host.calls import Call, Item, Kept, KeptRequest, WorkLog
+from job_host.catalogue_check import NoVerdict
 from job_host.coprocess import CatalogueRefused, CoProcess, CoProcessEnded
 from job_host.engine import Engine
 from job_host.follow_ups import follow_ups
@@ -123,9 +124,9 @@ class EmbeddedKeeper(Keeper):
         while not self._closing.is_set():
             try:
                 await self._serve_once()
-            except (CoProcessEnded, Problem) as fault:
+            except (CoProcessEnded, NoVerdict, Problem) as fault:
                 log.warning("begins again: %s", fault)
-            except job_catalogue.CatalogueChanged as fault:
+            except catalogue_growth.CatalogueChanged as fault:
                 raise Fatal(f"CatalogueChanged: {fault}") from fault
             except Fatal:
                 raise
@@ -165,12 +166,14 @@ class EmbeddedKeeper(Keeper):
         """The co-process over its log. One that is still in use by a program that ends is waited for."""
         kept = log_file.catalogue_of(self._log)
         await check_catalogue(self._settings.batchctl, self._file)
-        catalogue = self._file if kept is None else job_catalogue.merged(kept, self._file)
+        catalogue = self._file if kept is None else job_catalogue.arranged(kept, self._file)
         words = [*self._settings.batchctl, "script", "--log", str(self._log)]
         for _ in range(int(IN_USE_SECONDS / RETRY)):
             try:
                 return await CoProcess.start(words, catalogue)
             except CatalogueRefused as refused:
+                if kept is not None and catalogue_growth.other_job(refused.fault) is not None:
+                    await asyncio.to_thread(catalogue_growth.grown, self._settings.batchctl, kept, self._file)
                 if b"LogInUse" not in refused.fault:
                     raise Fatal(f"{self._log}: {refused}") from refused
             except CoProcessEnded as ended:
