@@ -154,8 +154,9 @@ class Asked:
             raise Problem("TooSlow", 408, "the body didn't come in time") from fault
 
     def is_gone(self) -> bool:
-        """Whether nobody waits for the answer any more."""
-        return self.request.transport is None or self.request.transport.is_closing()
+        """Whether nobody waits for the answer any more, or nobody who may have it."""
+        transport = self.request.transport
+        return transport is None or transport.is_closing() or not self.host.access.knows(self.request, self.caller)
 
     def answer(self, told: Any, seen: int, status: int = 200) -> web.Response:
         """An answer that says how many operations it saw."""

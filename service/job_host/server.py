@@ -12,7 +12,7 @@ from aiohttp import web
 from prometheus_client import CONTENT_TYPE_LATEST
 
 from job_host import routes_jobs, routes_lists, routes_work
-from job_host.access import Access, tls_context
+from job_host.access import Access, Certificate, SettingsRefused
 from job_host.browsers import CONSOLE, Browsers
 from job_host.embedded_keeper import EmbeddedKeeper
 from job_host.coprocess import CoProcessEnded
@@ -33,6 +33,8 @@ SHUTDOWN_SECONDS = 10.0
 # Open Liberty has the same paths below another root.
 LIBERTY_ROOT = "/ibm/api"
 ROOTS = ("", LIBERTY_ROOT)
+# Probes need no token, and tell nothing but whether the instance is up.
+LIVE_PROBE, READY_PROBE = "/livez", "/readyz"
 
 Serve = Callable[[web.Request], Awaitable[web.StreamResponse]]
 
@@ -45,7 +47,7 @@ def make_keeper(settings: ServeSettings, metrics: Metrics) -> Keeper:
 
 
 class Service:
-    """One instance. The console's files need no token; everything else does, where tokens are used."""
+    """One instance. Probes and the console's files need no token; everything else does, where tokens are used."""
 
     def __init__(self, settings: ServeSettings) -> None:
         self.settings = settings
@@ -56,6 +58,7 @@ class Service:
         self.watchers = Watchers(settings.bounds.watchers)
         self.host = Host(settings, self.keeper, self.access, Gate(settings.bounds))
         self.port = settings.port
+        self.certificate: Certificate | None = None
         self._runner: web.ServerRunner | None = None
 
     def application(self) -> web.Application:
@@ -69,6 +72,8 @@ class Service:
         files = ConsoleFiles(self.browsers)
         application.router.add_get(CONSOLE, self._open(files.show_page))
         application.router.add_get("/console/{name}", self._open(files.show_file))
+        application.router.add_get(LIVE_PROBE, self._open(self._probe_live))
+        application.router.add_get(READY_PROBE, self._open(self._probe_ready))
         return application
 
     def _routes(self) -> list[Route]:
@@ -165,6 +170,13 @@ class Service:
         warns = keeper.operations >= self.settings.warn_from
         return {**told, "warning": "HistoryAlmostFull"} if warns else told
 
+    async def _probe_live(self, request: web.Request) -> web.StreamResponse:
+        return web.Response(text="live\n")
+
+    async def _probe_ready(self, request: web.Request) -> web.StreamResponse:
+        is_ready = self.keeper.role != "starting"
+        return web.Response(text="ready\n" if is_ready else "not ready\n", status=200 if is_ready else 503)
+
     async def _show_live(self, asked: Asked) -> web.StreamResponse:
         return web.json_response(self._health())
 
@@ -187,12 +199,23 @@ class Service:
         application.freeze()
         self._runner = web.ServerRunner(GuardedServer(application, self.settings.bounds))
         await self._runner.setup()
-        site = web.TCPSite(
-            self._runner, self.settings.host, self.settings.port, ssl_context=tls_context(self.settings), shutdown_timeout=1.0
-        )
+        self.certificate = Certificate(self.settings)
+        tls = self.certificate.context
+        site = web.TCPSite(self._runner, self.settings.host, self.settings.port, ssl_context=tls, shutdown_timeout=1.0)
         await site.start()
         if self.settings.port == 0:
             self.port = self._runner.addresses[0][1]
+
+    def read_again(self) -> None:
+        """Reads the tokens and the certificate again. What can't be read leaves in use what was read before."""
+        files: list[tuple[str, Access | Certificate | None]] = [("tokens", self.access), ("certificate", self.certificate)]
+        for name, file in files:
+            try:
+                if file is not None:
+                    file.read_again()
+            except (SettingsRefused, OSError, ValueError) as fault:
+                log.error("%s: what was read before stays in use: %s", name, fault)
+        log.warning("has read the files of its tokens and its certificate again")
 
     async def run(self) -> None:
         """Serves until SIGTERM or SIGINT. Raises Fatal if the keeper can't go on."""
@@ -201,6 +224,7 @@ class Service:
         loop.set_exception_handler(note_failure)
         for number in (signal.SIGTERM, signal.SIGINT):
             loop.add_signal_handler(number, ending.set)
+        loop.add_signal_handler(signal.SIGHUP, self.read_again)
         await self.listen()
         log.warning("listens on %s, port %d", self.settings.host, self.port)
         keeping = loop.create_task(self.keeper.run())
