@@ -73,6 +73,7 @@ class Access:
     """Says who a request is from. Without tokens everybody on this machine may do everything."""
 
     def __init__(self, settings: ServeSettings) -> None:
+        self._path = settings.tokens
         self._tokens = read_tokens(settings.tokens) if settings.tokens else None
         if is_loopback(settings.host):
             return
@@ -80,6 +81,11 @@ class Access:
             raise SettingsRefused(f"{settings.host} isn't loopback: --tokens is needed")
         if settings.certificate is None or settings.certificate_key is None:
             raise SettingsRefused(f"{settings.host} isn't loopback: --certificate and --certificate-key are needed")
+
+    def read_again(self) -> None:
+        """Reads the file of tokens again. Raises SettingsRefused, OSError or ValueError, and keeps the earlier tokens then."""
+        if self._path is not None:
+            self._tokens = read_tokens(self._path)
 
     def check_host(self, request: web.Request) -> None:
         """Raises a problem if what needs no token is asked for by a name that isn't this machine's."""
@@ -107,6 +113,30 @@ class Access:
         if name not in LOOPBACK_NAMES:
             raise Problem("NotThisHost", 421, "without tokens the service is called by a name of loopback")
         return ANYBODY
+
+    def knows(self, request: web.Request, caller: Caller) -> bool:
+        """Whether the request's token is still this caller's: tokens may have been read again."""
+        try:
+            return self.caller(request) == caller
+        except (Problem, web.HTTPUnauthorized):
+            return False
+
+
+class Certificate:
+    """The certificate for TLS. Each new connection has the one that was read last."""
+
+    def __init__(self, settings: ServeSettings) -> None:
+        self._settings = settings
+        self.context = tls_context(settings)
+
+    def read_again(self) -> None:
+        """Reads the files again. Raises OSError, and keeps the earlier certificate then."""
+        files = self._settings.certificate, self._settings.certificate_key
+        if self.context is None or files[0] is None:
+            return
+        # What doesn't fit together would leave the context that is in use without a certificate.
+        tls_context(self._settings)
+        self.context.load_cert_chain(files[0], files[1])
 
 
 def tls_context(settings: ServeSettings) -> ssl.SSLContext | None:

@@ -11,7 +11,7 @@ from collections.abc import Callable, Sequence
 from pathlib import Path
 from typing import TextIO
 
-from job_host import catalogue_check, catalogue_diagram, catalogue_diff, jsl, jsl_text
+from job_host import catalogue_check, catalogue_diagram, catalogue_diff, catalogue_growth, jsl, jsl_text
 from job_host.catalogue_check import Checked, NoVerdict
 from job_host.catalogue_faults import Fault, Note
 from job_host.catalogue_file import CatalogueFile, read_data, read_jsl
@@ -133,7 +133,11 @@ def diff(given: argparse.Namespace) -> int:
     jobs = [plain(file.root)["jobs"] for file in files if file is not None and file.root is not None]
     if len(jobs) < 2:
         return WRONG_WORDS
-    compared = catalogue_diff.compare(*jobs)
+    batchctl, (before, after) = find_batchctl(given.batchctl), jobs
+    lines = compact({"jobs": before}), compact({"jobs": after})
+    changed = catalogue_growth.changed_jobs(batchctl, *lines)
+    is_in_order = not changed and catalogue_growth.is_begun_by(batchctl, *lines)
+    compared = catalogue_diff.compare(before, after, changed, is_in_order)
     for told in [*compared.lines, f"{given.new}: {compared.verdict()}"]:
         print(printable(told))
     return ACCEPTED if compared.is_taken else REFUSED

@@ -109,21 +109,24 @@ def changes_of_job(old: Members, new: Members) -> Iterator[str]:
     yield from changes_of_order(before, after)
 
 
-def lines_of_job(name: str, old: Members | None, new: Members | None) -> Iterator[str]:
+def lines_of_job(name: str, old: Members | None, new: Members | None, is_changed: bool) -> Iterator[str]:
     if old is None and new is not None:
         yield f"+ job {shown(name)}, elements: {len(list(placed(new, '')))}"
     elif new is None:
         yield f"- job {shown(name)}"
     elif old is not None and old != new:
-        yield f"~ job {shown(name)}"
+        yield f"~ job {shown(name)}" + ("" if is_changed else ", which means the same")
         yield from changes_of_job(old, new)
 
 
-def compare(old: Sequence[Members], new: Sequence[Members]) -> Comparison:
-    """Compares the jobs of two accepted catalogues as JSON, as a service does."""
+def compare(old: Sequence[Members], new: Sequence[Members], changed: Sequence[str], is_in_order: bool) -> Comparison:
+    """Shows what differs as JSON between the jobs of two accepted catalogues.
+
+    batchctl says which old jobs are changed or dropped, and whether a log takes the new ones in their order.
+    """
     before, after = {job["id"]: job for job in old}, {job["id"]: job for job in new}
     names = [*before, *(name for name in after if name not in before)]
-    lines = [line for name in names for line in lines_of_job(name, before.get(name), after.get(name))]
-    changed = [f"job {shown(name)} is dropped" for name in before if name not in after]
-    changed += [f"job {shown(name)} is changed" for name, job in before.items() if name in after and after[name] != job]
-    return Comparison(lines, changed, list(after)[: len(before)] == list(before))
+    lines = [line for name in names for line in lines_of_job(name, before.get(name), after.get(name), name in changed)]
+    told = [f"job {shown(name)} is dropped" for name in changed if name not in after]
+    told += [f"job {shown(name)} is changed" for name in changed if name in after]
+    return Comparison(lines, told, is_in_order)

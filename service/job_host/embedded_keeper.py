@@ -10,8 +10,10 @@ from concurrent.futures import ThreadPoolExecutor
 from contextlib import suppress
 from typing import Any, TypeVar
 
-from job_host import job_catalogue, log_file
+from job_host import catalogue_growth, job_catalogue, log_file
+from job_host.beside_files import open_store
 from job_host.calls import Call, Item, Kept, KeptRequest, WorkLog
+from job_host.catalogue_check import NoVerdict
 from job_host.coprocess import CatalogueRefused, CoProcess, CoProcessEnded
 from job_host.engine import Engine
 from job_host.follow_ups import follow_ups
@@ -35,7 +37,6 @@ REFUSED_WORDS = 2
 PRUNE_SECONDS = 3_600.0
 IN_USE_SECONDS = 10.0
 LOG_NAME = "history.log"
-STORE_NAME = "beside.sqlite"
 
 
 class Beside:
@@ -101,7 +102,7 @@ class EmbeddedTerm(Term):
             self.fail(problem)
 
     async def keep(self, items: Sequence[Item]) -> None:
-        if any(item.is_keyed or item.log is not None for item in items):
+        if any(item.is_keyed or item.log is not None or item.number == 1 for item in items):
             await self._beside.do(lambda store: store.answer(items))
 
 
@@ -123,9 +124,9 @@ class EmbeddedKeeper(Keeper):
         while not self._closing.is_set():
             try:
                 await self._serve_once()
-            except (CoProcessEnded, Problem) as fault:
+            except (CoProcessEnded, NoVerdict, Problem) as fault:
                 log.warning("begins again: %s", fault)
-            except job_catalogue.CatalogueChanged as fault:
+            except catalogue_growth.CatalogueChanged as fault:
                 raise Fatal(f"CatalogueChanged: {fault}") from fault
             except Fatal:
                 raise
@@ -141,7 +142,7 @@ class EmbeddedKeeper(Keeper):
         thread = ThreadPoolExecutor(1, "beside")
         store: SqliteStore | None = None
         try:
-            store = SqliteStore(self._settings.data / STORE_NAME)
+            store = open_store(self._settings.data, log_file.beginning_of(self._log))
             self._beside = Beside(store, thread)
             engine = Engine(process)
             self.engine = engine
@@ -165,12 +166,14 @@ class EmbeddedKeeper(Keeper):
         """The co-process over its log. One that is still in use by a program that ends is waited for."""
         kept = log_file.catalogue_of(self._log)
         await check_catalogue(self._settings.batchctl, self._file)
-        catalogue = self._file if kept is None else job_catalogue.merged(kept, self._file)
+        catalogue = self._file if kept is None else job_catalogue.arranged(kept, self._file)
         words = [*self._settings.batchctl, "script", "--log", str(self._log)]
         for _ in range(int(IN_USE_SECONDS / RETRY)):
             try:
                 return await CoProcess.start(words, catalogue)
             except CatalogueRefused as refused:
+                if kept is not None and catalogue_growth.other_job(refused.fault) is not None:
+                    await asyncio.to_thread(catalogue_growth.grown, self._settings.batchctl, kept, self._file)
                 if b"LogInUse" not in refused.fault:
                     raise Fatal(f"{self._log}: {refused}") from refused
             except CoProcessEnded as ended:
@@ -227,6 +230,8 @@ class EmbeddedKeeper(Keeper):
     async def _lead(self, engine: Engine, beside: Beside, settled: list[tuple[OpenRequest, Kept | None]]) -> None:
         for request, kept in settled:
             await beside.do(lambda store, one=request, what=kept: store.settle(one, what))  # type: ignore[misc]
+        await beside.do(lambda store: store.drop_unseen(engine.entered))
+        self.history = await beside.do(lambda store: store.identity())
         self._sessions = Sessions(await beside.do(lambda store: store.clients()), self._settings.bounds.clients)
         settings = TermSettings(self._settings.refuse_from)
         term = EmbeddedTerm(beside, engine, self._sessions, settings, self._observers)

@@ -44,6 +44,8 @@ class Keeper(ABC):
         self.term: Term | None = None
         self.epoch = 0
         self.leader_url = ""
+        # The identity of the history, to which request keys and logs belong.
+        self.history = ""
         self.last_takeover = 0.0
 
     @abstractmethod

@@ -33,6 +33,11 @@ def fingerprint(*parts: Any) -> bytes:
     return hashlib.sha256(json.dumps(parts, sort_keys=True).encode("ascii")).digest()
 
 
+def digest(line: bytes) -> str:
+    """A digest of a line that is kept, by which it is known again."""
+    return hashlib.sha256(line).hexdigest()
+
+
 def read(line: bytes | str) -> dict[str, Any]:
     """A reply, or a line that the service wrote."""
     value = json.loads(line)

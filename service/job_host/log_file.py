@@ -11,6 +11,8 @@ from collections.abc import Iterator
 from dataclasses import dataclass
 from pathlib import Path
 
+from job_host.lines import digest
+
 HEADER_BYTES = 8
 MARK = slice(4, 5)
 
@@ -19,6 +21,14 @@ MARK = slice(4, 5)
 class LogRecord:
     is_catalogue: bool
     line: bytes
+
+
+@dataclass(frozen=True)
+class Beginning:
+    """How a history begins: digests of the log's first record, a catalogue, and of its first operation if there is one."""
+
+    catalogue: str
+    first: str | None
 
 
 def records(path: Path) -> Iterator[LogRecord]:
@@ -31,6 +41,16 @@ def records(path: Path) -> Iterator[LogRecord]:
                 return
             first_mark = text[MARK] if first_mark is None else first_mark
             yield LogRecord(text[MARK] == first_mark, text[text.index(b"{") :].rstrip(b"\n"))
+
+
+def beginning_of(path: Path) -> Beginning:
+    """How the history of a file begins, which batchctl has opened."""
+    catalogue = ""
+    for record in records(path):
+        if not record.is_catalogue:
+            return Beginning(catalogue, digest(record.line))
+        catalogue = catalogue or digest(record.line)
+    return Beginning(catalogue, None)
 
 
 def catalogue_of(path: Path) -> bytes | None:

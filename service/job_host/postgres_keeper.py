@@ -12,8 +12,9 @@ from collections.abc import Sequence
 from contextlib import suppress
 from typing import Any
 
-from job_host import job_catalogue
+from job_host import catalogue_growth, job_catalogue
 from job_host.calls import Item, Kept, KeptRequest, WorkLog
+from job_host.catalogue_check import NoVerdict
 from job_host.coprocess import CoProcess, CoProcessEnded
 from job_host.engine import Engine, ReplayDiffers
 from job_host.keeper import Fatal, Keeper, check_catalogue, first_of
@@ -95,9 +96,9 @@ class PostgresKeeper(Keeper):
         while not self._closing.is_set():
             try:
                 await self._serve_once()
-            except (NoPrimary, CoProcessEnded, CatalogueGrew, Problem, *LOST) as fault:
+            except (NoPrimary, CoProcessEnded, CatalogueGrew, NoVerdict, Problem, *LOST) as fault:
                 log.warning("begins again: %s %s", type(fault).__name__, fault)
-            except (ReplayDiffers, NotDurable, job_catalogue.CatalogueChanged) as fault:
+            except (ReplayDiffers, NotDurable, catalogue_growth.CatalogueChanged) as fault:
                 raise Fatal(f"{type(fault).__name__}: {fault}") from fault
             except Exception:
                 log.exception("begins again")
@@ -123,21 +124,23 @@ class PostgresKeeper(Keeper):
             store.close()
 
     async def _start_engine(self, store: PostgresStore) -> Engine:
-        self._catalogue, self._bring = self._choose(await store.catalogue())
+        self._catalogue, self._bring = await self._choose(await store.catalogue())
         self._has_begun = True
         return Engine(await CoProcess.start([*self._settings.batchctl, "script"], self._catalogue))
 
-    def _choose(self, kept: bytes | None) -> tuple[bytes, bytes | None]:
+    async def _choose(self, kept: bytes | None) -> tuple[bytes, bytes | None]:
         """The catalogue to go by; and again, if it is to be kept.
 
         At its start an instance has a file with each kept job. Later another instance may bring more jobs, which it takes over.
         """
         if kept is None:
             return self._file, self._file
-        if self._has_begun and not job_catalogue.difference(self._file, kept):
+        batchctl = self._settings.batchctl
+        if self._has_begun and not await asyncio.to_thread(catalogue_growth.changed_jobs, batchctl, self._file, kept):
             return kept, None
-        merged = job_catalogue.merged(kept, self._file)
-        return (kept, None) if job_catalogue.jobs_of(merged) == job_catalogue.jobs_of(kept) else (merged, merged)
+        grown = await asyncio.to_thread(catalogue_growth.grown, batchctl, kept, self._file)
+        has_grown = len(job_catalogue.jobs_of(grown)) > len(job_catalogue.jobs_of(kept))
+        return (grown, grown) if has_grown else (kept, None)
 
     async def _follow(self, store: PostgresStore, engine: Engine) -> int | None:
         """Follows the table until it may lead. Returns the epoch, or none if the service is to end."""
@@ -150,7 +153,7 @@ class PostgresKeeper(Keeper):
             await self._catch_up(store, engine, leader.epoch)
             if leader != last:
                 last, since = leader, time.monotonic()
-            self.leader_url, self.epoch = leader.url, leader.epoch
+            self.leader_url, self.epoch, self.history = leader.url, leader.epoch, leader.history
             self.role = "follower"
             is_free = leader.holder in ("", self._holder)
             if is_free or time.monotonic() - since >= self._settings.takeover_after:
@@ -164,7 +167,7 @@ class PostgresKeeper(Keeper):
 
     async def _look_at_epoch(self, store: PostgresStore, leader: Leader) -> None:
         """A new leader may have brought a catalogue with more jobs."""
-        chosen, _ = self._choose(await store.catalogue())
+        chosen, _ = await self._choose(await store.catalogue())
         if chosen != self._catalogue:
             raise CatalogueGrew(f"by epoch {leader.epoch}")
 
@@ -181,6 +184,7 @@ class PostgresKeeper(Keeper):
         begun = time.monotonic()
         await self._catch_up(store, engine, epoch)
         self._sessions = Sessions(await store.clients(), self._settings.bounds.clients)
+        self.history = (await store.leader()).history
         keys = {hash(slot) for slot in await store.request_keys()}
         settings = TermSettings(self._settings.refuse_from, min(1.0, self._settings.takeover_after / BEATS))
         term = PostgresTerm(store, epoch, keys, engine, self._sessions, settings, self._observers)

@@ -8,7 +8,9 @@ create table if not exists job_host_leader (
     epoch bigint not null,
     beats bigint not null,
     holder text not null,
-    url text not null
+    url text not null,
+    history uuid not null default gen_random_uuid(),
+    first_operation text
 );
 create table if not exists job_host_catalogue (
     epoch bigint primary key,
@@ -47,6 +49,16 @@ create index if not exists job_host_work_log_execution on job_host_work_log (exe
 insert into job_host_leader values (true, 0, 0, '', '') on conflict do nothing;
 """
 
+# What an earlier version's tables lack.
+HAS_HISTORY = """
+select exists (select from pg_attribute where attrelid = to_regclass('job_host_leader') and attname = 'history')
+"""
+ADD_HISTORY = """
+alter table job_host_leader
+    add column if not exists history uuid not null default gen_random_uuid(),
+    add column if not exists first_operation text
+"""
+
 # A number that only this package locks, so that two instances don't make the tables at once.
 SCHEMA_LOCK = 7_402_118_431
 
@@ -54,7 +66,8 @@ SCHEMA_LOCK = 7_402_118_431
 # has lost its standby can't answer it. Everything else is written only if it found the row.
 ROUND = """
 with fence as (
-    update job_host_leader set beats = beats + 1 where epoch = $1 returning epoch
+    update job_host_leader set beats = beats + 1, first_operation = coalesce(first_operation, $19::text)
+    where epoch = $1 returning epoch
 ), operation as (
     insert into job_host_operation (number, epoch, line, reply, request_key)
     select o.number, $1, o.line, o.reply, o.request_key
@@ -85,6 +98,17 @@ BEAT = "update job_host_leader set beats = beats + 1 where epoch = $1 returning 
 
 TAKE_OVER = """
 update job_host_leader set epoch = epoch + 1, beats = 0, holder = $1, url = $2 where epoch = $3 and beats = $4 returning epoch
+"""
+
+# Whether the operations are those of the history in the leader's row, which has a digest of the first one, if there was one.
+BEGINNING = """
+select first_operation, (select line from job_host_operation where number = 1) as line from job_host_leader
+"""
+NOTE_FIRST = "update job_host_leader set first_operation = $1"
+# Another history: request keys and logs belong to the one before it.
+BEGIN_HISTORY = """
+with request as (delete from job_host_request), work_log as (delete from job_host_work_log)
+update job_host_leader set history = gen_random_uuid(), first_operation = $1
 """
 
 RESIGN = "update job_host_leader set beats = beats + 1, holder = '' where epoch = $1"

@@ -13,7 +13,20 @@ import asyncpg
 
 from job_host.calls import EVERYBODY_SESSION, Item, Kept, KeptRequest, WorkLog
 from job_host.engine import Record
-from job_host.postgres_schema import BEAT, RESIGN, ROUND, SCHEMA, SCHEMA_LOCK, TAKE_OVER
+from job_host.lines import digest
+from job_host.postgres_schema import (
+    ADD_HISTORY,
+    BEAT,
+    BEGIN_HISTORY,
+    BEGINNING,
+    HAS_HISTORY,
+    NOTE_FIRST,
+    RESIGN,
+    ROUND,
+    SCHEMA,
+    SCHEMA_LOCK,
+    TAKE_OVER,
+)
 
 log = logging.getLogger(__name__)
 
@@ -35,12 +48,13 @@ class NotDurable(Exception):
 
 @dataclass(frozen=True)
 class Leader:
-    """The leader's row. An epoch is one term of one instance; beats rise as long as it lives."""
+    """The leader's row. An epoch is one term of one instance; beats rise as long as it lives. The history has an identity."""
 
     epoch: int
     beats: int
     holder: str
     url: str
+    history: str
 
 
 async def connect_primary(dsns: Sequence[str], timeout: float | None) -> asyncpg.Connection:
@@ -84,10 +98,12 @@ class PostgresStore:
     @staticmethod
     async def _make_tables(connection: asyncpg.Connection) -> None:
         """Makes the tables in one transaction. If they are there, no commit under way is waited for."""
-        if await connection.fetchval("select to_regclass('job_host_leader')") is None:
-            async with connection.transaction():
-                await connection.execute("select pg_advisory_xact_lock($1)", SCHEMA_LOCK)
-                await connection.execute(SCHEMA)
+        if await connection.fetchval(HAS_HISTORY):
+            return
+        async with connection.transaction():
+            await connection.execute("select pg_advisory_xact_lock($1)", SCHEMA_LOCK)
+            await connection.execute(SCHEMA)
+            await connection.execute(ADD_HISTORY)
 
     @staticmethod
     async def _check_durable(connection: asyncpg.Connection) -> None:
@@ -110,8 +126,8 @@ class PostgresStore:
             return list(await self._reads.fetch(statement, *arguments))
 
     async def leader(self) -> Leader:
-        row = (await self._fetch("select epoch, beats, holder, url from job_host_leader"))[0]
-        return Leader(row["epoch"], row["beats"], row["holder"], row["url"])
+        row = (await self._fetch("select epoch, beats, holder, url, history::text from job_host_leader"))[0]
+        return Leader(row["epoch"], row["beats"], row["holder"], row["url"], row["history"])
 
     async def catalogue(self) -> bytes | None:
         """The catalogue of the last leader that brought one."""
@@ -157,10 +173,21 @@ class PostgresStore:
     async def _take_over(self, seen: Leader, holder: str, url: str, catalogue: bytes | None) -> Any:
         async with self._commits.transaction():
             epoch = await self._commits.fetchval(TAKE_OVER, holder, url, seen.epoch, seen.beats)
+            if epoch is not None:
+                await self._know_history()
             if epoch is not None and catalogue is not None:
                 statement = "insert into job_host_catalogue (epoch, line) values ($1, $2)"
                 await self._commits.execute(statement, epoch, catalogue.decode())
         return epoch
+
+    async def _know_history(self) -> None:
+        """Begins another history if the first operation isn't the one that the leader's row has."""
+        row = await self._commits.fetchrow(BEGINNING)
+        first = None if row["line"] is None else digest(row["line"].encode())
+        if row["first_operation"] not in (None, first):
+            await self._commits.execute(BEGIN_HISTORY, first)
+        elif row["first_operation"] is None:
+            await self._commits.execute(NOTE_FIRST, first)
 
     async def _or_drop(self, commit: Coroutine[Any, Any, Any]) -> Any:
         """Awaits a commit. If it takes too long, or isn't waited for any more, the connection is dropped.
@@ -218,8 +245,8 @@ class PostgresStore:
             await self._reads.execute(statement, EVERYBODY_SESSION, list(once), replies)
 
 
-def _columns(items: Sequence[Item], clients: dict[str, int]) -> list[list[Any]]:
-    """The columns of a round's rows, in the order of its statement."""
+def _columns(items: Sequence[Item], clients: dict[str, int]) -> list[Any]:
+    """The columns of a round's rows, in the order of its statement; and a digest of the history's first operation."""
     entered = [item for item in items if item.number is not None]
     keyed = [item for item in items if item.is_keyed]
     logs = list({item.log.work: item.log for item in items if item.log is not None}.values())
@@ -241,4 +268,5 @@ def _columns(items: Sequence[Item], clients: dict[str, int]) -> list[list[Any]]:
         [log.element.replace("\0", "\ufffd") for log in logs],
         [log.partition for log in logs],
         [log.text.replace("\0", "\ufffd") for log in logs],
+        next((digest(item.line) for item in entered if item.number == 1), None),
     ]

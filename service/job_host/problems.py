@@ -34,6 +34,36 @@ STATUS_OF_REFUSAL = {
 }
 
 
+# The service's own refusals. What each means is in docs/SERVICE.md, "HTTP". MethodNotAllowed and RequestEntityTooLarge are
+# made by aiohttp alone.
+STATUS_OF_PROBLEM = {
+    "BadRequest": 400,
+    "RoleLacksRight": 403,
+    "ForeignOrigin": 403,
+    "ForgedRequest": 403,
+    "NotFound": 404,
+    "MethodNotAllowed": 405,
+    "TooSlow": 408,
+    "ClientGone": 408,
+    "ClaimWithdrawn": 409,
+    "NoLease": 409,
+    "RequestEntityTooLarge": 413,
+    "UnsupportedMediaType": 415,
+    "NotThisHost": 421,
+    "RequestKeyReused": 422,
+    "TooManyRequests": 429,
+    "TooManyClients": 429,
+    "InternalError": 500,
+    "NotLeader": 503,
+    "Starting": 503,
+    "NotYetSeen": 503,
+    "CommitFailed": 503,
+    "CoProcessEnded": 503,
+    "StoreLost": 503,
+    "HistoryAlmostFull": 503,
+}
+
+
 class Problem(Exception):
     """An answer that is no success: its name, its status, and a sentence for people."""
 

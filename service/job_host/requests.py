@@ -1,4 +1,4 @@
-"""What every request has: its caller, its client's name, its key, its body, and how many operations it wants to see."""
+"""What every request has: its caller, its client's name, its key, its query, its body, and what it wants to see at least."""
 
 from __future__ import annotations
 
@@ -6,11 +6,10 @@ import asyncio
 import json
 import re
 from collections import Counter
-from collections.abc import Awaitable, Callable
+from collections.abc import Awaitable, Callable, Iterable, Iterator
 from contextlib import contextmanager
-from collections.abc import Iterator
 from dataclasses import dataclass
-from typing import Any
+from typing import Any, NamedTuple
 
 from aiohttp import web
 
@@ -28,6 +27,11 @@ ANYBODY = "anybody"
 CLIENT = "Batch-Client"
 REQUEST_KEY = "Idempotency-Key"
 AT_LEAST = "Batch-At-Least"
+
+# Words of a query that may come several times.
+SEVERAL = frozenset({"status", "instanceState"})
+# Words of Open Liberty that say in which application a job is.
+APPLICATION_WORDS = frozenset({"applicationName", "appName", "moduleName", "componentName"})
 
 
 def number(text: str, what: str) -> int:
@@ -108,6 +112,14 @@ class Asked:
         given = self.request.headers.get(AT_LEAST, self.request.query.get("atLeast", "0"))
         return number(given, AT_LEAST)
 
+    def expect_words(self, known: Iterable[str]) -> None:
+        """Refuses a query with other words, or with one that comes twice: part of it would be left out otherwise."""
+        refuse_others("the query has words", self.request.query, known)
+        counts = Counter(self.request.query.keys())
+        twice = sorted(word for word, count in counts.items() if count > 1 and word not in SEVERAL)
+        if twice:
+            raise bad_request(f"{twice[0]} comes more than once")
+
     def path_number(self) -> int:
         return number(self.request.match_info["id"], "the number in the path")
 
@@ -142,8 +154,9 @@ class Asked:
             raise Problem("TooSlow", 408, "the body didn't come in time") from fault
 
     def is_gone(self) -> bool:
-        """Whether nobody waits for the answer any more."""
-        return self.request.transport is None or self.request.transport.is_closing()
+        """Whether nobody waits for the answer any more, or nobody who may have it."""
+        transport = self.request.transport
+        return transport is None or transport.is_closing() or not self.host.access.knows(self.request, self.caller)
 
     def answer(self, told: Any, seen: int, status: int = 200) -> web.Response:
         """An answer that says how many operations it saw."""
@@ -153,8 +166,27 @@ class Asked:
 Handler = Callable[[Asked], Awaitable[web.StreamResponse]]
 
 
+class Route(NamedTuple):
+    """A route for callers with a right, and the words that its query may have."""
+
+    method: str
+    path: str
+    right: str
+    handler: Handler
+    words: tuple[str, ...] = ()
+
+
 def expect_members(body: dict[str, Any], *names: str) -> None:
     """Refuses a body with other members: a word that is misspelt would be left out otherwise."""
-    others = sorted(body.keys() - set(names))
-    if others:
-        raise bad_request(f"the body has members that aren't known here: {json.dumps(others)[:200]}")
+    refuse_others("the body has members", body, names)
+
+
+def refuse_others(what: str, given: Iterable[str], known: Iterable[str]) -> None:
+    """Raises a problem that names the words that aren't known."""
+    others = sorted(set(given) - set(known))
+    if not others:
+        return
+    told = f"{what} that aren't known here: {json.dumps(others)[:200]}"
+    if not APPLICATION_WORDS.isdisjoint(others):
+        told += "; there are no applications here, and jobName alone names a job"
+    raise bad_request(told)

@@ -10,7 +10,7 @@ from job_host import views
 from job_host.calls import Call, Kept
 from job_host.lines import Members, fingerprint, query, read
 from job_host.problems import OPERATIONS, bad_request, of_refusal
-from job_host.requests import REQUEST_KEY, Asked, Handler, expect_members
+from job_host.requests import REQUEST_KEY, Asked, Route, expect_members
 
 
 def answer_of(reply: bytes, seen: int | None = None) -> dict[str, Any]:
@@ -20,24 +20,6 @@ def answer_of(reply: bytes, seen: int | None = None) -> dict[str, Any]:
     if problem is not None:
         raise problem
     return told
-
-
-async def list_instances(asked: Asked) -> web.StreamResponse:
-    """The newest job instances of one job, or of all, page by page."""
-    bounds = asked.host.settings.bounds
-    page, size = asked.query_number("page", 0), asked.query_number("pageSize", 50)
-    if size > bounds.page_size or (page + 1) * size > bounds.listed:
-        raise bad_request(f"a page has at most {bounds.page_size} job instances, and the first {bounds.listed} can be listed")
-    job = asked.request.query.get("jobName")
-    async with asked.keeper.steps(asked.at_least) as steps:
-        names = [job] if job is not None else read((await steps.ask([query("job_names")]))[0])["names"]
-        start, count = (page * size, size) if job is not None else (0, (page + 1) * size)
-        lists = await steps.ask([query("job_instances", job=name, start=start, count=count) for name in names])
-        numbers = [one["instance"] for told in lists for one in answer_of(told)["instances"]]
-        if job is None:
-            numbers = sorted(numbers, reverse=True)[page * size : count]
-        replies = await steps.ask([query("job_executions", instance=one) for one in numbers])
-    return asked.answer([views.job_instance(answer_of(reply)["job_executions"]) for reply in replies], steps.seen)
 
 
 async def start_instance(asked: Asked) -> web.StreamResponse:
@@ -62,6 +44,14 @@ def begun(asked: Asked, kept: Kept, status: int) -> web.StreamResponse:
 async def show_instance(asked: Asked) -> web.StreamResponse:
     answers = await asked.keeper.ask([query("job_executions", instance=asked.path_number())], asked.at_least)
     return asked.answer(views.job_instance(answer_of(answers.replies[0], answers.seen)["job_executions"]), answers.seen)
+
+
+async def show_instance_of(asked: Asked) -> web.StreamResponse:
+    """The job instance of a job execution."""
+    async with asked.keeper.steps(asked.at_least) as steps:
+        told = answer_of((await steps.ask([query("job_instance", execution=asked.path_number())]))[0], steps.seen)
+        replies = await steps.ask([query("job_executions", instance=told["instance"])])
+    return asked.answer(views.job_instance(answer_of(replies[0])["job_executions"]), steps.seen)
 
 
 async def purge_instance(asked: Asked) -> web.StreamResponse:
@@ -143,11 +133,13 @@ async def list_steps(asked: Asked) -> web.StreamResponse:
 
 async def show_logs(asked: Asked) -> web.StreamResponse:
     """What the workers of a job execution handed in as logs, by work item; with `type=text`, one behind the other."""
-    execution = asked.path_number()
+    execution, kind = asked.path_number(), asked.request.query.get("type")
+    if kind not in (None, "text"):
+        raise bad_request("type is text, or left out")
     answers = await asked.keeper.ask([query("job_instance", execution=execution)], asked.at_least)
     answer_of(answers.replies[0], answers.seen)
     logs = await asked.keeper.logs(execution)
-    if asked.request.query.get("type") == "text":
+    if kind == "text":
         text = "".join(f"# work item {log.work}, {log.element}\n{log.text}\n" for log in logs)
         return web.Response(text=text, headers={OPERATIONS: str(answers.seen)})
     told = [{"work": log.work, "stepName": log.element, "partition": log.partition, "log": log.text} for log in logs]
@@ -161,16 +153,16 @@ async def list_jobs(asked: Asked) -> web.StreamResponse:
     return asked.answer({"jobNames": names["names"], "statusCounts": counts["counts"]}, answers.seen)
 
 
-ROUTES: list[tuple[str, str, str, Handler]] = [
-    ("GET", "/batch/jobs", "read", list_jobs),
-    ("GET", "/batch/jobinstances", "read", list_instances),
-    ("POST", "/batch/jobinstances", "operate", start_instance),
-    ("GET", "/batch/jobinstances/{id}", "read", show_instance),
-    ("DELETE", "/batch/jobinstances/{id}", "operate", purge_instance),
-    ("PUT", "/batch/jobinstances/{id}", "operate", change_instance),
-    ("GET", "/batch/jobinstances/{id}/jobexecutions", "read", list_executions),
-    ("GET", "/batch/jobexecutions/{id}", "read", show_execution),
-    ("PUT", "/batch/jobexecutions/{id}", "operate", change_execution),
-    ("GET", "/batch/jobexecutions/{id}/stepexecutions", "read", list_steps),
-    ("GET", "/batch/jobexecutions/{id}/joblogs", "read", show_logs),
+ROUTES = [
+    Route("GET", "/batch/jobs", "read", list_jobs, ("atLeast",)),
+    Route("POST", "/batch/jobinstances", "operate", start_instance, ("once",)),
+    Route("GET", "/batch/jobinstances/{id}", "read", show_instance, ("atLeast",)),
+    Route("DELETE", "/batch/jobinstances/{id}", "operate", purge_instance),
+    Route("PUT", "/batch/jobinstances/{id}", "operate", change_instance, ("action",)),
+    Route("GET", "/batch/jobinstances/{id}/jobexecutions", "read", list_executions, ("atLeast",)),
+    Route("GET", "/batch/jobexecutions/{id}", "read", show_execution, ("atLeast",)),
+    Route("PUT", "/batch/jobexecutions/{id}", "operate", change_execution, ("action",)),
+    Route("GET", "/batch/jobexecutions/{id}/jobinstance", "read", show_instance_of, ("atLeast",)),
+    Route("GET", "/batch/jobexecutions/{id}/stepexecutions", "read", list_steps, ("atLeast",)),
+    Route("GET", "/batch/jobexecutions/{id}/joblogs", "read", show_logs, ("type", "atLeast")),
 ]

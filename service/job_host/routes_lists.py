@@ -1,8 +1,9 @@
-"""Reads for people: the catalogue, job executions by status with search, work items, and how full the history is."""
+"""Reads for people: the catalogue, job instances and job executions by status, work items, and how full the history is."""
 
 from __future__ import annotations
 
 import json
+from collections.abc import Iterable
 from functools import lru_cache
 from typing import Any
 
@@ -14,12 +15,13 @@ from job_host.job_catalogue import jobs_of
 from job_host.keeper import HeldBy
 from job_host.lines import query, read
 from job_host.problems import Problem, bad_request
-from job_host.requests import Asked, Handler
+from job_host.requests import Asked, Route
 from job_host.routes_jobs import answer_of
 from job_host.settings import MOST_OPERATIONS
 from job_host.work_items import Ended
 
 STATUSES = ("STARTING", "STARTED", "STOPPING", "STOPPED", "FAILED", "COMPLETED", "ABANDONED")
+WORDS_OF_EXECUTIONS = ("status", "jobName", "search", "mostRecent", "page", "pageSize")
 SEARCH_CHARACTERS = 256
 PARAMETER_CHARACTERS = 160
 
@@ -51,12 +53,54 @@ async def show_catalogue(asked: Asked) -> web.StreamResponse:
     return asked.answer({"jobs": told}, steps.seen)
 
 
-def wanted_of(asked: Asked) -> Wanted:
-    given = asked.request.query
-    statuses = frozenset(given.getall("status", []))
+async def list_instances(asked: Asked) -> web.StreamResponse:
+    """The newest job instances of one job, or of all, page by page."""
+    bounds = asked.host.settings.bounds
+    page, size = asked.query_number("page", 0), asked.query_number("pageSize", 50)
+    if size > bounds.page_size or (page + 1) * size > bounds.listed:
+        raise bad_request(f"a page has at most {bounds.page_size} job instances, and the first {bounds.listed} can be listed")
+    job = asked.request.query.get("jobName")
+    given: list[str] = asked.request.query.getall("instanceState", [])
+    states = statuses_of("instanceState", [state for text in given for state in text.split(",")])
+    if states:
+        return await list_with_state(asked, Wanted(states, job, most_recent=True), page * size, size)
+    async with asked.keeper.steps(asked.at_least) as steps:
+        names = [job] if job is not None else read((await steps.ask([query("job_names")]))[0])["names"]
+        start, count = (page * size, size) if job is not None else (0, (page + 1) * size)
+        lists = await steps.ask([query("job_instances", job=name, start=start, count=count) for name in names])
+        numbers = [one["instance"] for told in lists for one in answer_of(told)["instances"]]
+        if job is None:
+            numbers = sorted(numbers, reverse=True)[page * size : count]
+        replies = await steps.ask([query("job_executions", instance=one) for one in numbers])
+    return asked.answer([views.job_instance(answer_of(reply)["job_executions"]) for reply in replies], steps.seen)
+
+
+async def list_with_state(asked: Asked, wanted: Wanted, start: int, count: int) -> web.StreamResponse:
+    """The newest job instances whose state is wanted: that of their most recent job execution. See `list_all_executions`."""
+    counted = await asked.keeper.ask([query("status_counts")], asked.at_least)
+    most = with_status(wanted, answer_of(counted.replies[0])["counts"])
+    numbers, _ = await asked.keeper.reading().executions.find(wanted, start, count, most)
+    async with asked.keeper.steps(counted.seen) as steps:
+        if wanted.job is not None:
+            answer_of((await steps.ask([query("job_instance_count", job=wanted.job)]))[0], steps.seen)
+        told = [read(reply) for reply in await steps.ask([query("job_instance", execution=one) for one in numbers])]
+        replies = await steps.ask([query("job_executions", instance=one["instance"]) for one in told if "instance" in one])
+    instances = [views.job_instance(answer_of(reply)["job_executions"]) for reply in replies]
+    return asked.answer([one for one in instances if one["instanceState"] in wanted.statuses], steps.seen)
+
+
+def statuses_of(word: str, given: Iterable[str]) -> frozenset[str]:
+    """The batch statuses that a word of the query has."""
+    statuses = frozenset(given)
     unknown = sorted(statuses - set(STATUSES))
     if unknown:
-        raise bad_request(f"status is one of {', '.join(STATUSES)}, and not {json.dumps(unknown[0])[:100]}")
+        raise bad_request(f"{word} is one of {', '.join(STATUSES)}, and not {json.dumps(unknown[0])[:100]}")
+    return statuses
+
+
+def wanted_of(asked: Asked) -> Wanted:
+    given = asked.request.query
+    statuses = statuses_of("status", given.getall("status", []))
     search = given.get("search", "").strip().lower()
     if len(search) > SEARCH_CHARACTERS:
         raise bad_request(f"search has at most {SEARCH_CHARACTERS} characters")
@@ -127,6 +171,7 @@ async def show_history(asked: Asked) -> web.StreamResponse:
     """How full the history is, and which instance this is."""
     keeper, settings = asked.keeper, asked.host.settings
     told = {
+        "history": keeper.history,
         "operations": keeper.operations,
         "mostOperations": MOST_OPERATIONS,
         "warnFrom": settings.warn_from,
@@ -144,10 +189,11 @@ async def show_caller(asked: Asked) -> web.StreamResponse:
     return web.json_response(told)
 
 
-ROUTES: list[tuple[str, str, str, Handler]] = [
-    ("GET", "/batch/catalogue", "read", show_catalogue),
-    ("GET", "/batch/jobexecutions", "read", list_all_executions),
-    ("GET", "/batch/jobexecutions/{id}/workitems", "read", list_work_items),
-    ("GET", "/batch/history", "read", show_history),
-    ("GET", "/batch/caller", "read", show_caller),
+ROUTES = [
+    Route("GET", "/batch/catalogue", "read", show_catalogue, ("jobName", "atLeast")),
+    Route("GET", "/batch/jobinstances", "read", list_instances, ("page", "pageSize", "jobName", "instanceState", "atLeast")),
+    Route("GET", "/batch/jobexecutions", "read", list_all_executions, (*WORDS_OF_EXECUTIONS, "atLeast")),
+    Route("GET", "/batch/jobexecutions/{id}/workitems", "read", list_work_items, ("atLeast",)),
+    Route("GET", "/batch/history", "read", show_history),
+    Route("GET", "/batch/caller", "read", show_caller),
 ]

@@ -10,7 +10,7 @@ from job_host import views
 from job_host.calls import Call, Kept
 from job_host.lines import Members, fingerprint, query, read
 from job_host.problems import Problem, bad_request
-from job_host.requests import REQUEST_KEY, Asked, Handler, expect_members
+from job_host.requests import REQUEST_KEY, Asked, Route, expect_members
 from job_host.routes_jobs import answer_of
 
 ACTIONS = {
@@ -116,9 +116,9 @@ async def heartbeat(asked: Asked) -> web.StreamResponse:
     return asked.answer({"stop": stop, "lease": asked.host.settings.lease}, seen)
 
 
-ROUTES: list[tuple[str, str, str, Handler]] = [
-    ("GET", "/batch/work", "read", list_held),
-    ("POST", "/batch/work", "work", claim),
-    ("DELETE", "/batch/work", "work", withdraw),
-    ("PUT", "/batch/work/{id}", "read", change_work),
+ROUTES = [
+    Route("GET", "/batch/work", "read", list_held, ("withJobs", "atLeast")),
+    Route("POST", "/batch/work", "work", claim),
+    Route("DELETE", "/batch/work", "work", withdraw),
+    Route("PUT", "/batch/work/{id}", "read", change_work, ("action",)),
 ]

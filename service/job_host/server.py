@@ -6,13 +6,13 @@ import asyncio
 import logging
 import signal
 import time
-from collections.abc import Awaitable, Callable
+from collections.abc import Awaitable, Callable, Sequence
 
 from aiohttp import web
 from prometheus_client import CONTENT_TYPE_LATEST
 
 from job_host import routes_jobs, routes_lists, routes_work
-from job_host.access import Access, tls_context
+from job_host.access import Access, Certificate, SettingsRefused
 from job_host.browsers import CONSOLE, Browsers
 from job_host.embedded_keeper import EmbeddedKeeper
 from job_host.coprocess import CoProcessEnded
@@ -22,7 +22,7 @@ from job_host.leases import Leases
 from job_host.metrics import Metrics
 from job_host.postgres_keeper import PostgresKeeper
 from job_host.problems import Problem, unavailable
-from job_host.requests import Asked, Gate, Handler, Host
+from job_host.requests import Asked, Gate, Host, Route, refuse_others
 from job_host.routes_console import EVENTS_PATH, ConsoleFiles, Watchers, show_events
 from job_host.settings import MOST_OPERATIONS, ServeSettings
 
@@ -30,6 +30,11 @@ log = logging.getLogger(__name__)
 
 WARN_SECONDS = 60.0
 SHUTDOWN_SECONDS = 10.0
+# Open Liberty has the same paths below another root.
+LIBERTY_ROOT = "/ibm/api"
+ROOTS = ("", LIBERTY_ROOT)
+# Probes need no token, and tell nothing but whether the instance is up.
+LIVE_PROBE, READY_PROBE = "/livez", "/readyz"
 
 Serve = Callable[[web.Request], Awaitable[web.StreamResponse]]
 
@@ -42,7 +47,7 @@ def make_keeper(settings: ServeSettings, metrics: Metrics) -> Keeper:
 
 
 class Service:
-    """One instance. The console's files need no token; everything else does, where tokens are used."""
+    """One instance. Probes and the console's files need no token; everything else does, where tokens are used."""
 
     def __init__(self, settings: ServeSettings) -> None:
         self.settings = settings
@@ -53,54 +58,61 @@ class Service:
         self.watchers = Watchers(settings.bounds.watchers)
         self.host = Host(settings, self.keeper, self.access, Gate(settings.bounds))
         self.port = settings.port
+        self.certificate: Certificate | None = None
         self._runner: web.ServerRunner | None = None
 
     def application(self) -> web.Application:
         application = web.Application(middlewares=[self._answer], client_max_size=self.settings.bounds.body_bytes)
-        for method, path, right, handler in [*routes_jobs.ROUTES, *routes_lists.ROUTES, *routes_work.ROUTES, *self._routes()]:
-            application.router.add_route(method, path, self._route(right, handler))
+        for root in ROOTS:
+            for route in [*routes_jobs.ROUTES, *routes_lists.ROUTES, *routes_work.ROUTES]:
+                application.router.add_route(route.method, root + route.path, self._serve(route))
+            application.router.add_get(root + EVENTS_PATH, self._follow, allow_head=False)
+        for route in self._routes():
+            application.router.add_route(route.method, route.path, self._serve(route))
         files = ConsoleFiles(self.browsers)
         application.router.add_get(CONSOLE, self._open(files.show_page))
         application.router.add_get("/console/{name}", self._open(files.show_file))
-        application.router.add_get(EVENTS_PATH, self._follow, allow_head=False)
+        application.router.add_get(LIVE_PROBE, self._open(self._probe_live))
+        application.router.add_get(READY_PROBE, self._open(self._probe_ready))
         return application
 
-    def _routes(self) -> list[tuple[str, str, str, Handler]]:
+    def _routes(self) -> list[Route]:
         return [
-            ("GET", "/metrics", "read", self._show_metrics),
-            ("GET", "/health/live", "read", self._show_live),
-            ("GET", "/health/ready", "read", self._show_ready),
-            ("GET", "/health/leader", "read", self._show_leader),
+            Route("GET", "/metrics", "read", self._show_metrics),
+            Route("GET", "/health/live", "read", self._show_live),
+            Route("GET", "/health/ready", "read", self._show_ready),
+            Route("GET", "/health/leader", "read", self._show_leader),
         ]
 
-    def _route(self, right: str, handler: Handler) -> Serve:
-        """A route for callers with a right."""
-
+    def _serve(self, route: Route) -> Serve:
         async def serve(request: web.Request) -> web.StreamResponse:
-            asked = self._asked(request, right)
+            asked = self._asked(request, route.right, route.words)
             with self.host.gate.enter(asked.client):
-                return await handler(asked)
+                return await route.handler(asked)
 
         return serve
 
-    def _asked(self, request: web.Request, right: str) -> Asked:
+    def _asked(self, request: web.Request, right: str, words: Sequence[str]) -> Asked:
         caller = self.access.caller(request)
         if right not in caller.rights:
             raise Problem("RoleLacksRight", 403, "this isn't for the token's role")
-        return Asked(request, self.host, caller)
+        asked = Asked(request, self.host, caller)
+        asked.expect_words(words)
+        return asked
 
     def _open(self, handler: Serve) -> Serve:
         """A route for everybody who calls the service by its own name."""
 
         async def serve(request: web.Request) -> web.StreamResponse:
             self.access.check_host(request)
+            refuse_others("the query has words", request.query, ())
             return await handler(request)
 
         return serve
 
     async def _follow(self, request: web.Request) -> web.StreamResponse:
         """The events. They last, so they have a bound of their own."""
-        asked = self._asked(request, "read")
+        asked = self._asked(request, "read", ())
         with self.watchers.enter():
             return await show_events(asked)
 
@@ -115,7 +127,7 @@ class Service:
         if isinstance(connection, GuardedHandler):
             connection.note_served(False)
         resource = request.match_info.route.resource
-        route = resource.canonical if resource is not None else "none"
+        route = resource.canonical.removeprefix(LIBERTY_ROOT) if resource is not None else "none"
         response.headers.setdefault("X-Content-Type-Options", "nosniff")
         method = request.method if request.method in ("GET", "POST", "PUT", "DELETE", "HEAD") else "other"
         self.metrics.requests.labels(method, route, response.status).inc()
@@ -158,6 +170,13 @@ class Service:
         warns = keeper.operations >= self.settings.warn_from
         return {**told, "warning": "HistoryAlmostFull"} if warns else told
 
+    async def _probe_live(self, request: web.Request) -> web.StreamResponse:
+        return web.Response(text="live\n")
+
+    async def _probe_ready(self, request: web.Request) -> web.StreamResponse:
+        is_ready = self.keeper.role != "starting"
+        return web.Response(text="ready\n" if is_ready else "not ready\n", status=200 if is_ready else 503)
+
     async def _show_live(self, asked: Asked) -> web.StreamResponse:
         return web.json_response(self._health())
 
@@ -180,12 +199,23 @@ class Service:
         application.freeze()
         self._runner = web.ServerRunner(GuardedServer(application, self.settings.bounds))
         await self._runner.setup()
-        site = web.TCPSite(
-            self._runner, self.settings.host, self.settings.port, ssl_context=tls_context(self.settings), shutdown_timeout=1.0
-        )
+        self.certificate = Certificate(self.settings)
+        tls = self.certificate.context
+        site = web.TCPSite(self._runner, self.settings.host, self.settings.port, ssl_context=tls, shutdown_timeout=1.0)
         await site.start()
         if self.settings.port == 0:
             self.port = self._runner.addresses[0][1]
+
+    def read_again(self) -> None:
+        """Reads the tokens and the certificate again. What can't be read leaves in use what was read before."""
+        files: list[tuple[str, Access | Certificate | None]] = [("tokens", self.access), ("certificate", self.certificate)]
+        for name, file in files:
+            try:
+                if file is not None:
+                    file.read_again()
+            except (SettingsRefused, OSError, ValueError) as fault:
+                log.error("%s: what was read before stays in use: %s", name, fault)
+        log.warning("has read the files of its tokens and its certificate again")
 
     async def run(self) -> None:
         """Serves until SIGTERM or SIGINT. Raises Fatal if the keeper can't go on."""
@@ -194,6 +224,7 @@ class Service:
         loop.set_exception_handler(note_failure)
         for number in (signal.SIGTERM, signal.SIGINT):
             loop.add_signal_handler(number, ending.set)
+        loop.add_signal_handler(signal.SIGHUP, self.read_again)
         await self.listen()
         log.warning("listens on %s, port %d", self.settings.host, self.port)
         keeping = loop.create_task(self.keeper.run())

@@ -5,13 +5,23 @@ from __future__ import annotations
 import json
 import sqlite3
 import time
+import uuid
 from collections.abc import Mapping, Sequence
+from contextlib import closing
 from dataclasses import dataclass
 from pathlib import Path
 
 from job_host.calls import EVERYBODY_SESSION, Item, Kept, KeptRequest, WorkLog
+from job_host.lines import digest
+from job_host.log_file import Beginning
 
 SCHEMA = """
+create table if not exists history (
+    one integer primary key check (one = 1),
+    identity text not null,
+    catalogue text not null,
+    first text
+);
 create table if not exists client (name text primary key, session integer not null unique);
 create table if not exists request (
     session integer not null,
@@ -53,6 +63,21 @@ class OpenRequest:
     line: bytes
 
 
+@dataclass(frozen=True)
+class History:
+    """The history to which a file belongs: its identity, and how it begins, as far as that was known."""
+
+    identity: str
+    beginning: Beginning
+
+
+def history_in(connection: sqlite3.Connection) -> History | None:
+    if connection.execute("select 1 from sqlite_master where name = 'history'").fetchone() is None:
+        return None
+    row = connection.execute("select identity, catalogue, first from history").fetchone()
+    return None if row is None else History(row[0], Beginning(row[1], row[2]))
+
+
 class SqliteStore:
     """One connection, for one thread. Each commit is on the disk when its call returns."""
 
@@ -64,6 +89,32 @@ class SqliteStore:
 
     def close(self) -> None:
         self._connection.close()
+
+    def close_whole(self) -> None:
+        """Closes a file that is then moved: nothing of it stands in another one. Raises if another program has it open."""
+        with closing(self._connection):
+            self._connection.execute("pragma journal_mode = delete")
+
+    def history(self) -> History | None:
+        return history_in(self._connection)
+
+    def identity(self) -> str:
+        kept = self.history()
+        return "" if kept is None else kept.identity
+
+    def is_empty(self) -> bool:
+        return self._connection.execute("select 1 from request union all select 1 from client").fetchone() is None
+
+    def begin_history(self, beginning: Beginning) -> None:
+        """Gives the file's history an identity if it has none, and keeps how it begins."""
+        row = (uuid.uuid4().hex, beginning.catalogue)
+        with self._connection:
+            self._connection.execute("begin")
+            self._connection.execute("insert or ignore into history (one, identity, catalogue) values (1, ?, ?)", row)
+            self._note_first(beginning.first)
+
+    def _note_first(self, first: str | None) -> None:
+        self._connection.execute("update history set first = ? where first is null", (first,))
 
     def clients(self) -> dict[str, int]:
         return dict(self._connection.execute("select name, session from client"))
@@ -82,13 +133,15 @@ class SqliteStore:
             self._connection.executemany(INTEND, rows)
 
     def answer(self, items: Sequence[Item]) -> None:
-        """Keeps first replies, and logs."""
+        """Keeps first replies, logs, and the first operation of the history."""
+        first = next((digest(item.line) for item in items if item.number == 1), None)
         keyed = [(item.key_session, item.call.key, item.kept()) for item in items if item.is_keyed and item.call is not None]
         logs = [item.log for item in items if item.log is not None]
-        if not keyed and not logs:
+        if not keyed and not logs and first is None:
             return
         with self._connection:
             self._connection.execute("begin")
+            self._note_first(first)
             for session, key, kept in keyed:
                 self._answer(session, str(key), kept)
             rows = [(log.work, log.execution, log.element, log.partition, log.text) for log in logs]
@@ -110,6 +163,10 @@ class SqliteStore:
                 self._connection.execute("delete from request where session = ? and key = ?", (request.session, request.key))
             else:
                 self._answer(request.session, request.key, kept)
+
+    def drop_unseen(self, operations: int) -> None:
+        """Drops keys whose replies saw more operations than the log has: an older copy has taken its place."""
+        self._connection.execute("delete from request where seen > ?", (operations,))
 
     def request(self, session: int, key: str) -> KeptRequest | None:
         statement = "select fingerprint, reply, answers, seen from request where session = ? and key = ? and reply is not null"

@@ -140,7 +140,7 @@ HEADERS = [
     "Sec-Fetch-Site: same-origin",
     "Batch-Forgery-Token: \xff",
 ]
-KNOWN = [(method, path) for method, path, _, _ in [*routes_jobs.ROUTES, *routes_lists.ROUTES, *routes_work.ROUTES]]
+KNOWN = [(route.method, route.path) for route in [*routes_jobs.ROUTES, *routes_lists.ROUTES, *routes_work.ROUTES]]
 
 
 @dataclass(frozen=True)

@@ -1,14 +1,21 @@
-"""docs/SERVICE.md: the night on one machine goes as the page shows it, with the real program."""
+"""docs/SERVICE.md: the night on one machine goes as the page shows it, and its tables have each refusal, metric and path."""
 
 from __future__ import annotations
 
+import ast
 import importlib
 import re
 import sys
+from collections.abc import Iterator
 from pathlib import Path
 
 import pytest
 from catalogue_samples import BATCHCTL, ROOT
+
+from job_host import routes_jobs, routes_lists, routes_work
+from job_host.metrics import Metrics
+from job_host.problems import STATUS_OF_PROBLEM, STATUS_OF_REFUSAL
+from job_host.settings import Bounds
 
 sys.path.insert(0, str(ROOT / "tools"))
 check_pages = importlib.import_module("check_pages")
@@ -30,3 +37,55 @@ def test_the_first_page_has_commands_of_that_night() -> None:
     commands = [re.split(r" +[&#]", line)[0] for line in page if line.startswith("jobhost ")]
     assert commands
     assert [command for command in commands if not any(line.startswith(command) for line in night)] == []
+
+
+def rows() -> list[list[str]]:
+    """The cells of the rows of the page's tables."""
+    lines = [line for line in PAGE.read_text().splitlines() if line.startswith("| ")]
+    return [[cell.strip() for cell in line.strip("|").split(" | ")] for line in lines]
+
+
+def test_the_page_has_each_refusal_with_its_status() -> None:
+    told = [(name, int(cells[1])) for cells in rows() if re.fullmatch("[345][0-9]{2}", cells[1]) for name in names_in(cells[0])]
+    assert sorted(told) == sorted([*STATUS_OF_PROBLEM.items(), *STATUS_OF_REFUSAL.items()])
+
+
+def names_in(cell: str) -> list[str]:
+    return re.findall("`([^`]+)`", cell)
+
+
+def raised() -> Iterator[tuple[str, int]]:
+    """The problems that the service makes, with their statuses."""
+    trees = [ast.parse(path.read_text()) for path in (ROOT / "service" / "job_host").glob("*.py")]
+    for call in [node for tree in trees for node in ast.walk(tree) if isinstance(node, ast.Call) and node.args]:
+        words = [word.value for word in call.args if isinstance(word, ast.Constant)]
+        if ast.unparse(call.func) == "unavailable":
+            yield str(words[0]), 503
+        elif ast.unparse(call.func) in ("Problem", "super().__init__") and words[1:] and isinstance(words[1], int):
+            yield str(words[0]), words[1]
+
+
+def test_each_problem_is_one_of_the_table() -> None:
+    known, made = STATUS_OF_PROBLEM | STATUS_OF_REFUSAL, set(raised())
+    assert [(name, status) for name, status in sorted(made) if known.get(name) != status] == []
+    assert STATUS_OF_PROBLEM.keys() - {name for name, _ in made} == {"MethodNotAllowed", "RequestEntityTooLarge"}
+
+
+def test_the_page_has_each_metric() -> None:
+    told = {name for cells in rows() for name in names_in(cells[0]) if name.startswith("jobhost_")}
+    families = list(Metrics().registry.collect())
+    assert told == {family.name + ("_total" if family.type == "counter" else "") for family in families}
+
+
+def test_the_page_has_each_path_and_each_word_of_a_query() -> None:
+    text = "\n".join(cells[0] for cells in rows())
+    for method, path, _, _, words in [*routes_jobs.ROUTES, *routes_lists.ROUTES, *routes_work.ROUTES]:
+        row = re.search(rf"^`{method} {re.escape(path)}(?![/\w]).*$", text, re.M)
+        assert row is not None, path
+        assert [word for word in words if word != "atLeast" and f"{word}=" not in row[0]] == [], path
+
+
+def test_the_page_has_the_bounds_of_pages() -> None:
+    bounds, text = Bounds(), PAGE.read_text()
+    assert f"50 if it is left out and {bounds.page_size:,} at most" in text
+    assert f"the first {bounds.listed:,}, and" in text
