@@ -35,7 +35,7 @@ sys.path.insert(0, str(Path(__file__).resolve().parent / "tests"))
 from instances import Answer, Caller, Process  # noqa: E402
 from postgres_server import PostgresServer, children_of  # noqa: E402
 from soak_check import Acknowledged, Operation, Read, Seen, Wrong, check  # noqa: E402
-from test_worker import WorkerProcess  # noqa: E402
+from workers import WorkerProcess  # noqa: E402
 
 from job_host import job_catalogue, log_file  # noqa: E402
 from job_host.settings import find_batchctl  # noqa: E402

@@ -14,8 +14,8 @@ from dataclasses import dataclass
 from pathlib import Path
 from typing import Any
 
-LOG_BYTES = 65_536
-EXIT_BYTES = 256
+from job_host.artifact_output import ExitFile, FirstLine, NoExitStatus, Tail, exit_status
+
 KILL_SECONDS = 5.0
 PARAMETER = re.compile(r"[A-Za-z_][A-Za-z0-9_]*")
 PR_SET_PDEATHSIG = 1
@@ -38,7 +38,7 @@ def is_stoppable(folder: Path, name: str) -> bool:
     return (folder / f"{name}.stoppable").exists()
 
 
-def environment(claimed: Mapping[str, Any], metrics: Mapping[str, str] | None = None) -> dict[str, str]:
+def environment(claimed: Mapping[str, Any], more: Mapping[str, str] | None = None) -> dict[str, str]:
     """What an artifact finds in its environment, beside that of the worker.
 
     Parameters are one object of JSON. One whose name is a word is a variable of its own, too.
@@ -51,33 +51,12 @@ def environment(claimed: Mapping[str, Any], metrics: Mapping[str, str] | None = 
         "BATCH_STEP": work["element"],
         "BATCH_WORK": str(work["work"]),
         "BATCH_PARAMETERS": json.dumps(parameters),
-        **(metrics or {}),
+        **(more or {}),
     }
     if "partition" in work:
         told["BATCH_PARTITION"] = str(work["partition"])
     told |= {f"BATCH_PARAMETER_{name}": value for name, value in parameters.items() if PARAMETER.fullmatch(name)}
     return {**os.environ, **{name: value for name, value in told.items() if "\0" not in value}}
-
-
-class Tail:
-    """The last bytes of what artifacts wrote on standard error."""
-
-    def __init__(self, most: int = LOG_BYTES) -> None:
-        self._most = most
-        self._kept = bytearray()
-
-    def add(self, data: bytes) -> None:
-        self._kept += data
-        if len(self._kept) > 2 * self._most:
-            del self._kept[: -self._most]
-
-    def say(self, text: str) -> None:
-        """Adds a line of the worker's own."""
-        before = b"" if not self._kept or self._kept.endswith(b"\n") else b"\n"
-        self.add(before + f"jobhost: {text}\n".encode())
-
-    def text(self) -> str:
-        return bytes(self._kept[-self._most :]).decode("utf-8", "replace")
 
 
 def die_with_worker() -> None:
@@ -116,11 +95,6 @@ async def kill(process: asyncio.subprocess.Process) -> None:
     await process.wait()
 
 
-async def drain(stream: asyncio.StreamReader | None, tail: Tail) -> None:
-    while stream is not None and (data := await stream.read(65_536)):
-        tail.add(data)
-
-
 @dataclass(frozen=True)
 class Ended:
     """How a work item ended, as its finish says."""
@@ -138,43 +112,25 @@ class Ended:
         return told
 
 
-class FirstLine:
-    """The first line of standard output. No more is kept than tells whether it is too long."""
-
-    def __init__(self) -> None:
-        self._kept = b""
-        self._is_whole = False
-
-    async def take(self, stream: asyncio.StreamReader | None) -> None:
-        while stream is not None and (data := await stream.read(65_536)):
-            if not self._is_whole:
-                line, feed, _ = data.partition(b"\n")
-                self._kept += line[: EXIT_BYTES + 1]
-                self._is_whole = bool(feed) or len(self._kept) > EXIT_BYTES
-
-    @property
-    def exit_status(self) -> str | None:
-        """The exit status, or none without output. Raises ValueError if it is too long, or not UTF-8."""
-        if not self._kept and not self._is_whole:
-            return None
-        if len(self._kept) > EXIT_BYTES:
-            raise ValueError(f"the first line of standard output has more than {EXIT_BYTES} bytes")
-        try:
-            return self._kept.decode("utf-8")
-        except UnicodeDecodeError as fault:
-            raise ValueError("the first line of standard output isn't UTF-8") from fault
-
-
-def ended_by(code: int, first: FirstLine, tail: Tail, was_stopped: bool) -> Ended:
-    """The outcome of a batchlet or decision by how its process ended."""
+def ended_by(code: int, file: ExitFile, first: FirstLine, tail: Tail, was_stopped: bool) -> Ended:
+    """The outcome of a batchlet or decision by how its process ended. The log says what is no exit status."""
     by_stop = was_stopped and code in (0, -signal.SIGTERM, 128 + signal.SIGTERM)
     if code < 0 and not by_stop:
         return Ended("FAILED", f"signal {-code}")
-    if code > 0 and not by_stop:
-        return Ended("FAILED", str(code))
+    is_failed = code > 0 and not by_stop
     try:
-        text = first.exit_status
-    except ValueError as fault:
+        text = exit_status(file, None if is_failed else first)
+    except NoExitStatus as fault:
         tail.say(str(fault))
-        return Ended("FAILED")
+        text = None
+    if is_failed:
+        return failed_by(code, text, tail)
     return Ended("STOPPED" if by_stop else "COMPLETED", text)
+
+
+def failed_by(code: int, text: str | None, tail: Tail) -> Ended:
+    """A process that ended with a number. It may have said more of its failure in its file."""
+    if text is None:
+        return Ended("FAILED", str(code))
+    tail.say(f"the process ended with exit {code}")
+    return Ended("FAILED", text)

@@ -13,7 +13,8 @@ from pathlib import Path
 from typing import Any
 
 from job_host import artifacts
-from job_host.artifacts import Ended, NoArtifact, Tail
+from job_host.artifact_output import Tail, drain
+from job_host.artifacts import Ended, NoArtifact
 
 CHECKPOINT_BYTES = 65_536
 CLOSE_SECONDS = 10.0
@@ -32,7 +33,7 @@ class Part:
     def __init__(self, name: str, process: asyncio.subprocess.Process, tail: Tail) -> None:
         self._name = name
         self.process = process
-        self._errors = asyncio.get_running_loop().create_task(artifacts.drain(process.stderr, tail))
+        self._errors = asyncio.get_running_loop().create_task(drain(process.stderr, tail.stream()))
 
     async def ask(self, do: str, **members: Any) -> dict[str, Any]:
         """Sends one line, and returns the answer."""

@@ -13,7 +13,8 @@ from pathlib import Path
 from typing import Any, TypeVar
 
 from job_host import artifacts
-from job_host.artifacts import Ended, FirstLine, NoArtifact, Tail
+from job_host.artifact_output import ExitFile, FirstLine, Tail, drain
+from job_host.artifacts import Ended, NoArtifact
 from job_host.chunks import Chunk
 from job_host.client import Address, Client, Refused, Unreachable
 
@@ -69,22 +70,35 @@ class Batchlet:
     told: Told
 
     async def run(self) -> Ended:
-        work = self.claimed["work"]
         try:
-            path = artifacts.find(self.folder, work["ref"])
-            process = await artifacts.spawn(path, self.folder, artifacts.environment(self.claimed), has_input=False)
+            path = artifacts.find(self.folder, self.claimed["work"]["ref"])
+            file = ExitFile()
         except (NoArtifact, OSError) as fault:
             self.tail.say(str(fault))
             return Ended("FAILED")
+        try:
+            return await self._run(path, file)
+        finally:
+            file.remove()
+
+    async def _run(self, path: Path, file: ExitFile) -> Ended:
+        """Runs the process. Both of its outputs are the log."""
+        variables = artifacts.environment(self.claimed, file.variables())
+        try:
+            process = await artifacts.spawn(path, self.folder, variables, has_input=False)
+        except OSError as fault:
+            self.tail.say(str(fault))
+            return Ended("FAILED")
         first = FirstLine()
-        heard = asyncio.gather(first.take(process.stdout), artifacts.drain(process.stderr, self.tail))
+        outputs = (drain(process.stdout, self.tail.stream(), first), drain(process.stderr, self.tail.stream()))
+        heard = asyncio.gather(*outputs)
         try:
             was_stopped = await self._wait(process)
         finally:
             await artifacts.kill(process)
             with suppress(asyncio.TimeoutError):
                 await asyncio.wait_for(heard, DRAIN_SECONDS)
-        return artifacts.ended_by(process.returncode or 0, first, self.tail, was_stopped)
+        return artifacts.ended_by(process.returncode or 0, file, first, self.tail, was_stopped)
 
     async def _wait(self, process: asyncio.subprocess.Process) -> bool:
         """Waits for its end. Returns whether it was told to stop before."""

@@ -45,9 +45,22 @@ BATCHLETS = {
     "most": "#!/bin/sh\nprintf '%0256d\\n' 0\n",
     "long": "#!/bin/sh\nprintf '%0257d\\n' 0\n",
     "bytes": "#!/bin/sh\nprintf '\\377\\n'\n",
+    "both": "#!/bin/sh\nprintf 'one, '\nprintf 'two, ' >&2\necho first\necho second >&2\necho third\nprintf fourth\n",
+    "prints": "#!/usr/bin/python3\nfor line in ['READ', *range(1_000)]:\n    print(line)\n",
     "three": "#!/bin/sh\necho oops >&2\nexit 3\n",
     "signal": "#!/bin/sh\nkill -9 $$\n",
     "flood": "#!/bin/sh\nhead -c 300000 /dev/zero | tr '\\0' x >&2\necho end >&2\nyes | head -n 100000\n",
+    "tells": """#!/bin/sh
+echo PRINTED
+echo 'exit-status: FIRST' >> "$BATCH_EXIT_STATUS_FILE"
+printf '120 rows\\nexit-status: LOADED 120' >> "$BATCH_EXIT_STATUS_FILE"
+""",
+    "tells-empty": "#!/bin/sh\necho PRINTED\necho exit-status: > $BATCH_EXIT_STATUS_FILE\n",
+    "tells-failure": "#!/bin/sh\necho 'exit-status: DISK FULL' > $BATCH_EXIT_STATUS_FILE\nexit 4\n",
+    "tells-long": "#!/bin/sh\necho PRINTED\nprintf 'exit-status: %0257d\\n' 0 > $BATCH_EXIT_STATUS_FILE\n",
+    "tells-other": "#!/bin/sh\necho PRINTED\necho LOADED > $BATCH_EXIT_STATUS_FILE\n",
+    "tells-signal": "#!/bin/sh\necho exit-status: GOOD > $BATCH_EXIT_STATUS_FILE\nkill -9 $$\n",
+    "removes": "#!/bin/sh\nrm $BATCH_EXIT_STATUS_FILE\necho SENT\n",
     "environment": """#!/bin/sh
 echo "$BATCH_JOB $BATCH_EXECUTION $BATCH_INSTANCE $BATCH_STEP $BATCH_PARTITION $BATCH_PARAMETERS" >&2
 """,

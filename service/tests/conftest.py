@@ -15,6 +15,7 @@ import pytest
 sys.path.insert(0, str(Path(__file__).resolve().parent))
 sys.path.insert(0, str(Path(__file__).resolve().parents[1]))
 
+import artifact_files  # noqa: E402
 from postgres_server import PostgresServer  # noqa: E402
 
 from job_host.command_line import main  # noqa: E402
@@ -57,6 +58,20 @@ def dsn(postgres: PostgresServer, request: pytest.FixtureRequest) -> Iterator[st
 def catalogue(tmp_path: Path) -> Path:
     path = tmp_path / "catalogue.json"
     path.write_text(json.dumps({"jobs": JOBS}, indent=1))
+    return path
+
+
+@pytest.fixture
+def artifacts(tmp_path: Path) -> Path:
+    folder = tmp_path / "artifacts"
+    artifact_files.write(folder)
+    return folder
+
+
+@pytest.fixture
+def night(tmp_path: Path) -> Path:
+    path = tmp_path / "night.json"
+    path.write_text(json.dumps({"jobs": artifact_files.jobs()}))
     return path
 
 

@@ -15,7 +15,7 @@ from browser import Browser, browsing
 from instances import Answer, Caller, Instance, Process, running
 from selenium.webdriver.common.action_chains import ActionChains
 from selenium.webdriver.common.keys import Keys
-from test_worker import WorkerProcess
+from workers import WorkerProcess
 
 from job_host.settings import ServeSettings
 
