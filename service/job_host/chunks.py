@@ -1,6 +1,8 @@
 """A chunk by executables: reader, processor and writer answer one line of JSON to each line of JSON.
 
 The groups, the metrics and what a fault comes to are those of `run_item` (docs/WORKERS.md, "What is done with a work item").
+But the writer is told the mark of its group, and may keep it with its data. So the reader is asked for the mark before the
+write, and is opened after the writer, which may have a newer mark than the service.
 """
 
 from __future__ import annotations
@@ -81,6 +83,8 @@ class Chunk:
         self.parts: dict[str, Part] = {}
         self.stop_asked = False
         self._is_at_end = False
+        self._writer_keeps_marks = False
+        self._group = 0
 
     async def run(self) -> Ended:
         try:
@@ -98,11 +102,21 @@ class Chunk:
         await asyncio.gather(*(part.close() for part in self.parts.values()))
 
     async def _open(self) -> None:
-        """Starts all three, and opens the reader at its checkpoint; then the others."""
+        """Starts all three, and opens the writer first: the reader goes on at the writer's mark if that keeps one."""
         await self._start()
-        for use, part in self.parts.items():
-            checkpoint = self._work["checkpoint"] if use == "reader" else None
-            await part.ask("open", checkpoint=checkpoint, partition=self._work.get("partition"))
+        given = self._work["checkpoint"]
+        told = await self._open_part("writer", given)
+        self._writer_keeps_marks = "checkpoint" in told
+        mark = self._mark_of("writer", told)
+        if given is None and mark is not None:
+            raise Fault(f"{self._work['writer']}: it has the mark of an earlier run, and was told that this one begins")
+        await self._open_part("reader", given if mark is None else mark)
+        if "processor" in self.parts:
+            await self._open_part("processor", None)
+
+    async def _open_part(self, use: str, checkpoint: str | None) -> dict[str, Any]:
+        members = {"checkpoint": checkpoint, "partition": self._work.get("partition"), "work": self._work["work"]}
+        return await self.parts[use].ask("open", **members)
 
     async def _start(self) -> None:
         """Looks up all names before the first process is started."""
@@ -115,19 +129,37 @@ class Chunk:
 
     async def _groups(self) -> Ended:
         """Group by group, until the reader ends or a stop is asked for."""
+        if await self._report_begin():
+            return Ended("STOPPED")
         while not self.stop_asked:
             group = await self._read_group()
             if not group:
                 return Ended("COMPLETED")
-            kept = await self._process(group)
-            if kept:
-                await self.parts["writer"].ask("write", items=kept)
-            metrics = {"READ_COUNT": len(group), "FILTER_COUNT": len(group) - len(kept), "WRITE_COUNT": len(kept)}
-            if await self._report(await self._checkpoint(), {**metrics, "COMMIT_COUNT": 1}):
+            if await self._write_group(group):
                 return Ended("STOPPED")
             if self._is_at_end:
                 return Ended("COMPLETED")
         return Ended("STOPPED")
+
+    async def _report_begin(self) -> bool:
+        """Reports where the reader begins, if the writer keeps marks. Returns whether a stop was asked for.
+
+        From then on no checkpoint means that nothing was written in this run.
+        """
+        if not self._writer_keeps_marks or self._work["checkpoint"] is not None:
+            return False
+        return await self._report(await self._checkpoint(), {})
+
+    async def _write_group(self, group: list[Any]) -> bool:
+        """Processes, writes and reports a group. Returns whether a stop was asked for."""
+        self._group += 1
+        kept = await self._process(group)
+        mark = await self._checkpoint()
+        if kept:
+            place = {"work": self._work["work"], "group": self._group, "checkpoint": mark}
+            await self.parts["writer"].ask("write", items=kept, **place)
+        metrics = {"READ_COUNT": len(group), "FILTER_COUNT": len(group) - len(kept), "WRITE_COUNT": len(kept)}
+        return await self._report(mark, {**metrics, "COMMIT_COUNT": 1})
 
     async def _read_group(self) -> list[Any]:
         group: list[Any] = []
@@ -149,9 +181,18 @@ class Chunk:
         return [one["item"] for one in told if one.get("item") is not None]
 
     async def _checkpoint(self) -> str:
-        told = (await self.parts["reader"].ask("checkpoint")).get("checkpoint")
-        if not isinstance(told, str):
+        mark = self._mark_of("reader", await self.parts["reader"].ask("checkpoint"))
+        if mark is None:
             raise Fault(f"{self._work['reader']}: checkpoint is answered a text")
-        if len(told.encode("utf-8", "surrogatepass")) > CHECKPOINT_BYTES:
-            raise Fault(f"{self._work['reader']}: the checkpoint has more than {CHECKPOINT_BYTES} bytes")
-        return told
+        return mark
+
+    def _mark_of(self, use: str, told: Mapping[str, Any]) -> str | None:
+        """The mark of an answer, which may be null."""
+        mark = told.get("checkpoint")
+        if mark is None:
+            return None
+        if not isinstance(mark, str):
+            raise Fault(f"{self._work[use]}: a checkpoint is a text")
+        if len(mark.encode("utf-8", "surrogatepass")) > CHECKPOINT_BYTES:
+            raise Fault(f"{self._work[use]}: the checkpoint has more than {CHECKPOINT_BYTES} bytes")
+        return mark

@@ -205,7 +205,9 @@ class Worker:
 
     async def _checkpoint(self, claimed: dict[str, Any], mark: str, metrics: dict[str, int]) -> bool:
         """Reports a group. Returns whether a stop was asked for."""
-        body = {"data": mark, "metrics": metrics}
+        body: dict[str, Any] = {"data": mark}
+        if metrics:
+            body["metrics"] = metrics
         return "stop" in await self._report(claimed, "checkpoint", body)
 
     async def _finish(self, claimed: dict[str, Any], ended: Ended, tail: Tail) -> None:
