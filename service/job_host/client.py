@@ -7,7 +7,7 @@ import json
 import ssl
 import time
 import uuid
-from collections.abc import Sequence
+from collections.abc import Callable, Sequence
 from dataclasses import dataclass, field
 from pathlib import Path
 from types import TracebackType
@@ -54,10 +54,14 @@ class Address:
 
 
 class Client:
-    """An asynchronous client. One object is one client, whose reads don't go back."""
+    """An asynchronous client. One object is one client, whose reads don't go back.
 
-    def __init__(self, address: Address) -> None:
+    `note` is told why the service is asked again.
+    """
+
+    def __init__(self, address: Address, note: Callable[[str], None] = lambda text: None) -> None:
         self._address = address
+        self._note = note
         self._seen = 0
         self._place = 0
         self._session: aiohttp.ClientSession | None = None
@@ -106,6 +110,7 @@ class Client:
                 fault = f"{type(failed).__name__} {failed}"
             if time.monotonic() + pause > deadline:
                 raise Unreachable(f"{method} {path}: {fault}")
+            self._note(f"asks again, {method} {path}: {fault}")
             self._place += 1
             await asyncio.sleep(pause)
             pause = min(pause * 1.5, LONGEST_PAUSE)

@@ -1,9 +1,13 @@
-"""Connections: so many at once, and none that is slow to send a request or to take its answer."""
+"""Connections: so many at once, and none that is slow to send a request or to take its answer.
+
+Some more than those are answered a refusal, so that their clients know why. All others are dropped.
+"""
 
 from __future__ import annotations
 
 import asyncio
 import logging
+import time
 from typing import Any, cast
 
 from aiohttp import web
@@ -13,6 +17,10 @@ from job_host.settings import Bounds
 
 IDLE_SECONDS = 75.0
 LINGERING_SECONDS = 1.0
+# So many connections above the bound are answered a refusal.
+SURPLUS = 64
+SELDOM_SECONDS = 60.0
+log = logging.getLogger(__name__)
 # aiohttp writes a trace for what is no HTTP, by which any client could fill the log. The service logs its own failures.
 QUIET = logging.getLogger("job_host.http")
 QUIET.setLevel(logging.CRITICAL)
@@ -21,7 +29,7 @@ QUIET.setLevel(logging.CRITICAL)
 class GuardedHandler(RequestHandler):
     """A connection that is dropped if a request, or the taking of an answer, makes no way for some seconds."""
 
-    __slots__ = ("_guard", "_bounds", "_begun", "_is_served", "_unsent", "_stuck_since")
+    __slots__ = ("_guard", "_bounds", "_begun", "_is_served", "_unsent", "_stuck_since", "is_surplus")
 
     def __init__(self, manager: GuardedServer, bounds: Bounds, **given: Any) -> None:
         super().__init__(manager, **given)
@@ -31,10 +39,13 @@ class GuardedHandler(RequestHandler):
         self._is_served = False
         self._unsent = 0
         self._stuck_since: float | None = None
+        self.is_surplus = False
 
     def connection_made(self, transport: asyncio.BaseTransport) -> None:
         super().connection_made(transport)
-        if len(cast(GuardedServer, self._manager).connections) > self._bounds.connections:
+        surplus = cast(GuardedServer, self._manager).surplus()
+        self.is_surplus = surplus > 0
+        if surplus > SURPLUS:
             cast(asyncio.Transport, transport).abort()
             return
         self._begun = self._loop.time()
@@ -96,6 +107,15 @@ class GuardedServer(web.Server):
             logger=QUIET,
         )
         self._bounds = bounds
+        self._warned_at = time.monotonic() - SELDOM_SECONDS
+
+    def surplus(self) -> int:
+        """How many connections are above the bound. It says so once a minute."""
+        surplus = len(self.connections) - self._bounds.connections
+        if surplus > 0 and time.monotonic() - self._warned_at >= SELDOM_SECONDS:
+            self._warned_at = time.monotonic()
+            log.warning("%d connections are open: no more are served", self._bounds.connections)
+        return surplus
 
     def __call__(self) -> RequestHandler:
         return GuardedHandler(self, self._bounds, loop=self._loop, **self._kwargs)

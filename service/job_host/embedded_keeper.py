@@ -237,14 +237,28 @@ class EmbeddedKeeper(Keeper):
         term = EmbeddedTerm(beside, engine, self._sessions, settings, self._observers)
         self.term, self.role, self.epoch = term, "leader", self.epoch + 1
         log.warning("serves after %d operations", engine.entered)
-        tasks = [term.keep_intents(), term.commit_rounds(), term.desk.serve(), self.leases.watch(term), self._prune(beside)]
+        tasks = [
+            term.keep_intents(),
+            term.commit_rounds(),
+            term.desk.serve(),
+            self.leases.watch(term),
+            self._prune(beside, term),
+        ]
         try:
             await first_of([*tasks, engine.process.wait(), self._closing.wait()])
         finally:
             self.role, self.term, self.engine = "starting", None, None
             term.fail(unavailable("Starting", "this instance ends, or begins again"))
 
-    async def _prune(self, beside: Beside) -> None:
+    async def _forget_names(self, beside: Beside, term: EmbeddedTerm) -> None:
+        """Forgets client names that hold nothing and weren't heard for long."""
+        heard = term.sessions.take_heard()
+        await beside.do(lambda store: store.note_heard(heard))
+        silent = await beside.do(lambda store: store.silent_clients(self._settings.bounds.name_seconds))
+        gone = term.sessions.forget(silent, {held.session for held in term.engine.held.values()})
+        await beside.do(lambda store: store.drop_clients(gone))
+
+    async def _prune(self, beside: Beside, term: EmbeddedTerm) -> None:
         days = self._settings.bounds.days_of_keys
         while True:
             await beside.do(lambda store: store.drop_old_keys(days))
@@ -252,6 +266,7 @@ class EmbeddedKeeper(Keeper):
             await beside.do(lambda store, once=once: store.drop_once(once))  # type: ignore[misc]
             gone = await self.purged(await beside.do(lambda store: store.logged_executions()))
             await beside.do(lambda store, gone=gone: store.drop_logs(gone))  # type: ignore[misc]
+            await self._forget_names(beside, term)
             await asyncio.sleep(PRUNE_SECONDS)
 
     async def reach(self, at_least: int) -> None:

@@ -194,7 +194,7 @@ class PostgresKeeper(Keeper):
         log.warning("leads by epoch %d, after %d operations", epoch, engine.entered)
         async with self._followed:
             self._followed.notify_all()
-        rounds = [term.commit_rounds(), term.desk.serve(), self.leases.watch(term), self._prune(store)]
+        rounds = [term.commit_rounds(), term.desk.serve(), self.leases.watch(term), self._prune(store, term)]
         try:
             await first_of([*rounds, engine.process.wait(), self._closing.wait()])
         finally:
@@ -205,12 +205,20 @@ class PostgresKeeper(Keeper):
                     await store.resign(epoch)
             term.fail(unavailable("NotLeader", "this instance leads no more"))
 
-    async def _prune(self, store: PostgresStore) -> None:
+    async def _forget_names(self, store: PostgresStore, term: PostgresTerm) -> None:
+        """Forgets client names that hold nothing and weren't heard for long."""
+        await store.note_heard(term.sessions.take_heard())
+        silent = await store.silent_clients(self._settings.bounds.name_seconds)
+        gone = term.sessions.forget(silent, {held.session for held in term.engine.held.values()})
+        await store.drop_clients(term.epoch, gone)
+
+    async def _prune(self, store: PostgresStore, term: PostgresTerm) -> None:
         days = self._settings.bounds.days_of_keys
         while True:
             await store.drop_old_keys(days)
             await store.drop_once(await self.of_purged(await store.old_once(days)))
             await store.drop_logs(await self.purged(await store.logged_executions()))
+            await self._forget_names(store, term)
             await asyncio.sleep(PRUNE_SECONDS)
 
     async def reach(self, at_least: int) -> None:
@@ -235,9 +243,10 @@ class PostgresKeeper(Keeper):
             raise unavailable("StoreLost", f"{type(fault).__name__}: {fault}") from fault
 
     async def client_names(self, sessions: Sequence[int]) -> dict[int, str]:
-        if self.term is None and self._store is not None and any(self._sessions.name(one) is None for one in sessions):
+        unknown = [one for one in sessions if self._sessions.name(one) is None]
+        if self.term is None and self._store is not None and unknown:
             with suppress(*LOST):
-                self._sessions.learn(await self._store.clients())
+                self._sessions.learn(await self._store.clients_of(unknown))
         names = {one: self._sessions.name(one) for one in sessions}
         return {one: name for one, name in names.items() if name is not None}
 

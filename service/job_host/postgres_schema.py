@@ -27,6 +27,10 @@ create table if not exists job_host_client (
     name text primary key,
     session bigint not null unique
 );
+create table if not exists job_host_client_heard (
+    session bigint primary key,
+    heard_at timestamptz not null default now()
+);
 create table if not exists job_host_request (
     session bigint not null,
     key text not null,
@@ -58,6 +62,8 @@ alter table job_host_leader
     add column if not exists history uuid not null default gen_random_uuid(),
     add column if not exists first_operation text
 """
+# The table that was added last: if it is there, all are.
+NEWEST_TABLE = "job_host_client_heard"
 
 # A number that only this package locks, so that two instances don't make the tables at once.
 SCHEMA_LOCK = 7_402_118_431
@@ -76,6 +82,7 @@ with fence as (
 ), client as (
     insert into job_host_client (name, session)
     select c.name, c.session from unnest($6::text[], $7::bigint[]) as c(name, session) where exists (select from fence)
+    on conflict (name) do update set session = excluded.session
 ), request as (
     insert into job_host_request (session, key, fingerprint, reply, answers, seen)
     select r.session, r.key, r.fingerprint, r.reply, r.answers, r.seen
@@ -112,3 +119,29 @@ update job_host_leader set history = gen_random_uuid(), first_operation = $1
 """
 
 RESIGN = "update job_host_leader set beats = beats + 1, holder = '' where epoch = $1"
+
+# Clients that were heard, and those that were never noted.
+HEARD = """
+insert into job_host_client_heard (session)
+select c.session from job_host_client c left join job_host_client_heard h using (session)
+where c.session = any($1::bigint[]) or h.session is null
+on conflict (session) do update set heard_at = excluded.heard_at
+"""
+
+# Names that weren't heard for so long, and hold no request key. The greatest number stays, so that the next one is greater.
+SILENT = """
+select c.name, c.session from job_host_client c join job_host_client_heard h using (session)
+where h.heard_at < now() - make_interval(secs => $1) and c.session < (select max(session) from job_host_client)
+and not exists (select from job_host_request r where r.session = c.session)
+"""
+
+# A leader that was cut off drops nothing: a later one waits for the row, or has changed it.
+DROP_CLIENTS = """
+with fence as (
+    select epoch from job_host_leader where epoch = $1 for share
+), gone as (
+    delete from job_host_client c using unnest($2::text[], $3::bigint[]) as g(name, session)
+    where c.name = g.name and c.session = g.session and exists (select from fence) returning c.session
+)
+delete from job_host_client_heard h using gone where h.session = gone.session
+"""

@@ -19,12 +19,16 @@ from job_host.postgres_schema import (
     BEAT,
     BEGIN_HISTORY,
     BEGINNING,
+    DROP_CLIENTS,
     HAS_HISTORY,
+    HEARD,
+    NEWEST_TABLE,
     NOTE_FIRST,
     RESIGN,
     ROUND,
     SCHEMA,
     SCHEMA_LOCK,
+    SILENT,
     TAKE_OVER,
 )
 
@@ -98,7 +102,7 @@ class PostgresStore:
     @staticmethod
     async def _make_tables(connection: asyncpg.Connection) -> None:
         """Makes the tables in one transaction. If they are there, no commit under way is waited for."""
-        if await connection.fetchval(HAS_HISTORY):
+        if await connection.fetchval(HAS_HISTORY) and await connection.fetchval("select to_regclass($1)", NEWEST_TABLE):
             return
         async with connection.transaction():
             await connection.execute("select pg_advisory_xact_lock($1)", SCHEMA_LOCK)
@@ -147,6 +151,25 @@ class PostgresStore:
     async def clients(self) -> dict[str, int]:
         rows = await self._fetch("select name, session from job_host_client")
         return {row["name"]: row["session"] for row in rows}
+
+    async def clients_of(self, sessions: Sequence[int]) -> dict[str, int]:
+        """The names of these sessions."""
+        statement = "select name, session from job_host_client where session = any($1::bigint[])"
+        return {row["name"]: row["session"] for row in await self._fetch(statement, list(sessions))}
+
+    async def note_heard(self, sessions: Sequence[int]) -> None:
+        """Keeps that these clients were heard until now."""
+        async with self._turn:
+            await self._reads.execute(HEARD, list(sessions))
+
+    async def silent_clients(self, seconds: float) -> dict[str, int]:
+        """Names that weren't heard for so long, and that hold no request key."""
+        return {row["name"]: row["session"] for row in await self._fetch(SILENT, seconds)}
+
+    async def drop_clients(self, epoch: int, clients: Mapping[str, int]) -> None:
+        """Drops names with these sessions, if the epoch stands."""
+        async with self._turn:
+            await self._reads.execute(DROP_CLIENTS, epoch, list(clients.keys()), list(clients.values()))
 
     async def request_keys(self) -> list[tuple[int, str]]:
         rows = await self._fetch("select session, key from job_host_request")

@@ -126,6 +126,8 @@ class Service:
         response = await self._answered(request, handler)
         if isinstance(connection, GuardedHandler):
             connection.note_served(False)
+            if connection.is_surplus:
+                response.force_close()
         resource = request.match_info.route.resource
         route = resource.canonical.removeprefix(LIBERTY_ROOT) if resource is not None else "none"
         response.headers.setdefault("X-Content-Type-Options", "nosniff")
@@ -136,6 +138,7 @@ class Service:
 
     async def _answered(self, request: web.Request, handler: Serve) -> web.StreamResponse:
         try:
+            self._check_connection(request)
             self.browsers.check(request)
             return await handler(request)
         except Problem as problem:
@@ -152,6 +155,12 @@ class Service:
         except Exception:
             log.exception("a request failed: %s %s", request.method, request.path)
             return Problem("InternalError", 500, "the service's log says more").response()
+
+    def _check_connection(self, request: web.Request) -> None:
+        if isinstance(request.protocol, GuardedHandler) and request.protocol.is_surplus:
+            raise unavailable(
+                "TooManyConnections", f"{self.settings.bounds.connections} connections are open, and no more are served"
+            )
 
     def access_or_nothing(self, request: web.Request) -> None:
         """A path or method that isn't known is told of to those with a token alone."""

@@ -1,8 +1,8 @@
-"""Sessions: the number by which the repository knows a client. Each client name has one, and keeps it."""
+"""Sessions: the number by which the repository knows a client. Each client name has one, as long as the name is kept."""
 
 from __future__ import annotations
 
-from collections.abc import Mapping
+from collections.abc import Container, Mapping
 
 from job_host.calls import SERVICE, SERVICE_SESSION
 from job_host.problems import Problem
@@ -16,18 +16,26 @@ class Sessions:
         self._names = {number: name for name, number in kept.items()}
         self._last = max([SERVICE_SESSION, *kept.values()])
         self._most = most
+        self._heard: set[int] = set()
         self.fresh: dict[str, int] = {}
 
     def number(self, name: str) -> int:
+        """The session of a client that is heard now."""
         if name == SERVICE:
             return SERVICE_SESSION
         number = self._numbers.get(name)
         if number is None:
-            if len(self._numbers) >= self._most:
-                raise Problem("TooManyClients", 429, f"{self._most} client names are kept already")
-            self._last += 1
-            number = self._numbers[name] = self.fresh[name] = self._last
-            self._names[number] = name
+            number = self._new(name)
+        self._heard.add(number)
+        return number
+
+    def _new(self, name: str) -> int:
+        if len(self._numbers) >= self._most:
+            told = "one that holds no work item and no request key is forgotten a day after it was last heard"
+            raise Problem("TooManyClients", 429, f"{self._most} client names are kept, and no more: {told}")
+        self._last += 1
+        number = self._numbers[name] = self.fresh[name] = self._last
+        self._names[number] = name
         return number
 
     def numbers(self) -> list[int]:
@@ -46,3 +54,22 @@ class Sessions:
     def take_fresh(self) -> dict[str, int]:
         fresh, self.fresh = self.fresh, {}
         return fresh
+
+    def take_heard(self) -> list[int]:
+        """The sessions that were heard since this was last asked."""
+        heard, self._heard = self._heard, set()
+        return list(heard)
+
+    def forget(self, silent: Mapping[str, int], holding: Container[int]) -> dict[str, int]:
+        """Forgets those of these names that weren't heard since `take_heard`, and that hold no work item. Returns them.
+
+        A name that is heard again later has another session: no number is given twice.
+        """
+        gone = {
+            name: number
+            for name, number in silent.items()
+            if self._numbers.get(name) == number and number not in self._heard and number not in holding
+        }
+        for name, number in gone.items():
+            del self._numbers[name], self._names[number]
+        return gone

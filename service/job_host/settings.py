@@ -24,6 +24,7 @@ class Bounds:
     connections: int = 1_024
     watchers: int = 64
     clients: int = 100_000
+    name_seconds: float = 86_400.0
     page_size: int = 1_000
     listed: int = 10_000
     longest_poll: float = 60.0

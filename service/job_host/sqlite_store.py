@@ -23,6 +23,7 @@ create table if not exists history (
     first text
 );
 create table if not exists client (name text primary key, session integer not null unique);
+create table if not exists client_heard (session integer primary key, heard_at real not null);
 create table if not exists request (
     session integer not null,
     key text not null,
@@ -49,6 +50,20 @@ create index if not exists work_log_execution on work_log (execution);
 
 INTEND = """
 insert or replace into request (session, key, fingerprint, moment, line, kept_at) values (?, ?, ?, ?, ?, ?)
+"""
+# A name that was forgotten may still stand here, if it was heard again at once.
+CLIENT = "insert into client values (?, ?) on conflict (name) do update set session = excluded.session"
+# A client that was never noted is taken as heard now.
+HEARD = """
+insert into client_heard select session, :now from client
+where session = :session or (:session is null and session not in (select session from client_heard))
+on conflict (session) do update set heard_at = excluded.heard_at
+"""
+# The greatest number stays, so that the next one is greater.
+SILENT = """
+select name, session from client join client_heard using (session)
+where heard_at < ? and session < (select max(session) from client)
+and not exists (select 1 from request where request.session = client.session and reply is not null)
 """
 ANSWER = "update request set reply = ?, answers = ?, seen = ? where session = ? and key = ?"
 
@@ -119,6 +134,23 @@ class SqliteStore:
     def clients(self) -> dict[str, int]:
         return dict(self._connection.execute("select name, session from client"))
 
+    def note_heard(self, sessions: Sequence[int]) -> None:
+        """Keeps that these clients were heard until now."""
+        now = time.time()
+        with self._connection:
+            self._connection.execute("begin")
+            self._connection.executemany(HEARD, [{"now": now, "session": one} for one in [*sessions, None]])
+
+    def silent_clients(self, seconds: float) -> dict[str, int]:
+        """Names that weren't heard for so long, and that hold no request key."""
+        return dict(self._connection.execute(SILENT, (time.time() - seconds,)))
+
+    def drop_clients(self, clients: Mapping[str, int]) -> None:
+        with self._connection:
+            self._connection.execute("begin")
+            self._connection.executemany("delete from client where name = ? and session = ?", clients.items())
+            self._connection.executemany("delete from client_heard where session = ?", [(one,) for one in clients.values()])
+
     def intend(self, items: Sequence[Item], clients: Mapping[str, int]) -> None:
         """Keeps what is about to be handed over: new clients, and of keyed calls the key, the line and its moment."""
         now = time.time()
@@ -129,7 +161,7 @@ class SqliteStore:
         ]
         with self._connection:
             self._connection.execute("begin")
-            self._connection.executemany("insert into client values (?, ?)", clients.items())
+            self._connection.executemany(CLIENT, clients.items())
             self._connection.executemany(INTEND, rows)
 
     def answer(self, items: Sequence[Item]) -> None:

@@ -5,6 +5,7 @@ from __future__ import annotations
 import asyncio
 import logging
 import signal
+import time
 import uuid
 from collections.abc import Awaitable, Callable
 from contextlib import suppress
@@ -24,6 +25,7 @@ CLAIM_SECONDS = 10.0
 FOREVER = 10.0**9
 DRAIN_SECONDS = 5.0
 HURRY_SECONDS = 5.0
+SELDOM_SECONDS = 60.0
 
 T = TypeVar("T")
 
@@ -50,6 +52,27 @@ async def cancel(*tasks: asyncio.Future[Any]) -> None:
     for task in tasks:
         task.cancel()
     await asyncio.gather(*tasks, return_exceptions=True)
+
+
+def still_running(tasks: set[asyncio.Future[Any]]) -> set[asyncio.Future[Any]]:
+    """Those that haven't ended. Raises what one of the others has raised."""
+    for task in tasks:
+        if task.done():
+            task.result()
+    return {task for task in tasks if not task.done()}
+
+
+def seldom(say: Callable[[str], None], seconds: float = SELDOM_SECONDS) -> Callable[[str], None]:
+    """Says the first of many texts, and then no more than one in so many seconds."""
+    last = time.monotonic() - seconds
+
+    def note(text: str) -> None:
+        nonlocal last
+        if time.monotonic() - last >= seconds:
+            last = time.monotonic()
+            say(text)
+
+    return note
 
 
 class Told:
@@ -119,7 +142,10 @@ class Batchlet:
 
 
 class Worker:
-    """Slots that claim, one work item each at a time. `ending` says that nothing new is claimed."""
+    """Slots that run one work item each at a time. While a slot is free, one claim waits for all of them.
+
+    `ending` says that nothing new is claimed.
+    """
 
     def __init__(self, client: Client, folder: Path, slots: int) -> None:
         self._client = client
@@ -129,22 +155,37 @@ class Worker:
         self.hurry = asyncio.Event()
 
     async def run(self) -> None:
-        await asyncio.gather(*(self._slot() for _ in range(self._slots)))
-
-    async def _slot(self) -> None:
+        """Works until it is told to end, and what it runs has ended."""
+        running: set[asyncio.Future[Any]] = set()
         while not self.ending.is_set():
-            key = uuid.uuid4().hex
-            try:
-                claimed = await self._claim(key) or await self._withdraw(key)
-            except Refused as refused:
-                log.warning("a claim was refused: %s", refused)
-                await asyncio.sleep(1.0)
-                continue
-            except (Lost, Unreachable) as fault:
-                log.warning("a claim couldn't be withdrawn: %s", fault)
-                return
-            if "work" in claimed:
-                await self._run(claimed)
+            if len(running) < self._slots:
+                claimed = await self._next()
+                if "work" in claimed:
+                    running.add(asyncio.ensure_future(self._run(claimed)))
+            else:
+                await self._until_free(running)
+            running = still_running(running)
+        await asyncio.gather(*running)
+
+    async def _until_free(self, running: set[asyncio.Future[Any]]) -> None:
+        """Returns after a slot is free, or the worker was told to end."""
+        telling = asyncio.ensure_future(self.ending.wait())
+        try:
+            await asyncio.wait([telling, *running], return_when=asyncio.FIRST_COMPLETED)
+        finally:
+            await cancel(telling)
+
+    async def _next(self) -> dict[str, Any]:
+        """Claims a work item. Returns no member `work` if there is none."""
+        key = uuid.uuid4().hex
+        try:
+            return await self._claim(key) or await self._withdraw(key)
+        except Refused as refused:
+            log.warning("a claim was refused: %s", refused)
+            await asyncio.sleep(1.0)
+        except (Lost, Unreachable) as fault:
+            log.warning("a claim couldn't be withdrawn: %s", fault)
+        return {}
 
     async def _claim(self, key: str) -> dict[str, Any] | None:
         """Claims, until the worker is told to end: then the connection is closed, and there is no answer."""
@@ -252,7 +293,7 @@ def worker_address(address: Address, given: str | None) -> Address:
 
 async def work(address: Address, folder: Path, slots: int) -> None:
     """Works until a signal; what runs then is run to its end. After a second signal it is killed, and is FAILED."""
-    async with Client(address) as client:
+    async with Client(address, seldom(log.warning)) as client:
         worker = Worker(client, folder, slots)
 
         def end() -> None:
