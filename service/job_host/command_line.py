@@ -14,7 +14,7 @@ from job_host.options import Subcommands
 from job_host.settings import DEFAULT_PORT, ServeSettings, find_batchctl
 from job_host.versions import ShowVersion
 
-# A slot that claims has a request in hand, and the service allows 64 of one client: the others are for heartbeats and reports.
+# Each busy slot may have a heartbeat and a report in hand, and the service allows 64 requests of one client.
 MOST_SLOTS = 32
 
 
