@@ -67,6 +67,9 @@ class EmbeddedTerm(Term):
     async def find(self, session: int, key: str) -> KeptRequest | None:
         return await self._beside.do(lambda store: store.request(session, key))
 
+    async def session_of(self, name: str) -> int | None:
+        return await self._beside.do(lambda store: store.session_of(name))
+
     async def forget(self, key: str, kept: Kept) -> None:
         await self._beside.do(lambda store: store.drop_once({key: kept.reply}))
 
@@ -251,12 +254,12 @@ class EmbeddedKeeper(Keeper):
             term.fail(unavailable("Starting", "this instance ends, or begins again"))
 
     async def _forget_names(self, beside: Beside, term: EmbeddedTerm) -> None:
-        """Forgets client names that hold nothing and weren't heard for long."""
+        """Forgets client names that hold no work item and weren't heard for long."""
         heard = term.sessions.take_heard()
         await beside.do(lambda store: store.note_heard(heard))
         silent = await beside.do(lambda store: store.silent_clients(self._settings.bounds.name_seconds))
-        gone = term.sessions.forget(silent, {held.session for held in term.engine.held.values()})
-        await beside.do(lambda store: store.drop_clients(gone))
+        with term.sessions.forgetting(silent, {held.session for held in term.engine.held.values()}) as dropped:
+            await beside.do(lambda store: store.drop_clients(dropped))
 
     async def _prune(self, beside: Beside, term: EmbeddedTerm) -> None:
         days = self._settings.bounds.days_of_keys
@@ -280,6 +283,9 @@ class EmbeddedKeeper(Keeper):
 
     async def client_names(self, sessions: Sequence[int]) -> dict[int, str]:
         names = {one: self._sessions.name(one) for one in sessions}
+        unknown = [one for one, name in names.items() if name is None]
+        if unknown and self._beside is not None:
+            names |= await self._beside.do(lambda store: {one: store.name_of(one) for one in unknown})
         return {one: name for one, name in names.items() if name is not None}
 
     async def close(self) -> None:

@@ -160,6 +160,7 @@ class Keeper(ABC):
     async def heartbeat(self, client: str, work: int, log: str | None) -> tuple[bool, int]:
         """Renews a lease. Returns whether the work item's job execution is asked to stop, and how many operations that saw."""
         term = self.leading()
+        await term.meet(client)
         held = term.engine.held.get(work)
         is_holder = held is not None and held.session == term.sessions.number(client)
         if held is None or not is_holder:

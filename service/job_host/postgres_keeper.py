@@ -53,6 +53,12 @@ class PostgresTerm(Term):
         except LOST as fault:
             raise unavailable("StoreLost", f"{type(fault).__name__}: {fault}") from fault
 
+    async def session_of(self, name: str) -> int | None:
+        try:
+            return await self._store.session_of(name)
+        except LOST as fault:
+            raise unavailable("StoreLost", f"{type(fault).__name__}: {fault}") from fault
+
     async def forget(self, key: str, kept: Kept) -> None:
         try:
             await self._store.drop_once({key: kept.reply})
@@ -206,11 +212,11 @@ class PostgresKeeper(Keeper):
             term.fail(unavailable("NotLeader", "this instance leads no more"))
 
     async def _forget_names(self, store: PostgresStore, term: PostgresTerm) -> None:
-        """Forgets client names that hold nothing and weren't heard for long."""
+        """Forgets client names that hold no work item and weren't heard for long."""
         await store.note_heard(term.sessions.take_heard())
         silent = await store.silent_clients(self._settings.bounds.name_seconds)
-        gone = term.sessions.forget(silent, {held.session for held in term.engine.held.values()})
-        await store.drop_clients(term.epoch, gone)
+        with term.sessions.forgetting(silent, {held.session for held in term.engine.held.values()}) as dropped:
+            await store.drop_clients(term.epoch, dropped)
 
     async def _prune(self, store: PostgresStore, term: PostgresTerm) -> None:
         days = self._settings.bounds.days_of_keys
@@ -243,12 +249,12 @@ class PostgresKeeper(Keeper):
             raise unavailable("StoreLost", f"{type(fault).__name__}: {fault}") from fault
 
     async def client_names(self, sessions: Sequence[int]) -> dict[int, str]:
-        unknown = [one for one in sessions if self._sessions.name(one) is None]
-        if self.term is None and self._store is not None and unknown:
+        names = {one: name for one in sessions if (name := self._sessions.name(one)) is not None}
+        unknown = [one for one in sessions if one not in names]
+        if unknown and self._store is not None:
             with suppress(*LOST):
-                self._sessions.learn(await self._store.clients_of(unknown))
-        names = {one: self._sessions.name(one) for one in sessions}
-        return {one: name for one, name in names.items() if name is not None}
+                names |= await self._store.names_of(unknown)
+        return names
 
     async def close(self) -> None:
         self._closing.set()

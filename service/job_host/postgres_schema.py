@@ -128,11 +128,11 @@ where c.session = any($1::bigint[]) or h.session is null
 on conflict (session) do update set heard_at = excluded.heard_at
 """
 
-# Names that weren't heard for so long, and hold no request key. The greatest number stays, so that the next one is greater.
+# Names that weren't heard for so long, and whether they hold a request key. The greatest number stays: the next one is greater.
 SILENT = """
-select c.name, c.session from job_host_client c join job_host_client_heard h using (session)
+select c.name, c.session, exists (select from job_host_request r where r.session = c.session)
+from job_host_client c join job_host_client_heard h using (session)
 where h.heard_at < now() - make_interval(secs => $1) and c.session < (select max(session) from job_host_client)
-and not exists (select from job_host_request r where r.session = c.session)
 """
 
 # A leader that was cut off drops nothing: a later one waits for the row, or has changed it.

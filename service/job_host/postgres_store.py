@@ -31,6 +31,7 @@ from job_host.postgres_schema import (
     SILENT,
     TAKE_OVER,
 )
+from job_host.sessions import Silent
 
 log = logging.getLogger(__name__)
 
@@ -152,19 +153,22 @@ class PostgresStore:
         rows = await self._fetch("select name, session from job_host_client")
         return {row["name"]: row["session"] for row in rows}
 
-    async def clients_of(self, sessions: Sequence[int]) -> dict[str, int]:
-        """The names of these sessions."""
+    async def session_of(self, name: str) -> int | None:
+        rows = await self._fetch("select session from job_host_client where name = $1", name)
+        return rows[0]["session"] if rows else None
+
+    async def names_of(self, sessions: Sequence[int]) -> dict[int, str]:
         statement = "select name, session from job_host_client where session = any($1::bigint[])"
-        return {row["name"]: row["session"] for row in await self._fetch(statement, list(sessions))}
+        return {row["session"]: row["name"] for row in await self._fetch(statement, list(sessions))}
 
     async def note_heard(self, sessions: Sequence[int]) -> None:
         """Keeps that these clients were heard until now."""
         async with self._turn:
             await self._reads.execute(HEARD, list(sessions))
 
-    async def silent_clients(self, seconds: float) -> dict[str, int]:
-        """Names that weren't heard for so long, and that hold no request key."""
-        return {row["name"]: row["session"] for row in await self._fetch(SILENT, seconds)}
+    async def silent_clients(self, seconds: float) -> list[Silent]:
+        """Names that weren't heard for so long."""
+        return [Silent(*row) for row in await self._fetch(SILENT, seconds)]
 
     async def drop_clients(self, epoch: int, clients: Mapping[str, int]) -> None:
         """Drops names with these sessions, if the epoch stands."""

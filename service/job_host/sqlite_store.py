@@ -14,6 +14,7 @@ from pathlib import Path
 from job_host.calls import EVERYBODY_SESSION, Item, Kept, KeptRequest, WorkLog
 from job_host.lines import digest
 from job_host.log_file import Beginning
+from job_host.sessions import Silent
 
 SCHEMA = """
 create table if not exists history (
@@ -61,9 +62,8 @@ on conflict (session) do update set heard_at = excluded.heard_at
 """
 # The greatest number stays, so that the next one is greater.
 SILENT = """
-select name, session from client join client_heard using (session)
-where heard_at < ? and session < (select max(session) from client)
-and not exists (select 1 from request where request.session = client.session and reply is not null)
+select name, session, exists (select 1 from request where request.session = client.session and reply is not null)
+from client join client_heard using (session) where heard_at < ? and session < (select max(session) from client)
 """
 ANSWER = "update request set reply = ?, answers = ?, seen = ? where session = ? and key = ?"
 
@@ -134,6 +134,14 @@ class SqliteStore:
     def clients(self) -> dict[str, int]:
         return dict(self._connection.execute("select name, session from client"))
 
+    def session_of(self, name: str) -> int | None:
+        row = self._connection.execute("select session from client where name = ?", (name,)).fetchone()
+        return None if row is None else int(row[0])
+
+    def name_of(self, session: int) -> str | None:
+        row = self._connection.execute("select name from client where session = ?", (session,)).fetchone()
+        return None if row is None else str(row[0])
+
     def note_heard(self, sessions: Sequence[int]) -> None:
         """Keeps that these clients were heard until now."""
         now = time.time()
@@ -141,9 +149,12 @@ class SqliteStore:
             self._connection.execute("begin")
             self._connection.executemany(HEARD, [{"now": now, "session": one} for one in [*sessions, None]])
 
-    def silent_clients(self, seconds: float) -> dict[str, int]:
-        """Names that weren't heard for so long, and that hold no request key."""
-        return dict(self._connection.execute(SILENT, (time.time() - seconds,)))
+    def silent_clients(self, seconds: float) -> list[Silent]:
+        """Names that weren't heard for so long."""
+        return [
+            Silent(name, session, bool(key))
+            for name, session, key in self._connection.execute(SILENT, (time.time() - seconds,))
+        ]
 
     def drop_clients(self, clients: Mapping[str, int]) -> None:
         with self._connection:

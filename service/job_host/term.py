@@ -55,6 +55,10 @@ class Term(ABC):
         """What is kept of a request key."""
 
     @abstractmethod
+    async def session_of(self, name: str) -> int | None:
+        """The session that is kept of a client name."""
+
+    @abstractmethod
     async def forget(self, key: str, kept: Kept) -> None:
         """Drops a key that says once, if this is still its first reply."""
 
@@ -64,6 +68,7 @@ class Term(ABC):
 
     async def submit(self, call: Call) -> Kept:
         """Makes a call, or gives the first reply of its request key. One call with a key is under way at a time."""
+        await self.meet(call.client)
         if call.key is None:
             return await self._perform(call)
         slot = (None if call.is_once else call.client, call.key)
@@ -75,6 +80,13 @@ class Term(ABC):
         if before[0] != call.fingerprint:
             raise key_reused()
         return await asyncio.shield(before[1])
+
+    async def meet(self, client: str) -> None:
+        """Looks up the session of a client that wasn't heard for long."""
+        if not self.sessions.is_known(client):
+            number = await self.session_of(client)
+            if number is not None:
+                self.sessions.remember(client, number)
 
     def _leave(self, slot: tuple[str | None, str], done: asyncio.Task[Kept]) -> None:
         self._under_way.pop(slot, None)

@@ -7,13 +7,15 @@ from collections.abc import Callable
 from pathlib import Path
 from typing import Any, cast
 
+import asyncpg
 import pytest
 from instances import Caller, Instance, running, until
 from workers import working
 
 from job_host.connections import SURPLUS, GuardedServer
+from job_host.postgres_keeper import PostgresKeeper
 from job_host.problems import Problem
-from job_host.sessions import Sessions
+from job_host.sessions import Sessions, Silent
 from job_host.settings import Bounds, ServeSettings
 
 Make = Callable[..., ServeSettings]
@@ -37,7 +39,7 @@ async def until_sessions(instance: Instance, *numbers: int) -> None:
 
 async def test_a_name_that_holds_nothing_is_forgotten(either: Make) -> None:
     """Its number isn't given again, also if it was the greatest one."""
-    async with running(either(bounds=NO_TIME)) as instance:
+    async with running(either(bounds=Bounds(clients=3))) as instance:
         one, two, three, four = [Caller(instance.url, name) for name in ("one", "two", "three", "four")]
         await one.start("short", key="a")
         await one.claim()
@@ -58,15 +60,31 @@ async def test_a_name_that_holds_nothing_is_forgotten(either: Make) -> None:
         assert sessions_of(instance).numbers()[1:] == [5, 6]
 
 
-async def test_a_name_that_holds_a_request_key_is_kept(either: Make) -> None:
-    bounds = Bounds(name_seconds=0.0)
-    async with running(either(bounds=bounds)) as instance:
-        await Caller(instance.url, "one").start("short", key="a")
-        for name in ("two", "three"):
-            await Caller(instance.url, name).change(9, "stop")
-            await Caller(instance.url, name).claim(key="b")
-    async with running(either(bounds=bounds)) as instance:
-        assert (await Caller(instance.url, "one").start("short", key="a")).told["executionId"] == 1
+async def test_the_key_of_a_name_that_was_forgotten_gives_the_first_reply(either: Make) -> None:
+    """The name counts no more, and its session is found when it is heard again."""
+    async with running(either()) as instance:
+        for name in ("one", "two", "three"):
+            await Caller(instance.url, name).start("short", key="a")
+    async with running(either(bounds=Bounds(name_seconds=0.0, clients=3))) as instance:
+        await until_sessions(instance, 4)
+        answers = await asyncio.gather(*(Caller(instance.url, "one").start("short", key="a") for _ in range(3)))
+        assert [answer.told["executionId"] for answer in answers] == [1, 1, 1]
+        assert (await Caller(instance.url, "four").start("short", key="a")).told["executionId"] == 4
+        assert (await Caller(instance.url, "two").start("short", key="a")).name == "TooManyClients"
+        assert sessions_of(instance).numbers() == [1, 4, 2, 5]
+
+
+async def test_work_that_is_over_has_its_client_while_that_holds_a_key(either: Make) -> None:
+    async with running(either()) as instance:
+        caller = Caller(instance.url, "one")
+        await caller.start("short")
+        await caller.claim(key="a")
+        await caller.finish(1)
+        await Caller(instance.url, "two").start("short")
+    async with running(either(bounds=Bounds(name_seconds=0.0))) as instance:
+        await until_sessions(instance, 3)
+        items = await Caller(instance.url, "two").ask("GET", "/batch/jobexecutions/1/workitems")
+        assert items.told[0]["client"] == "one"
 
 
 async def test_a_name_that_was_heard_today_is_kept(either: Make) -> None:
@@ -78,13 +96,20 @@ async def test_a_name_that_was_heard_today_is_kept(either: Make) -> None:
     assert sessions == [1, 2, 3]
 
 
-def test_a_name_that_is_heard_meanwhile_is_not_forgotten() -> None:
-    sessions = Sessions({"one": 2, "two": 3, "three": 4, "four": 5}, 10)
+def test_a_name_that_is_heard_or_holds_work_is_not_forgotten() -> None:
+    sessions = Sessions({"one": 2, "two": 3, "three": 4, "four": 5, "five": 6}, 10)
     assert sessions.take_heard() == []
     assert sessions.number("two") == 3
-    assert sessions.forget({"one": 2, "two": 3, "three": 4, "four": 6}, {4}) == {"one": 2}
-    assert [sessions.number(name) for name in ("two", "three", "four", "one")] == [3, 4, 5, 6]
-    assert sorted(sessions.take_heard()) == [3, 4, 5, 6] and sessions.take_fresh() == {"one": 6}
+    silent = [Silent("one", 2, False), Silent("two", 3, False), Silent("three", 4, False), Silent("four", 5, True)]
+    with sessions.forgetting([*silent, Silent("five", 7, False), Silent("six", 8, False)], {4}) as dropped:
+        assert dropped == {"one": 2, "six": 8}
+        assert sessions.is_known("one") and not sessions.is_known("four")
+        sessions.remember("one", 2)
+        assert [sessions.number(name) for name in ("one", "two")] == [7, 3]
+    sessions.remember("four", 5)
+    assert [sessions.number(name) for name in ("four", "three", "five", "six")] == [5, 4, 6, 8]
+    assert sorted(sessions.take_heard()) == [3, 4, 5, 6, 7, 8]
+    assert sessions.take_fresh() == {"one": 7, "four": 5, "six": 8}
 
 
 async def test_the_next_leader_has_a_name_that_was_forgotten_and_heard_again(settings: Make) -> None:
@@ -92,11 +117,30 @@ async def test_the_next_leader_has_a_name_that_was_forgotten_and_heard_again(set
     async with running(settings()) as instance:
         caller = Caller(instance.url, "one")
         await caller.start("short")
-        assert sessions_of(instance).forget({"one": 2}, ()) == {"one": 2}
-        assert (await caller.start("short", key="a")).told["executionId"] == 2
+        sessions_of(instance).take_heard()
+        with sessions_of(instance).forgetting([Silent("one", 2, False)], ()) as dropped:
+            assert dropped == {"one": 2}
+            assert (await caller.start("short", key="a")).told["executionId"] == 2
     async with running(settings()) as instance:
         assert (await Caller(instance.url, "one").start("short", key="a")).told["executionId"] == 2
         assert sessions_of(instance).numbers() == [1, 3]
+
+
+async def test_tables_of_an_earlier_version_and_a_leader_that_was_cut_off(settings: Make, dsn: str) -> None:
+    """The table that an earlier version lacks is made, and only the epoch that stands drops names."""
+    async with running(settings()) as instance:
+        for name in ("one", "two"):
+            await Caller(instance.url, name).start("short")
+    database = await asyncpg.connect(dsn)
+    await database.execute("drop table job_host_client_heard")
+    await database.close()
+    async with running(settings()) as instance:
+        keeper = instance.service.keeper
+        assert isinstance(keeper, PostgresKeeper) and keeper._store is not None
+        await keeper._store.drop_clients(keeper.epoch - 1, {"one": 2})
+        assert await keeper._store.session_of("one") == 2
+        await keeper._store.drop_clients(keeper.epoch, {"one": 2, "two": 7})
+        assert [await keeper._store.session_of(name) for name in ("one", "two")] == [None, 3]
 
 
 async def test_a_worker_says_why_it_gets_no_work(settings: Make, night: Path, artifacts: Path) -> None:
@@ -172,5 +216,5 @@ async def test_many_connections_above_the_bound_are_dropped(settings: Make, monk
 
 
 def test_the_refusal_of_a_name_says_what_to_wait_for() -> None:
-    with pytest.raises(Problem, match="no work item and no request key is forgotten a day after"):
+    with pytest.raises(Problem, match="no work item is forgotten a day after"):
         Sessions({"one": 2}, 1).number("two")
