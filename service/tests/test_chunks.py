@@ -125,7 +125,11 @@ async def test_a_chunk_says_where_it_begins_if_its_writer_keeps_checkpoints(tmp_
     assert (await parts.run(None, None, stop=True), parts.reported) == (Ended("STOPPED"), [("0", {})])
 
 
-@pytest.mark.parametrize(("kept", "told"), [("2", "an earlier run"), (7, "is a text"), ("x" * 65_537, "more than 65536 bytes")])
+@pytest.mark.parametrize(
+    ("kept", "told"),
+    [("2", "an earlier run"), (7, "is a text"), ("x" * 65_537, "more than 65536 bytes")],
+    ids=["old", "no text", "long"],
+)
 async def test_a_wrong_checkpoint_of_a_writer_fails_the_chunk(tmp_path: Path, kept: Any, told: str) -> None:
     parts = Parts(tmp_path)
     assert await parts.run(None, kept) == Ended("FAILED")

@@ -34,4 +34,5 @@ def main() -> None:
         print(number, flush=True)
 
 
-main()
+if __name__ == "__main__":
+    main()
