@@ -533,7 +533,7 @@ COLLECTS = r"jobs\.\w+|readings\.read_catalogue\.\d+|arguments\.walk"
 SWALLOWED = [
     # A repository gives up its lists of unfinished job executions, and goes over all rows from then on; or it doesn't keep a
     # walk, and walks anew the next time.
-    r"(full_)?(book|repository|desk|preview)\.\w+\.\d+|(operator|world|copies)\.\w+\.\d+",
+    r"(full_)?(book|repository|desk|preview)\.\w+\.\d+|(operator|world|copies|states)\.\w+\.\d+",
     r"events\.\w+|rows\.add_(instance|execution)",
     # A script, a program and a pool have a repository.
     r"run_script|answer_script|program|pool",
@@ -541,7 +541,7 @@ SWALLOWED = [
 ]
 
 # Cases that show all of their object, so that what it gave up can be seen.
-SHOWS_ALL = r"(full_)?(book|repository|preview)\.|world\.|rows\."
+SHOWS_ALL = r"(full_)?(book|repository|preview)\.|world\.|states\.entered\.|rows\."
 
 # A publish of several operations may give a walk up behind one, and ask for it once more behind a later one.
 GIVES_UP_FOR_A_WHILE = r"world\.at_once\.6"

@@ -110,7 +110,7 @@ def of_catalogues() -> Iterator[Case]:
         # A catalogue of 256 jobs takes no other one.
         then = () if id_ == "more" else after
         yield Case(f"catalogue.add.{id_}", "catalogue", f"add {id_}", first, (), then, ("show",))
-    words = ["try_clone", "artifacts", "artifacts_of_a_clone", "table", "status_counts"]
+    words = ["try_clone", "artifacts", "artifacts_of_a_clone", "table"]
     for word in words + ["job.try_clone j0", "job.element j0", "task.try_clone j0"]:
         yield Case(f"catalogue.{word.partition(' ')[0]}", "catalogue", word, two, (), after, ("show",))
 
@@ -140,6 +140,7 @@ def of_readers() -> Iterator[Case]:
         yield Case(f"commands.{number}", "commands", line, "", commands[: number - 1], commands[number:])
     for number in range(len(starts) + 2):
         yield Case(f"lines.{number}", "lines", "", str(number), (), tuple(starts))
+    yield Case("logs.tell", "logs", 'tell {"execution":1}')
     script = tuple(SCRIPT.read_text().splitlines())
     for kind in ("run_script", "answer_script", "program"):
         yield Case(kind, kind, "", "", (), script)
@@ -194,6 +195,7 @@ SHOWN = {
     "full_desk": SEEN,
     "operator": (*SEEN_BY_SESSIONS, COUNT, f"ask 4 {COUNT}", 'ask 5 {"ask":"status_counts"}'),
     "copies": ("show", f"alone {COUNT}", f"shared {COUNT}", "counts"),
+    "states": ("show", "counts"),
 }
 
 
@@ -218,12 +220,20 @@ def histories() -> Iterator[History]:
         yield History(tuple(kinds.split()), name, catalogue, tuple(lines))
         if "entered" in kinds.split():
             yield entered(catalogue, lines)
+        if "counted" in kinds.split():
+            yield counted(catalogue, lines)
 
 
 def entered(catalogue: str, lines: list[str]) -> History:
     """The calls of a script in a world whose copy takes in each operation by itself, as soon as it is accepted."""
     calls = [line for line in lines if '"do"' in line]
     return History(("world",), "entered", catalogue, tuple(each for call in calls for each in (call, PUBLISH)))
+
+
+def counted(catalogue: str, lines: list[str]) -> History:
+    """The calls of a script whose operations are absorbed by counts, in place of a repository."""
+    absorbed = ["count" if line in ("enter", "absorb") else line for line in lines if '"ask"' not in line]
+    return History(("states",), "counted", catalogue, (*absorbed, "counts"))
 
 
 def made(kind: str, history: History, line: str, number: int) -> Case:
@@ -259,7 +269,9 @@ PUBLISH = "publish 99"
 
 
 def is_case(kind: str, history: History, line: str) -> bool:
-    """Whether a line of a history is a case. Its calls may be there for others alone."""
+    """Whether a line of a history is a case. Its calls may be there for others alone, and its queries too."""
+    if kind == "states":
+        return '"do"' not in line
     of_others = kind == "copies" or history.name == "entered"
     return line.split()[0] not in NO_CASES and not (of_others and line.startswith("{"))
 
@@ -280,11 +292,13 @@ def of_histories() -> Iterator[Case]:
             yield Case(f"events.{history.name}", "events", "", history.catalogue, (), history.lines)
 
 
-# What makes cases of a history, by the word that its first line has for them. `entered` makes a history of its own.
+# What makes cases of a history, by the word that its first line has for them. `entered` and `counted` make histories of their
+# own.
 ABOUT: dict[str, Callable[[History], Iterator[Case]]] = {
     "about": about,
     "about_full": previewed_full,
     "entered": lambda _: iter(()),
+    "counted": lambda _: iter(()),
 }
 
 

@@ -6,19 +6,12 @@ use anyhow::{Result, bail};
 use batch_ids::OutOfMemory;
 use jsl_json::read_catalogue;
 use jsl_model::{Body, Catalogue, Element, Job};
-use read_copies::StatusCounts;
 use seat_rules::SeatTable;
 use std::alloc::Global;
 
 /// Makes a table of seats.
 fn made_table(alloc: Global, catalogue: &Catalogue) -> std::result::Result<(), OutOfMemory> {
     drop(SeatTable::new(alloc, catalogue)?);
-    Ok(())
-}
-
-/// Makes new counts.
-fn made_counts(alloc: Global, catalogue: Catalogue) -> std::result::Result<(), OutOfMemory> {
-    drop(StatusCounts::new(alloc, catalogue)?);
     Ok(())
 }
 
@@ -70,10 +63,6 @@ fn run_line<R: Print + AllocGlobal>(
             told!(rt, line, copy.artifacts())
         }
         "table" => told!(rt, line, made_table(alloc, catalogue)),
-        "status_counts" => {
-            let copy = catalogue.try_clone()?;
-            told!(rt, line, made_counts(alloc, copy))
-        }
         _ => match catalogue.job(id) {
             Some(job) => run_job(rt, line, word, job),
             None => bail!("there is no job {id}"),

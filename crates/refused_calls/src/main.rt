@@ -18,6 +18,7 @@ mod copies;
 mod desks;
 mod jobs;
 mod lines;
+mod logs;
 mod memory;
 mod operators;
 mod parameters;
@@ -26,6 +27,7 @@ mod programs;
 mod readings;
 mod restarts;
 mod rows;
+mod states;
 mod texts;
 mod walks;
 mod workers;
@@ -53,6 +55,7 @@ fn run_values<R: Wait + Print + AllocGlobal>(rt: &R, kind: &str, lines: &str) ->
             "rows" => rows::run_row(rt, line)?,
             "restarts" => restarts::run_restart(rt, line)?,
             "readings" => readings::run_reading(rt, line)?,
+            "logs" => logs::run_log(rt, line)?,
             "workers" => workers::run_work(rt, line)?,
             "arguments" => programs::run_arguments(rt, line)?,
             _ => bail!("no script is called {kind}"),
@@ -76,6 +79,7 @@ fn run_object<R: Wait + Print + AllocGlobal>(
         "desk" => desks::run_desk(rt, script, false),
         "full_desk" => desks::run_desk(rt, script, true),
         "copies" => copies::run_copies(rt, script),
+        "states" => states::run_states(rt, script),
         "operator" => operators::run_operator(rt, script),
         "world" => worlds::run_world(rt, script),
         _ => run_other(rt, kind, script),

@@ -1,4 +1,7 @@
-//! A port in memory, and artifacts that do nothing.
+//! A port in memory, and artifacts that take no memory.
+ghost use Rattle.std.specs.Prelude.{◌≡◌};
+ghost use Rattle.refused_calls.specs.Quiet.{items_in};
+
 use batch_history::WorkItem;
 use batch_ids::{ExecutionId, MetricStep, Moment, Refusal, T256, Text, WorkId, WorkOutcome};
 use job_threads::{Artifact, ArtifactFault, Claimed, Gate, Onward, Port, Report};
@@ -103,18 +106,42 @@ impl Port for Memory {
     }
 }
 
-/// A batchlet and decider that completes, and takes no memory.
+/// An artifact of each role that takes no memory. A batchlet and decider completes. A reader has five
+/// items in a partition, and none without one. Items and checkpoints are empty texts.
 #[derive(Drop)]
 pub(crate) struct Quiet {
-    pub(crate) alloc: Global,
+    alloc: Global,
+    items: u32,
+    left: u32,
+}
+
+/// Returns the number of items of a reader in a partition, or without one.
+fn items_in(partition: Option<u32>) -> u32
+    ensures { result ≡ items_in partition }
+{
+    match partition {
+        None => 0,
+        Some(_) => 5,
+    }
+}
+
+impl Quiet {
+    pub(crate) fn new(alloc: Global) -> Quiet {
+        Quiet {
+            alloc,
+            items: 0,
+            left: 0,
+        }
+    }
 }
 
 impl Artifact for Quiet {
-    ghost use Rattle.job_threads.specs.Meaning.{nobody};
+    ghost use Rattle.refused_calls.specs.Quiet.{quiet};
 
-    ghost meaning = { λ _. nobody };
+    ghost meaning = { λ a. quiet a.items a.left };
 
-    fn begin(&mut self, _partition: Option<u32>) -> Result<(), ArtifactFault> {
+    fn begin(&mut self, partition: Option<u32>) -> Result<(), ArtifactFault> {
+        self.items = items_in(partition);
         Ok(())
     }
 
@@ -123,15 +150,20 @@ impl Artifact for Quiet {
     }
 
     fn open(&mut self, _checkpoint: Option<&str>) -> Result<(), ArtifactFault> {
+        self.left = self.items;
         Ok(())
     }
 
     fn read(&mut self) -> Result<Option<String>, ArtifactFault> {
-        Ok(None)
+        if self.left == 0 {
+            return Ok(None);
+        }
+        self.left -= 1;
+        Ok(Some(String::new(self.alloc)))
     }
 
     fn process(&mut self, _item: &str) -> Result<Option<String>, ArtifactFault> {
-        Ok(None)
+        Ok(Some(String::new(self.alloc)))
     }
 
     fn write(&mut self, _items: &[String]) -> Result<(), ArtifactFault> {

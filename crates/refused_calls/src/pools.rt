@@ -24,7 +24,7 @@ fn run_pool<N: Site + Send + Sync, R: Threads + Wait + AllocGlobal + Sync>(
     let alloc = rt.alloc();
     let mut kits = Vec::new(alloc);
     let mut kit = Kit::new(alloc);
-    kit.add("quiet", Box::new(alloc, Quiet { alloc })?)?;
+    kit.add("quiet", Box::new(alloc, Quiet::new(alloc))?)?;
     kits.push(kit)?;
     line.mark(alloc);
     let report = pool(rt, alloc, operator, kits, &Open);

@@ -12,24 +12,23 @@ use std::alloc::Global;
 /// The built-in artifacts of the chunk.
 const NAMES: [&str; 3] = ["count:5", "odd", "sink"];
 
+/// Returns a chunk of these artifacts, in groups of two items.
+fn chunk(alloc: Global, reader: &str, processor: &str, writer: &str) -> Tried<WorkTask> {
+    Ok(WorkTask::Chunk {
+        reader: T256::new(alloc, reader)?,
+        processor: Some(T256::new(alloc, processor)?),
+        writer: T256::new(alloc, writer)?,
+        item_count: 2,
+        checkpoint: None,
+    })
+}
+
 /// Returns the task of this name: a chunk of built-in artifacts, a chunk or a decision of an artifact
 /// that takes no memory, or a batchlet with the artifact of this name.
 fn task(alloc: Global, name: &str) -> Tried<WorkTask> {
     match name {
-        "chunk" => Ok(WorkTask::Chunk {
-            reader: T256::new(alloc, "count:5")?,
-            processor: Some(T256::new(alloc, "odd")?),
-            writer: T256::new(alloc, "sink")?,
-            item_count: 2,
-            checkpoint: None,
-        }),
-        "own_chunk" => Ok(WorkTask::Chunk {
-            reader: T256::new(alloc, "quiet")?,
-            processor: Some(T256::new(alloc, "quiet")?),
-            writer: T256::new(alloc, "quiet")?,
-            item_count: 2,
-            checkpoint: None,
-        }),
+        "chunk" => chunk(alloc, "count:5", "odd", "sink"),
+        "own_chunk" => chunk(alloc, "quiet", "quiet", "quiet"),
         "decision" => Ok(WorkTask::Decision {
             artifact: T256::new(alloc, "quiet")?,
         }),
@@ -65,7 +64,7 @@ fn run_with_kit(
             Box::new(alloc, BuiltInArtifact::new(alloc, built_in))?,
         )?;
     }
-    kit.add("quiet", Box::new(alloc, Quiet { alloc })?)?;
+    kit.add("quiet", Box::new(alloc, Quiet::new(alloc))?)?;
     line.mark(alloc);
     let outcome = run_item(alloc, port, &mut kit, item, 0);
     line.mark(alloc);
@@ -76,7 +75,7 @@ fn run_with_kit(
 /// Runs the one work item of a port by a worker.
 fn work_with_kit(alloc: Global, line: Line<'_>, port: &mut Memory) -> Tried<Tried<WorkerReport>> {
     let mut kit = Kit::new(alloc);
-    kit.add("quiet", Box::new(alloc, Quiet { alloc })?)?;
+    kit.add("quiet", Box::new(alloc, Quiet::new(alloc))?)?;
     line.mark(alloc);
     let report = worker(alloc, port, &mut kit, &Open, 0, 3);
     line.mark(alloc);
@@ -115,12 +114,12 @@ fn add_and_run(
 ) -> Tried<(bool, Tried<WorkOutcome>)> {
     let item = item(alloc, "quiet", None)?;
     let mut kit = Kit::new(alloc);
-    let given = Box::new(alloc, Quiet { alloc })?;
+    let given = Box::new(alloc, Quiet::new(alloc))?;
     line.mark(alloc);
     let added = kit.add("quiet", given);
     line.mark(alloc);
     if added.is_err() {
-        kit.add("quiet", Box::new(alloc, Quiet { alloc })?)?;
+        kit.add("quiet", Box::new(alloc, Quiet::new(alloc))?)?;
     }
     let outcome = run_item(alloc, port, &mut kit, &item, 0);
     drop(kit);
