@@ -57,10 +57,17 @@ pub lines-by : (name : List ℕ) (x x' : Devices) (m : Told) (p0 p p' : Unread) 
     → p0 ≡ nothing_read → line' ≡ line → HasFirst x.told m p0 p line catalogue → IsReady name line' x.disk made bytes
     → AnswersOver bytes (reading m x'.told p p') made x'.disk x'.held result → IsLogServed name x x' result
 lines-by name x x' m p0 p p' line line' catalogue bytes made result nothing same first ready answers = inr (inr (inr (
-  m, p, p', line, catalogue, bytes, made,
+  m,
+  p,
+  p',
+  line,
+  catalogue,
+  bytes,
+  made,
   subst (λ (u : Unread). HasFirst x.told m u p line catalogue) nothing first,
   subst (λ (l : List ℕ). IsReady name l x.disk made bytes) same ready,
-  answers)))
+  answers,
+)))
 
 -- there is no log
 pub no-log-by : (name : List ℕ) (x x' : Devices) (p0 p : Unread) (line line' : List ℕ) (catalogue : List JobTree) (fault : Unready) (result : Result Unit OverLogFault)
@@ -68,8 +75,13 @@ pub no-log-by : (name : List ℕ) (x x' : Devices) (p0 p : Unread) (line line' :
     → IsErrAnd result (TellsUnready fault x.held x'.held) → IsLogServed name x x' result
 no-log-by name x x' p0 p line line' catalogue fault (Ok done) nothing same first unready tells = absurd tells
 no-log-by name x x' p0 p line line' catalogue fault (Err end) nothing same first unready tells = inr (inr (inl (
-  p, line, catalogue, fault, end,
+  p,
+  line,
+  catalogue,
+  fault,
+  end,
   subst (λ (u : Unread). HasFirst x.told x'.told u p line catalogue) nothing first,
   subst (λ (l : List ℕ). IsUnready name l x.disk x'.disk fault) same unready,
   refl,
-  tells)))
+  tells,
+)))

@@ -197,11 +197,7 @@ fn make_ready<D: Disk>(
 }
 
 /// Writes the reason why there is no log, if the log is refused, and returns that fault.
-fn tell_unready<W: Sink>(
-    alloc: Global,
-    fault: Unready,
-    sink: &mut W,
-) -> Result<(), OverLogFault>
+fn tell_unready<W: Sink>(alloc: Global, fault: Unready, sink: &mut W) -> Result<(), OverLogFault>
     ensures { IsErrAnd result (TellsUnready fault (W.tape sink.old) (W.tape sink.new)) }
 {
     match fault {
@@ -249,7 +245,10 @@ fn answer_in<D: Disk + Drop, S: Source, W: Sink + Drop>(
 /// Says on standard error where the bytes are that a crash left behind the log's end.
 fn tell_cut<F: Write>(faults: &mut F, name: &str, log: &RestoredLog) {
     if !log.cut.is_empty() {
-        let _ = writeln!(faults, "batchctl: the bytes behind the end of the log are in {name}.cut");
+        let _ = writeln!(
+            faults,
+            "batchctl: the bytes behind the end of the log are in {name}.cut"
+        );
     }
 }
 

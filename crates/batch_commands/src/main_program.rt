@@ -152,14 +152,7 @@ pub fn serve<
     S: Source,
     W: Sink + Drop,
     F: Write,
->(
-    rt: &R,
-    disk: D,
-    words: &[&str],
-    source: &mut S,
-    sink: W,
-    faults: &mut F,
-) -> (u8, D, W)
+>(rt: &R, disk: D, words: &[&str], source: &mut S, sink: W, faults: &mut F) -> (u8, D, W)
     requires fresh_disk { D.past disk ≡ [] }
     requires fresh_sink { (W.tape sink).bytes ≡ [] }
     ensures { IsServed (map (λ word. word.now) words.now) (devices (S.tape source.old) (W.tape sink) (D.past disk))
