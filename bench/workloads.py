@@ -9,6 +9,9 @@ SIZE is the number of lines, or for `pool` the number of job executions. Equal s
 - `backlog`: a fifth of the lines are starts, all before the first claim; reports come in any order.
 - `deep`: jobs of about a thousand elements: long lists, flows in flows, wide splits, splits in splits.
 - `pool`: a run of chunks, partitions and splits by two workers with built-in artifacts.
+- `logged`: `nights` over a new log.
+- `opened`: the catalogue of `nights` and one query, over the log that `logged` leaves.
+- `refused`: lines that are refused: half of them with `BadLine`, the others with each other refusal but `RepositoryFull`.
 """
 
 from __future__ import annotations
@@ -18,6 +21,7 @@ import sys
 from collections.abc import Callable
 from dataclasses import dataclass
 from pathlib import Path
+from string import Template
 
 # The number of sessions of a script, which take turns.
 SESSIONS = 16
@@ -395,12 +399,152 @@ def pool(dice: Dice, size: int) -> str:
     return json.dumps(catalogue, separators=(",", ":")) + "\n" + starts
 
 
+def opened(dice: Dice, size: int) -> str:
+    """The catalogue of `nights`, and a query about all its job executions."""
+    script = Script([])
+    script.lines = nights(dice, size).splitlines()[:1]
+    script.ask("status_counts")
+    return script.text()
+
+
+# The first job is started, fails, is restarted, is under way and is abandoned. The last one is never started.
+REFUSED_JOBS: list[Json] = [
+    {
+        "id": "nightly",
+        "elements": [
+            {
+                "kind": "step",
+                "id": "load",
+                "next": "report",
+                "chunk": {"item-count": 100, "reader": {"ref": "rows"}, "writer": {"ref": "table"}},
+            },
+            step("report", "mail"),
+        ],
+    },
+    {"id": "calendar", "elements": [{"kind": "decision", "id": "day", "ref": "day-of-week"}]},
+    {"id": "payroll", "elements": [step("pay", "pay")]},
+]
+# A text that is a byte too long, and a parameter too many.
+LONG = 257 * "x"
+PARAMETERS = ",".join(f'"k{number:02}":"v"' for number in range(65))
+# The lines of each refusal, after `begin_refused`. `$at` is the moment, `$by` that and a session that claimed nothing, and
+# `$new` a number that nothing has.
+REFUSED: dict[str, tuple[str, ...]] = {
+    "BadLine": (
+        "start nightly",
+        "[]",
+        '{"do":"claim",$by',
+        '{"do":"claim",$by}}',
+        '{"do":"claim","by":2}',
+        '{"do":"claim","by":0,$at}',
+        '{"do":"claim","by":2,"at":1.5}',
+        '{"do":"claim","by":18446744073709551616,$at}',
+        '{"do":"begin",$by,"job":"nightly"}',
+        '{"do":[' + 60 * "[0]," + "[0]],$by}",
+        '{"do":"start",$by,"job":"nightly","parameters":{"day":"20240101","region":1}}',
+        '{"do":"checkpoint",$by,"work":4,"data":"row 100","metrics":{"READ_COUNT":100,"WRITE_COUNT":4294967296}}',
+        '{"do":"finish",$by,"work":4,"outcome":"COMPLETED","exit":null}',
+        '{"do":"finish",$by,"work":4,"outcome":"STARTED"}',
+        '{"ask":"job_names","job":"nightly"}',
+        '{"ask":"job_execution","execution":-1}',
+    ),
+    "TextTooLong": (
+        f'{{"do":"start",$by,"job":"{LONG}"}}',
+        f'{{"do":"start",$by,"job":"nightly","parameters":{{{PARAMETERS}}}}}',
+        f'{{"do":"finish",$by,"work":4,"outcome":"COMPLETED","exit":"{LONG}"}}',
+        f'{{"ask":"running_executions","job":"{LONG}"}}',
+    ),
+    "JobStartException": (
+        '{"do":"start",$by,"job":"job-$new"}',
+        '{"do":"start",$by,"job":"night","parameters":{"day":"$new"}}',
+    ),
+    "NoSuchJobException": (
+        '{"ask":"job_instance_count","job":"payroll"}',
+        '{"ask":"job_instances","job":"payroll","start":0,"count":10}',
+        '{"ask":"running_executions","job":"job-$new"}',
+    ),
+    "NoSuchJobInstanceException": ('{"do":"purge",$by,"instance":$new}', '{"ask":"job_executions","instance":$new}'),
+    "NoSuchJobExecutionException": (
+        '{"do":"restart",$by,"execution":$new,"parameters":{"day":"20240101"}}',
+        '{"do":"stop",$by,"execution":$new}',
+        '{"do":"abandon",$by,"execution":$new}',
+        '{"ask":"job_execution","execution":$new}',
+        '{"ask":"step_executions","execution":$new}',
+    ),
+    "JobExecutionNotRunningException": ('{"do":"stop",$by,"execution":1}', '{"do":"stop",$by,"execution":6}'),
+    "JobExecutionIsRunningException": ('{"do":"abandon",$by,"execution":3}', '{"do":"purge",$by,"instance":3}'),
+    "JobExecutionAlreadyCompleteException": ('{"do":"restart",$by,"execution":2}',),
+    "JobExecutionNotMostRecentException": ('{"do":"restart",$by,"execution":1}',),
+    "JobRestartException": ('{"do":"restart",$by,"execution":4}', '{"do":"restart",$by,"execution":6}'),
+    "NoSuchWork": (
+        '{"do":"checkpoint",$by,"work":$new,"data":"row $new"}',
+        '{"do":"finish",$by,"work":$new,"outcome":"COMPLETED"}',
+        '{"do":"lose",$by,"work":$new}',
+    ),
+    "WorkNotRunning": (
+        '{"do":"checkpoint",$by,"work":1,"data":"row $new"}',
+        '{"do":"finish",$by,"work":3,"outcome":"FAILED","exit":"late"}',
+        '{"do":"lose",$by,"work":8}',
+    ),
+    "NotClaimer": (
+        f'{{"do":"checkpoint",$by,"work":4,"data":"row $new","metrics":{METRICS}}}',
+        '{"do":"finish",$by,"work":6,"outcome":"COMPLETED"}',
+    ),
+    "NotStopping": (
+        '{"do":"finish","by":5,$at,"work":4,"outcome":"STOPPED"}',
+        '{"do":"finish","by":7,$at,"work":6,"outcome":"STOPPED"}',
+    ),
+    "WrongOutcome": (
+        '{"do":"checkpoint","by":7,$at,"work":6,"data":"row $new"}',
+        '{"do":"finish","by":8,$at,"work":7,"outcome":"STOPPED"}',
+    ),
+}
+
+
+def begin_refused(script: Script) -> None:
+    """Makes six job executions: 1 is FAILED, 2 is its restart and COMPLETED, 3 to 5 are STARTED, and 6 is ABANDONED. Work items
+    4, 6 and 7 are busy: a chunk of session 5, a batchlet of session 7 and a decision of session 8."""
+    script.start("nightly")
+    script.finish(script.claim(), "FAILED")
+    script.restart(1)
+    script.finish(script.claim())
+    script.finish(script.claim())
+    script.start("nightly")
+    script.claim()
+    script.start("nightly")
+    script.finish(script.claim())
+    script.claim()
+    script.start("calendar")
+    script.claim()
+    script.start("nightly")
+    script.finish(script.claim(), "FAILED")
+    script.call("abandon", 1, ',"execution":6')
+
+
+def refused(dice: Dice, size: int) -> str:
+    """Lines that are refused, in a repository of six job executions."""
+    script = Script(REFUSED_JOBS)
+    begin_refused(script)
+    bad_lines, *others = REFUSED.values()
+    while len(script.lines) < size:
+        lines = bad_lines if dice.percent(50) else others[dice.below(len(others))]
+        line = Template(lines[dice.below(len(lines))])
+        script.at += 7
+        moment = f'"at":{script.at}'
+        session = f'"by":{SESSIONS + 1 + dice.below(SESSIONS)},{moment}'
+        script.lines.append(line.substitute(at=moment, by=session, new=1_000 + dice.below(1_000_000)))
+    return script.text()
+
+
 WORKLOADS: dict[str, Callable[[Dice, int], str]] = {
     "nights": nights,
     "consoles": consoles,
     "backlog": backlog,
     "deep": deep,
     "pool": pool,
+    "logged": nights,
+    "opened": opened,
+    "refused": refused,
 }
 
 
@@ -409,10 +553,16 @@ def input_of(name: str, seed: int, size: int) -> bytes:
     return WORKLOADS[name](Dice(seed), size).encode()
 
 
-def command(checkout: Path, name: str) -> list[str]:
-    """How a checkout's program runs a workload; it has the input as its standard input."""
-    words = ["run", "--workers", "2"] if name == "pool" else ["script"]
-    return [str(checkout / "crates" / "batchctl" / "out" / "batchctl"), *words]
+def program_of(checkout: Path) -> Path:
+    """The program that a checkout has built."""
+    return checkout / "crates" / "batchctl" / "out" / "batchctl"
+
+
+def command(checkout: Path, name: str, log: Path) -> list[str]:
+    """How a checkout's program runs a workload, `logged` and `opened` over this log. It has the input as its standard input."""
+    over_log = ["script", "--log", str(log)]
+    words = {"pool": ["run", "--workers", "2"], "logged": over_log, "opened": over_log}.get(name, ["script"])
+    return [str(program_of(checkout)), *words]
 
 
 if __name__ == "__main__":
