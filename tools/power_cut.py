@@ -20,7 +20,7 @@ at once. In some rows a sync fails, and another run is started. As with Linux, t
 memory then, and no later sync writes them. In others a run is killed, and another is started over the bytes in memory.
 
 Prints how many moments and files a row had. At the first wrong file it says why, with the seed of its draws, and ends with
-status 1. The rows of KNOWN fail today; if one passes, that is wrong, too. Needs a C compiler, `cc`.
+status 1. Needs a C compiler, `cc`.
 """
 
 from __future__ import annotations
@@ -37,28 +37,13 @@ from c_libraries import library_in
 from log_trial.program import Wrong
 from power_trial.checks import Opener, Trial
 from power_trial.rows import Row, rows
-from power_trial.runs import WAYS, Program
+from power_trial.runs import Program
 from repository import ROOT
 
 PROGRAM = ROOT / "crates" / "batchctl" / "out" / "batchctl"
 LIBRARY = ROOT / "tools" / "power_cut.c"
 # A program that never answers is ended by the alarm.
 MOST_SECONDS = 900
-
-# The rows that fail today, with the reason.
-LOST = "the next run believes bytes in memory that the disk never got"
-UNNAMED = "the next run does not sync the folder"
-KNOWN = {
-    f"{begin}, {event} and another run, {way}": reason
-    for begin, event, reason in [
-        ("a new log", "a failed sync", LOST),
-        ("a log", "a failed sync", LOST),
-        ("a torn log", "a failed sync", LOST),
-        ("a new log", "a failed sync of the folder", UNNAMED),
-        ("a new log", "a kill", UNNAMED),
-    ]
-    for way in WAYS
-}
 
 
 def fault_of(row: Row, trial: Trial, pool: ThreadPoolExecutor) -> Wrong | None:
@@ -78,17 +63,11 @@ def fault_of(row: Row, trial: Trial, pool: ThreadPoolExecutor) -> Wrong | None:
 
 
 def check(opener: Opener, row: Row, seed: int, pool: ThreadPoolExecutor) -> int:
-    """Tries a row, says what it had, and returns how many moments. A row that is known to fail has to fail."""
+    """Tries a row, says what it had, and returns how many moments."""
     trial = Trial(row.name(), opener, seed)
-    fault, reason = fault_of(row, trial, pool), KNOWN.get(row.name())
-    if fault and not reason:
+    if fault := fault_of(row, trial, pool):
         raise Wrong(f"{row.name()}, {fault}")
-    if reason and not fault:
-        raise Wrong(f"{row.name()}: it passes, and is in the list of those that fail")
-    if reason:
-        print(f"{row.name()}: fails as known, {reason}")
-    else:
-        print(f"{row.name()}: {len(trial.moments)} moments, {len(trial.files)} files")
+    print(f"{row.name()}: {len(trial.moments)} moments, {len(trial.files)} files")
     return len(trial.moments)
 
 

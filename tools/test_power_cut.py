@@ -14,16 +14,14 @@ from contextlib import redirect_stdout
 from io import StringIO
 from pathlib import Path
 from random import Random
-from unittest.mock import patch
 
-import power_cut
 from c_libraries import library_in
 from log_trial.program import Wrong
 from power_cut import LIBRARY, PROGRAM, check_rows
 from power_trial.disk import SECTOR, Cut, Disk, Inode, Piece, folder_of, pieces_of
 from power_trial.journal import FOLDER_SYNC, MADE, RENAME, Event, events_in
 from power_trial.rows import Event as Happening
-from power_trial.rows import Row, a_failed_sync, a_kill_and_another_run, a_run, rows
+from power_trial.rows import Row, a_failed_sync, a_kill_and_another_run, a_run
 from power_trial.runs import WAYS, Program
 from repository import ROOT
 
@@ -235,16 +233,6 @@ class WrongPrograms(unittest.TestCase):
 
     def test_it_reads_a_log_that_it_did_not_sync(self) -> None:
         self.is_found("no_first", "a log", a_kill_and_another_run)
-
-    def test_a_row_of_the_list_has_to_fail(self) -> None:
-        row = Row("a new log", a_run, "at full speed")
-        with patch.dict(power_cut.KNOWN, {row.name(): "a reason"}):
-            check_rows(self.made_wrong("never"), [row], 1)
-            with self.assertRaisesRegex(Wrong, "it passes"):
-                check_rows(self.made_wrong("not at all"), [row], 1)
-
-    def test_the_list_has_rows_of_the_table(self) -> None:
-        self.assertLessEqual(power_cut.KNOWN.keys(), {row.name() for row in rows()})
 
 
 if __name__ == "__main__":
