@@ -3,7 +3,7 @@
 #
 #     service/check.sh [WORDS OF PYTEST ..]
 #
-# The program is JOBHOST_BATCHCTL, else crates/batchctl/out/batchctl. service/install.sh installs what is needed.
+# The program is JOBHOST_BATCHCTL, else crates/batchctl/out/batchctl. service/install.sh --development installs what is needed.
 set -eu
 cd "$(dirname "$0")"
 : "${JOBHOST_BATCHCTL:=$PWD/../crates/batchctl/out/batchctl}"

@@ -48,8 +48,8 @@ def needs() -> list[Need]:
 
 
 def packages_of_the_service() -> list[str]:
-    """The packages of the service that are missing, by the script that installs them."""
-    return subprocess.run([INSTALL, "--missing"], stdout=subprocess.PIPE, check=True, text=True).stdout.split()
+    """The packages of the service and its tests that are missing, by the script that installs them."""
+    return subprocess.run([INSTALL, "--development", "--missing"], stdout=subprocess.PIPE, check=True, text=True).stdout.split()
 
 
 def missing() -> list[Need]:

@@ -63,7 +63,7 @@ class Needs(unittest.TestCase):
         self.assertIn("missing: python3-aiohttp (Debian's python3-aiohttp)", said)
         install = said[-1].split()
         self.assertEqual(install[:2], ["apt-get", "install"])
-        self.assertLessEqual({"gcc", "libc6-dev", "valgrind", "chromium", "python3-aiohttp"}, set(install))
+        self.assertLessEqual({"gcc", "libc6-dev", "valgrind", "chromium", "postgresql", "python3-aiohttp"}, set(install))
         self.assertEqual(len(install), len(set(install)))
 
     def test_an_old_python_is_missing(self) -> None:

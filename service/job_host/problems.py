@@ -54,6 +54,7 @@ STATUS_OF_PROBLEM = {
     "TooManyRequests": 429,
     "TooManyClients": 429,
     "InternalError": 500,
+    "TooManyConnections": 503,
     "NotLeader": 503,
     "Starting": 503,
     "NotYetSeen": 503,

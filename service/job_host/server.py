@@ -20,7 +20,6 @@ from job_host.connections import GuardedHandler, GuardedServer
 from job_host.keeper import Fatal, Keeper
 from job_host.leases import Leases
 from job_host.metrics import Metrics
-from job_host.postgres_keeper import PostgresKeeper
 from job_host.problems import Problem, unavailable
 from job_host.requests import Asked, Gate, Host, Route, refuse_others
 from job_host.routes_console import EVENTS_PATH, ConsoleFiles, Watchers, show_events
@@ -40,10 +39,15 @@ Serve = Callable[[web.Request], Awaitable[web.StreamResponse]]
 
 
 def make_keeper(settings: ServeSettings, metrics: Metrics) -> Keeper:
+    """The keeper of the history. Only one over PostgreSQL needs the package asyncpg."""
     leases = Leases(settings.lease)
-    if settings.postgres:
-        return PostgresKeeper(settings, leases, metrics.observers())
-    return EmbeddedKeeper(settings, leases, metrics.observers())
+    if not settings.postgres:
+        return EmbeddedKeeper(settings, leases, metrics.observers())
+    try:
+        from job_host.postgres_keeper import PostgresKeeper
+    except ModuleNotFoundError as fault:
+        raise SettingsRefused(f"--postgres needs {fault.name}: Debian's package python3-asyncpg") from fault
+    return PostgresKeeper(settings, leases, metrics.observers())
 
 
 class Service:

@@ -16,7 +16,7 @@ from job_host.settings import find_batchctl
 ROOT = Path(__file__).resolve().parents[2]
 BATCHCTL = find_batchctl(None)
 BEGIN = re.compile(r'\{\s*"jobs"')
-FOLDERS = ("crates", "docs", "benches", "bench", "tools", "service")
+FOLDERS = ("crates", "docs", "benches", "bench", "tools", "service", "examples")
 SUFFIXES = (".md", ".py", ".sh", ".txt", ".rt", ".script", ".scripts", ".json", "")
 
 

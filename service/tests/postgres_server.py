@@ -26,7 +26,7 @@ def programs() -> Path:
     """The folder of Debian's newest PostgreSQL."""
     versions = sorted(Path("/usr/lib/postgresql").glob("*/bin/postgres"), key=lambda path: int(path.parts[-3]))
     if not versions:
-        raise FileNotFoundError("no PostgreSQL: service/install.sh installs it")
+        raise FileNotFoundError("no PostgreSQL: service/install.sh --postgres installs it")
     return versions[-1].parent
 
 
