@@ -28,6 +28,7 @@ from pathlib import Path
 
 from c_libraries import library_in
 from log_trial import log_file
+from log_trial.program import cut_of, says_cut, tail_of
 from repository import ROOT
 
 CRATE = ROOT / "crates" / "batchctl"
@@ -98,20 +99,28 @@ class Program:
         ahead = " ".join(map(str, self.libraries))
         settings = {"LD_PRELOAD": ahead, "FAIL_AT": str(fail_at), "FAIL_COUNT": str(counted), **self.settings}
         words = [str(self.path), "script", "--log", str(self.log())]
+        tail = tail_of(self.log().read_bytes()) if self.log().exists() else b""
         pipe = subprocess.PIPE
         with subprocess.Popen(words, stdin=pipe, stdout=pipe, stderr=pipe, env=settings, bufsize=0) as process:
             output = fed(process, lines)
             status = process.wait(MOST_SECONDS)
             faults = process.stderr.read() if process.stderr else b""
         count, failed_sync = struct.unpack("=2Q", counted.read_bytes())
-        return Run(status, output, faults), Calls(count, failed_sync == 1)
+        return Run(status, output, self.without_cut(faults, tail)), Calls(count, failed_sync == 1)
+
+    def without_cut(self, faults: bytes, tail: bytes) -> bytes:
+        """The words on standard error without those that the end of the log is kept, which are true. Their write may fail."""
+        says = says_cut(self.log())
+        if faults.startswith(says) and cut_of(self.log()).read_bytes() != tail:
+            raise Wrong(f"the bytes behind the end of the log were {tail!r}, and {cut_of(self.log()).read_bytes()!r} are kept")
+        return b"" if says.startswith(faults) else faults.removeprefix(says)
 
     def log(self) -> Path:
         return self.folder / "night.log"
 
     def lay(self, start: bytes | None) -> None:
         """Lays the log that a run begins with, or none."""
-        for path in (self.log(), self.folder / "night.log.new"):
+        for path in (self.log(), cut_of(self.log()), self.folder / "night.log.new"):
             path.unlink(missing_ok=True)
         if start is not None:
             self.log().write_bytes(start)

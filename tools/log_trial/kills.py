@@ -100,7 +100,8 @@ class Killed:
         given, told = self.log.parent.parent / "given", self.log.parent.parent / "told"
         given.write_bytes(self.script.text(self.begin))
         with given.open("rb") as source, told.open("wb") as sink:
-            running = subprocess.Popen([self.program.path, *over(self.log)], stdin=source, stdout=sink)
+            words = [self.program.path, *over(self.log)]
+            running = subprocess.Popen(words, stdin=source, stdout=sink, stderr=subprocess.DEVNULL)
             with suppress(subprocess.TimeoutExpired):
                 running.wait(self.seconds)
             running.kill()

@@ -3,6 +3,7 @@
 from __future__ import annotations
 
 import json
+import os
 import subprocess
 from collections.abc import Callable, Iterable, Sequence
 from dataclasses import dataclass
@@ -69,9 +70,23 @@ def tail_of(file: bytes) -> bytes:
     return b"" if tail == SHUT else tail
 
 
+def says_cut(log: Path) -> bytes:
+    """What standard error says if a log is opened whose end was cut off."""
+    return b"batchctl: the bytes behind the end of the log are in %s\n" % str(cut_of(log)).encode()
+
+
 def over(log: Path) -> list[str]:
     """The words of a script over this log."""
     return ["script", "--log", str(log)]
+
+
+def without_cut(ended: Ended, log: Path, tail: bytes) -> Ended:
+    """How a run ended over a log that had these bytes behind its end, without the words that they are kept, which are true."""
+    if not ended.faults.startswith(says_cut(log)):
+        want("bytes behind the end of an opened log", tail if ended.status == DONE else b"", b"")
+        return ended
+    want("the bytes that were kept", cut_of(log).read_bytes(), tail)
+    return Ended(ended.status, ended.output, ended.faults.removeprefix(says_cut(log)))
 
 
 @dataclass(frozen=True)
@@ -93,14 +108,8 @@ class Program:
 
     def over(self, log: Path, given: bytes) -> Ended:
         """Runs a script over a log. If its end is cut off, the bytes have to be kept, and standard error says so first."""
-        tail = tail_of(log.read_bytes()) if log.is_file() else b""
-        ended = self.run(over(log), given)
-        says = b"batchctl: the bytes behind the end of the log are in %s\n" % str(cut_of(log)).encode()
-        if not ended.faults.startswith(says):
-            want("bytes behind the end of an opened log", tail if ended.status == DONE else b"", b"")
-            return ended
-        want("the bytes that were kept", cut_of(log).read_bytes(), tail)
-        return Ended(ended.status, ended.output, ended.faults.removeprefix(says))
+        tail = tail_of(log.read_bytes()) if os.path.isfile(log) else b""
+        return without_cut(self.run(over(log), given), log, tail)
 
     def start(
         self, log: Path, source: int = subprocess.PIPE, limit: Callable[[], None] | None = None, room: int = -1

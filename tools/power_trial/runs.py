@@ -11,7 +11,7 @@ from contextlib import contextmanager, suppress
 from dataclasses import dataclass, field
 from pathlib import Path
 
-from log_trial.program import DONE, Ended, over, want
+from log_trial.program import DONE, Ended, over, tail_of, want, without_cut
 from power_trial.disk import Disk, Left
 from power_trial.journal import Event, events_in
 
@@ -43,6 +43,12 @@ class Caller:
 
 def files_in(folder: Path) -> Left:
     return tuple((path.name, path.read_bytes()) for path in sorted(folder.iterdir()))
+
+
+def tail_in(folder: Path) -> bytes:
+    """The bytes behind the end of the log of a folder, if there is one."""
+    log = folder / LOG
+    return tail_of(log.read_bytes()) if log.exists() else b""
 
 
 def by_lines(words: list[str], caller: Caller, settings: Mapping[str, str]) -> Ended:
@@ -129,17 +135,22 @@ class Program:
                 "CUT_FAIL_AT": str(fail_at),
                 "CUT_DISK": str(on_disk),
             }
+            tail = tail_in(logs)
             ended = way([str(self.path), *over(logs / LOG)], caller, {**os.environ, **settings, **self.settings})
-            return Run(disk, ended, list(events_in(noted.read_bytes())), files_in(logs))
+            return Run(disk, without_cut(ended, logs / LOG, tail), list(events_in(noted.read_bytes())), files_in(logs))
 
     def opened(self, left: Left, *inputs: bytes) -> tuple[list[Ended], Left]:
         """How runs end over what a power cut left, one after another, each with an input, and the files after them."""
         with self.place() as place:
             for name, file in left:
                 (place / name).write_bytes(file)
-            words = [str(self.path), *over(place / LOG)]
-            runs = [subprocess.run(words, input=given, capture_output=True, check=False) for given in inputs]
-            return [Ended(run.returncode, run.stdout, run.stderr) for run in runs], files_in(place)
+            return [self.over(place, given) for given in inputs], files_in(place)
+
+    def over(self, place: Path, given: bytes) -> Ended:
+        """How a run ends over the log of a folder."""
+        tail, words = tail_in(place), [str(self.path), *over(place / LOG)]
+        run = subprocess.run(words, input=given, capture_output=True, check=False)
+        return without_cut(Ended(run.returncode, run.stdout, run.stderr), place / LOG, tail)
 
     def replies(self, catalogue: bytes, lines: Iterable[bytes]) -> list[bytes]:
         """The replies without a log."""
