@@ -546,6 +546,9 @@ SHOWS_ALL = r"(full_)?(book|repository|preview)\.|world\.|states\.entered\.|rows
 # A publish of several operations may give a walk up behind one, and ask for it once more behind a later one.
 GIVES_UP_FOR_A_WHILE = r"world\.at_once\.6"
 
+# Calls that are made once. If one did without a request, the line that makes it again finds no operation, and the program ends.
+MADE_ONCE = r"states\.\w+\.\d+"
+
 
 # How a repository prints that it has no lists of unfinished job executions.
 NO_LISTS = "running: None"
@@ -590,7 +593,8 @@ def rule_of(case: Case) -> Callable[[Refusal], None]:
 def judge(refusal: Refusal) -> bool:
     """Says whether the call did without the request, if the run is as it may be."""
     run, rule = refusal.run, rule_of(refusal.case)
-    if run.status != 0 or run.faults:
+    is_done = re.fullmatch(MADE_ONCE, refusal.case.name) and not refusal.is_refused()
+    if not is_done and (run.status != 0 or run.faults):
         raise refusal.fail(f"status {run.status}, {run.faults!r}")
     if run.requests < refusal.number:
         raise refusal.fail(f"there were {run.requests} requests")
