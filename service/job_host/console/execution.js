@@ -126,7 +126,8 @@ function workTable({ items }, may) {
 function logList({ one, logs }) {
   const shown = logs.filter((log) => log.log).slice(-MOST_LOGS);
   if (!shown.length) return element("p", { class: "empty" }, "No worker has handed in a log.");
-  return shown.map((log) => element("details", { "data-key": `log ${log.work}`, open: one.batchStatus === "FAILED" || shown.length === 1 },
+  const isOpen = one.batchStatus === "FAILED" || shown.length === 1;
+  return shown.map((log) => element("details", { "data-key": `log ${log.work}`, "aria-label": `${log.stepName}, work item ${log.work}`, open: isOpen },
     element("summary", {}, told(log.stepName), log.partition === null ? "" : `, partition ${log.partition}`, `, work item ${log.work}`),
     element("pre", { tabindex: "0", role: "group", "aria-label": `Log of work item ${log.work}`, dir: "auto" }, log.log)));
 }
