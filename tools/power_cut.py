@@ -13,7 +13,7 @@ may leave then (power_trial/disk.py):
 
 The program opens each of these folders. It is never refused. It is asked for its whole state, and goes on with a few calls. By
 the replies it has a beginning of the accepted calls, with each call that was acknowledged: a reply to it, or to a line after
-it, was told, in whole or in part.
+it, was told, in whole or in part. If the log had bytes behind its end, it is as it was, or these bytes are kept beside it.
 
 Each row of the table in power_trial/rows.py is tried, with a caller who waits for each reply and with one who sends all lines
 at once. In some rows a sync fails, and another run is started. As with Linux, the bytes that the disk did not take are in

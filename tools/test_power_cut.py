@@ -16,8 +16,10 @@ from pathlib import Path
 from random import Random
 
 from c_libraries import library_in
-from log_trial.program import Wrong
+from log_trial.log_file import catalogue_record, log_of
+from log_trial.program import Wrong, tail_of
 from power_cut import LIBRARY, PROGRAM, check_rows
+from power_trial.checks import check_tail
 from power_trial.disk import SECTOR, Cut, Disk, Inode, Piece, folder_of, pieces_of
 from power_trial.journal import FOLDER_SYNC, MADE, RENAME, Event, events_in
 from power_trial.rows import Event as Happening
@@ -128,6 +130,25 @@ class Names(unittest.TestCase):
         self.assertEqual(found, {b"old", b"new"})
 
 
+class Tails(unittest.TestCase):
+    """The bytes behind the end of a log."""
+
+    whole = log_of([catalogue_record(b"{}")])
+    torn = whole + b" c 0000"
+
+    def test_they_stay_or_are_kept(self) -> None:
+        tail = tail_of(self.torn)
+        self.assertTrue(tail.endswith(b" c 0000"))
+        check_tail("a run", self.torn, (("log", self.torn),))
+        check_tail("a run", self.torn, (("log", self.whole), ("log.cut", tail)))
+        check_tail("a run", self.whole, (("log", self.whole),))
+
+    def test_they_are_lost(self) -> None:
+        for left in [(("log", self.whole),), (("log", self.whole), ("log.cut", b"")), (("log.cut", b" c 0000"),)]:
+            with self.assertRaises(Wrong):
+                check_tail("a run", self.torn, left)
+
+
 # A program that makes calls of files, and prints what it reads.
 CALLS = """
 import os
@@ -230,6 +251,9 @@ class WrongPrograms(unittest.TestCase):
 
     def test_it_does_not_sync_the_folder(self) -> None:
         self.is_found("no_folder", "a new log", a_run)
+
+    def test_it_makes_the_log_before_the_bytes_behind_its_end_have_a_name(self) -> None:
+        self.is_found("no_first_folder", "a torn log", a_run)
 
     def test_it_reads_a_log_that_it_did_not_sync(self) -> None:
         self.is_found("no_first", "a log", a_kill_and_another_run)

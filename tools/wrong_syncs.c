@@ -5,7 +5,8 @@
  *   LD_PRELOAD="$PWD/wrong.so $PWD/cut.so" WRONG_SYNCS=late CUT_JOURNAL=journal crates/batchctl/out/batchctl ..
  *
  * WRONG_SYNCS  never: no sync is made. late: syncs are made after the next bytes were told. swallowed: a sync that fails is
- *              taken for one that does not. no_folder: no folder is synced. no_first: the first sync is left out. */
+ *              taken for one that does not. no_folder: no folder is synced. no_first: the first sync is left out.
+ *              no_first_folder: the first sync of a folder is left out. */
 #define _GNU_SOURCE
 #include <dlfcn.h>
 #include <stdlib.h>
@@ -16,7 +17,7 @@
 
 enum { MOST_LATE = 64 };
 
-static int late[MOST_LATE], late_count, sync_count;
+static int late[MOST_LATE], late_count, sync_count, folder_sync_count;
 
 #define NEXT(type, name, ...) ((type(*)(__VA_ARGS__))dlsym(RTLD_NEXT, name))
 
@@ -40,6 +41,8 @@ static int put_off(int file) {
 
 static int sync_wrongly(int file, const char *name) {
     sync_count++;
+    if (is_folder(file) && ++folder_sync_count == 1 && is_wrong("no_first_folder"))
+        return 0;
     if (is_wrong("never") || (is_wrong("no_folder") && is_folder(file)) || (is_wrong("no_first") && sync_count == 1))
         return 0;
     if (is_wrong("late"))

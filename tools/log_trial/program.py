@@ -18,6 +18,8 @@ REFUSED_WORDS = 2
 DEVICE_FAILED = 4
 LOG_FAILED = 6
 LOG_REFUSED = 7
+# The name of the file that keeps the bytes behind a log's end is the log's with this after it.
+CUT = ".cut"
 # How much of a value a message shows.
 SHOWN = 300
 
@@ -58,7 +60,7 @@ def want(what: str, found: object, wanted: object) -> None:
 
 def cut_of(log: Path) -> Path:
     """The file in which bytes behind the end of a log are kept."""
-    return log.with_name(f"{log.name}.cut")
+    return log.with_name(log.name + CUT)
 
 
 def tail_of(file: bytes) -> bytes:

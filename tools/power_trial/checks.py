@@ -10,10 +10,10 @@ from hashlib import blake2b
 from random import Random
 from threading import Lock
 
-from log_trial.program import DONE, Ended, Wrong, shown, want
+from log_trial.program import CUT, DONE, Ended, Wrong, shown, tail_of, want
 from power_trial import journal
 from power_trial.disk import Disk, Left
-from power_trial.runs import Program, Run
+from power_trial.runs import LOG, Program, Run
 from power_trial.stories import PROBE, QUESTIONS, Story
 
 
@@ -102,8 +102,16 @@ def check_left(trial: Trial, what: str, story: Story, left: Left, seen: int) -> 
     want(f"{what} leaves {sizes}, opened and opened again", again, Ended(DONE, b"".join(last)))
 
 
-def check_moments(trial: Trial, what: str, story: Story, run: Run) -> None:
-    """A power cut at each moment of a run leaves what it may."""
+def check_tail(what: str, before: bytes, left: Left) -> None:
+    """The log with which a run began is there as it was, or the bytes behind its end are kept, if there were any."""
+    files, tail = dict(left), tail_of(before)
+    if tail and files.get(LOG) != before and files.get(LOG + CUT) != tail:
+        sizes = {name: len(file) for name, file in left}
+        raise Wrong(f"{what} leaves {sizes}, and lost the {len(tail)} bytes behind the end of the log")
+
+
+def check_moments(trial: Trial, what: str, story: Story, run: Run, before: bytes = b"") -> None:
+    """A power cut at each moment of a run leaves what it may. If a log was on the disk before the run, it is `before`."""
     draws = trial.draws(what)
     for moment in moments_of(run, draws):
         if trial.is_over:
@@ -112,4 +120,5 @@ def check_moments(trial: Trial, what: str, story: Story, run: Run) -> None:
         for disk in moment.disks:
             for left in disk.left(draws):
                 place = f"{what}, a power cut after {moment.number} calls"
+                check_tail(place, before, left)
                 check_left(trial, place, story, left, story.seen(moment.told))

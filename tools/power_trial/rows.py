@@ -9,7 +9,7 @@ from functools import cache, partial
 from itertools import islice
 from random import Random
 
-from log_trial.program import DONE, LOG_FAILED, Ended, Wrong, want
+from log_trial.program import DONE, LOG_FAILED, Ended, Wrong, tail_of, want
 from power_trial.checks import Trial, check_moments, moments_of
 from power_trial.disk import Disk, Left, folder_of
 from power_trial.journal import FOLDER_SYNC, SYNC, SYNCS
@@ -38,6 +38,10 @@ class Start:
         before = self.night.history(self.begin)
         return story_of(self.night.book, before, self.lines(), len(before))
 
+    def log(self) -> bytes:
+        """The log, which is on the disk; nothing if there is none."""
+        return dict(self.left).get(LOG, b"")
+
 
 def night_over(program: Program, catalogue: bytes, sizes: tuple[int, int]) -> Night:
     return Night(Book(program, catalogue), tuple(night_of(1, sizes)), tuple(night_of(2, sizes)))
@@ -55,14 +59,14 @@ def old_log(program: Program, sizes: tuple[int, int], catalogue: bytes = CATALOG
 
 
 def torn_log(program: Program, sizes: tuple[int, int]) -> Start:
-    """A log that a power cut tore in a run over it: the longest that still has the same operations."""
+    """A log that a power cut tore in a run over it: the longest with bytes behind its end that has the same operations."""
     start = old_log(program, sizes)
     run, book = first_run(program, start, "line by line"), start.night.book
     before = b"".join(book.replies(start.story().before, QUESTIONS))
     lefts = {left for moment in moments_of(run, Random(0)) for disk in moment.disks for left in disk.left(Random(0))}
     given = book.catalogue + b"".join(QUESTIONS)
-    torn = [left for left in lefts if left != start.left and program.opened(left, given)[0] == [Ended(DONE, before)]]
-    return replace(start, left=max(torn, key=lambda left: (len(left[0][1]), left)))
+    torn = [left for left in lefts if tail_of(dict(left)[LOG]) and program.opened(left, given)[0] == [Ended(DONE, before)]]
+    return replace(start, left=max(torn, key=lambda left: (len(dict(left)[LOG]), left)))
 
 
 def old_draft(program: Program, sizes: tuple[int, int]) -> Start:
@@ -130,7 +134,7 @@ Task = Callable[[], None]
 
 def a_run(trial: Trial, start: Start, way: str) -> Iterator[Task]:
     """A power cut at each moment of a run."""
-    yield partial(check_moments, trial, "a run", start.story(), first_run(trial.opener.program, start, way))
+    yield partial(check_moments, trial, "a run", start.story(), first_run(trial.opener.program, start, way), start.log())
 
 
 def repaired(trial: Trial, start: Start, way: str) -> Iterator[tuple[Left, int]]:
@@ -161,7 +165,7 @@ def failed_runs(trial: Trial, start: Start, way: str, kind: str) -> Iterator[tup
 def a_failed_sync(trial: Trial, start: Start, way: str, kind: str = SYNC) -> Iterator[Task]:
     """A power cut at each moment of a run in which a sync of the file fails."""
     for what, run in failed_runs(trial, start, way, kind):
-        yield partial(check_moments, trial, what, start.story(), run)
+        yield partial(check_moments, trial, what, start.story(), run, start.log())
 
 
 def a_failed_sync_and_another_run(trial: Trial, start: Start, way: str, kind: str = SYNC) -> Iterator[Task]:
@@ -215,7 +219,7 @@ TABLE: dict[Event, list[str]] = {
     a_run: list(STARTS),
     a_power_cut_and_another_run: ["a new log", "a log", "a log whose catalogue grows"],
     a_failed_sync: ["a new log", "a log", "a torn log"],
-    a_failed_sync_of_the_folder: ["a new log"],
+    a_failed_sync_of_the_folder: ["a new log", "a torn log"],
     a_kill_and_another_run: ["a new log", "a log", "a torn log"],
     a_failed_sync_and_another_run: ["a new log", "a log", "a torn log"],
     a_failed_sync_of_the_folder_and_another_run: ["a new log"],

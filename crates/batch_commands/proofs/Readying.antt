@@ -16,14 +16,14 @@ use Rattle.batch_commands.specs.declared.logged_fault.OverLogFault.{OverLogFault
 
 -- the file was made
 pub ready-by : (name line : List ℕ) (d m d' : List Call) (found : Option (List ℕ)) (bytes bytes' cut cut' : List ℕ) → bytes' ≡ bytes → cut' ≡ cut
-    → IsBegunFrom found line (records_of bytes) → IsCutFrom found cut → m ≡ read_calls name found d → d' ≡ making name bytes' ++ keeping cut' m
+    → IsBegunFrom found line (records_of bytes) → IsCutFrom found cut → m ≡ read_calls name found d → d' ≡ making name bytes' ++ keeping name cut' m
     → AtEachMoment d' (IsBeforeOrWhole bytes') → IsReady name line d d' bytes
 ready-by name line d m d' found bytes bytes' cut cut' bytes_are cut_is begun cut_off read made moments = record {
   found = found;
   begun = begun;
   cut = cut;
   cut_off = cut_off;
-  calls = made ∙ (λ i. making name (bytes_are i) ++ keeping (cut_is i) (read i));
+  calls = made ∙ (λ i. making name (bytes_are i) ++ keeping name (cut_is i) (read i));
   any_moment = subst (λ (l : List ℕ). AtEachMoment d' (IsBeforeOrWhole l)) bytes_are moments;
 }
 
@@ -39,9 +39,9 @@ unmade-by name line d d' found bytes bytes' fault why bytes_are begun moments is
   named = is;
 }))
 
-opening-kept : (cut : List ℕ) (calls : List Call) → IsOpening calls → IsOpening (keeping cut calls)
-opening-kept [] calls opening = opening
-opening-kept (b ∷ cut) calls opening = record { no_bytes = opening.no_bytes; no_rename = opening.no_rename }
+opening-kept : (name cut : List ℕ) (calls : List Call) → IsOpening calls → IsOpening (keeping name cut calls)
+opening-kept name [] calls opening = opening
+opening-kept name (b ∷ cut) calls opening = record { no_bytes = opening.no_bytes; no_rename = opening.no_rename }
 
 opening-read : (name : List ℕ) (found : Option (List ℕ)) (calls : List Call) → IsOpening calls → IsOpening (read_calls name found calls)
 opening-read name None calls opening = record { no_bytes = opening.no_bytes; no_rename = opening.no_rename }
@@ -50,7 +50,7 @@ opening-read name (Some bytes) calls opening = record { no_bytes = opening.no_by
 -- a file that is ready was made
 pub made-by : (name line : List ℕ) (d d' : List Call) (bytes : List ℕ) → IsOpening d → IsReady name line d d' bytes → (n : List ℕ) × IsMade d' n bytes
 made-by name line d d' bytes opening ready =
-    (name, (keeping ready.cut (read_calls name ready.found d), opening-kept ready.cut _ (opening-read name ready.found d opening), ready.calls))
+    (name, (keeping name ready.cut (read_calls name ready.found d), opening-kept name ready.cut _ (opening-read name ready.found d opening), ready.calls))
 
 -- the lines are answered
 pub lines-by : (name : List ℕ) (x x' : Devices) (m : Told) (p0 p p' : Unread) (line line' : List ℕ) (catalogue : List JobTree) (bytes : List ℕ) (made : List Call) (result : Result Unit OverLogFault)

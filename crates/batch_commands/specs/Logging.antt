@@ -158,7 +158,7 @@ pub record IsReady (name line : List ℕ) (d d' : List Call) (bytes : List ℕ) 
   pub begun : IsBegunFrom found line (records_of bytes)
   pub cut : List ℕ
   pub cut_off : IsCutFrom found cut
-  pub calls : d' ≡ making name bytes ++ keeping cut (read_calls name found d)
+  pub calls : d' ≡ making name bytes ++ keeping name cut (read_calls name found d)
   pub any_moment : AtEachMoment d' (IsBeforeOrWhole bytes)
 
 -- it could not be opened or read: no draft was made

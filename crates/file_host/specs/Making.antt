@@ -52,10 +52,10 @@ pub record IsOpening (calls : List Call) : Type 0 where
 abbrev pub making : List ℕ → List ℕ → List Call
 making name bytes = (9, (0, (name, 1))) ∷ (8, (0, (name, 1))) ∷ (1, (0, ([], 1))) ∷ (0, (0, (bytes, 1))) ∷ (7, (0, (name, 1))) ∷ []
 
--- the calls after bytes were kept beside the file, if there are any
-abbrev pub keeping : List ℕ → List Call → List Call
-keeping [] before = before
-keeping (b ∷ bytes) before = (10, (0, (b ∷ bytes, 1))) ∷ before
+-- the calls after bytes were kept beside the file of this name, if there are any, and their name in its folder
+abbrev pub keeping : List ℕ → List ℕ → List Call → List Call
+keeping name [] before = before
+keeping name (b ∷ bytes) before = (9, (0, (name, 1))) ∷ (10, (0, (b ∷ bytes, 1))) ∷ before
 
 -- the calls by which a file of this name was read, or was found missing
 abbrev pub reading : List ℕ → Option (List ℕ) → List Call → List Call

@@ -32,21 +32,25 @@ pub fn read_file<D: Disk>(
     }
 }
 
-// Keeps bytes beside the file, if there are any.
+// Keeps bytes beside the file, if there are any, with their name in its folder.
 fn keep<D: Disk>(disk: &mut D, name: &str, cut: &[u8]) -> Result<(), FileFault>
     requires opening { IsOpening (D.past disk.old) }
     ensures opening { IsOpening (D.past disk.new) }
-    ensures kept { OnOk result (D.past disk.new ≡ keeping cut.now (D.past disk.old)) }
+    ensures kept { OnOk result (D.past disk.new ≡ keeping name.now cut.now (D.past disk.old)) }
 {
     match cut {
         [] => Ok(()),
-        _ => disk.keep(name, cut),
+        _ => {
+            disk.keep(name, cut)?;
+            disk.sync_folder(name)?;
+            Ok(())
+        }
     }
 }
 
 /// Makes the file of this name anew, with these bytes. If bytes are cut off, they are kept beside
-/// the file first. The draft gets the name after all its bytes are on the disk, and then the folder
-/// is synced.
+/// the file first, and the folder is synced. The draft gets the name after all its bytes are on the
+/// disk, and then the folder is synced.
 ///
 /// # Errors
 ///
@@ -60,7 +64,7 @@ pub fn make_anew<D: Disk>(
     bytes: &[u8],
 ) -> Result<(), FileFault>
     requires opening { IsOpening (D.past disk.old) }
-    ensures made { OnOk result (D.past disk.new ≡ making name.now bytes.now ++ keeping cut.now (D.past disk.old)) }
+    ensures made { OnOk result (D.past disk.new ≡ making name.now bytes.now ++ keeping name.now cut.now (D.past disk.old)) }
     ensures stands { OnOk result ((n : Named) → named (D.past disk.new) n → n ≡ Draft bytes.now) }
     ensures any_moment { AtEachMoment (D.past disk.new) (IsBeforeOrWhole bytes.now) }
 {

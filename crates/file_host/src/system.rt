@@ -1,232 +1,220 @@
-// The disk of the system: the calls of std, each with its note. No contract describes what std's calls
-// do, so these lines are trusted.
+// The disk of the system, over the calls of std.
+ghost use Rattle.std.specs.Prelude.{◌≡◌, [], ◌∷◌, IfSome, OnOk, true};
+ghost use Rattle.file_host.specs.Steps.{IsLocked, calls_of, is_drafted, is_kept, is_taken};
+ghost use Rattle.file_host.specs.declared.steps.Part.TheVariants.{Log, Draft, Folder};
+
 use crate::disk::{CallFault, Disk};
 use crate::file_fault::FileFault;
-use log_host::{Asked, Tape};
-use std::alloc::Global;
-use std::fs;
-use std::fs::{File, Files, OpenOptions, Permissions, TryLockError};
-use std::io::{ErrorKind, Read, Seek, SeekFrom, Write};
-use std::os::unix::fs::{MetadataExt, OpenOptionsExt, PermissionsExt, chown};
+use crate::names::Names;
+use crate::steps::Part;
+use crate::system_files::{OWNER_ALONE, Opened, SystemFiles};
+use log_host::{Asked, Making, Tape};
+use std::alloc::{AllocError, Global};
+use std::fs::{File, Files, Permissions, TryLockError};
+use std::io::ErrorKind;
+use std::os::unix::fs::PermissionsExt;
 
-// A new file is readable by its owner alone: parameters may be secrets.
-const OWNER_ALONE: u32 = 0o600;
+// The log that was taken.
+#[derive(Drop)]
+struct TakenLog {
+    opened: Opened,
+    ghost is_log: { opened.part ≡ Log },
+}
+
+// The draft that was made.
+#[derive(Drop)]
+struct MadeDraft {
+    opened: Opened,
+    ghost is_draft: { opened.part ≡ Draft },
+}
 
 /// The disk of the system, for one file of a name.
 #[derive(Drop)]
 pub struct SystemDisk<'r, R: Files<File = File>> {
-    files: &'r R,
+    files: SystemFiles<'r, R>,
     alloc: Global,
-    // The file that was taken, and its name without links.
-    taken: Option<File>,
-    place: Option<String>,
-    draft: Option<File>,
+    names: Option<Names>,
+    taken: Option<TakenLog>,
+    draft: Option<MadeDraft>,
     tape: Tape,
+    ghost borne_out: { tape.past.calls ≡ calls_of files.steps.past },
 }
 
-// Takes the lock on a file, which has to have this name still. The lock lasts as long as the file is
-// open.
-fn lock<R: Files<File = File>>(files: &R, file: &File, place: &str) -> Result<(), FileFault> {
-    match file.try_lock() {
+// Takes the lock on a part, for which its name has to stand still.
+fn lock<R: Files<File = File>>(
+    files: &mut SystemFiles<'_, R>,
+    names: &Names,
+    opened: &Opened,
+) -> Result<(), FileFault>
+    ensures quiet { calls_of files.new.steps.past ≡ calls_of files.old.steps.past }
+    ensures locked { OnOk result (IsLocked opened.now.part files.old.steps.past files.new.steps.past) }
+{
+    match files.try_lock(opened) {
         Ok(()) => {}
         Err(TryLockError::WouldBlock) => return Err(FileFault::InUse),
         Err(TryLockError::Error(_)) => return Err(FileFault::Unavailable),
     }
-    let (Ok(own), Ok(named)) = (file.metadata(), files.metadata(place)) else {
+    let (Ok(own), Ok(named)) = (files.id(opened), files.named_id(names, opened.part)) else {
         return Err(FileFault::InUse);
     };
     // A pipe or a device is no file.
-    if !own.is_file() {
+    if !own.is_file {
         return Err(FileFault::Unavailable);
     }
     // Another program may have given the name to a file that it made anew.
-    if own.dev() == named.dev() && own.ino() == named.ino() {
+    if own == named {
         Ok(())
     } else {
         Err(FileFault::InUse)
     }
 }
 
-// Opens the file of a name, and takes its lock.
+// Opens the log of a name, and takes its lock.
 fn open_locked<R: Files<File = File>>(
-    files: &R,
+    files: &mut SystemFiles<'_, R>,
     alloc: Global,
     name: &str,
-) -> Result<(File, String), FileFault> {
+) -> Result<(Names, TakenLog), FileFault>
+    ensures quiet { calls_of files.new.steps.past ≡ calls_of files.old.steps.past }
+    ensures taken { OnOk result (is_taken files.new.steps.past ≡ true) }
+{
     let place = match files.canonicalize(alloc, name) {
         Ok(place) => place.into_string(),
         Err(error) if error.kind() == ErrorKind::NotFound => return Err(FileFault::Missing),
         Err(error) if error.kind() == ErrorKind::OutOfMemory => return Err(FileFault::OutOfMemory),
         Err(_) => return Err(FileFault::Unavailable),
     };
-    let opened = OpenOptions::new()
-        .read(true)
-        .write(true)
-        .open(files, place.as_str());
-    let Ok(file) = opened else {
+    let names = Names::new(alloc, place)?;
+    let Ok(opened) = files.open(&names, Part::Log) else {
         return Err(FileFault::Unavailable);
     };
-    lock(files, &file, &place)?;
-    Ok((file, place))
+    lock(files, &names, &opened)?;
+    Ok((names, TakenLog { opened }))
 }
 
-// Opens a file for writing, which is made if it isn't there.
-fn open_new<R: Files<File = File>>(files: &R, path: &str) -> Result<File, FileFault> {
-    let opened = OpenOptions::new()
-        .read(true)
-        .write(true)
-        .create(true)
-        .mode(OWNER_ALONE)
-        .open(files, path);
-    match opened {
-        Ok(file) => Ok(file),
-        Err(_) => Err(FileFault::Unavailable),
-    }
+// Gives the draft the owner of the log that was taken, as far as the system lets it, and returns
+// its permissions.
+fn permissions_of<R: Files<File = File>>(
+    files: &SystemFiles<'_, R>,
+    names: &Names,
+    taken: &TakenLog,
+) -> Result<Permissions, FileFault> {
+    let Ok(found) = files.metadata(&taken.opened) else {
+        return Err(FileFault::Unavailable);
+    };
+    let _ = files.set_owner(names, Part::Draft, &found);
+    Ok(found.permissions())
 }
 
-// Makes the draft of a file, empty, with the permissions of the file that was taken.
+// Makes the draft of a log, empty, with the permissions of the log that was taken.
 fn make_draft<R: Files<File = File>>(
-    disk: &SystemDisk<'_, R>,
+    files: &mut SystemFiles<'_, R>,
+    names: &Names,
     name: &str,
-) -> Result<File, FileFault> {
-    let place = disk.place_of(name);
-    let path = format!(in disk.alloc; "{place}.new")?;
-    let draft = open_new(disk.files, &path)?;
-    lock(disk.files, &draft, &path)?;
-    let taken = match &disk.taken {
-        Some(file) => file.metadata(),
-        // The program that makes the file has the lock of the draft. So a file that is there now
-        // was made before.
-        None if disk.files.symlink_metadata(name).is_ok() => return Err(FileFault::InUse),
-        None => return emptied(draft, Permissions::from_mode(OWNER_ALONE)),
-    };
-    let Ok(taken) = taken else {
+    taken: Option<&TakenLog>,
+) -> Result<MadeDraft, FileFault>
+    ensures quiet { calls_of files.new.steps.past ≡ calls_of files.old.steps.past }
+    ensures drafted { OnOk result (is_drafted files.new.steps.past ≡ true) }
+{
+    let Ok(opened) = files.make(names, Part::Draft) else {
         return Err(FileFault::Unavailable);
     };
-    // The owner stays the same as far as the system lets it.
-    let _ = chown(
-        disk.files,
-        path.as_str(),
-        Some(taken.uid()),
-        Some(taken.gid()),
-    );
-    emptied(draft, taken.permissions())
-}
-
-// Empties a draft.
-fn emptied(draft: File, permissions: Permissions) -> Result<File, FileFault> {
-    match draft.set_permissions(permissions) {
-        Ok(()) => {}
-        Err(_) => return Err(FileFault::Unavailable),
+    lock(files, names, &opened)?;
+    let permissions = match taken {
+        Some(taken) => permissions_of(files, names, taken)?,
+        // The program that makes the log has the lock of the draft. So a log that is there now was
+        // made before.
+        None if files.is_there(name) => return Err(FileFault::InUse),
+        None => Permissions::from_mode(OWNER_ALONE),
+    };
+    if files.set_permissions(&opened, permissions).is_err() {
+        return Err(FileFault::Unavailable);
     }
-    match draft.set_len(0) {
-        Ok(()) => Ok(draft),
+    match files.empty(&opened) {
+        Ok(()) => Ok(MadeDraft { opened }),
         Err(_) => Err(FileFault::Unavailable),
     }
 }
 
-// Reads all bytes of a file.
-fn read_all(file: Option<&mut File>, alloc: Global) -> Result<Vec<u8>, FileFault> {
-    let mut bytes = Vec::new(alloc);
-    let Some(file) = file else {
-        return Err(FileFault::Unavailable);
-    };
-    match file.read_to_end(&mut bytes) {
-        Ok(_) => Ok(bytes),
-        Err(error) if error.kind() == ErrorKind::OutOfMemory => Err(FileFault::OutOfMemory),
-        Err(_) => Err(FileFault::Unavailable),
+// Returns whether a place of a part is not behind its end.
+fn reaches<R: Files<File = File>>(files: &SystemFiles<'_, R>, opened: &Opened, at: usize) -> bool {
+    match files.metadata(opened) {
+        Ok(found) => found.len() >= at as u64,
+        Err(_) => false,
     }
 }
 
-// Writes all of the bytes at a place that is not behind the end.
-fn write_all_at(file: Option<&mut File>, at: usize, bytes: &[u8]) -> Result<(), CallFault> {
-    let Some(file) = file else {
-        return Err(CallFault);
+// Writes bytes beside the log, in place of those that were there.
+fn keep_beside<R: Files<File = File>>(
+    files: &mut SystemFiles<'_, R>,
+    names: &Names,
+    bytes: &[u8],
+) -> Result<(), FileFault>
+    ensures quiet { calls_of files.new.steps.past ≡ calls_of files.old.steps.past }
+    ensures kept { OnOk result (is_kept bytes.now files.new.steps.past ≡ true) }
+{
+    let Ok(cut) = files.make(names, Part::Cut) else {
+        return Err(FileFault::Unavailable);
     };
-    match file.metadata() {
-        Ok(found) if found.len() >= at as u64 => {}
-        _ => return Err(CallFault),
+    let permissions = Permissions::from_mode(OWNER_ALONE);
+    if files.set_permissions(&cut, permissions).is_err() || files.empty(&cut).is_err() {
+        return Err(FileFault::Unavailable);
     }
-    match file.seek(SeekFrom::Start(at as u64)) {
-        Ok(_) => {}
-        Err(_) => return Err(CallFault),
+    if files.write(&cut, 0, bytes).is_err() {
+        return Err(FileFault::Unavailable);
     }
-    match file.write_all(bytes) {
+    match files.sync_all(&cut) {
         Ok(()) => Ok(()),
-        Err(_) => Err(CallFault),
+        Err(_) => Err(FileFault::Unavailable),
     }
 }
 
-// Returns the folder of a file.
-fn folder(path: &str) -> &str {
-    match path.rfind('/') {
-        Some(0) => "/",
-        Some(at) => &path[..at],
-        None => ".",
+// Returns the names that are known, or makes those that belong to a name.
+fn names_of(names: Option<Names>, alloc: Global, name: &str) -> Result<Names, AllocError> {
+    match names {
+        Some(names) => Ok(names),
+        None => Names::new(alloc, format!(in alloc; "{name}")?),
     }
+}
+
+// Opens the folder.
+fn open_folder<R: Files<File = File>>(
+    files: &SystemFiles<'_, R>,
+    names: Option<&Names>,
+) -> Option<Opened>
+    ensures { IfSome result (λ opened. opened.part ≡ Folder) }
+{
+    files.open_folder(names?).ok()
 }
 
 impl<'r, R: Files<File = File>> SystemDisk<'r, R> {
-    ghost use Rattle.std.specs.Prelude.{◌≡◌, []};
+    ghost use Rattle.std.specs.Prelude.{◌≡◌, [], ◌∷◌};
+    ghost use Rattle.file_host.specs.Calls.{flag_of};
+    ghost use Rattle.log_host.specs.Noted.{call_of};
 
     /// Creates a disk that has made no call.
     pub fn new(files: &'r R, alloc: Global) -> SystemDisk<'r, R>
         ensures { result.tape.past.calls ≡ [] }
     {
         SystemDisk {
-            files,
+            files: SystemFiles::new(files),
             alloc,
+            names: None,
             taken: None,
-            place: None,
             draft: None,
             tape: Tape::begin(&[]),
         }
     }
 
-    // Returns the name of the file without links.
-    fn place_of<'n>(&'n self, name: &'n str) -> &'n str {
-        match &self.place {
-            Some(place) => place,
-            None => name,
-        }
-    }
-
-    // Renames the draft.
-    fn renames(&self, name: &str) -> Result<(), CallFault> {
-        let place = self.place_of(name);
-        let Ok(draft) = format!(in self.alloc; "{place}.new") else {
-            return Err(CallFault);
-        };
-        match fs::rename(self.files, draft.as_str(), place) {
-            Ok(()) => Ok(()),
-            Err(_) => Err(CallFault),
-        }
-    }
-
-    // Syncs the folder.
-    fn syncs_folder(&self, name: &str) -> Result<(), CallFault> {
-        let Ok(opened) = File::open(self.files, folder(self.place_of(name))) else {
-            return Err(CallFault);
-        };
-        match opened.sync_all() {
-            Ok(()) => Ok(()),
-            Err(_) => Err(CallFault),
-        }
-    }
-
-    // Writes the bytes into the file `NAME.cut`.
-    fn keeps(&self, name: &str, bytes: &[u8]) -> Result<(), FileFault> {
-        let place = self.place_of(name);
-        let path = format!(in self.alloc; "{place}.cut")?;
-        let mut file = emptied(
-            open_new(self.files, &path)?,
-            Permissions::from_mode(OWNER_ALONE),
-        )?;
-        write_all_at(Some(&mut file), 0, bytes)?;
-        match file.sync_all() {
-            Ok(()) => Ok(()),
-            Err(_) => Err(FileFault::Unavailable),
-        }
+    // Notes a call that failed before its step.
+    fn give_up(&mut self, call: Asked<'_>) -> Result<(), CallFault>
+        requires failed { (call_of call).1.1.1 ≡ 0 }
+        ensures noted { self.new.tape.past.calls ≡ call_of call.entry ∷ self.old.tape.past.calls }
+        ensures failed { flag_of result ≡ 0 }
+    {
+        self.files.end(call);
+        self.tape = self.tape.then(call);
+        Err(CallFault)
     }
 }
 
@@ -234,73 +222,105 @@ impl<R: Files<File = File>> Disk for SystemDisk<'_, R> {
     ghost past = { λ d. d.tape.past.calls };
 
     fn take(&mut self, name: &str) -> Result<(), FileFault> {
-        match open_locked(self.files, self.alloc, name) {
-            Ok((file, place)) => {
-                self.taken = Some(file);
-                self.place = Some(place);
-                self.tape = self.tape.then(Asked::Take(name.as_bytes(), true));
-                Ok(())
-            }
-            Err(fault) => {
-                self.tape = self.tape.then(Asked::Take(name.as_bytes(), false));
-                Err(fault)
-            }
-        }
+        let taken = open_locked(&mut self.files, self.alloc, name);
+        let call = Asked::Made(Making::Take(name.as_bytes(), taken.is_ok()));
+        self.files.end(call);
+        self.tape = self.tape.then(call);
+        let (names, taken) = taken?;
+        self.names = Some(names);
+        self.taken = Some(taken);
+        Ok(())
     }
 
     fn read(&mut self, alloc: Global) -> Result<Vec<u8>, FileFault> {
-        let bytes = read_all(self.taken.as_mut(), alloc)?;
-        self.tape = self.tape.then(Asked::Read(&bytes));
-        Ok(bytes)
+        let Some(taken) = &self.taken else {
+            return Err(FileFault::Unavailable);
+        };
+        match self.files.read(&taken.opened, alloc) {
+            Ok(bytes) => {
+                self.tape = self.tape.then(Asked::Made(Making::Read(&bytes)));
+                Ok(bytes)
+            }
+            Err(error) if error.kind() == ErrorKind::OutOfMemory => Err(FileFault::OutOfMemory),
+            Err(_) => Err(FileFault::Unavailable),
+        }
     }
 
     fn keep(&mut self, name: &str, bytes: &[u8]) -> Result<(), FileFault> {
-        let done = self.keeps(name, bytes);
-        self.tape = self.tape.then(Asked::Keep(bytes, done.is_ok()));
+        let done = match names_of(self.names.take(), self.alloc, name) {
+            Ok(names) => {
+                let done = keep_beside(&mut self.files, &names, bytes);
+                self.names = Some(names);
+                done
+            }
+            Err(error) => Err(FileFault::from(error)),
+        };
+        let call = Asked::Made(Making::Keep(bytes, done.is_ok()));
+        self.files.end(call);
+        self.tape = self.tape.then(call);
         done
     }
 
     fn draft(&mut self, name: &str) -> Result<(), FileFault> {
-        match make_draft(self, name) {
-            Ok(draft) => {
-                self.draft = Some(draft);
-                self.tape = self.tape.then(Asked::Draft(name.as_bytes(), true));
-                Ok(())
+        let made = match names_of(self.names.take(), self.alloc, name) {
+            Ok(names) => {
+                let made = make_draft(&mut self.files, &names, name, self.taken.as_ref());
+                self.names = Some(names);
+                made
             }
-            Err(fault) => {
-                self.tape = self.tape.then(Asked::Draft(name.as_bytes(), false));
-                Err(fault)
-            }
-        }
+            Err(error) => Err(FileFault::from(error)),
+        };
+        let call = Asked::Made(Making::Draft(name.as_bytes(), made.is_ok()));
+        self.files.end(call);
+        self.tape = self.tape.then(call);
+        self.draft = Some(made?);
+        Ok(())
     }
 
     fn write_at(&mut self, at: usize, bytes: &[u8]) -> Result<(), CallFault> {
-        let done = write_all_at(self.draft.as_mut(), at, bytes);
-        self.tape = self.tape.then(Asked::Write(at, bytes, done.is_ok()));
-        done
+        match &self.draft {
+            Some(draft) if reaches(&self.files, &draft.opened, at) => {
+                let done = self.files.write(&draft.opened, at, bytes);
+                self.tape = self.tape.then(Asked::Write(at, bytes, done.is_ok()));
+                done.map_err(|_| CallFault)
+            }
+            _ => self.give_up(Asked::Write(at, bytes, false)),
+        }
     }
 
     fn sync(&mut self) -> Result<(), CallFault> {
-        let synced = match &self.draft {
-            Some(draft) => draft.sync_data().is_ok(),
-            None => false,
-        };
-        self.tape = self.tape.then(Asked::Sync(synced));
-        if synced { Ok(()) } else { Err(CallFault) }
+        match &self.draft {
+            Some(draft) => {
+                let done = self.files.sync_data(&draft.opened);
+                self.tape = self.tape.then(Asked::Sync(done.is_ok()));
+                done.map_err(|_| CallFault)
+            }
+            None => self.give_up(Asked::Sync(false)),
+        }
     }
 
     fn rename(&mut self, name: &str) -> Result<(), CallFault> {
-        let done = self.renames(name);
-        self.tape = self.tape.then(Asked::Rename(name.as_bytes(), done.is_ok()));
-        done
+        match (&self.draft, &self.names) {
+            (Some(_), Some(names)) => {
+                let done = self.files.rename(names, name);
+                let call = Making::Rename(name.as_bytes(), done.is_ok());
+                self.tape = self.tape.then(Asked::Made(call));
+                done.map_err(|_| CallFault)
+            }
+            _ => self.give_up(Asked::Made(Making::Rename(name.as_bytes(), false))),
+        }
     }
 
     fn sync_folder(&mut self, name: &str) -> Result<(), CallFault> {
-        let done = self.syncs_folder(name);
-        self.tape = self
-            .tape
-            .then(Asked::SyncFolder(name.as_bytes(), done.is_ok()));
-        done
+        match open_folder(&self.files, self.names.as_ref()) {
+            Some(folder) => {
+                let done = self.files.sync_folder(&folder, name);
+                let call = Making::SyncFolder(name.as_bytes(), done.is_ok());
+                self.tape = self.tape.then(Asked::Made(call));
+                done.map_err(|_| CallFault)
+            }
+            None => self.give_up(Asked::Made(Making::SyncFolder(name.as_bytes(), false))),
+        }
     }
 
     fn tape(&self) -> Tape {

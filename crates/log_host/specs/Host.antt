@@ -37,10 +37,14 @@ pub record Elapses (before now : ℕ) (past since : ℕ → Outcomes) (may_leave
   pub nothing_else : (t : ℕ) (c o : List ℕ) → t ≤ before → since t c o → past t c o ⊎ may_leave c o
   pub keeps : (t : ℕ) (c o : List ℕ) → t ≤ before → past t c o → since t c o
 
+-- each of these outcomes has P
+abbrev pub Each : Outcomes → Outcomes → Type 0
+Each outcomes P = (c o : List ℕ) → outcomes c o → P c o
+
 -- A crash at any moment since `old` leaves an outcome that has P.
 pub record LeavesOnly {D : Type 0} (moment : D → ℕ) (left_since : D → ℕ → Outcomes) (old new : D) (P : Outcomes) : Type 0 where
   pub later : moment old ≤ moment new
-  pub each : (c o : List ℕ) → left_since new (moment old) c o → P c o
+  pub each : Each (left_since new (moment old)) P
   -- for a run that began earlier
   pub before : (t : ℕ) (c o : List ℕ) → t ≤ moment old → left_since new t c o → left_since old t c o ⊎ P c o
 

@@ -4,7 +4,8 @@ use Rattle.std.specs.Coded.{Coded, code_by, coded×, coded_ℕ, coded_list}
 use Rattle.log_host.specs.Host.{Outcomes, Torn, Hearing}
 
 -- a call: its kind; its place, or how many bytes were sent; its bytes; and 1 if it succeeded. The kinds are: 0 a
--- write, 1 a sync, 2 sending to the listener, 3 a call of the file that was not made, 4 a piece that was not sent
+-- write, 1 a sync, 2 sending to the listener, 3 a call of the file that was not made, 4 a piece that was not sent, and
+-- from 5 on a call by which the file was opened or made
 abbrev pub Call : Type 0
 Call = ℕ × (ℕ × (List ℕ × ℕ))
 
@@ -85,21 +86,39 @@ listener_faults_after (call ∷ calls) = listener_faults_by call.0 call.1.1.1 (l
 
 -- The outcomes of a crash
 
--- the outcomes after a call: its kind, its number, whether it succeeded, and its bytes; whether no call of the
--- file failed before it; the file and the bytes heard before it; the outcomes before it
-abbrev pub leaves_by : ℕ → ℕ → ℕ → List ℕ → Bool → List ℕ → List ℕ → Outcomes → Outcomes
-leaves_by zero n ok bytes sound seen heard old c o = (d : List ℕ) × old d o × Torn n (length bytes) d c
-leaves_by (suc zero) n zero bytes sound seen heard old c o = old c o
-leaves_by (suc zero) n (suc ok) bytes sound seen heard old c o = old c o × (sound ≡ true → c ≡ seen)
-leaves_by (suc (suc zero)) n zero bytes sound seen heard old c o = Hearing bytes old c o
-leaves_by (suc (suc zero)) n (suc ok) bytes sound seen heard old c o = Hearing bytes old c o × (o ≡ heard ++ take n bytes) × ((p : List ℕ) × old c p)
-leaves_by (suc (suc (suc kind))) n ok bytes sound seen heard old c o = old c o
+-- what is known before a call: whether no call of the file has failed, the file, the bytes heard, and the outcomes
+pub record Before : Type 1 where
+  pub sound : Bool
+  pub seen : List ℕ
+  pub heard : List ℕ
+  pub outcomes : Outcomes
+
+-- the outcomes after a write at a place
+abbrev pub leaves_written : ℕ → List ℕ → Before → Outcomes
+leaves_written at bytes before c o = (d : List ℕ) × before.outcomes d o × Torn at (length bytes) d c
+
+-- the outcomes after a sync, by whether it succeeded
+abbrev pub leaves_synced : ℕ → Before → Outcomes
+leaves_synced zero before c o = before.outcomes c o
+leaves_synced (suc ok) before c o = before.outcomes c o × (before.sound ≡ true → c ≡ before.seen)
+
+-- the outcomes after n bytes of a piece were sent, by whether that succeeded
+abbrev pub leaves_told : ℕ → ℕ → List ℕ → Before → Outcomes
+leaves_told n zero piece before c o = Hearing piece before.outcomes c o
+leaves_told n (suc ok) piece before c o = Hearing piece before.outcomes c o × (o ≡ before.heard ++ take n piece) × ((p : List ℕ) × before.outcomes c p)
+
+-- the outcomes after a call: its kind, its number, whether it succeeded, and its bytes
+abbrev pub leaves_by : ℕ → ℕ → ℕ → List ℕ → Before → Outcomes
+leaves_by zero n ok bytes before = leaves_written n bytes before
+leaves_by (suc zero) n ok bytes before = leaves_synced ok before
+leaves_by (suc (suc zero)) n ok bytes before = leaves_told n ok bytes before
+leaves_by (suc (suc (suc kind))) n ok bytes before = before.outcomes
 
 -- the outcomes after these calls: those after the last call, or the bytes that a read returns now
 abbrev pub leaves_after : List ℕ → List Call → Outcomes
 leaves_after start [] c o = (c ≡ start) × (o ≡ [])
 leaves_after start (call ∷ calls) c o =
-    leaves_by call.0 call.1.0 call.1.1.1 call.1.1.0 (is_sound calls) (seen_after start calls) (heard_after calls) (leaves_after start calls) c o
+    leaves_by call.0 call.1.0 call.1.1.1 call.1.1.0 (record { sound = is_sound calls; seen = seen_after start calls; heard = heard_after calls; outcomes = leaves_after start calls }) c o
     ⊎ ((c ≡ seen_after start (call ∷ calls)) × (o ≡ heard_after (call ∷ calls)))
 
 -- the outcomes that a crash has only during the call

@@ -7,4 +7,4 @@ mod tape;
 
 pub use host::{Host, HostFault};
 pub use synced::write_and_sync;
-pub use tape::{Asked, Tape};
+pub use tape::{Asked, Making, Tape};

@@ -16,6 +16,23 @@ impl Model for Tape {
     ghost also_owns = { λ _. ftrue };
 }
 
+/// A call of a disk by which a file is opened or made, and whether it succeeded.
+#[derive(Clone, Copy, Drop)]
+pub enum Making<'a> {
+    /// The file of this name was opened and locked.
+    Take(&'a [u8], bool),
+    /// All bytes of the file were read.
+    Read(&'a [u8]),
+    /// Bytes were kept beside the file.
+    Keep(&'a [u8], bool),
+    /// An empty draft of the file of this name was made and locked.
+    Draft(&'a [u8], bool),
+    /// The draft was given the name of the file.
+    Rename(&'a [u8], bool),
+    /// The names in the folder of the file of this name were synced.
+    SyncFolder(&'a [u8], bool),
+}
+
 /// A call of a host or of its disk, and whether it succeeded.
 #[derive(Clone, Copy, Drop)]
 pub enum Asked<'a> {
@@ -29,18 +46,8 @@ pub enum Asked<'a> {
     Refused,
     /// A piece that was not sent, since the listener failed before.
     Silent,
-    /// The file of this name was opened and locked.
-    Take(&'a [u8], bool),
-    /// All bytes of the file were read.
-    Read(&'a [u8]),
-    /// Bytes were kept beside the file.
-    Keep(&'a [u8], bool),
-    /// An empty draft of the file of this name was made and locked.
-    Draft(&'a [u8], bool),
-    /// The draft was given the name of the file.
-    Rename(&'a [u8], bool),
-    /// The names in the folder of the file of this name were synced.
-    SyncFolder(&'a [u8], bool),
+    /// A call by which the file was opened or made.
+    Made(Making<'a>),
 }
 
 // All past calls.

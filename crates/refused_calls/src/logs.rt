@@ -5,7 +5,7 @@ use crate::lines::{Line, tell};
 use anyhow::{Result, bail};
 use durable_log::{Log, Record, new_log};
 use file_host::{CallFault, Disk, FileFault, FileHost, make_anew};
-use log_host::{Asked, Tape};
+use log_host::{Asked, Making, Tape};
 use script_lines::Counted;
 use std::alloc::Global;
 
@@ -32,22 +32,26 @@ impl Disk for Still {
     ghost past = { λ d. d.tape.past.calls };
 
     fn take(&mut self, name: &str) -> std::result::Result<(), FileFault> {
-        self.tape = self.tape.then(Asked::Take(name.as_bytes(), true));
+        self.tape = self
+            .tape
+            .then(Asked::Made(Making::Take(name.as_bytes(), true)));
         Ok(())
     }
 
     fn read(&mut self, alloc: Global) -> std::result::Result<Vec<u8>, FileFault> {
-        self.tape = self.tape.then(Asked::Read(&[]));
+        self.tape = self.tape.then(Asked::Made(Making::Read(&[])));
         Ok(Vec::new(alloc))
     }
 
     fn keep(&mut self, _name: &str, bytes: &[u8]) -> std::result::Result<(), FileFault> {
-        self.tape = self.tape.then(Asked::Keep(bytes, true));
+        self.tape = self.tape.then(Asked::Made(Making::Keep(bytes, true)));
         Ok(())
     }
 
     fn draft(&mut self, name: &str) -> std::result::Result<(), FileFault> {
-        self.tape = self.tape.then(Asked::Draft(name.as_bytes(), true));
+        self.tape = self
+            .tape
+            .then(Asked::Made(Making::Draft(name.as_bytes(), true)));
         Ok(())
     }
 
@@ -62,12 +66,16 @@ impl Disk for Still {
     }
 
     fn rename(&mut self, name: &str) -> std::result::Result<(), CallFault> {
-        self.tape = self.tape.then(Asked::Rename(name.as_bytes(), true));
+        self.tape = self
+            .tape
+            .then(Asked::Made(Making::Rename(name.as_bytes(), true)));
         Ok(())
     }
 
     fn sync_folder(&mut self, name: &str) -> std::result::Result<(), CallFault> {
-        self.tape = self.tape.then(Asked::SyncFolder(name.as_bytes(), true));
+        self.tape = self
+            .tape
+            .then(Asked::Made(Making::SyncFolder(name.as_bytes(), true)));
         Ok(())
     }
 
