@@ -2,3 +2,4 @@ pub mod Floats
 pub mod Growing
 pub mod Keeping
 pub mod Opened
+pub mod Widening

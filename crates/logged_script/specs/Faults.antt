@@ -44,15 +44,16 @@ HasGrown kept given false = given ≡ kept
 abbrev pub IsOtherJob : List LogRecord → List JobTree → ℕ → Type 0
 IsOtherJob records given job = (kept : List JobTree) × HasCatalogue records kept × IsFirstOther kept given job
 
--- the fault of a log whose catalogue is not one from which the given catalogue has grown
-abbrev pub IsGrowthFault : List LogRecord → List JobTree → OpeningFault → Type 0
-IsGrowthFault records given (Refused InUse) = ⊥
-IsGrowthFault records given (Refused Foreign) = IsNoScriptLog records
-IsGrowthFault records given (Refused Later) = ⊥
-IsGrowthFault records given (Refused (Damaged number byte)) = ⊥
-IsGrowthFault records given (Refused (OtherCatalogue job)) = IsOtherJob records given job
-IsGrowthFault records given (Refused (OtherReply number)) = ⊥
-IsGrowthFault records given OutOfMemory = Unit {0}
+module _ (records : List LogRecord) (given : List JobTree) where
+  -- the fault of a log whose catalogue is not one from which the given catalogue has grown
+  abbrev pub IsGrowthFault : OpeningFault → Type 0
+  IsGrowthFault (Refused InUse) = ⊥
+  IsGrowthFault (Refused Foreign) = IsNoScriptLog records
+  IsGrowthFault (Refused Later) = ⊥
+  IsGrowthFault (Refused (Damaged number byte)) = ⊥
+  IsGrowthFault (Refused (OtherCatalogue job)) = IsOtherJob records given job
+  IsGrowthFault (Refused (OtherReply number)) = ⊥
+  IsGrowthFault OutOfMemory = Unit {0}
 
 -- record 0 is a catalogue, and the catalogue of the line has all jobs of the last one, and more exactly if it
 -- has grown
@@ -78,15 +79,20 @@ pub record HasOtherReply (file line : List ℕ) (number : ℕ) : Type 0 where
   pub goes_on : GoesOnFrom (records_of file) line grown
   pub other : IsOtherReply is_kept reply_at line (records_of file) number
 
--- THE FAULT OF A REFUSED LOG, by its file and the line of the given catalogue. A fault is the first of the order
--- Foreign, Later, Damaged, Foreign, OtherCatalogue, OtherReply: each says that no earlier one is there
-abbrev pub HasLogFault : List ℕ → List ℕ → LogFault → Type 0
-HasLogFault file line InUse = ⊥
-HasLogFault file line Foreign = (opening file ≡ ForeignFile) ⊎ (StandsFor (records_of file) file × IsNoScriptLog (records_of file))
-HasLogFault file line Later = opening file ≡ LaterFile
-HasLogFault file line (Damaged number byte) = IsDamagedAt file number byte
-HasLogFault file line (OtherCatalogue job) = HasOtherCatalogue file line job
-HasLogFault file line (OtherReply number) = HasOtherReply file line number
+-- no script made the file: it is no log, or a whole log whose catalogue can't be read
+abbrev pub IsForeign : List ℕ → Type 0
+IsForeign file = (opening file ≡ ForeignFile) ⊎ (StandsFor (records_of file) file × IsNoScriptLog (records_of file))
+
+module _ (file line : List ℕ) where
+  -- THE FAULT OF A REFUSED LOG, by its file and the line of the given catalogue. A fault is the first of the
+  -- order Foreign, Later, Damaged, Foreign, OtherCatalogue, OtherReply: each says that no earlier one is there
+  abbrev pub HasLogFault : LogFault → Type 0
+  HasLogFault InUse = ⊥
+  HasLogFault Foreign = IsForeign file
+  HasLogFault Later = opening file ≡ LaterFile
+  HasLogFault (Damaged number byte) = IsDamagedAt file number byte
+  HasLogFault (OtherCatalogue job) = HasOtherCatalogue file line job
+  HasLogFault (OtherReply number) = HasOtherReply file line number
 
 -- the fault of a log that was not restored
 abbrev pub IsOpeningFault : List ℕ → List ℕ → OpeningFault → Type 0

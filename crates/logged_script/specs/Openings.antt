@@ -1,5 +1,9 @@
 -- Restoring a script's log.
 use Rattle.std.specs.Prelude.{ℕ, ◌≡◌, ◌⊎◌, List, [], ◌∷◌, ◌++◌, drop, Bool, if◌then◌else◌}
+use Rattle.jsl_model.specs.Jobs.{JobTree}
+use Rattle.batch_history.specs.declared.call.Entry.{Entry}
+use Rattle.batch_history.specs.Legal.{IsLegal}
+use Rattle.batch_history.specs.Rows.{history, rows}
 use Rattle.jsl_json.specs.declared.fault.ReadFault.{ReadFault as CatalogueFault}
 use Rattle.jsl_json.specs.declared.fault.ReadFault.TheVariants as catalogues
 use Rattle.durable_log.specs.Format.{LogRecord}
@@ -30,6 +34,11 @@ pub record IsBegun (file line : List ℕ) (now : List LogRecord) : Type 0 where
   pub goes_on : GoesOnFrom (records_of file) line grown
   pub alike : AreAlike is_kept reply_at (replayed line []) (records_of file)
   pub records : now ≡ records_begun (records_of file) line grown
+
+-- each legal history over the one catalogue is legal over the other, with equal rows
+abbrev pub KeepsHistories : List JobTree → List JobTree → Type 0
+KeepsHistories kept given = (limit : ℕ) (log : List Entry) → IsLegal limit (history kept log)
+    → IsLegal limit (history given log) × (rows (history given log) ≡ record (rows (history kept log)) { catalogue = given })
 
 -- the bytes that are cut off: those after the records, and none if the file is at rest
 pub record IsCutOff (file cut : List ℕ) : Type 0 where

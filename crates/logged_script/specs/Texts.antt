@@ -18,21 +18,27 @@ log_fault_name (OtherReply number) = codes "LogOtherReply"
 abbrev pub named : LogFault → Data
 named fault = one (codes "fault") (string (log_fault_name fault))
 
+-- a fault by its name, and a number that has a name behind it
+abbrev pub numbered : LogFault → List ℕ → ℕ → Data
+numbered fault name n = object
+    (member (codes "fault") (string (log_fault_name fault))
+    (member name (count n) no_members))
+
+-- a damaged log, with the numbers of the record and of its byte
+abbrev pub damaged : ℕ → ℕ → Data
+damaged number byte = object
+    (member (codes "byte") (count byte)
+    (member (codes "fault") (string (log_fault_name (Damaged number byte)))
+    (member (codes "record") (count number) no_members)))
+
 -- a fault by its name, with the numbers of the record, of its byte and of the job
 abbrev pub log_fault_data : LogFault → Data
 log_fault_data InUse = named InUse
 log_fault_data Foreign = named Foreign
 log_fault_data Later = named Later
-log_fault_data (Damaged number byte) = object
-    (member (codes "byte") (count byte)
-    (member (codes "fault") (string (log_fault_name (Damaged number byte)))
-    (member (codes "record") (count number) no_members)))
-log_fault_data (OtherCatalogue job) = object
-    (member (codes "fault") (string (log_fault_name (OtherCatalogue job)))
-    (member (codes "job") (count job) no_members))
-log_fault_data (OtherReply number) = object
-    (member (codes "fault") (string (log_fault_name (OtherReply number)))
-    (member (codes "record") (count number) no_members))
+log_fault_data (Damaged number byte) = damaged number byte
+log_fault_data (OtherCatalogue job) = numbered (OtherCatalogue job) (codes "job") job
+log_fault_data (OtherReply number) = numbered (OtherReply number) (codes "record") number
 
 -- the line of a fault
 abbrev pub log_fault_text : LogFault → List ℕ

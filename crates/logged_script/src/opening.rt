@@ -1,16 +1,17 @@
 // Restoring the log of a script: pure functions over the bytes of its file.
-ghost use Rattle.std.specs.Prelude.{◌≡◌, ◌≤◌, ◌^◌, [], length, map, Ok, IfOk, IfErr};
+ghost use Rattle.std.specs.Prelude.{◌≡◌, ◌≤◌, ◌^◌, List, [], length, map, Ok, IfOk, IfErr};
 ghost use Rattle.durable_log.specs.Files.{StandsFor};
 ghost use Rattle.durable_log.specs.Logs.{records_of, IsRest};
 ghost use Rattle.durable_log.specs.Shown.{record_shown, IsEnd};
+ghost use Rattle.jsl_model.specs.Jobs.{JobTree};
 ghost use Rattle.script_engine.specs.Script.{catalogue_at};
 ghost use Rattle.script_log.specs.Runs.{history_of};
 ghost use Rattle.script_log.specs.Replays.{AreAlike, replayed, IsReplayFault};
 ghost use Rattle.script_log.specs.declared.replays.ReplayFault.{ReplayFault as WhyNot};
 ghost use Rattle.logged_script.specs.declared.opening.OpeningFault.TheVariants.{OutOfMemory};
 ghost use Rattle.logged_script.specs.Histories.{Answers, is_kept, reply_at};
-ghost use Rattle.logged_script.specs.Faults.{GoesOnFrom, IsOpeningFault};
-ghost use Rattle.logged_script.specs.Openings.{IsBegun, IsCutOff, records_begun, fault_of_read, fault_of_replay};
+ghost use Rattle.logged_script.specs.Faults.{GoesOnFrom, HasCatalogue, IsOpeningFault};
+ghost use Rattle.logged_script.specs.Openings.{IsBegun, KeepsHistories, IsCutOff, records_begun, fault_of_read, fault_of_replay};
 
 use crate::catalogue::has_grown;
 use crate::engine::ScriptEngine;
@@ -197,6 +198,10 @@ pub fn restore(
 ) -> Result<RestoredLog, OpeningFault>
     requires { catalogue_at line.now ≡ Ok catalogue }
     ensures begun { IfOk result (λ log. IsBegun file.items line.now (records_of log.file.bytes.items)) }
+
+    // Each legal history over the log's catalogue is legal over the given one, with equal rows.
+    ensures histories { IfOk result (λ _. (kept : List JobTree) → HasCatalogue (records_of file.items) kept → KeepsHistories kept catalogue) }
+
     ensures rest { IfOk result (λ log. IsRest log.file.bytes.items log.file.rest) }
     ensures cut { IfOk result (λ log. IsCutOff file.items log.cut.items) }
     ensures answers { IfOk result (λ log. Answers log.engine (history_of (records_of log.file.bytes.items))) }

@@ -6,7 +6,7 @@ use Rattle.batch_ids.specs.declared.refusal.Refusal.{Refusal}
 use Rattle.jsl_model.specs.Jobs.{JobTree}
 use Rattle.batch_history.specs.Legal.{IsLegal, after_call, grown, history_after, most_operations}
 use Rattle.batch_history.specs.Replies.{is_nothing, reply}
-use Rattle.batch_history.specs.Rows.{History, Rows, rows}
+use Rattle.batch_history.specs.Rows.{History, Rows}
 use Rattle.batch_history.specs.declared.call.Call.{Call}
 use Rattle.batch_history.specs.declared.call.Entry.{Entry}
 use Rattle.batch_history.specs.declared.call.Reply.{Reply}

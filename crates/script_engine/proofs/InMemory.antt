@@ -30,11 +30,8 @@ ran_in_memory p p' q q' script rest text result R = record {
   w = held_by q (Some []);
   w' = held_by q' (Some text);
   ran = R;
-  whole = refl;
-  front = (rest, refl, R.read.lost);
-  empty = refl;
-  all = (refl, R.written.gained);
-  calm = refl;
+  read = record { whole = refl; front = (rest, refl, R.read.lost); calm = refl };
+  written = record { empty = refl; all = refl; text_is = R.written.gained };
 }
 
 -- as many calls as there may be deliver that many bytes, but for the end

@@ -34,9 +34,7 @@ nothing_done start next begun new waits more told bounded P = record {
     outcome = (([], whole_lines more, inl refl, refl, inl refl), turn_whole begun new waits [] more P);
     bounded = bounded;
   };
-  sent = P.sent;
-  grown = P.written;
-  turn = P.turn;
+  front = record { sent = P.sent; grown = P.written; turn = P.turn };
   quiet = λ _. P.failures;
 }
 
@@ -87,9 +85,7 @@ first_failed_of start next begun new waited waits q line_faults.Read e t on grew
         outcome = (ap text_of_lines (sym fault.0), fault.1, inl fault.0, fault.2);
         bounded = first_bounded start next q (Err line_faults.Read) t;
       };
-      sent = P.sent;
-      grown = P.written;
-      turn = P.turn;
+      front = record { sent = P.sent; grown = P.written; turn = P.turn };
       quiet = λ _. P.failures;
     }
 first_failed_of start next begun new waited waits q line_faults.Write e t on grew prompt =
@@ -130,9 +126,7 @@ refused start now begun held new waited waits p line fault (faults.Catalogue tol
         );
         bounded = cut_bounded start now p (line ∷ []) C;
       };
-      sent = Q.sent;
-      grown = Q.written;
-      turn = Q.turn;
+      front = record { sent = Q.sent; grown = Q.written; turn = Q.turn };
       quiet = λ _. Q.failures;
     }
 refused start now begun held new waited waits p line fault faults.Read C given P T = absurd T

@@ -1,6 +1,6 @@
 -- What was written and what waits, while replies are put behind each other.
 use Rattle.std.proofs.Common.{◌≡◌, ◌∙◌, ℕ, List, [], ◌++◌, Option, Some, None, take, drop, refl, sym, ap, subst, append_assoc}
-use Rattle.std.proofs.lemmas.List.{append-nil, append_cancel_left, take-append-drop}
+use Rattle.std.proofs.lemmas.List.{append_cancel_left, take-append-drop}
 use Rattle.std.specs.Io.KnownBytes.{Appends, append_known}
 use Rattle.script_lines.specs.Device.{Held, Takes}
 use Rattle.script_lines.specs.Lines.{IsPassedOn}

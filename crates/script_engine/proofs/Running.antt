@@ -8,9 +8,11 @@ use Rattle.script_lines.specs.declared.line.Line.{Line}
 use Rattle.script_lines.specs.declared.line_fault.LineFault.{LineFault}
 use Rattle.script_lines.specs.declared.line_fault.LineFault.TheVariants as line_faults
 use Rattle.script_lines.specs.Device.{Told, Held, Tells, Takes}
-use Rattle.script_lines.specs.Cut.{script_lines}
-use Rattle.script_lines.specs.Lines.{Shows, LineRead, AreComplete, IsPassedOn, PassedOn, IsPrompt, IsBounded}
-use Rattle.script_lines.specs.Unread.{Unread}
+use Rattle.script_lines.specs.Cut.{script_lines, whole_lines}
+use Rattle.script_lines.specs.Lines.{Shows, LineRead, IsPartRead, AreComplete, IsPassedOn, PassedOn, IsPrompt, IsBounded}
+use Rattle.script_lines.specs.Unread.{Unread, nothing_read}
+use Rattle.script_lines.proofs.CutLaws.{whole_lines-none}
+use Rattle.script_lines.proofs.Telling.{tells_more}
 use Rattle.script_lines.proofs.Cutting.{Cutting, cut_next, cut_short, cut_so_far, cut_all, cut_fault, cut_bounded, next_bounded}
 use Rattle.script_engine.specs.declared.summary.Kind.{Kind}
 use Rattle.script_engine.specs.declared.summary.Summary.{Summary}
@@ -18,6 +20,7 @@ use Rattle.script_engine.specs.declared.fault.EngineFault.TheVariants as faults
 use Rattle.script_engine.specs.Faults.{engine_fault}
 use Rattle.script_engine.specs.Script.{catalogue_at, line_text, line_after, replies, history_past, begin, opened, entries_from, text_of_lines, entries_of_lines}
 use Rattle.script_engine.specs.Summaries.{line_kind, kinds, kinds_from, kinds_of_lines, tally, counted, summary_of}
+use Rattle.script_engine.specs.InTurn.{MayReadInTurn}
 use Rattle.script_engine.specs.Ran.{RanSoFar}
 use Rattle.script_engine.proofs.Tallying.{one-line-more}
 use Rattle.script_engine.proofs.Turning.{turn_on, told_nothing}
@@ -59,6 +62,33 @@ begins start now begun held waits p line catalogue s C e P none = record {
 -- the text of the lines so far is the output
 text_so_far : {start now : Told} {begun held : Held} {waits : List ℕ} {p : Unread} {h : History} {s : Summary} (R : Running start now begun held waits p h s) → R.output ≡ text_of_lines (R.first ∷ R.later)
 text_so_far {h = h} R = sym (ap (λ ls. text_of_lines (R.first ∷ ls)) (sym (append-nil R.later)) ∙ R.text [] ∙ append-nil R.output)
+
+-- the reader may be called for the first line
+pub asks_first : (start : Told) (begun : Held) (waits : List ℕ) (p : Unread) (may_read : Told → List ℕ → Type 0) → waits ≡ [] → p ≡ nothing_read → MayReadInTurn start begun may_read
+    → (to : Told) → IsPartRead start to p → may_read to (begun.bytes ++ waits)
+asks_first start begun waits p may_read none fresh may to part =
+    let read = subst (λ (u : Unread). IsPartRead start to u) fresh part in
+    may to (begun.bytes ++ waits) (record {
+      input = read.more;
+      told = read.told;
+      going = read.going;
+      quiet = read.quiet;
+      replied = ap (λ b. begun.bytes ++ b) (none ∙ ap text_of_lines (sym (whole_lines-none read.more read.no_feed)));
+    })
+
+-- the reader may be called for the next line
+pub asks_next : (start now : Told) (begun held : Held) (waits : List ℕ) (p : Unread) (h : History) (s : Summary) (may_read : Told → List ℕ → Type 0) → Running start now begun held waits p h s → MayReadInTurn start begun may_read
+    → (to : Told) → IsPartRead now to p → may_read to (held.bytes ++ waits)
+asks_next start now begun held waits p h s may_read R may to part =
+    let done : List (List ℕ) = R.first ∷ R.later in
+    let lines : whole_lines (R.cutting.input ++ part.more) ≡ done = R.cutting.whole part.running part.more ∙ ap (λ ls. done ++ ls) (whole_lines-none (p.bytes ++ part.more) part.no_feed) ∙ append-nil done in
+    may to (held.bytes ++ waits) (record {
+      input = R.cutting.input ++ part.more;
+      told = tells_more start now to R.cutting.input part.more R.cutting.read part.told;
+      going = part.going ∙ R.cutting.going part.running;
+      quiet = part.quiet ∙ R.cutting.failures;
+      replied = (all_written begun held waits R.output R.cutting.input R.passing).bytes ∙ ap (λ b. begun.bytes ++ b) (text_so_far R ∙ ap text_of_lines (sym lines));
+    })
 
 -- a call for the next line passes on what waits
 passed : {start now : Told} {begun held : Held} {waited : List ℕ} {p : Unread} {h : History} {s : Summary} (R : Running start now begun held waited p h s) (next : Told) (new : Held) (waits : List ℕ) (q : Unread) (r : Result (Option Line) LineFault)
@@ -136,9 +166,7 @@ ends start now next begun held new waited waits p q h s number R t on grew promp
         outcome = (text_so_far R ∙ ap text_of_lines (sym cut.1), cut.2, summed R (script_lines input) cut.1 number e, (R.first, R.later, R.catalogue, cut.1, R.opening), t.cause ∙ R.cutting.failures, P.failures);
         bounded = next_bounded start now next p q (R.first ∷ R.later) (Ok None) R.cutting t;
       };
-      sent = P.sent;
-      grown = P.written;
-      turn = P.turn;
+      front = record { sent = P.sent; grown = P.written; turn = P.turn };
       quiet = λ _. P.failures;
     }
 
@@ -158,9 +186,7 @@ no_memory start now next begun held new waited waits p q h s r R t on grew promp
         outcome = ((R.first ∷ R.later, cut.1.0, cut.1.1, text_so_far R, inr (R.first, R.later, R.catalogue, refl, R.opening)), turn_whole begun new waits R.output input P);
         bounded = next_bounded start now next p q (R.first ∷ R.later) r R.cutting t;
       };
-      sent = P.sent;
-      grown = P.written;
-      turn = P.turn;
+      front = record { sent = P.sent; grown = P.written; turn = P.turn };
       quiet = λ _. P.failures;
     }
 
@@ -180,9 +206,7 @@ breaks start next begun held new waits input whole others lines read bounded com
     );
     bounded = bounded;
   };
-  sent = B.front;
-  grown = B.written;
-  turn = B.turn;
+  front = record { sent = B.front; grown = B.written; turn = B.turn };
   quiet = λ e. absurd (false≢true (sym e));
 }
 
@@ -202,9 +226,7 @@ line_failed start now next begun held new waited waits p q h s line_faults.Read 
         outcome = (text_so_far R ∙ ap text_of_lines (sym cut.1), cut.2, inr (R.first, R.later, R.catalogue, cut.1, R.opening), cut.3);
         bounded = next_bounded start now next p q (R.first ∷ R.later) (Err line_faults.Read) R.cutting t;
       };
-      sent = P.sent;
-      grown = P.written;
-      turn = P.turn;
+      front = record { sent = P.sent; grown = P.written; turn = P.turn };
       quiet = λ _. P.failures;
     }
 line_failed start now next begun held new waited waits p q h s line_faults.Write R t on grew prompt =

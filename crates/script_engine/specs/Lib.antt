@@ -9,3 +9,4 @@ pub mod Standing
 pub mod Summaries
 pub mod Ran
 pub mod Reading
+pub mod InTurn

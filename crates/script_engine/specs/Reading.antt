@@ -8,11 +8,12 @@ use Rattle.script_lines.specs.declared.line_fault.LineFault.TheVariants as lines
 use Rattle.script_engine.specs.declared.fault.EngineFault.{EngineFault}
 use Rattle.script_engine.specs.declared.fault.EngineFault.TheVariants.{Catalogue, Read, Write, OutOfMemory}
 
--- the reader delivered more and a line was cut off, or the reader failed or may not be called again, or
--- memory was refused
-abbrev pub NextLine : Told → Told → Unread → Unread → Result (Option Line) EngineFault → Type 0
-NextLine old new before after (Ok line) = LineRead old new before after (Ok line)
-NextLine old new before after (Err (Catalogue fault)) = ⊥
-NextLine old new before after (Err Read) = LineRead old new before after (Err lines.Read)
-NextLine old new before after (Err Write) = ⊥
-NextLine old new before after (Err OutOfMemory) = LineRead old new before after (Err lines.OutOfMemory)
+module _ (old new : Told) (before after : Unread) where
+  -- the reader delivered more and a line was cut off, or the reader failed or may not be called again, or
+  -- memory was refused
+  abbrev pub NextLine : Result (Option Line) EngineFault → Type 0
+  NextLine (Ok line) = LineRead old new before after (Ok line)
+  NextLine (Err (Catalogue fault)) = ⊥
+  NextLine (Err Read) = LineRead old new before after (Err lines.Read)
+  NextLine (Err Write) = ⊥
+  NextLine (Err OutOfMemory) = LineRead old new before after (Err lines.OutOfMemory)

@@ -80,12 +80,16 @@ tally ks = record {
   bad = at_most_64_bits (count_by is_bad ks);
 }
 
+-- the summary with one more line that had a reply
+abbrev pub with_line : Summary → Summary
+with_line s = record s { lines = at_most_64_bits (s.lines + 1) }
+
 -- the summary with one more line
 abbrev pub counted : Kind → Summary → Summary
 counted Empty s = s
-counted Accepted s = record s { lines = at_most_64_bits (s.lines + 1) }
-counted Refused s = record s { lines = at_most_64_bits (s.lines + 1); refusals = at_most_64_bits (s.refusals + 1) }
-counted Bad s = record s { lines = at_most_64_bits (s.lines + 1); bad = at_most_64_bits (s.bad + 1) }
+counted Accepted s = with_line s
+counted Refused s = record (with_line s) { refusals = at_most_64_bits (s.refusals + 1) }
+counted Bad s = record (with_line s) { bad = at_most_64_bits (s.bad + 1) }
 
 -- THE SUMMARY OF A SCRIPT
 abbrev pub summary_of : List (List ℕ) → Summary

@@ -18,7 +18,7 @@ pub use jsl_json::ReadFault;
 pub use lines::Lines;
 pub use run::{answer_script, boxed_repository, run_script};
 pub use script_lines::{
-    Counted, DeviceFault, Line, MAX_LINE, MAX_READS, OutputBuffer, Sink, Source,
+    Counted, DeviceFault, Line, MAX_LINE, MAX_READS, OutputBuffer, Sink, Source, SourceInTurn,
 };
 pub use script_text::{
     StartFault, StartLine, bad_line_text, execution_text, fault_text, metrics_value, reply_text,

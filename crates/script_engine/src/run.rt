@@ -3,6 +3,7 @@ ghost use Rattle.script_lines.specs.declared.input_buffer.TheConstants.{MAX_READ
 ghost use Rattle.script_engine.specs.declared.fault.EngineFault.TheVariants.{Read};
 ghost use Rattle.seq_repository.specs.Kept.{StandsFor};
 ghost use Rattle.script_engine.specs.Script.{begin};
+ghost use Rattle.script_engine.specs.InTurn.{MayReadInTurn};
 ghost use Rattle.script_engine.specs.Ran.{Ran, RanInMemory, RanSoFar, HoldsReplies, has_writer_failed};
 
 use crate::answer::{LIMIT, answer};
@@ -11,7 +12,7 @@ use crate::fault::EngineFault;
 use crate::summary::Summary;
 use batch_ids::OutOfMemory;
 use jsl_model::Catalogue;
-use script_lines::{Counted, InputBuffer, OutputBuffer, Sink, SliceSource, Source};
+use script_lines::{Counted, InputBuffer, OutputBuffer, Sink, SliceSource, SourceInTurn};
 use script_text::CommandReader;
 use seq_repository::Repository;
 use std::alloc::{AllocError, Global};
@@ -37,13 +38,14 @@ pub fn boxed_repository(
 }
 
 /// Runs a script, and leaves the last replies in the output.
-fn run<R: Source, W: Sink>(
+fn run<R: SourceInTurn<W>, W: Sink>(
     alloc: Global,
     reader: &mut R,
     output: &mut OutputBuffer,
     writer: &mut W,
 ) -> Result<Summary, EngineFault>
-    requires { output.old ≡ [] }
+    requires empty { output.old ≡ [] }
+    requires in_turn { MayReadInTurn (R.tape reader.old) (W.tape writer.old) R.may_read }
     ensures { RanSoFar (R.tape reader.old) (R.tape reader.new) (W.tape writer.old) (W.tape writer.new) output.new result }
 {
     let mut input = InputBuffer::new(alloc)?;
@@ -86,7 +88,8 @@ fn has_writer_failed(outcome: &Result<Summary, EngineFault>) -> bool
 ///
 /// At most 1,000,000 operations are accepted. They are entered into the rows of a repository, and
 /// none is stored as an entry. Replies are collected, 65,536 bytes at most. They are written before
-/// the reader is called again, and at the end.
+/// the reader is called again, and at the end. So the reader may wait for the replies to all lines
+/// before the next.
 ///
 /// # Errors
 ///
@@ -96,11 +99,15 @@ fn has_writer_failed(outcome: &Result<Summary, EngineFault>) -> bool
 ///   to the complete lines were written.
 /// - `Write` if the writer failed. It has a beginning of the replies to the lines read.
 /// - `OutOfMemory` if memory is refused. The replies to the lines before were written.
-pub fn run_script<R: Source, W: Sink>(
+pub fn run_script<R: SourceInTurn<W>, W: Sink>(
     alloc: Global,
     reader: &mut R,
     writer: &mut W,
 ) -> Result<Summary, EngineFault>
+    // The reader is called only after the writer has taken the replies to all lines that were
+    // delivered whole.
+    requires in_turn { MayReadInTurn (R.tape reader.old) (W.tape writer.old) R.may_read }
+
     ensures { Ran (R.tape reader.old) (R.tape reader.new) (W.tape writer.old) (W.tape writer.new) result }
 {
     let mut output = OutputBuffer::new(alloc)?;

@@ -1,5 +1,5 @@
 -- What is known while a line grows.
-use Rattle.std.proofs.Common.{◌≡◌, ◌∙◌, ◌⊎◌, inl, inr, ℕ, ◌+◌, ◌*◌, ◌≤◌, ◌<◌, List, [], ◌∷◌, ◌++◌, ◌||◌, ◌==◌, true, false, length, take, drop, Some, Ok, Err, refl, sym, ap, append_assoc, length-append, arith}
+use Rattle.std.proofs.Common.{◌≡◌, ◌∙◌, ◌⊎◌, inl, inr, ℕ, ◌+◌, ◌*◌, ◌≤◌, ◌<◌, List, [], ◌∷◌, ◌++◌, ◌||◌, ◌==◌, true, false, length, take, drop, Some, Ok, Err, refl, sym, ap, subst, append_assoc, length-append, arith}
 use Rattle.std.proofs.lemmas.Bool.{false≢true, false_from_ne_true}
 use Rattle.std.proofs.lemmas.List.{take-append-drop}
 use Rattle.std.proofs.lemmas.List.Folds.{list_any-append}
@@ -9,7 +9,7 @@ use Rattle.script_lines.specs.declared.input_buffer.TheConstants.{CHUNK}
 use Rattle.script_lines.specs.Device.{Told, Held, Tells, Takes}
 use Rattle.script_lines.specs.Cut.{has_feed}
 use Rattle.script_lines.specs.Unread.{Unread, skipped, weight}
-use Rattle.script_lines.specs.Lines.{Shows, HasEnded, InTurn, LineRead, IsPassedOn}
+use Rattle.script_lines.specs.Lines.{Shows, HasEnded, InTurn, LineRead, IsPartRead, IsPassedOn}
 use Rattle.script_lines.proofs.Telling.{tells_more, tells_no_more}
 
 -- the line so far, and all that was read for it
@@ -131,3 +131,20 @@ failed old now next before mid after grown G clean running told still going late
       going = λ e. going e ∙ G.going running;
       later = omega (arith, later, G.later);
     }
+
+-- no line is whole so far
+pub part_read : (old now : Told) (before mid : Unread) (grown : Line) → Growing old now before mid grown → mid.ended ≡ false → has_feed mid.bytes ≡ false → IsPartRead old now before
+part_read old now before mid grown G running clean = record {
+  more = G.more;
+  told = G.told;
+  no_feed = ap has_feed G.bytes ∙ no_feed-append G.line mid.bytes G.no_feed clean;
+  running = false_from_ne_true before.ended (λ e. false≢true (sym running ∙ G.still e));
+  going = G.going running;
+  quiet = G.failures;
+}
+
+-- the writer took what waited, and so all that waited at the begin
+pub asks_more : (old now : Told) (before mid : Unread) (grown : Line) (start held new : Held) (waited waits : List ℕ) (may_read : Told → List ℕ → Type 0) → Growing old now before mid grown → mid.ended ≡ false → has_feed mid.bytes ≡ false
+    → IsPassedOn start held waited waits → Takes held new waits → ((to : Told) → IsPartRead old to before → may_read to (start.bytes ++ waited)) → may_read now new.bytes
+asks_more old now before mid grown start held new waited waits may_read G running clean on took may =
+    subst (λ (b : List ℕ). may_read now b) (sym (took.bytes ∙ on.0)) (may now (part_read old now before mid grown G running clean))

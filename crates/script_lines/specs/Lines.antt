@@ -25,21 +25,30 @@ ShowsFirst (Some first) line = Shows first line
 abbrev pub Cuts : List ℕ → List ℕ → Unread → Type 0
 Cuts bytes line p = (bytes ≡ line ++ 10 ∷ p.bytes) ⊎ ((bytes ≡ line) × (0 < length line) × (p.bytes ≡ []) × (p.ended ≡ true))
 
--- the bytes at hand after a call, by its result
-abbrev pub Outcome : List ℕ → Unread → Result (Option Line) LineFault → Type 0
-Outcome bytes p (Ok None) = (bytes ≡ []) × (p.bytes ≡ []) × (p.ended ≡ true)
-Outcome bytes p (Ok (Some shown)) = (line : List ℕ) × Shows shown line × (has_feed line ≡ false) × Cuts bytes line p
-Outcome bytes p (Err Read) = has_feed bytes ≡ false
-Outcome bytes p (Err Write) = Unit {0}
-Outcome bytes p (Err OutOfMemory) = Unit {0}
+module _ (bytes : List ℕ) (p : Unread) where
+  -- a line is cut off, which is shown
+  abbrev pub IsCut : Line → Type 0
+  IsCut shown = (line : List ℕ) × Shows shown line × (has_feed line ≡ false) × Cuts bytes line p
 
--- a result Read has a cause: the reader failed or may not be called again, and hasn't reported its end; with
--- any other result it didn't fail
-abbrev pub HasCause : Told → Told → Unread → Unread → Result (Option Line) LineFault → Type 0
-HasCause old new before after (Ok line) = new.failures ≡ old.failures
-HasCause old new before after (Err Read) = ((new.failures ≡ old.failures + 1) ⊎ ((new.failures ≡ old.failures) × (after.reads_left ≡ 0))) × (before.ended ≡ false) × (after.ended ≡ false)
-HasCause old new before after (Err Write) = new.failures ≡ old.failures
-HasCause old new before after (Err OutOfMemory) = new.failures ≡ old.failures
+  -- the bytes at hand after a call, by its result
+  abbrev pub Outcome : Result (Option Line) LineFault → Type 0
+  Outcome (Ok None) = (bytes ≡ []) × (p.bytes ≡ []) × (p.ended ≡ true)
+  Outcome (Ok (Some shown)) = IsCut shown
+  Outcome (Err Read) = has_feed bytes ≡ false
+  Outcome (Err Write) = Unit {0}
+  Outcome (Err OutOfMemory) = Unit {0}
+
+module _ (old new : Told) (before after : Unread) where
+  -- the reader failed or may not be called again, and hasn't reported its end
+  abbrev pub HasFailed : Type 0
+  HasFailed = ((new.failures ≡ old.failures + 1) ⊎ ((new.failures ≡ old.failures) × (after.reads_left ≡ 0))) × (before.ended ≡ false) × (after.ended ≡ false)
+
+  -- a result Read has a cause: the reader failed; with any other result it didn't fail
+  abbrev pub HasCause : Result (Option Line) LineFault → Type 0
+  HasCause (Ok line) = new.failures ≡ old.failures
+  HasCause (Err Read) = HasFailed
+  HasCause (Err Write) = new.failures ≡ old.failures
+  HasCause (Err OutOfMemory) = new.failures ≡ old.failures
 
 -- since the start, the reader failed once, or was called as often as it may be
 abbrev pub IsReadFault : Told → Told → Type 0
@@ -82,6 +91,15 @@ pub record LineRead (old new : Told) (before after : Unread) (result : Result (O
   pub going : after.ended ≡ false → new.ends ≡ old.ends
   pub later : old.ends ≤ new.ends
 
+-- the reader delivered more, and no line is whole so far
+pub record IsPartRead (from to : Told) (before : Unread) : Type 0 where
+  pub more : List ℕ
+  pub told : Tells from to more
+  pub no_feed : has_feed (before.bytes ++ more) ≡ false
+  pub running : before.ended ≡ false
+  pub going : to.ends ≡ from.ends
+  pub quiet : to.failures ≡ from.failures
+
 -- the bytes that the reader delivered since then
 abbrev pub told_since : Told → Told → List ℕ
 told_since old new = drop (length old.bytes) new.bytes
@@ -112,16 +130,22 @@ pub record LinesRead (old new : Told) (before after : Unread) : Type 0 where
 abbrev pub IsPassedOn : Held → Held → List ℕ → List ℕ → Type 0
 IsPassedOn old new waited waits = (new.bytes ++ waits ≡ old.bytes ++ waited) × (new.failures ≡ old.failures)
 
--- the effect of a call for the next line on the writer and on the waiting bytes, by its result
-abbrev pub PassedOn : Held → Held → List ℕ → List ℕ → Result (Option Line) LineFault → Type 0
-PassedOn old new waited waits (Ok line) = IsPassedOn old new waited waits
-PassedOn old new waited waits (Err Read) = IsPassedOn old new waited waits
-PassedOn old new waited waits (Err OutOfMemory) = IsPassedOn old new waited waits
-PassedOn old new waited waits (Err Write) = ((n : ℕ) × Takes old new (take n waited)) × (old.failures < new.failures)
+-- the writer failed, and took a front of the waiting bytes
+abbrev pub HasBrokenOff : Held → Held → List ℕ → Type 0
+HasBrokenOff old new waited = ((n : ℕ) × Takes old new (take n waited)) × (old.failures < new.failures)
 
--- the reader is called only after nothing waits, and never after the writer failed
-abbrev pub IsPrompt : Told → Told → List ℕ → Result (Option Line) LineFault → Type 0
-IsPrompt old new waits (Ok line) = (new ≡ old) ⊎ (waits ≡ [])
-IsPrompt old new waits (Err Read) = (new ≡ old) ⊎ (waits ≡ [])
-IsPrompt old new waits (Err OutOfMemory) = (new ≡ old) ⊎ (waits ≡ [])
-IsPrompt old new waits (Err Write) = new ≡ old
+module _ (old new : Held) (waited waits : List ℕ) where
+  -- the effect of a call for the next line on the writer and on the waiting bytes, by its result
+  abbrev pub PassedOn : Result (Option Line) LineFault → Type 0
+  PassedOn (Ok line) = IsPassedOn old new waited waits
+  PassedOn (Err Read) = IsPassedOn old new waited waits
+  PassedOn (Err OutOfMemory) = IsPassedOn old new waited waits
+  PassedOn (Err Write) = HasBrokenOff old new waited
+
+module _ (old new : Told) (waits : List ℕ) where
+  -- the reader is called only after nothing waits, and never after the writer failed
+  abbrev pub IsPrompt : Result (Option Line) LineFault → Type 0
+  IsPrompt (Ok line) = (new ≡ old) ⊎ (waits ≡ [])
+  IsPrompt (Err Read) = (new ≡ old) ⊎ (waits ≡ [])
+  IsPrompt (Err OutOfMemory) = (new ≡ old) ⊎ (waits ≡ [])
+  IsPrompt (Err Write) = new ≡ old

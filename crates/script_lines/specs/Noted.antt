@@ -7,11 +7,15 @@ use Rattle.script_lines.specs.declared.tape.History.TheVariants.{Nothing, Then}
 use Rattle.script_lines.specs.Device.{narrow_after}
 use Rattle.script_lines.specs.Tape.{Past, nothing_past}
 
+-- the past after one more call with this much room
+abbrev pub called : Past → ℕ → Past
+called p room = record p { calls = p.calls + 1; narrow = narrow_after p.narrow room }
+
 -- the past after one more response, to a call with this much room
 abbrev pub noted : Past → Answer → ℕ → Past
-noted p (Bytes bytes) room = record { bytes = p.bytes ++ bytes.now; ends = p.ends; failures = p.failures; calls = p.calls + 1; narrow = narrow_after p.narrow room }
-noted p End room = record { bytes = p.bytes; ends = p.ends + 1; failures = p.failures; calls = p.calls + 1; narrow = narrow_after p.narrow room }
-noted p Failure room = record { bytes = p.bytes; ends = p.ends; failures = p.failures + 1; calls = p.calls + 1; narrow = narrow_after p.narrow room }
+noted p (Bytes bytes) room = record (called p room) { bytes = p.bytes ++ bytes.now }
+noted p End room = record (called p room) { ends = p.ends + 1 }
+noted p Failure room = record (called p room) { failures = p.failures + 1 }
 
 -- the past of a history
 abbrev pub past_in : History → Past

@@ -1,4 +1,4 @@
-ghost use Rattle.std.specs.Prelude.{◌≡◌, ◌≢◌, ◌<◌, ◌≤◌, List, ℕ, [], true, false, length, IfOk, IsSome, Err, OnErr};
+ghost use Rattle.std.specs.Prelude.{◌≡◌, ◌≢◌, ◌<◌, ◌≤◌, ◌++◌, List, ℕ, [], true, false, length, IfOk, IsSome, Err, OnErr};
 
 use crate::at_hand::AtHand;
 use crate::buffer::new_buffer;
@@ -6,6 +6,7 @@ use crate::device::{Sink, Source};
 use crate::line::{Line, feed_at};
 use crate::line_fault::LineFault;
 use crate::output_buffer::OutputBuffer;
+use crate::source_in_turn::SourceInTurn;
 use std::alloc::{AllocError, Global};
 use std::marker::Model;
 
@@ -43,8 +44,8 @@ impl Model for InputBuffer {
 impl InputBuffer {
     ghost use Rattle.script_lines.specs.Unread.{nothing_read, skipped, emptied, weight};
     ghost use Rattle.script_lines.specs.AtHand.{IsAtHand, Filled};
-    ghost use Rattle.script_lines.specs.Device.{Takes};
-    ghost use Rattle.script_lines.specs.Lines.{LineRead, PassedOn, IsPrompt};
+    ghost use Rattle.script_lines.specs.Device.{Told, Takes};
+    ghost use Rattle.script_lines.specs.Lines.{LineRead, IsPartRead, PassedOn, IsPrompt};
     ghost use Rattle.script_lines.specs.declared.line.TheConstants.{MAX_LINE};
 
     /// Creates an empty buffer, for a reader that may be called [`MAX_READS`] times.
@@ -149,21 +150,6 @@ impl InputBuffer {
         }
     }
 
-    // Reads the next chunk. No output may wait, so that the other side has seen all output that it
-    // responds to.
-    fn fill_in_turn<S: Source>(
-        &mut self,
-        source: &mut S,
-        output: &OutputBuffer,
-    ) -> Result<(), LineFault>
-        requires used { self.old.bytes ≡ [] }
-        requires nothing_waits { output.now ≡ [] }
-        ensures { Filled (S.tape source.old) (S.tape source.new) self.old self.new result }
-    {
-        prove!(output.is_empty());
-        self.fill(source)
-    }
-
     /// Returns the next line, if nobody waits for a reply to the lines before it. Like
     /// [`InputBuffer::next_line`], but writes nothing.
     ///
@@ -194,19 +180,21 @@ impl InputBuffer {
     /// times.
     ///
     /// Before each call of the reader, all waiting output in `output` is written. So the other end
-    /// of a pipe has every reply before the script goes on.
+    /// of a pipe has every reply before the script goes on, and the reader may forbid all calls
+    /// before that.
     ///
     /// # Errors
     ///
     /// - `Read` if the reader failed in this call, or may not be called again.
     /// - `Write` if the waiting output could not be written. The writer has taken a front of it.
     /// - `OutOfMemory` if memory for the line is refused.
-    pub fn next_line<S: Source, W: Sink>(
+    pub fn next_line<S: SourceInTurn<W>, W: Sink>(
         &mut self,
         source: &mut S,
         output: &mut OutputBuffer,
         writer: &mut W,
     ) -> Result<Option<Line>, LineFault>
+        requires in_turn { (to : Told) → IsPartRead (S.tape source.old) to self.old → S.may_read to ((W.tape writer.old).bytes ++ output.old) }
         ensures bounds { (MAX_LINE ≡ 16777216) × (MAX_READS ≡ 1099511627776) }
         ensures line { LineRead (S.tape source.old) (S.tape source.new) self.old self.new result }
         ensures passed_on { PassedOn (W.tape writer.old) (W.tape writer.new) output.old output.new result }
@@ -222,7 +210,7 @@ impl InputBuffer {
                 AtHand::Part(longer) => longer,
             };
             output.flush(writer).map_err(|_| LineFault::Write)?;
-            self.fill_in_turn(source, output)?;
+            source.fill(self, writer)?;
         }
     }
 }

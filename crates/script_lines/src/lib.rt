@@ -12,6 +12,7 @@ mod line;
 mod line_fault;
 mod output_buffer;
 mod slice_source;
+mod source_in_turn;
 mod tape;
 
 pub use at_hand::AtHand;
@@ -22,3 +23,4 @@ pub use line::{Line, MAX_LINE};
 pub use line_fault::LineFault;
 pub use output_buffer::{OUTPUT_BUFFER_SIZE, OutputBuffer};
 pub use slice_source::SliceSource;
+pub use source_in_turn::SourceInTurn;

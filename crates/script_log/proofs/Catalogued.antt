@@ -26,14 +26,16 @@ none-push (x ∷ done) r none other = (none.0, none-push done r none.1 other)
 other-push : (done : List LogRecord) (r : LogRecord) (last : Option (ℕ × List ℕ)) → IsLastCatalogue done last → is_catalogue r ≡ false → IsLastCatalogue (done ++ r ∷ []) last
 other-push done r None none other = none-push done r none other
 other-push done r (Some found) C other = record {
-  before = C.before;
-  entry = C.entry;
-  others = C.others ++ r ∷ [];
-  split = sym (append_assoc C.before (C.entry ∷ C.others) (r ∷ [])) ∙ ap (λ (rs : List LogRecord). rs ++ r ∷ []) C.split;
-  place = C.place;
+  at = record {
+    before = C.at.before;
+    entry = C.at.entry;
+    others = C.at.others ++ r ∷ [];
+    split = sym (append_assoc C.at.before (C.at.entry ∷ C.at.others) (r ∷ [])) ∙ ap (λ (rs : List LogRecord). rs ++ r ∷ []) C.at.split;
+    place = C.at.place;
+  };
   mark = C.mark;
   text_is = C.text_is;
-  last = none-push C.others r C.last other;
+  last = none-push C.at.others r C.last other;
   in_history = catalogue-append [] done (r ∷ []) ∙ ap (λ (v : Bool). if v then r.line else last_catalogue [] done) other ∙ C.in_history;
 }
 
@@ -52,11 +54,7 @@ walked-catalogue records rest r last number W mark place = record {
   done = W.done ++ r ∷ [];
   split = append_assoc W.done (r ∷ []) rest ∙ W.split;
   found = record {
-    before = W.done;
-    entry = r;
-    others = [];
-    split = refl;
-    place = place;
+    at = record { before = W.done; entry = r; others = []; split = refl; place = place };
     mark = mark;
     text_is = refl;
     last = tt;

@@ -9,11 +9,11 @@ use Rattle.script_lines.specs.declared.line_fault.LineFault.TheVariants as line_
 use Rattle.script_lines.specs.Cut.{whole_lines}
 use Rattle.script_lines.specs.Device.{Told}
 use Rattle.script_lines.specs.Unread.{Unread}
-use Rattle.script_lines.specs.Lines.{LineRead, complete_lines, lines_since}
+use Rattle.script_lines.specs.Lines.{LineRead, IsPartRead, complete_lines, lines_since}
 use Rattle.script_lines.proofs.Following.{Following, follow_none, follow_next, follow_so_far, follow_short, follow_all, follow_fault}
 use Rattle.script_log.specs.Runs.{History, answering, Answering, after_all, replies, records_of_line, history_of}
 use Rattle.script_log.specs.Hosts.{Account, account}
-use Rattle.script_log.specs.Reading.{Reading, reading, IsPartRead, MayReadInTurn}
+use Rattle.script_log.specs.Reading.{Reading, reading, MayReadInTurn}
 use Rattle.script_log.specs.InTurn.{IsCutShort, IsCutShortIf}
 use Rattle.script_log.specs.Covered.{Covered}
 use Rattle.script_log.specs.Passing.{Standing, Passing, IsPassedOn}
@@ -125,11 +125,13 @@ module _ (keeps : History → List ℕ → Bool) (reply : History → List ℕ �
         record {
           done = G.done;
           answered = steady-answered keeps reply records heard G.done s1 (steady-passed keeps reply records heard G.done s s1 G.steady on);
-          wants = left.wants;
-          one = left.one;
-          others = left.others;
-          split = ap (λ (ls : List (List ℕ)). G.done ++ ls) (sym left.whole ∙ ap whole_lines (sym short.split)) ∙ sym lines;
-          at_hand = (left.last.0, left.last.1 ∙ ap (λ (b : Bool). complete_lines b q.bytes) (sym short.running));
+          left = record {
+            wants = left.wants;
+            one = left.one;
+            others = left.others;
+            split = ap (λ (ls : List (List ℕ)). G.done ++ ls) (sym left.whole ∙ ap whole_lines (sym short.split)) ∙ sym lines;
+            at_hand = (left.last.0, left.last.1 ∙ ap (λ (b : Bool). complete_lines b q.bytes) (sym short.running));
+          };
         }
 
     -- memory was refused for the reply to a line that was cut off
@@ -141,11 +143,13 @@ module _ (keeps : History → List ℕ → Bool) (reply : History → List ℕ �
         record {
           done = G.done;
           answered = steady-answered keeps reply records heard G.done s1 (steady-passed keeps reply records heard G.done s s1 G.steady on);
-          wants = cut.0 ∷ [];
-          one = omega arith;
-          others = others;
-          split = sym (append_assoc G.done (cut.0 ∷ []) others) ∙ sym (lines-at-hand start next before q (G.done ++ cut.0 ∷ []) cut.2);
-          at_hand = ([], refl);
+          left = record {
+            wants = cut.0 ∷ [];
+            one = omega arith;
+            others = others;
+            split = sym (append_assoc G.done (cut.0 ∷ []) others) ∙ sym (lines-at-hand start next before q (G.done ++ cut.0 ∷ []) cut.2);
+            at_hand = ([], refl);
+          };
         }
 
     -- what was answered when there is no next line

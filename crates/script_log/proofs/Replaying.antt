@@ -50,11 +50,7 @@ module _ (keeps : History → List ℕ → Bool) (reply : History → List ℕ �
   pub replayed-not : (catalogue : List ℕ) (records rest : List LogRecord) (r : LogRecord) (stands later : History → Type 0) (number : ℕ) (R : Replayed catalogue records (r ∷ rest) stands)
       → AnswersAlike keeps reply (replayed catalogue R.done) r later false → number ≡ length R.done → IsOtherReply keeps reply catalogue records number
   replayed-not catalogue records rest r stands later number R differs place = record {
-    before = R.done;
-    entry = r;
-    others = rest;
-    split = R.split;
-    place = place;
+    at = record { before = R.done; entry = r; others = rest; split = R.split; place = place };
     alike = R.alike;
     differs = differs;
   }

@@ -1,7 +1,6 @@
 -- A line that grows while what waits is passed on.
-use Rattle.std.proofs.Common.{◌≡◌, inl, inr, ℕ, List, [], ◌++◌, ◌||◌, ◌==◌, true, false, Option, Some, None, Ok, Err, refl, sym, ◌∙◌, ap, subst, append_assoc}
+use Rattle.std.proofs.Common.{◌≡◌, inl, inr, ℕ, List, [], ◌++◌, true, false, Option, Some, None, Ok, Err, refl, sym, ◌∙◌, ap, subst, append_assoc}
 use Rattle.std.proofs.lemmas.Bool.{false≢true, false_from_ne_true}
-use Rattle.std.proofs.lemmas.List.Folds.{list_any-append}
 use Rattle.std.proofs.lemmas.List.{append-nil}
 use Rattle.log_host.specs.Host.{LeavesOnly}
 use Rattle.durable_log.specs.Logs.{records_of, waiting_in, IsSettled}
@@ -12,14 +11,13 @@ use Rattle.script_lines.specs.declared.line_fault.LineFault.{LineFault}
 use Rattle.script_lines.specs.declared.line_fault.LineFault.TheVariants as line_faults
 use Rattle.script_lines.specs.declared.at_hand.AtHand.TheVariants as given
 use Rattle.script_lines.specs.Device.{Told}
-use Rattle.script_lines.specs.Cut.{has_feed}
 use Rattle.script_lines.specs.Unread.{Unread, emptied}
 use Rattle.script_lines.specs.AtHand.{IsLast, IsAtHand, Filled}
-use Rattle.script_lines.specs.Lines.{LineRead}
-use Rattle.script_lines.proofs.Growing.{Growing, grew, found, failed}
+use Rattle.script_lines.specs.Lines.{LineRead, IsPartRead}
+use Rattle.script_lines.proofs.Growing.{Growing, grew, found, failed, part_read}
 use Rattle.script_log.specs.Passing.{Standing, standing, Passing, IsPassedOn}
 use Rattle.script_log.specs.Hosts.{Hosting, state_of, GoesOn}
-use Rattle.script_log.specs.Reading.{reading, IsPartRead}
+use Rattle.script_log.specs.Reading.{reading}
 use Rattle.script_log.specs.Faults.{line_result, is_broken, all_records, HasBroken}
 use Rattle.script_log.specs.InTurn.{HasRoom, IsCutShort, IsCutShortIf, LineInTurn}
 use Rattle.script_log.specs.declared.fault.RunFault.{RunFault}
@@ -102,16 +100,6 @@ line-short old now before mid grown G running = record {
   running = running;
 }
 
--- no line is whole so far
-line-part : (old now : Told) (before mid : Unread) (grown : Line) → Growing old now before mid grown → mid.ended ≡ false → has_feed mid.bytes ≡ false → IsPartRead old now before
-line-part old now before mid grown G running clean = record {
-  more = G.more;
-  told = G.told;
-  no_feed = ap has_feed G.bytes ∙ list_any-append (λ b. b == 10) G.line mid.bytes ∙ ap (λ b. b || has_feed mid.bytes) G.no_feed ∙ clean;
-  running = false_from_ne_true before.ended (λ e. false≢true (sym running ∙ G.still e));
-  going = G.going running;
-}
-
 -- passing on loses no byte that was heard or waits
 heard-all : (a b : Standing) → IsPassedOn a b → b.heard ++ b.text ≡ a.heard ++ a.text
 heard-all a b (inl same) = ap (λ (s : Standing). s.heard ++ s.text) same
@@ -154,7 +142,7 @@ module _ {D : Type 0} (d : Hosting D) where
       → d.heard log1.host ≡ d.heard log.host ++ out → ((to : Told) → IsPartRead start to p → may_read to (d.heard log0.host ++ out0)) → may_read now (d.heard log1.host)
   asks-more start now p q q1 part longer log0 log log1 out0 out may_read T t told may =
       subst (λ (h : List ℕ). may_read now h) (sym (told ∙ heard-all (standing d.seen d.heard log0 out0) (standing d.seen d.heard log out) T.passed_on))
-      (may now (line-part start now p q part T.growing t.0 t.2))
+      (may now (part_read start now p q part T.growing t.0 t.2))
 
   pub turn-line : (start now : Told) (p q q' : Unread) (part line : Line) (log0 log : Log D) (out0 out : List ℕ) → Turning start now p q part log0 log out0 out → IsAtHand part q q' (given.Line line)
       → LineInTurn d (reading start now p q') log0 log out0 out (Ok (Some line))
@@ -235,7 +223,7 @@ module _ {D : Type 0} (d : Hosting D) where
   turn-failed start now next p q q1 q' part longer log0 log log1 out0 out out1 e T t leaves later on settled room filled =
       let F = subst (λ (u : Unread). Filled now next u q' (Err e)) t.1 filled in
       record {
-        line = failed start now next p q q' part T.growing t.2 t.0 F.err F.err_ended F.going F.later F.calls F.cause.1;
+        line = failed start now next p q q' part T.growing t.2 t.0 F.err.told F.err.ended F.ends.going F.ends.later F.calls F.err.cause;
         wants = tt;
         settled = λ _. settled;
         room = λ _ _. room;
@@ -252,7 +240,7 @@ module _ {D : Type 0} (d : Hosting D) where
   turn-on start now next p q q1 q' part longer log0 log log1 out0 out out1 T t leaves later on settled room filled =
       let F = subst (λ (u : Unread). Filled now next u q' (Ok tt)) t.1 filled in
       record {
-        growing = grew start now next p q q' part longer T.growing t.2 t.0 t.3 F.ok F.ended F.going F.later F.calls F.quiet F.fewer F.small;
+        growing = grew start now next p q q' part longer T.growing t.2 t.0 t.3 F.ok.told F.ok.ended F.ends.going F.ends.later F.calls F.ok.quiet F.ok.fewer F.ok.small;
         settled = settled;
         room = λ _. room;
         passed_on = passed-two (standing d.seen d.heard log0 out0) (standing d.seen d.heard log out) (standing d.seen d.heard log1 out1) T.passed_on on;

@@ -76,7 +76,7 @@ module _ {D : Type 0} (d : Hosting D) (keeps : History → List ℕ → Bool) (r
   full-whole now file (Err faults.Read) whole answered full = (lines_in x, [], append-nil (lines_in x), subst (λ (rs : List LogRecord). IsFullWith rs file) answered.records_are full)
   full-whole now file (Err faults.Write) whole answered full = absurd (false≢true (sym whole))
   full-whole now file (Err (faults.Log fault)) whole answered full = absurd (false≢true (sym whole))
-  full-whole now file (Err faults.OutOfMemory) whole w full = (w.done, w.wants ++ w.others, w.split, subst (λ (rs : List LogRecord). IsFullWith rs file) w.answered.records_are full)
+  full-whole now file (Err faults.OutOfMemory) whole w full = (w.done, w.left.wants ++ w.left.others, w.left.split, subst (λ (rs : List LogRecord). IsFullWith rs file) w.answered.records_are full)
 
   -- why what waits could not be passed on
   stopped-cause : (mid log1 : Log D) (out : List ℕ) (result : Result Unit RunFault) (f : RunFault) → SoFar mid out result → has_broken result ≡ false
@@ -161,11 +161,13 @@ ran-nothing d keeps reply stands r p log settled none = record {
     answered = record {
       done = [];
       answered = record { records_are = sym (append-nil (records_of (d.seen log.host))); heard_is = sym (append-nil (d.heard log.host)) };
-      wants = [];
-      one = omega arith;
-      others = complete_lines p.ended p.bytes;
-      split = sym (lines-begun r p);
-      at_hand = ([], refl);
+      left = record {
+        wants = [];
+        one = omega arith;
+        others = complete_lines p.ended p.bytes;
+        split = sym (lines-begun r p);
+        at_hand = ([], refl);
+      };
     };
     ended = tt;
     cause = tt;

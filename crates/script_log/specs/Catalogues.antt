@@ -1,8 +1,8 @@
 -- The catalogues among the records of a log.
-use Rattle.std.specs.Prelude.{ℕ, ◌≡◌, List, [], ◌∷◌, ◌++◌, length, true, false, Option, Some, None}
+use Rattle.std.specs.Prelude.{ℕ, ◌≡◌, List, [], ◌∷◌, true, false, Option, Some, None}
 use Rattle.std.specs.Borrow.{Bor}
 use Rattle.durable_log.specs.Format.{LogRecord}
-use Rattle.script_log.specs.Runs.{is_catalogue, last_catalogue}
+use Rattle.script_log.specs.Runs.{is_catalogue, last_catalogue, IsRecordAt}
 
 -- record 0 is a catalogue
 abbrev pub BeginsWithCatalogue : List LogRecord → Type 0
@@ -16,14 +16,10 @@ HasNoCatalogue (r ∷ records) = (is_catalogue r ≡ false) × HasNoCatalogue re
 
 -- the record with this number, counted from 0, is the last catalogue and has this text
 pub record IsCatalogueAt (records : List LogRecord) (number : ℕ) (text : List ℕ) : Type 0 where
-  pub before : List LogRecord
-  pub entry : LogRecord
-  pub others : List LogRecord
-  pub split : before ++ entry ∷ others ≡ records
-  pub place : number ≡ length before
-  pub mark : is_catalogue entry ≡ true
-  pub text_is : entry.line ≡ text
-  pub last : HasNoCatalogue others
+  pub at : IsRecordAt records number
+  pub mark : is_catalogue at.entry ≡ true
+  pub text_is : at.entry.line ≡ text
+  pub last : HasNoCatalogue at.others
   -- it is the catalogue of the records' history
   pub in_history : last_catalogue [] records ≡ text
 

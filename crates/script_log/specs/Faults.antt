@@ -75,11 +75,12 @@ abbrev pub IsFullBy : Answering → List LogRecord → List (List ℕ) → List 
 IsFullBy e records lines file = (done : List (List ℕ)) × (others : List (List ℕ)) × (done ++ others ≡ lines)
     × IsFullWith (records ++ records_of_lines e.keeps e.reply (history_of records) done) file
 
--- the reason why a run ended: the reader failed, or may not be called again; or the listener or the file
--- failed since the run's begin, or the file is full
-abbrev pub HasCause : Answering → State → Reading → State → RunFault → Type 0
-HasCause e old x new faults.Read = HasReadFault x
-HasCause e old x new faults.Write = old.listener_faults < new.listener_faults
-HasCause e old x new (faults.Log commits.Failed) = old.file_faults < new.file_faults
-HasCause e old x new (faults.Log commits.Full) = IsFullBy e (records_of old.file) (lines_in x) new.file
-HasCause e old x new faults.OutOfMemory = Unit {0}
+module _ (e : Answering) (old : State) (x : Reading) (new : State) where
+  -- the reason why a run ended: the reader failed, or may not be called again; or the listener or the file
+  -- failed since the run's begin, or the file is full
+  abbrev pub HasCause : RunFault → Type 0
+  HasCause faults.Read = HasReadFault x
+  HasCause faults.Write = old.listener_faults < new.listener_faults
+  HasCause (faults.Log commits.Failed) = old.file_faults < new.file_faults
+  HasCause (faults.Log commits.Full) = IsFullBy e (records_of old.file) (lines_in x) new.file
+  HasCause faults.OutOfMemory = Unit {0}

@@ -26,13 +26,14 @@ pub record IsCutShort (bytes : List ℕ) (before left : Unread) : Type 0 where
   pub begun : before.ended ≡ false
   pub running : left.ended ≡ false
 
--- if memory was refused for a line, the bytes behind its part are at hand
-abbrev pub IsCutShortIf : List ℕ → Unread → Unread → Result (Option Line) RunFault → Type 0
-IsCutShortIf bytes before left (Ok line) = Unit {0}
-IsCutShortIf bytes before left (Err faults.Read) = Unit {0}
-IsCutShortIf bytes before left (Err faults.Write) = Unit {0}
-IsCutShortIf bytes before left (Err (faults.Log fault)) = Unit {0}
-IsCutShortIf bytes before left (Err faults.OutOfMemory) = IsCutShort bytes before left
+module _ (bytes : List ℕ) (before left : Unread) where
+  -- if memory was refused for a line, the bytes behind its part are at hand
+  abbrev pub IsCutShortIf : Result (Option Line) RunFault → Type 0
+  IsCutShortIf (Ok line) = Unit {0}
+  IsCutShortIf (Err faults.Read) = Unit {0}
+  IsCutShortIf (Err faults.Write) = Unit {0}
+  IsCutShortIf (Err (faults.Log fault)) = Unit {0}
+  IsCutShortIf (Err faults.OutOfMemory) = IsCutShort bytes before left
 
 -- the next line was cut off, and meanwhile nothing was done except passing on the waiting records and replies
 pub record LineInTurn {D : Type 0} (d : Hosting D) (x : Reading) (log log' : Log D) (out out' : List ℕ) (result : Result (Option Line) RunFault) : Type 0 where

@@ -1,7 +1,6 @@
 -- The reading of lines in a run.
-use Rattle.std.specs.Prelude.{ℕ, ◌≡◌, ◌⊎◌, ◌+◌, List, ◌++◌, true, false}
-use Rattle.script_lines.specs.Cut.{has_feed}
-use Rattle.script_lines.specs.Device.{Told, Tells}
+use Rattle.std.specs.Prelude.{ℕ, ◌≡◌, ◌⊎◌, ◌+◌, List, ◌++◌, true}
+use Rattle.script_lines.specs.Device.{Told}
 use Rattle.script_lines.specs.Unread.{Unread}
 use Rattle.script_lines.specs.Lines.{HasEnded, lines_since}
 use Rattle.script_log.specs.Runs.{Answering, replies, history_of}
@@ -28,14 +27,6 @@ HasReadAll x = (x.before.ended ≡ true) ⊎ HasEnded x.from x.to
 -- the reader failed, or may not be called again
 abbrev pub HasReadFault : Reading → Type 0
 HasReadFault x = (x.to.failures ≡ x.from.failures + 1) ⊎ ((x.to.failures ≡ x.from.failures) × (x.left.reads_left ≡ 0))
-
--- the reader delivered more, and no line is whole so far
-pub record IsPartRead (from to : Told) (before : Unread) : Type 0 where
-  pub more : List ℕ
-  pub told : Tells from to more
-  pub no_feed : has_feed (before.bytes ++ more) ≡ false
-  pub running : before.ended ≡ false
-  pub going : to.ends ≡ from.ends
 
 -- THE LISTENER HAS CAUGHT UP with the reader: it has heard the replies to all lines that were delivered whole,
 -- and nothing else

@@ -1,5 +1,5 @@
 -- The replies of an engine to lines, and the records of these lines in its log.
-use Rattle.std.specs.Prelude.{ℕ, ◌==◌, List, [], ◌∷◌, ◌++◌, Bool, if◌then◌else◌}
+use Rattle.std.specs.Prelude.{ℕ, ◌≡◌, ◌==◌, List, [], ◌∷◌, ◌++◌, length, Bool, if◌then◌else◌}
 use Rattle.durable_log.specs.Format.{LogRecord, check_of}
 use Rattle.script_log.specs.declared.mark.TheConstants.{CATALOGUE_MARK, OPERATION_MARK}
 
@@ -64,3 +64,11 @@ last_catalogue known (r ∷ records) = last_catalogue (if is_catalogue r then r.
 -- the history of records: the last catalogue, and the lines of all other records
 abbrev pub history_of : List LogRecord → History
 history_of records = record { catalogue = last_catalogue [] records; lines = kept_lines records }
+
+-- one of the records, with its number, counted from 0
+pub record IsRecordAt (records : List LogRecord) (number : ℕ) : Type 0 where
+  pub before : List LogRecord
+  pub entry : LogRecord
+  pub others : List LogRecord
+  pub split : before ++ entry ∷ others ≡ records
+  pub place : number ≡ length before

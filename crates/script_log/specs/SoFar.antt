@@ -35,9 +35,13 @@ abbrev pub history_past : {D : Type 0} → Hosting D → Answering → Log D →
 history_past d e log x = after_all e.keeps (history_in d log) (lines_in x)
 
 module _ {D : Type 0} (d : Hosting D) (e : Answering) (stands : History → Type 0) (x : Reading) (log log' : Log D) where
+  -- the run comes to this result if the waiting records and replies are passed on
+  abbrev pub RunsSoFar : List ℕ → Result Unit RunFault → Type 0
+  RunsSoFar output result = RunsTo e (state_of d log.host) x (account_due d log' output) (state_of d log'.host) result
+
   -- the lines that were delivered have had their replies after the waiting records and replies are passed on
   pub record RanSoFar (output : List ℕ) (result : Result Unit RunFault) : Type 0 where
-    pub run : RunsTo e (state_of d log.host) x (account_due d log' output) (state_of d log'.host) result
+    pub run : RunsSoFar output result
     pub crashes : AreCovered d log log' output result (CoveredSince d e x log)
     pub goes_on : GoesOn d log.host log'.host
     pub settled : UnlessBroken result (IsSettledNow d log')

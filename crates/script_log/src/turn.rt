@@ -3,8 +3,9 @@ ghost use Rattle.std.specs.Prelude.{◌<◌, ◌++◌, IsSome, IfOk};
 ghost use Rattle.durable_log.specs.Logs.{IsSettled};
 ghost use Rattle.script_lines.specs.Device.{Told};
 ghost use Rattle.script_lines.specs.Unread.{weight};
+ghost use Rattle.script_lines.specs.Lines.{IsPartRead};
 ghost use Rattle.script_log.specs.Hosts.{hosting};
-ghost use Rattle.script_log.specs.Reading.{reading, IsPartRead};
+ghost use Rattle.script_log.specs.Reading.{reading};
 ghost use Rattle.script_log.specs.InTurn.{LineInTurn};
 
 use crate::fault::RunFault;

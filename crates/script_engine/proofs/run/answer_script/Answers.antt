@@ -1,6 +1,5 @@
-use Rattle.std.proofs.Common.{◌≡◌, ◌∙◌, ap, sym, subst, Some, Err, List, ℕ, []}
+use Rattle.std.proofs.Common.{◌≡◌, ◌∙◌, ap, sym, subst, Some, []}
 use Rattle.script_lines.specs.Tape.{nothing_past, told_in_memory, held_by}
-use Rattle.script_engine.specs.declared.fault.EngineFault.TheVariants.{Read}
 use Rattle.script_engine.specs.Ran.{Ran, RanInMemory}
 use Rattle.script_engine.proofs.InMemory.{ran_in_memory, is_long}
 use Rattle.script_engine.proofs.run.answer_script.Goals as goal

@@ -40,7 +40,7 @@ returns-in_err-fill-clause-line g c =
     let r = err_from_is_err_and c.from_residual-in_err-fill.result c.from_residual-in_err-fill.ensures.1 in
     let all = c.in_ok-commit_and_tell.ensures in
     let filled = c.in_err-fill.ensures in
-    rw (r.1, r.2, filled.cause.0) (turn-failed (hosting g.H.Host.seen g.H.Host.heard g.H.Host.may_leave g.H.Host.moment g.H.Host.left_since g.H.Host.origin g.H.Host.file_faults g.H.Host.listener_faults) (g.R.Reader.tape c.args.source.now) (g.R.Reader.tape c.reads.source) (g.R.Reader.tape c.fill.new.self) c.args.input.now c.reads.input c.line_at_hand.new.self c.fill.new.input c.reads.part c.in-Part.longer c.args.log.now c.reads.log c.commit_and_tell.new.log c.args.output.now c.reads.output c.commit_and_tell.new.output _ c.reads.invariant t c.commit_and_tell.ensures.any_moment c.commit_and_tell.ensures.goes_on
+    rw (r.1, r.2, filled.err.fault_is) (turn-failed (hosting g.H.Host.seen g.H.Host.heard g.H.Host.may_leave g.H.Host.moment g.H.Host.left_since g.H.Host.origin g.H.Host.file_faults g.H.Host.listener_faults) (g.R.Reader.tape c.args.source.now) (g.R.Reader.tape c.reads.source) (g.R.Reader.tape c.fill.new.self) c.args.input.now c.reads.input c.line_at_hand.new.self c.fill.new.input c.reads.part c.in-Part.longer c.args.log.now c.reads.log c.commit_and_tell.new.log c.args.output.now c.reads.output c.commit_and_tell.new.output _ c.reads.invariant t c.commit_and_tell.ensures.any_moment c.commit_and_tell.ensures.goes_on
     (all-passed (hosting g.H.Host.seen g.H.Host.heard g.H.Host.may_leave g.H.Host.moment g.H.Host.left_since g.H.Host.origin g.H.Host.file_faults g.H.Host.listener_faults) c.reads.log c.commit_and_tell.new.log c.reads.output c.commit_and_tell.new.output all.records all.nothing_waits all.heard all.empty) all.settled all.room filled)
 
 pub reads-preserved : goal.reads-preserved
