@@ -17,5 +17,5 @@ pub use asked::Arguments;
 pub use command_line::arguments;
 pub use main_program::{
     DEVICE_FAILED, DONE, FAULTY_CATALOGUE, LOG_FAILED, LOG_REFUSED, OUT_OF_MEMORY, REFUSED,
-    program, refuse_words,
+    program, program_with_files, refuse_words,
 };

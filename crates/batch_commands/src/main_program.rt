@@ -13,7 +13,7 @@ use crate::logged::serve_logged;
 use crate::run::run_jobs;
 use crate::sink_writer::SinkWriter;
 use clap::error::Error;
-use file_host::{Disk, SystemDisk};
+use file_host::{Disk, NoDisk, SystemDisk};
 use script_engine::{Counted, EngineFault, Sink, Source, run_script};
 use std::alloc::Global;
 use std::fs::{File, Files};
@@ -144,7 +144,7 @@ fn tell_words<W: Sink, F: Write>(error: &Error, sink: &mut W, faults: &mut F) ->
 }
 
 /// Runs the command that the words ask for, over a disk, a reader and a writer that have made no
-/// call yet. Returns the exit status ([`program`]), and the disk and the writer as the calls left
+/// call yet. Returns the exit status ([`program_with_files`]), and the disk and the writer as the calls left
 /// them.
 pub fn serve<
     R: Threads + Wait + AllocGlobal + Sync,
@@ -180,6 +180,27 @@ pub fn serve<
     }
 }
 
+// Runs the program over a disk that has made no call yet.
+fn program_over<
+    R: Threads + Wait + AllocGlobal + Sync,
+    K: Disk + Drop,
+    D: Read + Drop,
+    W: Write + Drop,
+    F: Write,
+>(rt: &R, disk: K, words: &[&str], reader: D, writer: W, faults: &mut F) -> u8
+    requires fresh_disk { K.past disk ≡ [] }
+    ensures { (after : Devices) × IsServed (map (λ word. word.now) words.now)
+        (devices (told_by nothing_past (D.remaining reader)) (held_by nothing_past (W.contents writer)) []) after result }
+{
+    let mut source = Counted::new(reader);
+    let sink = Counted::new(writer);
+    let (status, disk, sink) = serve(rt, disk, words, &mut source, sink, faults);
+    drop(source);
+    drop(disk);
+    drop(sink);
+    status
+}
+
 /// Runs the program on the words that follow its name, and returns the exit status:
 ///
 /// - 0: success, also after a request for help, whose text is written to `writer`
@@ -187,11 +208,31 @@ pub fn serve<
 /// - 3: the catalogue was refused, and the line of its fault is written to `writer`
 /// - 4: a read or a write failed
 /// - 5: memory was refused
+/// - 6: the words ask for a log. It has no files: [`program_with_files`] opens logs
+///
+/// The text for standard error is written to `faults`.
+pub fn program<R: Threads + Wait + AllocGlobal + Sync, D: Read + Drop, W: Write + Drop, F: Write>(
+    rt: &R,
+    words: &[&str],
+    reader: D,
+    writer: W,
+    faults: &mut F,
+) -> u8
+    ensures { (after : Devices) × IsServed (map (λ word. word.now) words.now)
+        (devices (told_by nothing_past (D.remaining reader)) (held_by nothing_past (W.contents writer)) []) after result }
+{
+    program_over(rt, NoDisk::new(), words, reader, writer, faults)
+}
+
+/// Runs the program with the files of the runtime, as [`program`] does without them, and returns
+/// the exit status:
+///
+/// - 0 to 5: as [`program`]
 /// - 6: the file of a log failed
 /// - 7: a log was refused, and the line of its fault is written to `writer`
 ///
 /// The text for standard error is written to `faults`.
-pub fn program<
+pub fn program_with_files<
     R: Threads + Wait + AllocGlobal + Files<File = File> + Sync,
     D: Read + Drop,
     W: Write + Drop,
@@ -200,12 +241,6 @@ pub fn program<
     ensures { (after : Devices) × IsServed (map (λ word. word.now) words.now)
         (devices (told_by nothing_past (D.remaining reader)) (held_by nothing_past (W.contents writer)) []) after result }
 {
-    let mut source = Counted::new(reader);
-    let sink = Counted::new(writer);
     let disk = SystemDisk::new(rt, rt.alloc());
-    let (status, disk, sink) = serve(rt, disk, words, &mut source, sink, faults);
-    drop(source);
-    drop(disk);
-    drop(sink);
-    status
+    program_over(rt, disk, words, reader, writer, faults)
 }

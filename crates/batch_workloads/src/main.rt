@@ -30,7 +30,6 @@ use pool::pool;
 use script::Script;
 use std::alloc::Global;
 use std::env;
-use std::fs::{File, Files};
 use std::rt::Env;
 use std::sync::Wait;
 use std::thread::Threads;
@@ -59,7 +58,7 @@ fn words_of(name: &str) -> &[&str] {
 }
 
 /// Runs a workload, and prints its digest.
-fn run<R: Threads + Wait + AllocGlobal + Files<File = File> + Print + Sync>(
+fn run<R: Threads + Wait + AllocGlobal + Print + Sync>(
     rt: &R,
     name: &str,
     seed: u64,

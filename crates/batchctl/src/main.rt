@@ -1,7 +1,7 @@
 //! The program `batchctl`: runs a job repository from the command line.
 #![tactic(auto)]
 
-use batch_commands::{program, refuse_words};
+use batch_commands::{program_with_files, refuse_words};
 use std::fs::{File, Files};
 use std::io::{Input, Write};
 use std::process::ExitCode;
@@ -37,7 +37,7 @@ fn run_words<
     // If a standard stream is closed, the next file that is opened takes its descriptor. A folder
     // there fails as the closed stream does, but replies would overwrite a log there.
     let (input, output, others) = (open_root(rt), open_root(rt), open_root(rt));
-    let status = program(rt, words.as_slice(), rt.reader(), io::writer(rt), faults);
+    let status = program_with_files(rt, words.as_slice(), rt.reader(), io::writer(rt), faults);
     drop((input, output, others));
     Ok(status)
 }

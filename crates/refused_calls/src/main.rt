@@ -35,11 +35,10 @@ mod worlds;
 
 use anyhow::{Result, bail};
 use lines::{Line, Script, echoed};
-use std::env;
-use std::fs::{self, File};
-use std::rt::{Env, Files};
+use std::rt::Env;
 use std::sync::Wait;
 use std::thread::Threads;
+use std::{env, fs};
 
 /// The script that runs if no other one is named.
 const EXAMPLE: &str = "example";
@@ -107,7 +106,7 @@ fn run_other<R: Wait + Print + AllocGlobal>(
     }
 }
 
-fn run_kind<R: Threads + Wait + Files<File = File> + Print + AllocGlobal + Sync>(
+fn run_kind<R: Threads + Wait + Print + AllocGlobal + Sync>(
     rt: &R,
     kind: &str,
     script: Script<'_>,

@@ -4,8 +4,6 @@ use anyhow::Result;
 use batch_commands::{arguments, program};
 use clap::Error;
 use std::alloc::Global;
-use std::fs::File;
-use std::rt::Files;
 use std::sync::Wait;
 use std::thread::Threads;
 
@@ -58,7 +56,7 @@ fn tell_run(rt: &impl Print, status: u8, faults: Vec<u8>, written: Vec<u8>) -> R
 }
 
 /// Runs the program on the lines of a script. Returns whether it had the memory for it.
-pub(crate) fn run_program<R: Threads + Wait + Files<File = File> + Print + AllocGlobal + Sync>(
+pub(crate) fn run_program<R: Threads + Wait + Print + AllocGlobal + Sync>(
     rt: &R,
     script: Script<'_>,
 ) -> Result<bool> {

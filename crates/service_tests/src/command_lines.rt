@@ -1,7 +1,6 @@
 use crate::flaky::{FlakyReader, FlakyWriter};
 use batch_commands::{program, refuse_words};
 use std::alloc::{AllocError, Global};
-use std::fs::{File, Files};
 use std::io::{Error, ErrorKind, Read};
 use std::sync::Wait;
 use std::test::Fail;
@@ -38,7 +37,7 @@ fn joined(alloc: Global, pieces: &[&str], count: usize) -> Result<String, AllocE
 
 /// Checks whether a fault of a device ends the program with this line on standard error and with
 /// this output.
-fn tells<R: Threads + Wait + AllocGlobal + Files<File = File> + Sync, D: Read + Drop>(
+fn tells<R: Threads + Wait + AllocGlobal + Sync, D: Read + Drop>(
     rt: &R,
     word: &str,
     reader: D,
@@ -58,7 +57,7 @@ fn tells<R: Threads + Wait + AllocGlobal + Files<File = File> + Sync, D: Read + 
 
 /// Checks whether the program reports a reader that fails after `good_calls` calls, with this
 /// output.
-fn tells_read_fault<R: Threads + Wait + AllocGlobal + Files<File = File> + Sync>(
+fn tells_read_fault<R: Threads + Wait + AllocGlobal + Sync>(
     rt: &R,
     word: &str,
     input: &[u8],
@@ -78,7 +77,7 @@ fn tells_read_fault<R: Threads + Wait + AllocGlobal + Files<File = File> + Sync>
 
 /// Checks whether the program reports a writer that fails after some calls, with this output. Each
 /// call takes a limited number of bytes.
-fn tells_write_fault<R: Threads + Wait + AllocGlobal + Files<File = File> + Sync>(
+fn tells_write_fault<R: Threads + Wait + AllocGlobal + Sync>(
     rt: &R,
     word: &str,
     input: &[u8],
@@ -100,7 +99,7 @@ fn tells_write_fault<R: Threads + Wait + AllocGlobal + Files<File = File> + Sync
 
 /// Checks whether the program reports a fault of the reader at each call. The reply to the last
 /// line is written after the reader has reported it whole.
-fn tells_each_read_fault<R: Threads + Wait + AllocGlobal + Files<File = File> + Sync>(
+fn tells_each_read_fault<R: Threads + Wait + AllocGlobal + Sync>(
     rt: &R,
     word: &str,
     input: &[u8],
@@ -116,7 +115,7 @@ fn tells_each_read_fault<R: Threads + Wait + AllocGlobal + Files<File = File> + 
 
 /// Checks whether the program reports a fault of the writer at each call, if each call takes one
 /// byte.
-fn tells_each_write_fault<R: Threads + Wait + AllocGlobal + Files<File = File> + Sync>(
+fn tells_each_write_fault<R: Threads + Wait + AllocGlobal + Sync>(
     rt: &R,
     word: &str,
     input: &[u8],
@@ -133,7 +132,7 @@ fn tells_each_write_fault<R: Threads + Wait + AllocGlobal + Files<File = File> +
 
 /// Checks whether the program reports a fault of the writer at each call, if each call takes a
 /// whole piece.
-fn tells_each_lost_piece<R: Threads + Wait + AllocGlobal + Files<File = File> + Sync>(
+fn tells_each_lost_piece<R: Threads + Wait + AllocGlobal + Sync>(
     rt: &R,
     word: &str,
     input: &[u8],
