@@ -75,6 +75,8 @@ class Access:
     def __init__(self, settings: ServeSettings) -> None:
         self._path = settings.tokens
         self._tokens = read_tokens(settings.tokens) if settings.tokens else None
+        if (settings.certificate is None) != (settings.certificate_key is None):
+            raise SettingsRefused("--certificate and --certificate-key belong together: one of them is missing")
         if is_loopback(settings.host):
             return
         if self._tokens is None:

@@ -3,12 +3,11 @@
 from __future__ import annotations
 
 import asyncio
-import ctypes
-import json
 import os
-import re
 import signal
-from collections.abc import Mapping
+import socket
+import sys
+from collections.abc import Mapping, Sequence
 from contextlib import suppress
 from dataclasses import dataclass
 from pathlib import Path
@@ -17,9 +16,9 @@ from typing import Any
 from job_host.artifact_output import ExitFile, FirstLine, NoExitStatus, Tail, exit_status
 
 KILL_SECONDS = 5.0
-PARAMETER = re.compile(r"[A-Za-z_][A-Za-z0-9_]*")
-PR_SET_PDEATHSIG = 1
-LIBC = ctypes.CDLL(None, use_errno=True)
+SUPERVISOR_SECONDS = 1.0
+SUPERVISOR = Path(__file__).with_name("supervisor.py")
+ANSWER_BYTES = 64
 
 
 class NoArtifact(Exception):
@@ -38,61 +37,133 @@ def is_stoppable(folder: Path, name: str) -> bool:
     return (folder / f"{name}.stoppable").exists()
 
 
-def environment(claimed: Mapping[str, Any], more: Mapping[str, str] | None = None) -> dict[str, str]:
-    """What an artifact finds in its environment, beside that of the worker.
+class Artifact:
+    """An executable that runs under a supervisor (supervisor.py): what it has started ends with it, and with this process."""
 
-    Parameters are one object of JSON. One whose name is a word is a variable of its own, too.
+    def __init__(self, supervisor: asyncio.subprocess.Process, control: socket.socket, process_id: int) -> None:
+        self._supervisor = supervisor
+        self._control = control
+        self._process_id = process_id
+        self._ending = asyncio.ensure_future(self._hear_end())
+        self.stdin, self.stdout, self.stderr = supervisor.stdin, supervisor.stdout, supervisor.stderr
+
+    async def _hear_end(self) -> int:
+        """What the supervisor says at its end. One that was killed says nothing."""
+        with self._control:
+            word, code = await hear(self._control)
+        if word != "ended":
+            code = -int(signal.SIGKILL)
+            kill_group(self._process_id)
+        await end_of(self._supervisor)
+        return code
+
+    async def wait(self) -> int:
+        """Waits until nothing is left of it. Returns its exit code, or the number of a signal with a minus in front."""
+        return await asyncio.shield(self._ending)
+
+    def terminate(self) -> None:
+        """Sends SIGTERM to the artifact and what it has started."""
+        if self._control.fileno() >= 0:
+            # Not by the process: it would look for the status itself, and take it from who waits for it.
+            with suppress(ProcessLookupError):
+                os.kill(self._supervisor.pid, signal.SIGTERM)
+
+    async def kill(self) -> None:
+        """Ends it: by SIGTERM, and after some seconds by SIGKILL."""
+        self.terminate()
+        await asyncio.wait([self._ending], timeout=KILL_SECONDS)
+        if not self._ending.done():
+            with suppress(OSError):
+                self._control.shutdown(socket.SHUT_WR)
+            await self.wait()
+
+
+async def hear(control: socket.socket) -> tuple[str, int]:
+    """What a supervisor says next: a word and a number. It is no word after the supervisor's end."""
+    word, _, number = (await asyncio.get_running_loop().sock_recv(control, ANSWER_BYTES)).decode().partition(" ")
+    return word, int(number or "0")
+
+
+def kill_group(process_id: int) -> None:
+    with suppress(ProcessLookupError, PermissionError):
+        os.killpg(process_id, signal.SIGKILL)
+
+
+async def end_of(supervisor: asyncio.subprocess.Process) -> None:
+    """Waits for its end, but not for long: a process that can't be killed may keep its outputs open."""
+    with suppress(asyncio.TimeoutError):
+        await asyncio.wait_for(supervisor.wait(), SUPERVISOR_SECONDS)
+
+
+@dataclass(frozen=True)
+class Program:
+    """An executable, its working directory and its environment. Its files are removed after it, if their worker can't do so."""
+
+    path: Path
+    folder: Path
+    variables: Mapping[str, str]
+    files: Sequence[Path]
+    has_input: bool = False
+
+
+async def spawn(program: Program) -> Artifact:
+    """Starts an executable in a session of its own, under a supervisor. Raises OSError if it can't be started.
+
+    If it is cancelled, the executable is started all the same, and then killed: nothing of it is left behind.
     """
-    work, parameters = claimed["work"], claimed.get("jobParameters", {})
-    told = {
-        "BATCH_JOB": claimed.get("jobName", ""),
-        "BATCH_INSTANCE": str(claimed.get("instanceId", "")),
-        "BATCH_EXECUTION": str(work["execution"]),
-        "BATCH_STEP": work["element"],
-        "BATCH_WORK": str(work["work"]),
-        "BATCH_PARAMETERS": json.dumps(parameters),
-        **(more or {}),
-    }
-    if "partition" in work:
-        told["BATCH_PARTITION"] = str(work["partition"])
-    told |= {f"BATCH_PARAMETER_{name}": value for name, value in parameters.items() if PARAMETER.fullmatch(name)}
-    return {**os.environ, **{name: value for name, value in told.items() if "\0" not in value}}
+    starting = asyncio.ensure_future(start(program))
+    try:
+        return await asyncio.shield(starting)
+    except asyncio.CancelledError:
+        with suppress(OSError):
+            await (await starting).kill()
+        raise
 
 
-def die_with_worker() -> None:
-    """In the child: the kernel kills it when the worker's thread ends, so that no artifact outlives its work item's worker."""
-    LIBC.prctl(PR_SET_PDEATHSIG, signal.SIGKILL, 0, 0, 0)
+async def start(program: Program) -> Artifact:
+    ours, theirs = socket.socketpair(socket.AF_UNIX, socket.SOCK_SEQPACKET)
+    ours.setblocking(False)
+    try:
+        with theirs:
+            supervisor = await start_supervisor(theirs.fileno(), program)
+        try:
+            return Artifact(supervisor, ours, await hear_start(ours, program.path))
+        except OSError:
+            await end_of(supervisor)
+            raise
+    except OSError:
+        ours.close()
+        raise
 
 
-async def spawn(path: Path, folder: Path, variables: dict[str, str], has_input: bool) -> asyncio.subprocess.Process:
-    """Starts an executable in a process group of its own. Raises OSError if it can't be started."""
+async def hear_start(control: socket.socket, path: Path) -> int:
+    """The process id of an executable that was started. Raises OSError if it wasn't."""
+    _, process_id = await hear(control)
+    word, number = await hear(control)
+    if word == "started":
+        return process_id
+    if word == "fault":
+        raise OSError(number, os.strerror(number), str(path))
+    if process_id:
+        kill_group(process_id)
+    raise OSError(f"{path}: its supervisor has ended")
+
+
+async def start_supervisor(control: int, program: Program) -> asyncio.subprocess.Process:
     pipe = asyncio.subprocess.PIPE
+    words = ["-I", "-S", str(SUPERVISOR), str(control), str(program.path), *map(str, program.files)]
     return await asyncio.create_subprocess_exec(
-        str(path),
-        stdin=pipe if has_input else asyncio.subprocess.DEVNULL,
+        sys.executable,
+        *words,
+        stdin=pipe if program.has_input else asyncio.subprocess.DEVNULL,
         stdout=pipe,
         stderr=pipe,
-        env=variables,
-        cwd=str(folder),
+        env=program.variables,
+        cwd=str(program.folder),
+        pass_fds=(control,),
         start_new_session=True,
-        preexec_fn=die_with_worker,
         limit=2**24,
     )
-
-
-def send_signal(process: asyncio.subprocess.Process, number: int) -> None:
-    """Sends a signal to the artifact and what it has started."""
-    if process.returncode is None:
-        with suppress(ProcessLookupError):
-            os.killpg(process.pid, number)
-
-
-async def kill(process: asyncio.subprocess.Process) -> None:
-    send_signal(process, signal.SIGTERM)
-    with suppress(asyncio.TimeoutError):
-        await asyncio.wait_for(process.wait(), KILL_SECONDS)
-    send_signal(process, signal.SIGKILL)
-    await process.wait()
 
 
 @dataclass(frozen=True)

@@ -24,8 +24,8 @@ class Call:
     """A command of a client.
 
     `resolve` gives members that a query tells. With `wait`, a claim that is answered Nothing is made again until so many
-    seconds are over, or until the client is gone. With `is_once` the key is for all clients, as long as the job instance that
-    the call made is there. A refusal isn't kept then.
+    seconds are over, or until the client is gone. That answer isn't kept: a claim by the same key is a new one. With `is_once`
+    the key is for all clients, as long as the job instance that the call made is there. A refusal isn't kept then.
     """
 
     client: str
@@ -37,7 +37,6 @@ class Call:
     log: str | None = None
     wait: float = 0.0
     is_gone: Callable[[], bool] = nobody_left
-    keeps_nothing: bool = True
     is_once: bool = False
 
 
@@ -106,7 +105,7 @@ class Item:
             return False
         if self.call.is_once:
             return is_accepted(self.reply)
-        return self.call.keeps_nothing or not self.reply.startswith(b'{"nothing":')
+        return not self.reply.startswith(b'{"nothing":')
 
     @property
     def key_session(self) -> int:

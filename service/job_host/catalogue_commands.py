@@ -19,7 +19,7 @@ from job_host.catalogue_text import laid_out, one_line, plain
 from job_host.catalogue_tree import count_elements
 from job_host.lines import compact
 from job_host.settings import find_batchctl
-from job_host.terminal import printable
+from job_host.printable import printable
 
 ACCEPTED, REFUSED, WRONG_WORDS = 0, 1, 2
 STANDARD_INPUT = "-"

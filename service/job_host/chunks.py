@@ -15,8 +15,9 @@ from pathlib import Path
 from typing import Any
 
 from job_host import artifacts
+from job_host.artifact_environment import ParametersFile, environment
 from job_host.artifact_output import Tail, drain
-from job_host.artifacts import Ended, NoArtifact
+from job_host.artifacts import Artifact, Ended, NoArtifact, Program
 
 CHECKPOINT_BYTES = 65_536
 CLOSE_SECONDS = 10.0
@@ -32,18 +33,18 @@ class Fault(Exception):
 class Part:
     """A reader, a processor or a writer: one process."""
 
-    def __init__(self, name: str, process: asyncio.subprocess.Process, tail: Tail) -> None:
+    def __init__(self, name: str, artifact: Artifact, tail: Tail) -> None:
         self._name = name
-        self.process = process
-        self._errors = asyncio.get_running_loop().create_task(drain(process.stderr, tail.stream()))
+        self._artifact = artifact
+        self._errors = asyncio.get_running_loop().create_task(drain(artifact.stderr, tail.stream()))
 
     async def ask(self, do: str, **members: Any) -> dict[str, Any]:
         """Sends one line, and returns the answer."""
-        assert self.process.stdin is not None and self.process.stdout is not None
+        assert self._artifact.stdin is not None and self._artifact.stdout is not None
         try:
-            self.process.stdin.write(json.dumps({"do": do, **members}, separators=(",", ":")).encode() + b"\n")
-            await self.process.stdin.drain()
-            line = await self.process.stdout.readline()
+            self._artifact.stdin.write(json.dumps({"do": do, **members}, separators=(",", ":")).encode() + b"\n")
+            await self._artifact.stdin.drain()
+            line = await self._artifact.stdout.readline()
         except (OSError, ValueError) as fault:
             raise Fault(f"{self._name}: {do}: {fault}") from fault
         if not line:
@@ -63,11 +64,11 @@ class Part:
 
     async def close(self) -> None:
         """Ends its input. A part that doesn't end by itself is killed."""
-        if self.process.stdin is not None:
-            self.process.stdin.close()
+        if self._artifact.stdin is not None:
+            self._artifact.stdin.close()
         with suppress(asyncio.TimeoutError):
-            await asyncio.wait_for(self.process.wait(), CLOSE_SECONDS)
-        await artifacts.kill(self.process)
+            await asyncio.wait_for(self._artifact.wait(), CLOSE_SECONDS)
+        await self._artifact.kill()
         await self._errors
 
 
@@ -81,6 +82,7 @@ class Chunk:
         self._tail = tail
         self._report = report
         self.parts: dict[str, Part] = {}
+        self._parameters: ParametersFile | None = None
         self.stop_asked = False
         self._is_at_end = False
         self._writer_keeps_marks = False
@@ -99,7 +101,11 @@ class Chunk:
             return Ended("FAILED", None, {"ROLLBACK_COUNT": 1})
 
     async def close(self) -> None:
-        await asyncio.gather(*(part.close() for part in self.parts.values()))
+        try:
+            await asyncio.gather(*(part.close() for part in self.parts.values()))
+        finally:
+            if self._parameters is not None:
+                self._parameters.remove()
 
     async def _open(self) -> None:
         """Starts all three, and opens the writer first: the reader goes on at the writer's mark if that keeps one."""
@@ -122,10 +128,12 @@ class Chunk:
         """Looks up all names before the first process is started."""
         names = {use: self._work[use] for use in ("reader", "processor", "writer") if self._work[use] is not None}
         paths = {use: artifacts.find(self._folder, name) for use, name in names.items()}
-        variables = artifacts.environment(self._claimed)
+        self._parameters = ParametersFile(self._claimed)
+        variables = environment(self._claimed, self._parameters.variables(), self._tail.say)
         for use, path in paths.items():
-            process = await artifacts.spawn(path, self._folder, variables, has_input=True)
-            self.parts[use] = Part(names[use], process, self._tail)
+            program = Program(path, self._folder, variables, [self._parameters.path], has_input=True)
+            artifact = await artifacts.spawn(program)
+            self.parts[use] = Part(names[use], artifact, self._tail)
 
     async def _groups(self) -> Ended:
         """Group by group, until the reader ends or a stop is asked for."""

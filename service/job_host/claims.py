@@ -5,7 +5,7 @@ from __future__ import annotations
 import asyncio
 from collections import deque
 from collections.abc import Awaitable, Callable
-from dataclasses import dataclass, field, replace
+from dataclasses import dataclass, field
 
 from job_host.calls import Call, Item, Kept
 from job_host.problems import Problem
@@ -37,6 +37,7 @@ class ClaimDesk:
         self._begin = begin
         self._waiting: deque[Waiter] = deque()
         self._withdrawn: dict[tuple[str, str | None], None] = {}
+        self._failure: Exception | None = None
         self._wake = asyncio.Event()
 
     def wake(self) -> None:
@@ -60,7 +61,9 @@ class ClaimDesk:
 
     async def claim(self, call: Call) -> Kept:
         """Waits for work. After `call.wait` seconds a last claim is made, and its reply counts."""
-        waiter = Waiter(replace(call, keeps_nothing=False))
+        if self._failure is not None:
+            raise self._failure
+        waiter = Waiter(call)
         self._waiting.append(waiter)
         self.wake()
         await asyncio.wait([waiter.served], timeout=call.wait)
@@ -94,6 +97,10 @@ class ClaimDesk:
         try:
             item = await self._begin(waiter.call)
             reply = await item.heard
+        except asyncio.CancelledError:
+            # The term ends: whoever waits is told by `fail`, which may have come already.
+            self._put_back(waiter)
+            raise
         except Exception as problem:
             waiter.served.set_exception(problem)
             return True
@@ -105,10 +112,18 @@ class ClaimDesk:
         elif waiter.is_late:
             waiter.served.set_result(None)
         else:
-            self._waiting.appendleft(waiter)
+            self._put_back(waiter)
         return False
 
+    def _put_back(self, waiter: Waiter) -> None:
+        if self._failure is not None:
+            waiter.served.set_exception(self._failure)
+        else:
+            self._waiting.appendleft(waiter)
+
     def fail(self, problem: Exception) -> None:
+        """Ends the desk: whoever waits, or comes later, is answered the problem."""
+        self._failure = problem
         while self._waiting:
             waiter = self._waiting.popleft()
             if not waiter.served.done():

@@ -4,6 +4,7 @@ from __future__ import annotations
 
 import asyncio
 import json
+import random
 import ssl
 import time
 import uuid
@@ -21,6 +22,7 @@ from job_host.requests import AT_LEAST, CLIENT, REQUEST_KEY
 PAUSE = 0.2
 LONGEST_PAUSE = 2.0
 ASK_SECONDS = 30.0
+CONNECT_SECONDS = 5.0
 # Statuses of an instance that can't answer now, though another one may, or it itself later.
 PASSING = (408, 425, 429, 502, 503, 504)
 # Problems of status 503 that don't pass.
@@ -34,6 +36,7 @@ class Refused(Exception):
         self.status = status
         self.name = str(document.get("title", status))
         self.detail = str(document.get("detail", ""))
+        self.leader = str(document.get("leader") or "")
         super().__init__(f"{self.name}: {self.detail}" if self.detail else self.name)
 
 
@@ -63,26 +66,28 @@ class Client:
         self._address = address
         self._note = note
         self._seen = 0
+        self._urls = [url.rstrip("/") for url in address.urls]
         self._place = 0
-        self._session: aiohttp.ClientSession | None = None
+        self._sessions: list[aiohttp.ClientSession] = []
 
     async def __aenter__(self) -> Client:
         headers = {CLIENT: self._address.client, **self._address.headers}
         if self._address.token is not None:
             headers["Authorization"] = f"Bearer {self._address.token}"
         tls = ssl.create_default_context(cafile=self._address.authority) if self._address.authority else None
-        connector = aiohttp.TCPConnector(ssl=tls, limit=0) if tls else aiohttp.TCPConnector(limit=0)
-        self._session = aiohttp.ClientSession(headers=headers, connector=connector)
+        for force_close in (False, True):
+            connector = aiohttp.TCPConnector(ssl=tls if tls else True, limit=0, force_close=force_close)
+            self._sessions.append(aiohttp.ClientSession(headers=headers, connector=connector))
         return self
 
     async def __aexit__(
         self, kind: type[BaseException] | None, fault: BaseException | None, trace: TracebackType | None
     ) -> None:
-        if self._session is not None:
-            await self._session.close()
+        while self._sessions:
+            await self._sessions.pop().close()
 
     async def read(self, path: str) -> Any:
-        return await self._until_answered("GET", path, None, None, 0.0, self._address.patience)
+        return await self._until_answered("GET", path, None, None, 0.0, self._address.patience, ASK_SECONDS)
 
     async def operate(
         self,
@@ -92,35 +97,51 @@ class Client:
         wait: float = 0.0,
         patience: float | None = None,
         key: str | None = None,
+        attempt: float = ASK_SECONDS,
     ) -> Any:
-        """Makes one operation, by one request key for all attempts, so that it is made once. `wait` is how long it may poll."""
-        longest = self._address.patience if patience is None else patience
-        return await self._until_answered(method, path, body, uuid.uuid4().hex if key is None else key, wait, longest)
+        """Makes one operation, by one request key for all attempts, so that it is made once.
 
-    async def _until_answered(self, method: str, path: str, body: Any, key: str | None, wait: float, patience: float) -> Any:
-        deadline, pause, fault = time.monotonic() + patience + wait, PAUSE, "nothing was tried"
+        `wait` is for how many seconds it may poll, and `attempt` for how many more one attempt lasts.
+        """
+        longest = self._address.patience if patience is None else patience
+        return await self._until_answered(method, path, body, uuid.uuid4().hex if key is None else key, wait, longest, attempt)
+
+    async def _until_answered(
+        self, method: str, path: str, body: Any, key: str | None, wait: float, patience: float, attempt: float
+    ) -> Any:
+        deadline, pause, fault, is_again = time.monotonic() + patience + wait, PAUSE, "nothing was tried", False
         while True:
+            tried, leader = self._place, ""
             try:
-                return await self._once(method, path, body, key, wait)
+                return await self._once(method, path, body, key, wait, attempt, is_again)
             except Refused as refused:
                 if refused.status not in PASSING or refused.name in LASTING:
                     raise
-                fault = str(refused)
+                fault, leader = str(refused), refused.leader
             except (aiohttp.ClientError, asyncio.TimeoutError, OSError) as failed:
                 fault = f"{type(failed).__name__} {failed}"
             if time.monotonic() + pause > deadline:
                 raise Unreachable(f"{method} {path}: {fault}")
             self._note(f"asks again, {method} {path}: {fault}")
-            self._place += 1
-            await asyncio.sleep(pause)
+            self._go_on_from(tried, leader.rstrip("/"))
+            is_again = True
+            await asyncio.sleep(pause * random.uniform(0.5, 1.0))
             pause = min(pause * 1.5, LONGEST_PAUSE)
 
-    async def _once(self, method: str, path: str, body: Any, key: str | None, wait: float) -> Any:
-        assert self._session is not None
+    def _go_on_from(self, tried: int, leader: str) -> None:
+        """Goes on to the leader, if it is one of the instances, else to the next one. Another call may have done so."""
+        if self._place == tried:
+            self._place = self._urls.index(leader) if leader in self._urls else (tried + 1) % len(self._urls)
+
+    async def _once(
+        self, method: str, path: str, body: Any, key: str | None, wait: float, attempt: float, is_again: bool
+    ) -> Any:
+        """Asks one instance. A second attempt has a connection of its own, since a kept one may be cut without a word."""
         headers = {AT_LEAST: str(self._seen)} if key is None else {REQUEST_KEY: key}
-        url = self._address.urls[self._place % len(self._address.urls)].rstrip("/") + path
-        limit = aiohttp.ClientTimeout(total=ASK_SECONDS + wait, sock_connect=5.0)
-        async with self._session.request(method, url, json=body, headers=headers, timeout=limit) as response:
+        url = self._urls[self._place] + path
+        limit = aiohttp.ClientTimeout(total=attempt + wait, sock_connect=min(CONNECT_SECONDS, attempt))
+        session = self._sessions[is_again]
+        async with session.request(method, url, json=body, headers=headers, timeout=limit) as response:
             text = await response.text()
             if response.status >= 400:
                 raise Refused(response.status, document_of(text))

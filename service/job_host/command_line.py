@@ -4,13 +4,13 @@ from __future__ import annotations
 
 import argparse
 import asyncio
-import logging
 import sys
 from collections.abc import Sequence
 from pathlib import Path
 
 from job_host import catalogue_commands, commands, options
 from job_host.options import Subcommands
+from job_host.printable import begin_log
 from job_host.settings import DEFAULT_PORT, ServeSettings, find_batchctl
 from job_host.versions import ShowVersion
 
@@ -26,6 +26,8 @@ def add_serve(subcommands: Subcommands[argparse.ArgumentParser]) -> None:
     add("--catalogue", type=Path, required=True, metavar="FILE", help=catalogue)
     data = "the folder of the history, if it isn't in PostgreSQL (default: %(default)s)"
     add("--data", type=Path, default=Path("jobhost-data"), metavar="DIR", help=data)
+    restored = "go on though the log and the store beside it are of different copies: request keys may not be known any more"
+    add("--restored", action="store_true", help=restored)
     postgres = "a PostgreSQL server that may be the primary; the option may come several times (default: none, and --data)"
     add("--postgres", action="append", default=[], metavar="DSN", help=postgres)
     batchctl = "the program batchctl (default: JOBHOST_BATCHCTL, else the path's, else this clone's)"
@@ -61,6 +63,7 @@ def run_serve(given: argparse.Namespace) -> int:
         catalogue=given.catalogue,
         batchctl=find_batchctl(given.batchctl),
         data=given.data,
+        restored=given.restored,
         postgres=tuple(given.postgres),
         host=given.host,
         port=given.port,
@@ -91,7 +94,7 @@ def add_worker(subcommands: Subcommands[argparse.ArgumentParser]) -> None:
 def run_worker(given: argparse.Namespace) -> int:
     from job_host.worker import work, worker_address
 
-    logging.basicConfig(level=logging.WARNING, format="%(asctime)s jobhost worker: %(message)s")
+    begin_log("jobhost worker")
     if not given.artifacts.is_dir() or not 1 <= given.slots <= MOST_SLOTS:
         print(f"jobhost worker: --artifacts is a folder, and --slots 1 to {MOST_SLOTS}", file=sys.stderr)
         return 2

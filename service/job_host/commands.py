@@ -18,7 +18,8 @@ from rich.live import Live
 
 from job_host.client import Address, Client, Refused, Unreachable, read_token, urls_of
 from job_host.lines import fingerprint
-from job_host.terminal import execution_table, instance_table, parameter_words, plain, work_table
+from job_host.printable import printable, printable_lines
+from job_host.terminal import execution_table, instance_table, parameter_words, plain, plain_lines, work_table
 
 UNFINISHED = ("STARTING", "STARTED", "STOPPING")
 # Exit statuses of `--wait`.
@@ -62,7 +63,7 @@ async def wait_for_end(client: Client, execution: int) -> int:
     """Waits until a job execution is finished, and returns the exit status that stands for its batch status."""
     while (told := await execution_of(client, execution))["batchStatus"] in UNFINISHED:
         await asyncio.sleep(POLL)
-    print(f"job execution {execution} is {told['batchStatus']}, exit status {told['exitStatus']}")
+    print(printable(f"job execution {execution} is {told['batchStatus']}, exit status {told['exitStatus']}"))
     return STATUS[told["batchStatus"]]
 
 
@@ -173,7 +174,7 @@ async def show_failed(client: Client, console: Console, one: dict[str, Any]) -> 
         steps = {logs[-1]["stepName"]: "FAILED"}
     for name, exit_status in steps.items():
         console.print(plain(f"  step {name}: exit status {exit_status}"))
-        console.print(plain("".join(f"    {line}\n" for line in last_lines(logs, name))), end="")
+        console.print(plain_lines("".join(f"    {line}\n" for line in last_lines(logs, name))), end="")
     console.print(plain(f"  jobhost restart {number}"))
 
 
@@ -183,7 +184,7 @@ def last_lines(logs: list[dict[str, Any]], step: str) -> list[str]:
 
 
 async def show_log(client: Client, given: argparse.Namespace) -> int:
-    sys.stdout.write(await client.read(f"/batch/jobexecutions/{given.execution}/joblogs?type=text"))
+    sys.stdout.write(printable_lines(await client.read(f"/batch/jobexecutions/{given.execution}/joblogs?type=text")))
     return 0
 
 
@@ -217,7 +218,7 @@ def run(command: Command, given: argparse.Namespace) -> int:
     try:
         return asyncio.run(call())
     except (Refused, Unreachable, ValueError, OSError) as fault:
-        print(f"jobhost: {fault}", file=sys.stderr)
+        print(printable(f"jobhost: {fault}"), file=sys.stderr)
         return 1
     except KeyboardInterrupt:
         return 130

@@ -7,19 +7,25 @@ from __future__ import annotations
 
 import asyncio
 import logging
-import time
+from collections import deque
 from typing import Any, cast
 
 from aiohttp import web
 from aiohttp.web_protocol import RequestHandler
 
+from job_host.seldom import seldom
 from job_host.settings import Bounds
 
 IDLE_SECONDS = 75.0
 LINGERING_SECONDS = 1.0
 # So many connections above the bound are answered a refusal.
 SURPLUS = 64
-SELDOM_SECONDS = 60.0
+# So many requests of one connection wait for their turn, or twice as many: then no more is read of it.
+WAITING_REQUESTS = 16
+# What may have many requests is read in parts of so many bytes. Each request has this word.
+PART_BYTES = 512
+VERSION_WORD = b"HTTP/"
+BAD_REQUEST = b"HTTP/1.1 400 Bad Request\r\nContent-Length: 0\r\nConnection: close\r\n\r\n"
 log = logging.getLogger(__name__)
 # aiohttp writes a trace for what is no HTTP, by which any client could fill the log. The service logs its own failures.
 QUIET = logging.getLogger("job_host.http")
@@ -29,7 +35,7 @@ QUIET.setLevel(logging.CRITICAL)
 class GuardedHandler(RequestHandler):
     """A connection that is dropped if a request, or the taking of an answer, makes no way for some seconds."""
 
-    __slots__ = ("_guard", "_bounds", "_begun", "_is_served", "_unsent", "_stuck_since", "is_surplus")
+    __slots__ = ("_guard", "_bounds", "_begun", "_is_served", "_unsent", "_stuck_since", "_unread", "_is_held", "is_surplus")
 
     def __init__(self, manager: GuardedServer, bounds: Bounds, **given: Any) -> None:
         super().__init__(manager, **given)
@@ -39,15 +45,13 @@ class GuardedHandler(RequestHandler):
         self._is_served = False
         self._unsent = 0
         self._stuck_since: float | None = None
+        self._unread: deque[bytes] = deque()
+        self._is_held = False
         self.is_surplus = False
 
     def connection_made(self, transport: asyncio.BaseTransport) -> None:
         super().connection_made(transport)
-        surplus = cast(GuardedServer, self._manager).surplus()
-        self.is_surplus = surplus > 0
-        if surplus > SURPLUS:
-            cast(asyncio.Transport, transport).abort()
-            return
+        self.is_surplus = cast(GuardedServer, self._manager).has_begun(self) > 0
         self._begun = self._loop.time()
         self._watch()
 
@@ -59,7 +63,49 @@ class GuardedHandler(RequestHandler):
     def data_received(self, data: bytes) -> None:
         if self._begun is None and not self._is_served:
             self._begun = self._loop.time()
-        super().data_received(data)
+        if data.count(VERSION_WORD) <= WAITING_REQUESTS:
+            self._unread.append(data)
+        else:
+            self._unread.extend(data[place : place + PART_BYTES] for place in range(0, len(data), PART_BYTES))
+        self._read_on()
+
+    def _read_on(self) -> None:
+        """Reads what has come, as long as few requests wait. The rest waits unread, and no more is taken from the client."""
+        while self._unread and self.transport is not None and len(self._messages) < WAITING_REQUESTS and not self._upgrade:
+            try:
+                super().data_received(self._unread.popleft())
+            except ValueError:
+                self._refuse()
+        if self._unread:
+            self._is_held = True
+            self.pause_reading()
+        elif self._is_held:
+            self._is_held = False
+            self.resume_reading()
+
+    async def start(self) -> None:
+        """Serves the connection. aiohttp raises at some targets only when their turn comes."""
+        try:
+            await super().start()
+        except ValueError:
+            self._refuse()
+
+    def _refuse(self) -> None:
+        """Ends a connection with a request that aiohttp can't read, as one whose target is no URL."""
+        self._unread.clear()
+        if self.transport is not None and self._current_request is None and not self._messages:
+            self.transport.write(BAD_REQUEST)
+        self.force_close()
+
+    def resume_reading(self) -> None:
+        """A body that was read makes room for more of it, but not for more requests."""
+        if not self._is_held:
+            super().resume_reading()
+
+    async def finish_response(self, request: web.BaseRequest, resp: web.StreamResponse, start_time: float) -> bool:
+        is_reset = await super().finish_response(request, resp, start_time)
+        self._read_on()
+        return is_reset
 
     def note_served(self, is_served: bool) -> None:
         """The service has a request in hand, or has answered it."""
@@ -107,15 +153,33 @@ class GuardedServer(web.Server):
             logger=QUIET,
         )
         self._bounds = bounds
-        self._warned_at = time.monotonic() - SELDOM_SECONDS
+        self._begun: set[GuardedHandler] = set()
+        self._say = seldom(log.warning)
 
     def surplus(self) -> int:
-        """How many connections are above the bound. It says so once a minute."""
-        surplus = len(self.connections) - self._bounds.connections
-        if surplus > 0 and time.monotonic() - self._warned_at >= SELDOM_SECONDS:
-            self._warned_at = time.monotonic()
-            log.warning("%d connections are open: no more are served", self._bounds.connections)
+        """How many connections are above the bound, with those whose handshake lasts. It says so once a minute."""
+        surplus = len(self.connections) + len(self._begun) - self._bounds.connections
+        if surplus > 0:
+            self._say(f"{self._bounds.connections} connections are open: no more are served")
         return surplus
 
-    def __call__(self) -> RequestHandler:
+    def may_begin(self) -> bool:
+        """Whether one more connection is answered, be it a refusal."""
+        return self.surplus() < SURPLUS
+
+    def begin(self) -> GuardedHandler:
+        """A handler of a connection that was accepted. It counts from now on, until it is forgotten."""
+        handler = self()
+        self._begun.add(handler)
+        return handler
+
+    def forget(self, handler: GuardedHandler) -> None:
+        self._begun.discard(handler)
+
+    def has_begun(self, handler: GuardedHandler) -> int:
+        """A handler has its connection. Returns how many are above the bound."""
+        self.forget(handler)
+        return self.surplus()
+
+    def __call__(self) -> GuardedHandler:
         return GuardedHandler(self, self._bounds, loop=self._loop, **self._kwargs)

@@ -6,6 +6,7 @@ import asyncio
 import logging
 import os
 import signal
+import time
 from collections import deque
 from collections.abc import Callable, Sequence
 from contextlib import suppress
@@ -44,6 +45,7 @@ class CoProcess(asyncio.SubprocessProtocol):
         self._transport: asyncio.SubprocessTransport | None = None
         self._stdin: asyncio.WriteTransport | None = None
         self._errors = b""
+        self._heard_at = 0.0
         self.catalogue = b""
         self.has_ended = False
         self.ended: asyncio.Future[int | None] = asyncio.get_running_loop().create_future()
@@ -75,6 +77,7 @@ class CoProcess(asyncio.SubprocessProtocol):
 
     def pipe_data_received(self, fd: int, data: bytes | str) -> None:
         received = cast(bytes, data)
+        self._heard_at = time.monotonic()
         if fd == 2:
             self._errors = (self._errors + received)[-4096:]
             return
@@ -94,6 +97,11 @@ class CoProcess(asyncio.SubprocessProtocol):
             self._hearers.popleft()(None)
 
     @property
+    def silence(self) -> float:
+        """For how many seconds it has written nothing though a line waits for its reply."""
+        return time.monotonic() - self._heard_at if self._hearers else 0.0
+
+    @property
     def status(self) -> int | None:
         return self._transport.get_returncode() if self._transport else None
 
@@ -108,15 +116,25 @@ class CoProcess(asyncio.SubprocessProtocol):
         """The last of what it wrote on standard error."""
         return self._errors.decode("utf-8", "replace").strip()
 
+    def log_end(self) -> None:
+        """Logs that it has ended, if it has, though nobody wanted it to."""
+        if self.has_ended:
+            log.error("batchctl ended with status %s: %s", self.status, self.errors.rpartition("\n")[2] or "it wrote no reason")
+
     def _write(self, data: bytes) -> None:
         if self._stdin is not None and not self._stdin.is_closing():
             self._stdin.write(data)
+
+    def _begin_waiting(self) -> None:
+        if not self._hearers:
+            self._heard_at = time.monotonic()
 
     def send(self, line: bytes, hearer: Hearer) -> None:
         """Writes a line. Its reply goes to the hearer."""
         if self.has_ended:
             hearer(None)
             return
+        self._begin_waiting()
         self._hearers.append(hearer)
         self._write(line + b"\n")
 
@@ -125,6 +143,7 @@ class CoProcess(asyncio.SubprocessProtocol):
         if self.has_ended:
             hearer(None)
         elif lines:
+            self._begin_waiting()
             self._hearers.extend([hearer] * len(lines))
             self._write(b"\n".join(lines) + b"\n")
 

@@ -11,8 +11,8 @@ from contextlib import suppress
 from typing import Any, TypeVar
 
 from job_host import catalogue_growth, job_catalogue, log_file
-from job_host.beside_files import open_store
-from job_host.calls import Call, Item, Kept, KeptRequest, WorkLog
+from job_host.beside_files import STORE_NAME, open_store
+from job_host.calls import SERVICE_SESSION, Call, Item, Kept, KeptRequest, WorkLog
 from job_host.catalogue_check import NoVerdict
 from job_host.coprocess import CatalogueRefused, CoProcess, CoProcessEnded
 from job_host.engine import Engine
@@ -20,6 +20,7 @@ from job_host.follow_ups import follow_ups
 from job_host.keeper import Fatal, Keeper, check_catalogue, first_of
 from job_host.leases import Leases
 from job_host.lines import query, read
+from job_host.private_folder import make_private
 from job_host.problems import Problem, unavailable
 from job_host.sessions import Sessions
 from job_host.settings import ServeSettings
@@ -35,6 +36,8 @@ RETRY = 0.25
 # batchctl's exit status if it doesn't know its words.
 REFUSED_WORDS = 2
 PRUNE_SECONDS = 3_600.0
+# How many keys are dropped at a time, so that calls needn't wait for all.
+PRUNED = 5_000
 IN_USE_SECONDS = 10.0
 LOG_NAME = "history.log"
 
@@ -61,8 +64,10 @@ class EmbeddedTerm(Term):
         super().__init__(*others)
         self._beside = beside
         self._intents: list[tuple[Item, asyncio.Future[None]]] = []
+        self._taken: list[tuple[Item, asyncio.Future[None]]] = []
         self._intent_made = asyncio.Event()
         self._kept_sessions = set(self.sessions.numbers())
+        self._unkept: list[Item] = []
 
     async def find(self, session: int, key: str) -> KeptRequest | None:
         return await self._beside.do(lambda store: store.request(session, key))
@@ -91,22 +96,36 @@ class EmbeddedTerm(Term):
         while True:
             await self._intent_made.wait()
             self._intent_made.clear()
-            taken, self._intents = self._intents, []
-            await self._keep_intents([item for item, _ in taken])
-            for _, intended in taken:
-                intended.set_result(None)
+            self._taken, self._intents = self._intents, []
+            await self._keep_intents([item for item, _ in self._taken])
+            for _, intended in self._taken:
+                if not intended.done():
+                    intended.set_result(None)
+            self._taken = []
 
     async def _keep_intents(self, items: list[Item]) -> None:
         clients = self.sessions.take_fresh()
+        dropped, self._unkept = self._unkept, []
         try:
-            await self._beside.do(lambda store: store.intend(items, clients))
+            await self._beside.do(lambda store: store.intend(items, clients, dropped))
             self._kept_sessions.update(item.session for item in items)
         except Problem as problem:
             self.fail(problem)
 
+    def fail(self, problem: Problem) -> None:
+        """Ends the term. What is about to be handed over, or waits for that, never is."""
+        super().fail(problem)
+        for _, intended in [*self._taken, *self._intents]:
+            if not intended.done():
+                intended.set_exception(problem)
+                intended.exception()
+        self._taken, self._intents = [], []
+
     async def keep(self, items: Sequence[Item]) -> None:
         if any(item.is_keyed or item.log is not None or item.number == 1 for item in items):
             await self._beside.do(lambda store: store.answer(items))
+        # Their keys go with the next ones that come, so that a claim which finds no work costs one commit.
+        self._unkept += [item for item in items if item.call is not None and item.call.key is not None and not item.is_keyed]
 
 
 class EmbeddedKeeper(Keeper):
@@ -123,7 +142,7 @@ class EmbeddedKeeper(Keeper):
         self._closing = asyncio.Event()
 
     async def run(self) -> None:
-        self._settings.data.mkdir(parents=True, exist_ok=True)
+        make_private(self._settings.data)
         while not self._closing.is_set():
             try:
                 await self._serve_once()
@@ -145,7 +164,7 @@ class EmbeddedKeeper(Keeper):
         thread = ThreadPoolExecutor(1, "beside")
         store: SqliteStore | None = None
         try:
-            store = open_store(self._settings.data, log_file.beginning_of(self._log))
+            store = self._open_store()
             self._beside = Beside(store, thread)
             engine = Engine(process)
             self.engine = engine
@@ -159,6 +178,15 @@ class EmbeddedKeeper(Keeper):
             if store is not None:
                 store.close()
 
+    def _open_store(self) -> SqliteStore:
+        """The store beside the log. One that is damaged ends the service."""
+        try:
+            return open_store(self._settings.data, log_file.beginning_of(self._log))
+        except sqlite3.DatabaseError as fault:
+            if isinstance(fault, sqlite3.OperationalError):
+                raise
+            raise Fatal(f"{self._settings.data / STORE_NAME} is damaged: {fault}") from fault
+
     async def _end(self, process: CoProcess) -> None:
         """Lets the co-process end by itself, so that its log has a clean end; else it is killed."""
         with suppress(asyncio.TimeoutError):
@@ -166,17 +194,20 @@ class EmbeddedKeeper(Keeper):
         await process.close()
 
     async def _start(self) -> CoProcess:
-        """The co-process over its log. One that is still in use by a program that ends is waited for."""
-        kept = log_file.catalogue_of(self._log)
+        """The co-process over its log. One that is still in use by a program that ends is waited for.
+
+        batchctl looks at the file first. If it is whole and has the jobs in another order, they are put into that order.
+        """
         await check_catalogue(self._settings.batchctl, self._file)
-        catalogue = self._file if kept is None else job_catalogue.arranged(kept, self._file)
         words = [*self._settings.batchctl, "script", "--log", str(self._log)]
+        catalogue = self._file
         for _ in range(int(IN_USE_SECONDS / RETRY)):
             try:
                 return await CoProcess.start(words, catalogue)
             except CatalogueRefused as refused:
-                if kept is not None and catalogue_growth.other_job(refused.fault) is not None:
-                    await asyncio.to_thread(catalogue_growth.grown, self._settings.batchctl, kept, self._file)
+                if catalogue_growth.other_job(refused.fault) is not None:
+                    catalogue = await self._in_order(catalogue, refused)
+                    continue
                 if b"LogInUse" not in refused.fault:
                     raise Fatal(f"{self._log}: {refused}") from refused
             except CoProcessEnded as ended:
@@ -185,6 +216,17 @@ class EmbeddedKeeper(Keeper):
                 raise
             await asyncio.sleep(RETRY)
         raise Fatal(f"{self._log} is in use by another program")
+
+    async def _in_order(self, given: bytes, refused: CatalogueRefused) -> bytes:
+        """The catalogue in the order of the log's. Raises what it changes or drops if it was in this order before."""
+        kept = log_file.catalogue_of(self._log)
+        if kept is None:
+            raise Fatal(f"{self._log}: {refused}") from refused
+        arranged = job_catalogue.arranged(kept, self._file)
+        if arranged == given:
+            await asyncio.to_thread(catalogue_growth.grown, self._settings.batchctl, kept, self._file)
+            raise Fatal(f"{self._log}: {refused}") from refused
+        return arranged
 
     async def _replay(self, engine: Engine, store: SqliteStore) -> list[tuple[OpenRequest, Kept | None]]:
         """Replays the log in a program of its own. It tells which work items are busy, and the replies of open request keys."""
@@ -233,9 +275,10 @@ class EmbeddedKeeper(Keeper):
     async def _lead(self, engine: Engine, beside: Beside, settled: list[tuple[OpenRequest, Kept | None]]) -> None:
         for request, kept in settled:
             await beside.do(lambda store, one=request, what=kept: store.settle(one, what))  # type: ignore[misc]
-        await beside.do(lambda store: store.drop_unseen(engine.entered))
+        await self._match(engine, beside)
         self.history = await beside.do(lambda store: store.identity())
-        self._sessions = Sessions(await beside.do(lambda store: store.clients()), self._settings.bounds.clients)
+        clients = await beside.do(lambda store: store.clients())
+        self._sessions = Sessions(clients, self._settings.bounds.clients, engine.last_session)
         settings = TermSettings(self._settings.refuse_from)
         term = EmbeddedTerm(beside, engine, self._sessions, settings, self._observers)
         self.term, self.role, self.epoch = term, "leader", self.epoch + 1
@@ -246,12 +289,31 @@ class EmbeddedKeeper(Keeper):
             term.desk.serve(),
             self.leases.watch(term),
             self._prune(beside, term),
+            self.watch(engine),
         ]
         try:
             await first_of([*tasks, engine.process.wait(), self._closing.wait()])
         finally:
+            engine.process.log_end()
             self.role, self.term, self.engine = "starting", None, None
             term.fail(unavailable("Starting", "this instance ends, or begins again"))
+
+    async def _match(self, engine: Engine, beside: Beside) -> None:
+        """Refuses a log and a store of which one is an older copy, unless that is meant.
+
+        A store that lacks a client of the log would give its session to another one, and make a keyed call twice. A key whose
+        reply saw more operations than the log has would be answered by what isn't there.
+        """
+        clients, seen = await beside.do(lambda store: (store.last_session(), store.last_seen()))
+        told = ""
+        if engine.last_session > max(clients, SERVICE_SESSION):
+            told = f"the log has a client with number {engine.last_session}, and the store knows none above {clients}"
+        elif seen > engine.entered:
+            told = f"the store has replies that saw {seen} operations, and the log has {engine.entered}"
+        if told and not self._settings.restored:
+            cure = "put the other one of the same copy back, or go on by --restored: docs/SERVICE.md"
+            raise Fatal(f"{self._log} and {self._settings.data / STORE_NAME} don't belong together: {told}; {cure}")
+        await beside.do(lambda store: store.drop_unseen(engine.entered))
 
     async def _forget_names(self, beside: Beside, term: EmbeddedTerm) -> None:
         """Forgets client names that hold no work item and weren't heard for long."""
@@ -264,7 +326,8 @@ class EmbeddedKeeper(Keeper):
     async def _prune(self, beside: Beside, term: EmbeddedTerm) -> None:
         days = self._settings.bounds.days_of_keys
         while True:
-            await beside.do(lambda store: store.drop_old_keys(days))
+            while await beside.do(lambda store: store.drop_old_keys(days, PRUNED)):
+                pass
             once = await self.of_purged(await beside.do(lambda store: store.old_once(days)))
             await beside.do(lambda store, once=once: store.drop_once(once))  # type: ignore[misc]
             gone = await self.purged(await beside.do(lambda store: store.logged_executions()))
@@ -274,7 +337,7 @@ class EmbeddedKeeper(Keeper):
 
     async def reach(self, at_least: int) -> None:
         if at_least > self.reading().entered:
-            raise not_yet(at_least, self.operations)
+            raise not_yet(at_least, self.committed)
 
     async def logs(self, execution: int) -> list[WorkLog]:
         if self._beside is None:

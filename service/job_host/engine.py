@@ -50,6 +50,7 @@ class Engine:
         self.process = process
         self.entered = 0
         self.last_moment = 0
+        self.last_session = 0
         self.held: dict[int, Held] = {}
         self.ended_work = EndedWork()
         self.executions = ExecutionIndex(self)
@@ -76,6 +77,7 @@ class Engine:
         told = json.loads(line)
         do, moment = told["do"], int(told["at"])
         self.last_moment = max(self.last_moment, moment)
+        self.last_session = max(self.last_session, int(told["by"]))
         if do == "purge":
             self.executions.note_purged(told["instance"], self.entered)
         else:

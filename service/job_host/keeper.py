@@ -3,6 +3,7 @@
 from __future__ import annotations
 
 import asyncio
+import logging
 from abc import ABC, abstractmethod
 from collections.abc import AsyncIterator, Awaitable, Mapping, Sequence
 from contextlib import asynccontextmanager
@@ -18,7 +19,13 @@ from job_host.problems import Problem, of_refusal, unavailable
 from job_host.term import Term
 from job_host.work_items import Ended, Held
 
+log = logging.getLogger(__name__)
+
 QUERIES_AT_ONCE = 1_000
+# batchctl is asked something so often. If it is silent for longer, this instance isn't ready, and then batchctl is killed.
+ASK_SECONDS = 2.0
+SILENT_SECONDS = 10.0
+KILL_SECONDS = 60.0
 
 
 @dataclass(frozen=True)
@@ -69,8 +76,29 @@ class Keeper(ABC):
         """The names of these sessions, as far as they are known here."""
 
     @property
+    def is_ready(self) -> bool:
+        """Whether reads are answered here now: the history is here, and batchctl answers."""
+        return self.role != "starting" and self.engine is not None and self.engine.process.silence < SILENT_SECONDS
+
+    async def watch(self, engine: Engine) -> None:
+        """Asks batchctl something now and then, for ever. One that is silent for too long is killed."""
+        while True:
+            await asyncio.sleep(ASK_SECONDS)
+            if engine.process.silence >= KILL_SECONDS:
+                log.error("batchctl didn't answer for %.0f seconds, and is killed", engine.process.silence)
+                engine.process.kill()
+            elif engine.process.silence == 0.0:
+                engine.ask([query("status_counts")]).add_done_callback(lambda asked: asked.exception())
+
+    @property
     def operations(self) -> int:
+        """How many operations the co-process has, kept or not."""
         return self.engine.entered if self.engine is not None else 0
+
+    @property
+    def committed(self) -> int:
+        """How many operations are kept, which anybody may be told of. A follower reads none but those."""
+        return self.operations if self.term is None else self.term.committed
 
     def leading(self) -> Term:
         if self.term is None:
@@ -78,6 +106,11 @@ class Keeper(ABC):
                 raise unavailable("NotLeader", "another instance leads", leader=self.leader_url)
             raise unavailable("Starting", "the history isn't here yet")
         return self.term
+
+    def end_waits(self) -> None:
+        """Ends the claims that wait, as the service ends. They are made again by their keys, here or elsewhere."""
+        if self.term is not None:
+            self.term.desk.fail(unavailable("Starting", "this instance ends"))
 
     async def submit(self, call: Call) -> Kept:
         return await self.leading().submit(call)

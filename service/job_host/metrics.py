@@ -45,18 +45,21 @@ class Metrics:
 
     async def text(self, keeper: Keeper) -> bytes:
         """All metrics. The counts by batch status are asked for."""
-        self.operations.set(keeper.operations)
-        self.full.set(keeper.operations / MOST_OPERATIONS)
+        self.operations.set(keeper.committed)
+        self.full.set(keeper.committed / MOST_OPERATIONS)
         self.leads.set(1 if keeper.role == "leader" else 0)
         self.epoch.set(keeper.epoch)
-        self.held.set(len(keeper.engine.held) if keeper.engine else 0)
         self.waiting.set(keeper.term.desk.waiting if keeper.term else 0)
         self.takeover.set(keeper.last_takeover)
         self.executions.clear()
+        self.held.set(0)
+        held = len(keeper.engine.held) if keeper.engine else 0
         try:
             answers = await keeper.ask([query("status_counts")])
         except (Problem, CoProcessEnded):
             return generate_latest(self.registry)
+        # What was seen before this answer is kept.
+        self.held.set(held)
         for status, count in read(answers.replies[0])["counts"].items():
             self.executions.labels(status).set(count)
         return generate_latest(self.registry)

@@ -8,8 +8,8 @@ import os
 import socket
 import time
 import uuid
-from collections.abc import Sequence
-from contextlib import suppress
+from collections.abc import AsyncIterator, Sequence
+from contextlib import asynccontextmanager, suppress
 from typing import Any
 
 from job_host import catalogue_growth, job_catalogue
@@ -33,21 +33,20 @@ RETRY = 0.25
 # So many beats a leader has before another instance takes it for gone.
 BEATS = 5
 PRUNE_SECONDS = 3_600.0
+RESIGN_SECONDS = 1.0
+# How many keys are dropped at a time, so that calls needn't wait for all.
+PRUNED = 5_000
 
 
 class PostgresTerm(Term):
     """The rounds of one epoch."""
 
-    def __init__(self, store: PostgresStore, epoch: int, keys: set[int], *others: Any) -> None:
+    def __init__(self, store: PostgresStore, epoch: int, *others: Any) -> None:
         super().__init__(*others)
         self._store = store
-        self._keys = keys
         self.epoch = epoch
 
     async def find(self, session: int, key: str) -> KeptRequest | None:
-        """Asks the table only if the key may be there: of a new key nothing is asked."""
-        if hash((session, key)) not in self._keys:
-            return None
         try:
             return await self._store.request(session, key)
         except LOST as fault:
@@ -74,11 +73,33 @@ class PostgresTerm(Term):
             raise unavailable("CommitFailed", "the operation may have been kept: ask again by its key") from fault
         if not stands:
             raise unavailable("NotLeader", "another instance has taken over")
-        self._keys.update(hash((item.key_session, item.call.key)) for item in items if item.is_keyed and item.call)
 
 
 class CatalogueGrew(Exception):
     """The leader brought a catalogue that this instance hasn't."""
+
+
+@asynccontextmanager
+async def beating(store: PostgresStore, epoch: int, seconds: float) -> AsyncIterator[None]:
+    """Gives signs of this leader while it isn't ready yet. Raises NotLeader at the end if another one has taken over."""
+    is_ready = asyncio.Event()
+
+    async def beat() -> bool:
+        while stands := await store.commit(epoch, [], {}):
+            with suppress(asyncio.TimeoutError):
+                await asyncio.wait_for(is_ready.wait(), seconds)
+            if is_ready.is_set():
+                break
+        return stands
+
+    task = asyncio.ensure_future(beat())
+    try:
+        yield
+    finally:
+        is_ready.set()
+        await asyncio.wait([task])
+    if not task.result():
+        raise unavailable("NotLeader", "another instance has taken over")
 
 
 class PostgresKeeper(Keeper):
@@ -117,14 +138,18 @@ class PostgresKeeper(Keeper):
         store = await PostgresStore.open(self._settings.postgres, self._settings.commit_timeout)
         self._store = store
         engine: Engine | None = None
+        watching: asyncio.Future[None] | None = None
         try:
             engine = await self._start_engine(store)
             self.engine = engine
+            watching = asyncio.ensure_future(self.watch(engine))
             epoch = await self._follow(store, engine)
             if epoch is not None:
                 await self._lead(store, engine, epoch)
         finally:
             self.role, self.term, self.engine, self._store = "starting", None, None, None
+            if watching is not None:
+                watching.cancel()
             if engine is not None:
                 await engine.process.close()
             store.close()
@@ -153,6 +178,8 @@ class PostgresKeeper(Keeper):
         last: Leader | None = None
         since = time.monotonic()
         while not self._closing.is_set():
+            if engine.process.has_ended:
+                raise CoProcessEnded(f"batchctl ended with status {engine.process.status}: {engine.process.errors}")
             leader = await store.leader()
             if last is None or leader.epoch != last.epoch:
                 await self._look_at_epoch(store, leader)
@@ -188,12 +215,13 @@ class PostgresKeeper(Keeper):
     async def _lead(self, store: PostgresStore, engine: Engine, epoch: int) -> None:
         """Leads until the epoch is another's, a part fails, or the service is to end."""
         begun = time.monotonic()
-        await self._catch_up(store, engine, epoch)
-        self._sessions = Sessions(await store.clients(), self._settings.bounds.clients)
+        beat = min(1.0, self._settings.takeover_after / BEATS)
+        async with beating(store, epoch, beat):
+            await self._catch_up(store, engine, epoch)
+            self._sessions = Sessions(await store.clients(), self._settings.bounds.clients)
         self.history = (await store.leader()).history
-        keys = {hash(slot) for slot in await store.request_keys()}
-        settings = TermSettings(self._settings.refuse_from, min(1.0, self._settings.takeover_after / BEATS))
-        term = PostgresTerm(store, epoch, keys, engine, self._sessions, settings, self._observers)
+        settings = TermSettings(self._settings.refuse_from, beat)
+        term = PostgresTerm(store, epoch, engine, self._sessions, settings, self._observers)
         self.term, self.role, self.epoch, self._bring = term, "leader", epoch, None
         self.leader_url = self._settings.advertise
         self.last_takeover = time.monotonic() - begun
@@ -205,10 +233,12 @@ class PostgresKeeper(Keeper):
             await first_of([*rounds, engine.process.wait(), self._closing.wait()])
         finally:
             # Its co-process may know more than the table: nobody reads it any more.
+            engine.process.log_end()
             self.role, self.term, self.engine = "starting", None, None
-            if self._closing.is_set() and term.failure is None:
+            if engine.process.has_ended or (self._closing.is_set() and term.failure is None):
+                # A server that waits for its standby isn't waited for.
                 with suppress(*LOST):
-                    await store.resign(epoch)
+                    await asyncio.wait_for(store.resign(epoch), RESIGN_SECONDS)
             term.fail(unavailable("NotLeader", "this instance leads no more"))
 
     async def _forget_names(self, store: PostgresStore, term: PostgresTerm) -> None:
@@ -219,13 +249,21 @@ class PostgresKeeper(Keeper):
             await store.drop_clients(term.epoch, dropped)
 
     async def _prune(self, store: PostgresStore, term: PostgresTerm) -> None:
-        days = self._settings.bounds.days_of_keys
+        """Drops what is old, now and then. If that fails, the term goes on, and it is tried again."""
         while True:
-            await store.drop_old_keys(days)
-            await store.drop_once(await self.of_purged(await store.old_once(days)))
-            await store.drop_logs(await self.purged(await store.logged_executions()))
-            await self._forget_names(store, term)
+            try:
+                await self._prune_once(store, term)
+            except (Problem, *LOST) as fault:
+                log.warning("what is old is dropped later: %s %s", type(fault).__name__, fault)
             await asyncio.sleep(PRUNE_SECONDS)
+
+    async def _prune_once(self, store: PostgresStore, term: PostgresTerm) -> None:
+        days = self._settings.bounds.days_of_keys
+        while await store.drop_old_keys(days, PRUNED):
+            pass
+        await store.drop_once(await self.of_purged(await store.old_once(days)))
+        await store.drop_logs(await self.purged(await store.logged_executions()))
+        await self._forget_names(store, term)
 
     async def reach(self, at_least: int) -> None:
         """A follower looks at the table at once, and waits for what is missing."""
@@ -235,7 +273,7 @@ class PostgresKeeper(Keeper):
             remaining = deadline - time.monotonic()
             if remaining <= 0 or (self.term is not None and self.term.failure is not None):
                 self.reading()
-                raise not_yet(at_least, self.operations)
+                raise not_yet(at_least, self.committed)
             async with self._followed:
                 with suppress(asyncio.TimeoutError):
                     await asyncio.wait_for(self._followed.wait(), min(remaining, 0.05))

@@ -63,19 +63,28 @@ class Leader:
 
 
 async def connect_primary(dsns: Sequence[str], timeout: float | None) -> asyncpg.Connection:
-    """A connection to the first server that takes writes."""
+    """A connection to the first server that takes writes. One that doesn't answer is left after some seconds."""
     told = []
     for place, dsn in enumerate(dsns):
         try:
             connection = await asyncpg.connect(dsn, timeout=CONNECT_SECONDS, command_timeout=timeout, server_settings=SESSION)
+            if await _takes_writes(connection):
+                return connection
+            told.append(f"server {place} is a standby")
         except LOST as fault:
             told.append(f"server {place}: {type(fault).__name__} {fault}")
-            continue
-        if not await connection.fetchval("select pg_is_in_recovery()"):
-            return connection
-        told.append(f"server {place} is a standby")
-        await connection.close(timeout=CONNECT_SECONDS)
     raise NoPrimary("; ".join(told))
+
+
+async def _takes_writes(connection: asyncpg.Connection) -> bool:
+    """Whether a server is no standby. If it is one, or doesn't answer, the connection is dropped."""
+    takes_writes = False
+    try:
+        takes_writes = not await connection.fetchval("select pg_is_in_recovery()", timeout=CONNECT_SECONDS)
+    finally:
+        if not takes_writes:
+            connection.terminate()
+    return takes_writes
 
 
 class PostgresStore:
@@ -112,8 +121,9 @@ class PostgresStore:
 
     @staticmethod
     async def _check_durable(connection: asyncpg.Connection) -> None:
-        if await connection.fetchval("select current_setting('synchronous_commit')") == "off":
-            raise NotDurable("synchronous_commit is off: a commit could be lost after it was acknowledged")
+        for name in ("fsync", "synchronous_commit", "full_page_writes"):
+            if await connection.fetchval("select current_setting($1)", name) == "off":
+                raise NotDurable(f"{name} is off: a commit could be lost after it was acknowledged")
         if await connection.fetchval("select current_setting('server_encoding')") != "UTF8":
             raise NotDurable("the database's encoding isn't UTF8")
 
@@ -174,10 +184,6 @@ class PostgresStore:
         """Drops names with these sessions, if the epoch stands."""
         async with self._turn:
             await self._reads.execute(DROP_CLIENTS, epoch, list(clients.keys()), list(clients.values()))
-
-    async def request_keys(self) -> list[tuple[int, str]]:
-        rows = await self._fetch("select session, key from job_host_request")
-        return [(row["session"], row["key"]) for row in rows]
 
     async def request(self, session: int, key: str) -> KeptRequest | None:
         statement = "select fingerprint, reply, answers, seen from job_host_request where session = $1 and key = $2"
@@ -250,11 +256,14 @@ class PostgresStore:
         async with self._turn:
             await self._reads.execute("delete from job_host_work_log where execution = any($1::bigint[])", list(executions))
 
-    async def drop_old_keys(self, days: int) -> None:
-        """Drops keys that are older. Those that say once stay."""
-        statement = "delete from job_host_request where kept_at < now() - make_interval(days => $1) and session <> $2"
+    async def drop_old_keys(self, days: int, most: int) -> bool:
+        """Drops some keys that are older, and returns whether there may be more. Those that say once stay."""
+        old = "select ctid from job_host_request where kept_at < now() - make_interval(days => $1) and session <> $2 limit $3"
         async with self._turn:
-            await self._reads.execute(statement, days, EVERYBODY_SESSION)
+            told = await self._reads.execute(
+                f"delete from job_host_request where ctid in ({old})", days, EVERYBODY_SESSION, most
+            )
+        return str(told) == f"DELETE {most}"
 
     async def old_once(self, days: int) -> dict[str, bytes]:
         """The older keys that say once, with their first replies."""

@@ -73,6 +73,7 @@ class Host:
     keeper: Keeper
     access: Access
     gate: Gate
+    ending: asyncio.Event
 
 
 class Asked:

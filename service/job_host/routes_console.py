@@ -96,7 +96,7 @@ class Watchers:
 
 
 def state_of(keeper: Keeper) -> dict[str, Any]:
-    return {"operations": keeper.operations, "role": keeper.role, "epoch": keeper.epoch}
+    return {"operations": keeper.committed, "role": keeper.role, "epoch": keeper.epoch}
 
 
 async def show_events(asked: Asked) -> web.StreamResponse:
@@ -106,7 +106,7 @@ async def show_events(asked: Asked) -> web.StreamResponse:
     told: dict[str, Any] = {}
     last = 0.0
     try:
-        while not asked.is_gone():
+        while not asked.is_gone() and not asked.host.ending.is_set():
             state, now = state_of(asked.keeper), time.monotonic()
             if state != told:
                 await response.write(f"data: {json.dumps(state)}\n\n".encode())

@@ -172,7 +172,7 @@ async def show_history(asked: Asked) -> web.StreamResponse:
     keeper, settings = asked.keeper, asked.host.settings
     told = {
         "history": keeper.history,
-        "operations": keeper.operations,
+        "operations": keeper.committed,
         "mostOperations": MOST_OPERATIONS,
         "warnFrom": settings.warn_from,
         "refuseFrom": settings.refuse_from,

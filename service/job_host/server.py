@@ -19,16 +19,22 @@ from job_host.coprocess import CoProcessEnded
 from job_host.connections import GuardedHandler, GuardedServer
 from job_host.keeper import Fatal, Keeper
 from job_host.leases import Leases
+from job_host.listening import GuardedSite, Listener
 from job_host.metrics import Metrics
+from job_host.printable import begin_log
 from job_host.problems import Problem, unavailable
 from job_host.requests import Asked, Gate, Host, Route, refuse_others
 from job_host.routes_console import EVENTS_PATH, ConsoleFiles, Watchers, show_events
+from job_host.seldom import seldom
 from job_host.settings import MOST_OPERATIONS, ServeSettings
 
 log = logging.getLogger(__name__)
 
 WARN_SECONDS = 60.0
 SHUTDOWN_SECONDS = 10.0
+# Calls in hand have so long to their ends.
+CALLS_SECONDS = 10.0
+FAILURE_CHARACTERS = 500
 # Open Liberty has the same paths below another root.
 LIBERTY_ROOT = "/ibm/api"
 ROOTS = ("", LIBERTY_ROOT)
@@ -60,7 +66,8 @@ class Service:
         self.keeper = make_keeper(settings, self.metrics)
         self.browsers = Browsers(settings.advertise)
         self.watchers = Watchers(settings.bounds.watchers)
-        self.host = Host(settings, self.keeper, self.access, Gate(settings.bounds))
+        self.ending = asyncio.Event()
+        self.host = Host(settings, self.keeper, self.access, Gate(settings.bounds), self.ending)
         self.port = settings.port
         self.certificate: Certificate | None = None
         self._runner: web.ServerRunner | None = None
@@ -179,22 +186,22 @@ class Service:
 
     def _health(self) -> dict[str, object]:
         keeper = self.keeper
-        told = {"role": keeper.role, "epoch": keeper.epoch, "operations": keeper.operations, "leader": keeper.leader_url}
-        warns = keeper.operations >= self.settings.warn_from
+        told = {"role": keeper.role, "epoch": keeper.epoch, "operations": keeper.committed, "leader": keeper.leader_url}
+        warns = keeper.committed >= self.settings.warn_from
         return {**told, "warning": "HistoryAlmostFull"} if warns else told
 
     async def _probe_live(self, request: web.Request) -> web.StreamResponse:
         return web.Response(text="live\n")
 
     async def _probe_ready(self, request: web.Request) -> web.StreamResponse:
-        is_ready = self.keeper.role != "starting"
+        is_ready = self.keeper.is_ready
         return web.Response(text="ready\n" if is_ready else "not ready\n", status=200 if is_ready else 503)
 
     async def _show_live(self, asked: Asked) -> web.StreamResponse:
         return web.json_response(self._health())
 
     async def _show_ready(self, asked: Asked) -> web.StreamResponse:
-        return web.json_response(self._health(), status=200 if self.keeper.role != "starting" else 503)
+        return web.json_response(self._health(), status=200 if self.keeper.is_ready else 503)
 
     async def _show_leader(self, asked: Asked) -> web.StreamResponse:
         return web.json_response(self._health(), status=200 if self.keeper.role == "leader" else 503)
@@ -202,7 +209,7 @@ class Service:
     async def _warn(self) -> None:
         """Says once a minute that the history fills."""
         while True:
-            operations = self.keeper.operations
+            operations = self.keeper.committed
             if operations >= self.settings.warn_from:
                 log.warning("the history has %d of %d operations: begin a new one soon", operations, MOST_OPERATIONS)
             await asyncio.sleep(WARN_SECONDS)
@@ -210,14 +217,22 @@ class Service:
     async def listen(self) -> None:
         application = self.application()
         application.freeze()
-        self._runner = web.ServerRunner(GuardedServer(application, self.settings.bounds))
+        server = GuardedServer(application, self.settings.bounds)
+        self._runner = web.ServerRunner(server)
         await self._runner.setup()
         self.certificate = Certificate(self.settings)
-        tls = self.certificate.context
-        site = web.TCPSite(self._runner, self.settings.host, self.settings.port, ssl_context=tls, shutdown_timeout=1.0)
-        await site.start()
+        listener = Listener(server, self.certificate.context, self.settings.bounds.handshake)
+        await listener.listen(self.settings.host, self.settings.port)
+        await GuardedSite(self._runner, listener, CALLS_SECONDS).start()
         if self.settings.port == 0:
             self.port = self._runner.addresses[0][1]
+
+    async def end_serving(self) -> None:
+        """Takes no more connections, ends what only waits, and lets the calls in hand end."""
+        self.ending.set()
+        self.keeper.end_waits()
+        if self._runner is not None:
+            await self._runner.cleanup()
 
     def read_again(self) -> None:
         """Reads the tokens and the certificate again. What can't be read leaves in use what was read before."""
@@ -232,36 +247,39 @@ class Service:
 
     async def run(self) -> None:
         """Serves until SIGTERM or SIGINT. Raises Fatal if the keeper can't go on."""
-        ending = asyncio.Event()
+        told = asyncio.Event()
         loop = asyncio.get_running_loop()
-        loop.set_exception_handler(note_failure)
+        loop.set_exception_handler(failures_note(seldom(log.warning)))
         for number in (signal.SIGTERM, signal.SIGINT):
-            loop.add_signal_handler(number, ending.set)
+            loop.add_signal_handler(number, told.set)
         loop.add_signal_handler(signal.SIGHUP, self.read_again)
         await self.listen()
         log.warning("listens on %s, port %d", self.settings.host, self.port)
         keeping = loop.create_task(self.keeper.run())
         warning = loop.create_task(self._warn())
-        until_told = loop.create_task(ending.wait())
+        until_told = loop.create_task(told.wait())
         await asyncio.wait([keeping, until_told], return_when=asyncio.FIRST_COMPLETED)
         warning.cancel()
         until_told.cancel()
-        if self._runner is not None:
-            await self._runner.cleanup()
+        await self.end_serving()
         await self.keeper.close()
         await asyncio.wait([keeping], timeout=SHUTDOWN_SECONDS)
         if keeping.done():
             keeping.result()
 
 
-def note_failure(loop: asyncio.AbstractEventLoop, context: dict[str, object]) -> None:
-    """Says in one line what failed beside a request, as a path that aiohttp can't read."""
-    log.warning("%s: %r", context.get("message"), context.get("exception"))
+def failures_note(say: Callable[[str], None]) -> Callable[[asyncio.AbstractEventLoop, dict[str, object]], None]:
+    """Says in one line what failed beside a request, and seldom: a client may bring it about as often as it likes."""
+
+    def note(loop: asyncio.AbstractEventLoop, context: dict[str, object]) -> None:
+        say(f"{context.get('message')}: {context.get('exception')!r}"[:FAILURE_CHARACTERS])
+
+    return note
 
 
 def serve(settings: ServeSettings) -> int:
     """Serves, and returns an exit status: 0 after a signal, 1 if a person has to look."""
-    logging.basicConfig(level=logging.WARNING, format="%(asctime)s jobhost: %(message)s")
+    begin_log("jobhost")
     try:
         asyncio.run(Service(settings).run())
     except Fatal as fault:

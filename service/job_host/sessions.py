@@ -23,12 +23,15 @@ class Silent:
 
 
 class Sessions:
-    """Client names and their sessions. Those that are to be kept stand in `fresh` until they are."""
+    """Client names and their sessions. Those that are to be kept stand in `fresh` until they are.
 
-    def __init__(self, kept: Mapping[str, int], most: int) -> None:
+    A new session is above all that are kept, and above `used`.
+    """
+
+    def __init__(self, kept: Mapping[str, int], most: int, used: int = 0) -> None:
         self._numbers = dict(kept)
         self._names = {number: name for name, number in kept.items()}
-        self._last = max([SERVICE_SESSION, *kept.values()])
+        self._last = max([SERVICE_SESSION, used, *kept.values()])
         self._most = most
         self._heard: set[int] = set()
         self._dropping: set[str] = set()

@@ -29,6 +29,7 @@ class Bounds:
     listed: int = 10_000
     longest_poll: float = 60.0
     slow_after: float = 10.0
+    handshake: float = 10.0
     at_least_seconds: float = 5.0
     days_of_keys: int = 7
 
@@ -40,6 +41,7 @@ class ServeSettings:
     catalogue: Path
     batchctl: tuple[str, ...]
     data: Path = Path("jobhost-data")
+    restored: bool = False
     postgres: tuple[str, ...] = ()
     host: str = "127.0.0.1"
     port: int = DEFAULT_PORT

@@ -3,7 +3,9 @@
 from __future__ import annotations
 
 import json
+import os
 import sqlite3
+import stat
 import time
 import uuid
 from collections.abc import Mapping, Sequence
@@ -52,6 +54,7 @@ create index if not exists work_log_execution on work_log (execution);
 INTEND = """
 insert or replace into request (session, key, fingerprint, moment, line, kept_at) values (?, ?, ?, ?, ?, ?)
 """
+UNKEEP = "delete from request where session = ? and key = ? and moment = ? and reply is null"
 # A name that was forgotten may still stand here, if it was heard again at once.
 CLIENT = "insert into client values (?, ?) on conflict (name) do update set session = excluded.session"
 # A client that was never noted is taken as heard now.
@@ -94,13 +97,22 @@ def history_in(connection: sqlite3.Connection) -> History | None:
 
 
 class SqliteStore:
-    """One connection, for one thread. Each commit is on the disk when its call returns."""
+    """One connection, for one thread. Each commit is on the disk when its call returns. A new file is its owner's alone."""
 
     def __init__(self, path: Path) -> None:
+        os.close(os.open(path, os.O_RDWR | os.O_CREAT, stat.S_IRUSR | stat.S_IWUSR))
         self._connection = sqlite3.connect(path, isolation_level=None, check_same_thread=False)
         for pragma in ("journal_mode = wal", "synchronous = full", "busy_timeout = 5000"):
             self._connection.execute(f"pragma {pragma}")
+        self._check()
         self._connection.executescript(SCHEMA)
+
+    def _check(self) -> None:
+        """Raises a DatabaseError if the file is damaged."""
+        told = [str(row[0]) for row in self._connection.execute("pragma quick_check(1)")]
+        if told != ["ok"]:
+            self._connection.close()
+            raise sqlite3.DatabaseError("; ".join(told))
 
     def close(self) -> None:
         self._connection.close()
@@ -162,9 +174,13 @@ class SqliteStore:
             self._connection.executemany("delete from client where name = ? and session = ?", clients.items())
             self._connection.executemany("delete from client_heard where session = ?", [(one,) for one in clients.values()])
 
-    def intend(self, items: Sequence[Item], clients: Mapping[str, int]) -> None:
-        """Keeps what is about to be handed over: new clients, and of keyed calls the key, the line and its moment."""
+    def intend(self, items: Sequence[Item], clients: Mapping[str, int], dropped: Sequence[Item] = ()) -> None:
+        """Keeps what is about to be handed over: new clients, and of keyed calls the key, the line and its moment.
+
+        The keys of `dropped` go, if nothing was handed over by them since.
+        """
         now = time.time()
+        gone = [(item.key_session, item.call.key, item.moment) for item in dropped if item.call is not None]
         rows = [
             (item.key_session, item.call.key, item.call.fingerprint, item.moment, item.line, now)
             for item in items
@@ -173,6 +189,7 @@ class SqliteStore:
         with self._connection:
             self._connection.execute("begin")
             self._connection.executemany(CLIENT, clients.items())
+            self._connection.executemany(UNKEEP, gone)
             self._connection.executemany(INTEND, rows)
 
     def answer(self, items: Sequence[Item]) -> None:
@@ -207,6 +224,12 @@ class SqliteStore:
             else:
                 self._answer(request.session, request.key, kept)
 
+    def last_session(self) -> int:
+        return int(self._connection.execute("select coalesce(max(session), 0) from client").fetchone()[0])
+
+    def last_seen(self) -> int:
+        return int(self._connection.execute("select coalesce(max(seen), 0) from request").fetchone()[0])
+
     def drop_unseen(self, operations: int) -> None:
         """Drops keys whose replies saw more operations than the log has: an older copy has taken its place."""
         self._connection.execute("delete from request where seen > ?", (operations,))
@@ -231,11 +254,16 @@ class SqliteStore:
             self._connection.execute("begin")
             self._connection.executemany("delete from work_log where execution = ?", [(one,) for one in executions])
 
-    def drop_old_keys(self, days: int) -> None:
-        """Drops keys that are older. Those that say once stay, if they have a reply: a refusal isn't kept."""
-        statement = "delete from request where kept_at < ? and (session <> ? or reply is null)"
+    def drop_old_keys(self, days: int, most: int) -> bool:
+        """Drops some keys that are older, and returns whether there may be more.
+
+        Those that say once stay, if they have a reply: a refusal isn't kept.
+        """
+        old = "select session, key from request where kept_at < ? and (session <> ? or reply is null) limit ?"
+        statement = f"delete from request where (session, key) in ({old})"
         with self._connection:
-            self._connection.execute(statement, (time.time() - days * 86_400, EVERYBODY_SESSION))
+            words = (time.time() - days * 86_400, EVERYBODY_SESSION, most)
+            return self._connection.execute(statement, words).rowcount == most
 
     def old_once(self, days: int) -> dict[str, bytes]:
         """The older keys that say once, with their first replies."""

@@ -132,8 +132,8 @@ class Term(ABC):
         if self.desk.is_withdrawn(call):
             raise ClaimWithdrawn()
         if call.do in ("start", "restart") and self.engine.entered >= self.settings.refuse_from:
-            told = f"the history has {self.engine.entered} operations: what runs can end, and nothing can be started"
-            raise unavailable("HistoryAlmostFull", told, operations=self.engine.entered)
+            told = f"from {self.settings.refuse_from} operations on what runs can end, and nothing can be started"
+            raise unavailable("HistoryAlmostFull", told, operations=self.committed)
 
     async def begin(self, call: Call) -> Item:
         """Hands a call to the co-process. Its item tells when it is answered, and when that is kept."""
@@ -249,7 +249,7 @@ class Term(ABC):
         if self.failure is not None:
             raise self.failure
         if at_least > self.engine.entered:
-            raise not_yet(at_least, self.engine.entered)
+            raise not_yet(at_least, self.committed)
         answers = await self.engine.ask(queries)
         await self.until_committed(answers.seen)
         return answers

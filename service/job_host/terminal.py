@@ -10,16 +10,13 @@ from typing import Any
 from rich.table import Column, Table
 from rich.text import Text
 
+from job_host.printable import printable, printable_lines
+
 COLOURS = {"COMPLETED": "green", "FAILED": "red", "STOPPED": "yellow", "ABANDONED": "magenta"}
 # How the service writes a moment.
 MOMENT = "%Y/%m/%d %H:%M:%S.%f %z"
 
 Told = Mapping[str, Any]
-
-
-def printable(text: str) -> str:
-    """The text with its control characters written out, so that it can't act on a terminal."""
-    return "".join(mark if mark.isprintable() else f"\\u{ord(mark):04x}" for mark in text)
 
 
 def parameter_words(parameters: Mapping[str, str]) -> str:
@@ -28,12 +25,17 @@ def parameter_words(parameters: Mapping[str, str]) -> str:
 
 
 def plain(text: Any) -> Text:
-    """A text of the service as it is, whatever brackets it has."""
-    return Text("" if text is None else str(text))
+    """A text of the service in one line, as it is, whatever brackets it has. Control characters are written out."""
+    return Text("" if text is None else printable(str(text)))
+
+
+def plain_lines(text: str) -> Text:
+    """A text of several lines, as a log."""
+    return Text(printable_lines(text))
 
 
 def status_text(status: str) -> Text:
-    return Text(status, style=COLOURS.get(status, "cyan"))
+    return Text(printable(status), style=COLOURS.get(status, "cyan"))
 
 
 def clock(moment: str | None, in_utc: bool) -> Text:
@@ -57,11 +59,11 @@ def folded(*names: str, title: Text | None = None) -> Table:
 def execution_table(told: Told, in_utc: bool) -> Table:
     """A job execution with its step executions."""
     title = f"{told['jobName']}: job execution {told['executionId']} of job instance {told['instanceId']}"
-    table = folded("step", "status", "exit status", "start", "end", "counts", title=Text(title))
+    table = folded("step", "status", "exit status", "start", "end", "counts", title=plain(title))
     for step in told["stepExecutions"]:
         shown = [plain(step["stepName"]), status_text(step["batchStatus"]), plain(step["exitStatus"])]
         times = [clock(step[name], in_utc) for name in ("startTime", "endTime")]
-        table.add_row(*shown, *times, metrics_text(step["metrics"]))
+        table.add_row(*shown, *times, plain(metrics_text(step["metrics"])))
     whole = [Text("(job)"), status_text(told["batchStatus"]), plain(told["exitStatus"])]
     table.add_row(*whole, clock(told["startTime"], in_utc), clock(told["endTime"], in_utc), "")
     return table

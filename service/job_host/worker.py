@@ -5,19 +5,21 @@ from __future__ import annotations
 import asyncio
 import logging
 import signal
-import time
 import uuid
 from collections.abc import Awaitable, Callable
-from contextlib import suppress
+from contextlib import ExitStack, suppress
 from dataclasses import dataclass, replace
 from pathlib import Path
 from typing import Any, TypeVar
 
 from job_host import artifacts
+from job_host.artifact_environment import ParametersFile, environment
+from job_host.artifact_folder import ArtifactFolder
 from job_host.artifact_output import ExitFile, FirstLine, Tail, drain
-from job_host.artifacts import Ended, NoArtifact
+from job_host.artifacts import Artifact, Ended, NoArtifact, Program
 from job_host.chunks import Chunk
 from job_host.client import Address, Client, Refused, Unreachable
+from job_host.seldom import seldom
 
 log = logging.getLogger(__name__)
 
@@ -25,7 +27,7 @@ CLAIM_SECONDS = 10.0
 FOREVER = 10.0**9
 DRAIN_SECONDS = 5.0
 HURRY_SECONDS = 5.0
-SELDOM_SECONDS = 60.0
+LOOK_SECONDS = 1.0
 
 T = TypeVar("T")
 
@@ -62,19 +64,6 @@ def still_running(tasks: set[asyncio.Future[Any]]) -> set[asyncio.Future[Any]]:
     return {task for task in tasks if not task.done()}
 
 
-def seldom(say: Callable[[str], None], seconds: float = SELDOM_SECONDS) -> Callable[[str], None]:
-    """Says the first of many texts, and then no more than one in so many seconds."""
-    last = time.monotonic() - seconds
-
-    def note(text: str) -> None:
-        nonlocal last
-        if time.monotonic() - last >= seconds:
-            last = time.monotonic()
-            say(text)
-
-    return note
-
-
 class Told:
     """What a worker is told of a work item while it runs it."""
 
@@ -93,47 +82,46 @@ class Batchlet:
     told: Told
 
     async def run(self) -> Ended:
+        files = ExitStack()
         try:
             path = artifacts.find(self.folder, self.claimed["work"]["ref"])
             file = ExitFile()
+            files.callback(file.remove)
+            parameters = ParametersFile(self.claimed)
+            files.callback(parameters.remove)
+            return await self._run(path, file, parameters)
         except (NoArtifact, OSError) as fault:
             self.tail.say(str(fault))
             return Ended("FAILED")
-        try:
-            return await self._run(path, file)
         finally:
-            file.remove()
+            files.close()
 
-    async def _run(self, path: Path, file: ExitFile) -> Ended:
+    async def _run(self, path: Path, file: ExitFile, parameters: ParametersFile) -> Ended:
         """Runs the process. Both of its outputs are the log."""
-        variables = artifacts.environment(self.claimed, file.variables())
-        try:
-            process = await artifacts.spawn(path, self.folder, variables, has_input=False)
-        except OSError as fault:
-            self.tail.say(str(fault))
-            return Ended("FAILED")
+        variables = environment(self.claimed, {**file.variables(), **parameters.variables()}, self.tail.say)
+        artifact = await artifacts.spawn(Program(path, self.folder, variables, [file.path, parameters.path]))
         first = FirstLine()
-        outputs = (drain(process.stdout, self.tail.stream(), first), drain(process.stderr, self.tail.stream()))
+        outputs = (drain(artifact.stdout, self.tail.stream(), first), drain(artifact.stderr, self.tail.stream()))
         heard = asyncio.gather(*outputs)
         try:
-            was_stopped = await self._wait(process)
+            was_stopped = await self._wait(artifact)
         finally:
-            await artifacts.kill(process)
+            await artifact.kill()
             with suppress(asyncio.TimeoutError):
                 await asyncio.wait_for(heard, DRAIN_SECONDS)
-        return artifacts.ended_by(process.returncode or 0, file, first, self.tail, was_stopped)
+        return artifacts.ended_by(await artifact.wait(), file, first, self.tail, was_stopped)
 
-    async def _wait(self, process: asyncio.subprocess.Process) -> bool:
+    async def _wait(self, artifact: Artifact) -> bool:
         """Waits for its end. Returns whether it was told to stop before."""
         work = self.claimed["work"]
         may_stop = work["kind"] == "batchlet" and artifacts.is_stoppable(self.folder, work["ref"])
-        ending = asyncio.ensure_future(process.wait())
+        ending = asyncio.ensure_future(artifact.wait())
         stopping = asyncio.ensure_future(self.told.stop.wait() if may_stop else asyncio.Event().wait())
         try:
             await asyncio.wait([ending, stopping], return_when=asyncio.FIRST_COMPLETED)
             if ending.done():
                 return False
-            artifacts.send_signal(process, signal.SIGTERM)
+            artifact.terminate()
             await ending
             return True
         finally:
@@ -149,7 +137,7 @@ class Worker:
 
     def __init__(self, client: Client, folder: Path, slots: int) -> None:
         self._client = client
-        self._folder = folder
+        self._folder = ArtifactFolder(folder)
         self._slots = slots
         self.ending = asyncio.Event()
         self.hurry = asyncio.Event()
@@ -158,14 +146,23 @@ class Worker:
         """Works until it is told to end, and what it runs has ended."""
         running: set[asyncio.Future[Any]] = set()
         while not self.ending.is_set():
-            if len(running) < self._slots:
+            # By a thread: a file system that hangs mustn't hold up heartbeats.
+            if len(running) < self._slots and not await asyncio.to_thread(self._folder.may_claim):
+                await self._look_later()
+            elif len(running) < self._slots:
                 claimed = await self._next()
                 if "work" in claimed:
+                    self._folder.note(claimed["work"])
                     running.add(asyncio.ensure_future(self._run(claimed)))
             else:
                 await self._until_free(running)
             running = still_running(running)
         await asyncio.gather(*running)
+
+    async def _look_later(self) -> None:
+        """Returns after a second, or after the worker was told to end."""
+        with suppress(asyncio.TimeoutError):
+            await asyncio.wait_for(self.ending.wait(), LOOK_SECONDS)
 
     async def _until_free(self, running: set[asyncio.Future[Any]]) -> None:
         """Returns after a slot is free, or the worker was told to end."""
@@ -230,8 +227,8 @@ class Worker:
 
     async def _run_artifact(self, claimed: dict[str, Any], tail: Tail, told: Told) -> Ended:
         if claimed["work"]["kind"] != "chunk":
-            return await Batchlet(self._folder, claimed, tail, told).run()
-        chunk = Chunk(self._folder, claimed, tail, lambda mark, metrics: self._checkpoint(claimed, mark, metrics))
+            return await Batchlet(self._folder.path, claimed, tail, told).run()
+        chunk = Chunk(self._folder.path, claimed, tail, lambda mark, metrics: self._checkpoint(claimed, mark, metrics))
         watching = asyncio.ensure_future(self._watch_stop(told, lambda: setattr(chunk, "stop_asked", True)))
         try:
             return await chunk.run()
@@ -265,7 +262,8 @@ class Worker:
 
     async def _beat(self, claimed: dict[str, Any], tail: Tail, told: Told) -> None:
         """Renews the lease, hands in the log as it is, and hears of a stop."""
-        pause = float(claimed["lease"]) / 3
+        lease = float(claimed["lease"])
+        pause = lease / 3
         path = f"/batch/work/{claimed['work']['work']}?action=heartbeat"
         handed_in = ""
         while True:
@@ -273,7 +271,7 @@ class Worker:
             text = tail.text()
             body = {"log": text} if text != handed_in else {}
             try:
-                answer = await self._client.operate("PUT", path, body, patience=pause)
+                answer = await self._client.operate("PUT", path, body, patience=pause, attempt=lease / 6)
             except Unreachable as fault:
                 log.warning("no heartbeat: %s", fault)
                 continue

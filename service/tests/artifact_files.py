@@ -70,6 +70,7 @@ sleep "${BATCH_PARAMETER_seconds:-0}"
 echo "$BATCH_WORK" >> ended
 echo DONE
 """,
+    "nested": "#!/bin/sh\necho begun >> begun\n(setsid sh -c 'sleep 2; echo late >> late' &)\nsleep 3\necho ended >> ended\n",
     "patient": "#!/bin/sh\ntrap 'echo BROKEN-OFF; exit 0' TERM\ntouch is-running\nwhile :; do sleep 0.05; done\n",
     "stubborn": "#!/bin/sh\ntouch is-running\nwhile [ ! -e go-on ]; do sleep 0.05; done\necho WHOLE\n",
 }

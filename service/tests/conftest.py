@@ -19,7 +19,8 @@ import artifact_files  # noqa: E402
 from postgres_server import PostgresServer  # noqa: E402
 
 from job_host.command_line import main  # noqa: E402
-from job_host.settings import ServeSettings, find_batchctl  # noqa: E402
+from job_host.server import Service  # noqa: E402
+from job_host.settings import Bounds, ServeSettings, find_batchctl  # noqa: E402
 
 Say = Callable[..., Awaitable[tuple[int, str]]]
 
@@ -102,6 +103,19 @@ def either(request: pytest.FixtureRequest) -> Callable[..., ServeSettings]:
     """Settings of a service over PostgreSQL, and of one over a log of its own."""
     made: Callable[..., ServeSettings] = request.getfixturevalue(request.param)
     return made
+
+
+@pytest.fixture
+def idle(tmp_path: Path) -> Callable[..., Service]:
+    """A service whose history isn't there: it takes connections, and answers what needs none."""
+
+    def make(bounds: Bounds = Bounds(), **more: Any) -> Service:
+        path = tmp_path / "none.json"
+        path.write_text('{"jobs":[]}')
+        given: dict[str, Any] = {"port": 0, "data": tmp_path / "data", **more}
+        return Service(ServeSettings(catalogue=path, batchctl=("/nowhere",), bounds=bounds, **given))
+
+    return make
 
 
 @pytest.fixture

@@ -128,8 +128,8 @@ class Instance:
         await asyncio.wait_for(asyncio.shield(self._keeping), READY_SECONDS)
 
     async def stop(self) -> None:
-        assert self.service._runner is not None and self._keeping is not None
-        await self.service._runner.cleanup()
+        assert self._keeping is not None
+        await self.service.end_serving()
         await self.service.keeper.close()
         await asyncio.wait([self._keeping], timeout=READY_SECONDS)
         if self._keeping.done() and not self._keeping.cancelled():
@@ -145,6 +145,17 @@ async def running(settings: ServeSettings, role: str = "leader") -> AsyncIterato
         yield instance
     finally:
         await instance.stop()
+
+
+@asynccontextmanager
+async def listening(service: Service) -> AsyncIterator[Service]:
+    """A service that listens, and keeps no history."""
+    await service.listen()
+    try:
+        yield service
+    finally:
+        assert service._runner is not None
+        await service._runner.cleanup()
 
 
 class Process:

@@ -4,14 +4,16 @@ from __future__ import annotations
 
 import asyncio
 import json
+import signal
 import sqlite3
+import threading
 from collections.abc import Callable
 from pathlib import Path
 from typing import Any, cast
 
 import pytest
 from conftest import NIGHTLY, SHORT
-from instances import Caller, Process, running
+from instances import Caller, Process, running, until
 
 from job_host import log_file
 from job_host.embedded_keeper import LOG_NAME, EmbeddedTerm
@@ -129,3 +131,67 @@ async def test_two_services_never_have_one_log(embedded: Make, monkeypatch: pyte
         with pytest.raises(Fatal, match="in use"):
             async with running(made):
                 pass
+
+
+async def test_calls_under_way_are_answered_when_batchctl_dies(embedded: Make) -> None:
+    """Keys are being put on the disk, others wait for that, and a claim waits for work: none was handed to batchctl."""
+    async with running(embedded()) as instance:
+        caller, keeper = Caller(instance.url), instance.service.keeper
+        term, engine = keeper.term, keeper.engine
+        assert isinstance(term, EmbeddedTerm) and engine is not None
+        claim = asyncio.create_task(caller.claim(wait=60))
+        await instance.until_claims_wait(1)
+        store: Any = term._beside._store
+        intend, is_held, is_over = store.intend, threading.Event(), threading.Event()
+
+        def held(*words: Any) -> None:
+            is_held.set()
+            is_over.wait(10.0)
+            intend(*words)
+
+        store.intend = held
+        first = asyncio.create_task(caller.start(key="first"))
+        await asyncio.to_thread(is_held.wait, 10.0)
+        others = [asyncio.create_task(caller.start(key=f"other-{number}")) for number in range(15)]
+        await asyncio.sleep(0.2)
+        threading.Timer(1.0, is_over.set).start()
+        engine.process.kill()
+        answers = await asyncio.wait_for(asyncio.gather(claim, first, *others), 20.0)
+        assert {answer.status for answer in answers} == {503}
+        await instance.until_role("leader")
+        assert [(await caller.start(key=key)).status for key in ("first", "other-3")] == [201, 201]
+
+
+async def test_the_end_of_batchctl_is_logged(embedded: Make, caplog: pytest.LogCaptureFixture) -> None:
+    async with running(embedded()) as instance:
+        engine = instance.service.keeper.engine
+        assert engine is not None
+        engine.process._errors = b"batchctl: a word\nbatchctl: log fault\n"
+        engine.process.kill()
+        await until(lambda: is_logged(caplog, "batchctl ended with status -9: batchctl: log fault"))
+        await instance.until_role("leader")
+
+
+async def is_logged(caplog: pytest.LogCaptureFixture, text: str) -> bool:
+    return text in caplog.text
+
+
+async def test_sigterm_ends_what_waits_and_lets_calls_end(embedded: Make, tmp_path: Path) -> None:
+    made = embedded()
+    words = ["--catalogue", str(made.catalogue), "--batchctl", made.batchctl[0], "--data", str(made.data)]
+    process = Process(tmp_path / "service", *words)
+    try:
+        process.start()
+        await process.until_role("leader")
+        caller = Caller(process.url)
+        claim = asyncio.create_task(caller.claim(wait=30))
+
+        async def does_wait() -> bool:
+            return "jobhost_claims_waiting 1.0" in (await caller.ask("GET", "/metrics")).told
+
+        await until(does_wait)
+        process.signal(signal.SIGTERM)
+        assert await asyncio.to_thread(process.wait, 8) == 0
+        assert ((await claim).status, claim.result().name) == (503, "Starting")
+    finally:
+        process.kill()

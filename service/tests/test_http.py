@@ -316,6 +316,13 @@ def test_elsewhere_than_on_loopback_tokens_and_tls_are_needed(settings: Make, to
     Access(settings(host="0.0.0.0", tokens=tokens, certificate=tmp_path, certificate_key=tmp_path))
 
 
+@pytest.mark.parametrize("name", ["certificate", "certificate_key"])
+def test_a_certificate_and_its_key_belong_together(settings: Make, tmp_path: Path, name: str) -> None:
+    """On loopback, too: one of them alone would serve without TLS under an https URL."""
+    with pytest.raises(SettingsRefused, match="belong together"):
+        Access(settings(**{name: tmp_path}))
+
+
 def test_a_token_file_with_a_mistake_is_refused(settings: Make, tmp_path: Path) -> None:
     path = tmp_path / "tokens"
     for text in ("", "# nothing\n", "reader a short\n", f"admin a {READER}\n", f"reader {READER}\n", f"reader a/b {READER}\n"):

@@ -5,16 +5,23 @@ from __future__ import annotations
 import asyncio
 import json
 import signal
+import sqlite3
 from collections.abc import Callable
+from contextlib import closing
 from pathlib import Path
 from typing import Any
 
 import asyncpg
 import pytest
 from conftest import NIGHTLY, SHORT
-from instances import Caller, Process, running, until
+from instances import Caller, Instance, Process, running, until
+from postgres_server import PostgresServer
 
+from job_host.beside_files import STORE_NAME
+from job_host.coprocess import CoProcessEnded
+from job_host.engine import Engine
 from job_host.keeper import Fatal
+from job_host.postgres_store import PostgresStore
 from job_host.settings import Bounds, ServeSettings
 
 Make = Callable[..., ServeSettings]
@@ -275,6 +282,101 @@ async def test_a_follower_reads_and_takes_over(settings: Make) -> None:
             assert (await second.start()).told["executionId"] == 2
 
 
+async def test_a_leader_whose_batchctl_ends_resigns(settings: Make, monkeypatch: pytest.MonkeyPatch) -> None:
+    """It can't begin again. The follower leads at once, though it would wait a minute for a leader that is silent."""
+    made = settings(takeover_after=60.0)
+    async with running(made) as one, running(made, "follower") as two:
+        assert (await Caller(one.url).start()).status == 201
+        keeper = one.service.keeper
+
+        async def refused(*words: Any) -> Engine:
+            raise CoProcessEnded("no memory")
+
+        assert keeper.engine is not None
+        monkeypatch.setattr(keeper, "_start_engine", refused)
+        keeper.engine.process.kill()
+        await asyncio.wait_for(two.until_role("leader"), 10.0)
+        assert (await Caller(two.url).start()).told["executionId"] == 2
+
+
+async def test_a_leader_that_is_not_ready_for_long_keeps_the_lead(settings: Make, monkeypatch: pytest.MonkeyPatch) -> None:
+    """It gives signs before it is ready. The follower would take over after a second and a half."""
+    clients = PostgresStore.clients
+
+    async def slowly(store: PostgresStore) -> dict[str, int]:
+        await asyncio.sleep(4.0)
+        return await clients(store)
+
+    monkeypatch.setattr(PostgresStore, "clients", slowly)
+    made = settings()
+    one = Instance(made)
+    await one.start()
+    try:
+        await one.until_role("follower")
+        table = await connect(made)
+
+        async def has_taken_over() -> bool:
+            return bool(await table.fetchval("select epoch = 1 from job_host_leader"))
+
+        await until(has_taken_over)
+        await table.close()
+        async with running(settings(), "follower") as two:
+            await one.until_role("leader")
+            assert (one.service.keeper.epoch, two.service.keeper.role) == (1, "follower")
+            assert (await Caller(one.url).start()).told["executionId"] == 1
+    finally:
+        await one.stop()
+
+
+async def test_a_claim_without_work_leaves_no_row(either: Make) -> None:
+    """A worker that is idle asks for ever. A claim by the same key is a new one."""
+    made = either()
+    async with running(made) as instance:
+        caller = Caller(instance.url)
+        for number in range(5):
+            assert (await caller.claim(wait=0.05, key=f"idle-{number}")).told == {"nothing": True}
+        await caller.start("short", key="start")
+        assert (await caller.claim(key="idle-1")).told["work"]["work"] == 1
+        assert (await caller.claim(key="idle-1")).told["work"]["work"] == 1
+    assert await kept_keys(made) == ["idle-1", "start"]
+
+
+async def kept_keys(settings: ServeSettings) -> list[str]:
+    if not settings.postgres:
+        with closing(sqlite3.connect(settings.data / STORE_NAME)) as store:
+            return [row[0] for row in store.execute("select key from request order by key")]
+    table = await connect(settings)
+    rows = await table.fetch("select key from job_host_request order by key")
+    await table.close()
+    return [row["key"] for row in rows]
+
+
+async def test_old_keys_are_dropped_in_parts(either: Make, monkeypatch: pytest.MonkeyPatch) -> None:
+    for module in ("embedded_keeper", "postgres_keeper"):
+        monkeypatch.setattr(f"job_host.{module}.PRUNED", 10)
+    made = either(bounds=Bounds(days_of_keys=0))
+    async with running(made) as instance:
+        for number in range(25):
+            await Caller(instance.url).change(9, "stop", key=f"old-{number}")
+    async with running(made):
+
+        async def are_gone() -> bool:
+            return await kept_keys(made) == []
+
+        await until(are_gone)
+
+
+async def test_a_term_goes_on_if_what_is_old_cannot_be_dropped(settings: Make, monkeypatch: pytest.MonkeyPatch) -> None:
+    async def refused(*words: Any) -> bool:
+        raise asyncpg.QueryCanceledError("too long")
+
+    monkeypatch.setattr(PostgresStore, "drop_old_keys", refused)
+    async with running(settings()) as instance:
+        await asyncio.sleep(0.5)
+        assert (instance.service.keeper.role, instance.service.keeper.epoch) == ("leader", 1)
+        assert (await Caller(instance.url).start()).status == 201
+
+
 async def test_a_read_of_operations_that_nobody_made_is_refused(settings: Make) -> None:
     made = settings(bounds=Bounds(at_least_seconds=0.3))
     async with running(made) as one, running(made, "follower") as two:
@@ -365,3 +467,18 @@ async def test_logs_of_a_purged_job_instance_are_dropped(settings: Make) -> None
         await until(is_dropped)
         await table.close()
         assert (await Caller(instance.url).ask("GET", "/batch/jobexecutions/2/joblogs")).told[0]["log"] == "log 2"
+
+
+@pytest.mark.parametrize("name", ["fsync", "full_page_writes", "synchronous_commit"])
+async def test_a_server_that_may_lose_a_commit_is_refused(settings: Make, postgres: PostgresServer, name: str) -> None:
+    postgres.sql(f"alter system set {name} = off")
+    postgres.sql("select pg_reload_conf()")
+    try:
+        await asyncio.sleep(0.3)
+        with pytest.raises(Fatal, match=f"{name} is off"):
+            async with running(settings()):
+                pass
+    finally:
+        postgres.sql(f"alter system reset {name}")
+        postgres.sql("select pg_reload_conf()")
+        await asyncio.sleep(0.3)

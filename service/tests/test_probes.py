@@ -3,6 +3,7 @@
 from __future__ import annotations
 
 import asyncio
+import os
 import signal
 import ssl
 import subprocess
@@ -145,3 +146,38 @@ async def test_files_at_fault_leave_the_earlier_ones_in_use(process: Process, tm
         (tmp_path / "tokens").unlink()
         await service.hang_up(2)
         assert await service.status("/batch/jobs", OLD) == 200
+
+
+async def test_a_batchctl_that_hangs_is_not_ready_and_then_killed(either: Make, monkeypatch: pytest.MonkeyPatch) -> None:
+    for name, seconds in [("ASK_SECONDS", 0.1), ("SILENT_SECONDS", 0.5), ("KILL_SECONDS", 2.0)]:
+        monkeypatch.setattr(f"job_host.keeper.{name}", seconds)
+    async with running(either()) as instance:
+        caller, engine = Caller(instance.url), instance.service.keeper.engine
+        assert (await caller.start("short", key="a")).operations == 1 and engine is not None
+        os.kill(engine.process.process_id, signal.SIGSTOP)
+
+        async def is_unready() -> bool:
+            return (await caller.ask("GET", "/readyz")).status == 503
+
+        await until(is_unready, 5.0)
+        assert not engine.process.has_ended
+        await asyncio.wait_for(engine.process.wait(), 10.0)
+
+        async def is_told_again() -> bool:
+            return (await caller.start("short", key="a")).operations == 1
+
+        await until(is_told_again, 10.0)
+        assert (await caller.ask("GET", "/readyz")).status == 200
+
+
+async def test_a_follower_whose_batchctl_ends_begins_again(settings: Make) -> None:
+    made = settings(takeover_after=60.0)
+    async with running(made) as one, running(made, "follower") as two:
+        assert two.service.keeper.engine is not None
+        two.service.keeper.engine.process.kill()
+
+        async def reads() -> bool:
+            return (await Caller(two.url).ask("GET", "/batch/jobs?atLeast=1")).status == 200
+
+        assert (await Caller(one.url).start("short")).operations == 1
+        await until(reads, 10.0)

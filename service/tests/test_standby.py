@@ -3,9 +3,12 @@
 from __future__ import annotations
 
 import asyncio
-from collections.abc import Iterator
+from collections.abc import Callable, Iterator
+from dataclasses import replace
 from pathlib import Path
+from typing import Any
 
+import asyncpg
 import pytest
 from instances import Answer, Caller, running, until
 from postgres_server import PostgresServer
@@ -90,3 +93,38 @@ async def test_nothing_is_shown_that_the_standby_has_not(pair: tuple[PostgresSer
         await instance.until_role("leader")
         again = await caller.start("short", key="waits")
         assert (again.status, again.told["executionId"], again.operations) == (201, 2, 2)
+
+
+async def test_a_server_that_hangs_is_passed_over(settings: Callable[..., ServeSettings]) -> None:
+    """It takes connections, and never answers. The next one takes writes."""
+    connections: list[asyncio.StreamWriter] = []
+
+    async def hang(reader: asyncio.StreamReader, writer: asyncio.StreamWriter) -> None:
+        connections.append(writer)
+
+    made = settings()
+    server = await asyncio.start_server(hang, "127.0.0.1", 0)
+    port = server.sockets[0].getsockname()[1]
+    dsns = (f"postgresql://nobody@127.0.0.1:{port}/none", *made.postgres)
+    async with running(replace(made, postgres=dsns)) as instance:
+        assert (await Caller(instance.url).start("short")).status == 201
+    for writer in connections:
+        writer.close()
+    server.close()
+
+
+async def test_a_server_that_hangs_behind_the_handshake_is_passed_over(
+    settings: Callable[..., ServeSettings], monkeypatch: pytest.MonkeyPatch
+) -> None:
+    fetch, asked = asyncpg.Connection.fetchval, list[str]()
+
+    async def hang_once(connection: asyncpg.Connection, query: str, *words: Any, **more: Any) -> Any:
+        if "pg_is_in_recovery" in query and not asked:
+            asked.append(query)
+            return await fetch(connection, "select pg_sleep(600)", *words, **more)
+        return await fetch(connection, query, *words, **more)
+
+    monkeypatch.setattr(asyncpg.Connection, "fetchval", hang_once)
+    made = settings()
+    async with running(replace(made, postgres=made.postgres * 2)) as instance:
+        assert (await Caller(instance.url).start("short")).status == 201

@@ -165,6 +165,26 @@ async def test_a_killed_worker_takes_its_artifact_along(settings: Make, night: P
     assert (artifacts / "ended").read_text() == "2\n"
 
 
+async def test_a_killed_worker_takes_along_what_its_artifact_started(settings: Make, night: Path, artifacts: Path) -> None:
+    """The restart runs alone: of the first attempt no process is left, not even one in a session of its own."""
+
+    async def has_begun() -> bool:
+        return (artifacts / "begun").exists()
+
+    async with running(settings(catalogue=night, lease=1.0)) as instance:
+        caller = Caller(instance.url)
+        async with working(instance.url, artifacts) as worker:
+            await caller.start("nested")
+            await until(has_begun)
+            worker.process.send_signal(signal.SIGKILL)
+            assert (await end_of(caller, 1))["batchStatus"] == "FAILED"
+        async with working(instance.url, artifacts):
+            await caller.change(1, "restart")
+            assert (await end_of(caller, 2))["batchStatus"] == "COMPLETED"
+    assert (artifacts / "begun").read_text() == "begun\n" * 2
+    assert (artifacts / "late").read_text() == "late\n" and (artifacts / "ended").read_text() == "ended\n"
+
+
 async def test_a_worker_that_is_told_to_end_ends_its_work_first(settings: Make, night: Path, artifacts: Path) -> None:
     async with running(settings(catalogue=night)) as instance, working(instance.url, artifacts, 1) as worker:
         caller = Caller(instance.url)
