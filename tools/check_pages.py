@@ -11,7 +11,6 @@ found, and ends with status 1. The word after a block's fence says what the bloc
 - `json NAME`: a catalogue and its name. In a script its lines are one line.
 - `script`: lines of a script, each after `> `, with the reply below it. `# catalogue: NAME` begins a script over that
   catalogue. A block without it goes on with the script of the block before. Other lines with a `#` are for the reader alone.
-- `rust`: an excerpt that stands, line for line, in a source file of a crate.
 
 docs/LINES.md must also have each command, query, reply and refusal of the sources, and each member of a work item, a job
 execution and a step execution. docs/OPERATOR.md must show the program of `benches/host`. README's first script and its
@@ -103,16 +102,17 @@ class Script:
 
 
 def blocks_in(page: str, text: str) -> Iterator[Block]:
-    """The fenced blocks of a page, in their order."""
+    """The fenced blocks of a page, in their order. Those of a list are indented."""
     word, lines = None, list[str]()
     for number, line in enumerate(text.splitlines(), 1):
-        if word is None and line.startswith("```"):
-            word, lines, first = line[3:].strip(), [], number + 1
-        elif word is not None and line == "```":
+        if word is None and line.lstrip().startswith("```"):
+            indent, _, rest = line.partition("```")
+            word, lines, first = rest.strip(), [], number + 1
+        elif word is not None and line == f"{indent}```":
             yield Block(page, first, word, lines)
             word = None
         elif word is not None:
-            lines.append(line)
+            lines.append(line.removeprefix(indent))
     if word is not None:
         yield Block(page, first, "a block without an end", lines)
 
@@ -136,7 +136,7 @@ def unknown_blocks(blocks: list[Block]) -> Iterator[Difference]:
     for block in blocks:
         kind = block.word.split(" ")[0]
         is_output = block.word == "" and before == "sh"
-        if not is_output and block.word not in ("sh", "sh build", "script", "rust") and kind != "json":
+        if not is_output and block.word not in ("sh", "sh build", "script") and kind != "json":
             yield Difference(block.page, block.number, "a block that can be checked", block.word or "no word after its fence")
         before = block.word
 
@@ -206,15 +206,6 @@ def check_shell(program: Path, blocks: list[Block]) -> Iterator[Difference]:
         yield from first_difference(blocks[place].page, wanted, text.splitlines(), blocks[place].number)
 
 
-def check_excerpts(blocks: list[Block]) -> Iterator[Difference]:
-    """Each excerpt stands in a source file."""
-    sources = [path.read_text() for path in sorted((ROOT / "crates").glob("*/src/**/*.rt"))]
-    for block in (block for block in blocks if block.word == "rust"):
-        excerpt = "\n".join(["", *block.lines, ""])
-        if not any(excerpt in source for source in sources):
-            yield Difference(block.page, block.number, "these lines in a file of crates/*/src", "none that has them")
-
-
 def check_host(page: str, text: str, source: str) -> Iterator[Difference]:
     """The page shows the whole program."""
     if f"```rust\n{source}```\n" not in text:
@@ -266,7 +257,6 @@ def check_page(program: Path, page: str, text: str) -> Iterator[Difference]:
     yield from unknown_blocks(blocks)
     yield from check_scripts(program, blocks)
     yield from check_shell(program, blocks)
-    yield from check_excerpts(blocks)
 
 
 def main() -> int:

@@ -16,9 +16,9 @@ from repository import ROOT, uses_by_crate
 from try_plants import table as table_of_plants
 
 PAGE = ROOT / "docs" / "TESTING.md"
-LINES = ["code", "specs", "proofs"]
-# The page has no lines: they change with each commit.
-COUNTED = ["public functions", "must-fail edits", "tests"]
+LINES = ["code", "specs", "proofs", "public functions"]
+# The page has neither lines nor functions, which change with each commit. It leaves out a crate that has nothing else.
+COUNTED = ["must-fail edits", "tests"]
 
 
 def lines_of(folder: Path, ending: str) -> int:
@@ -42,10 +42,11 @@ def row(name: str) -> dict[str, int]:
 
 
 def table_of_crates(heads: list[str]) -> list[str]:
+    """The crates that have any of these, and the sums of all."""
     lines = ["| crate | " + " | ".join(heads) + " |", "|---|" + "---|" * len(heads)]
     rows = {name: [row(name)[head] for head in heads] for name in uses_by_crate()}
     rows["all"] = [sum(column) for column in zip(*rows.values())]
-    return lines + [f"| {name} | " + " | ".join(map(str, counts)) + " |" for name, counts in rows.items()]
+    return lines + [f"| {name} | " + " | ".join(map(str, counts)) + " |" for name, counts in rows.items() if any(counts)]
 
 
 def table_in(page: list[str], head: str) -> tuple[int, int]:

@@ -102,6 +102,11 @@ class Commands(unittest.TestCase):
     def test_output_without_a_block_is_told(self) -> None:
         self.assertEqual(found_in("```sh\necho one\n```\n"), [(2, "nothing", "one")])
 
+    def test_a_block_of_a_list_is_run_without_its_indent(self) -> None:
+        page = "1. First:\n\n   ```sh\n   cat <<END\n     {}\n   END\n   ```\n\n   ```\n     one\n   ```\n"
+        self.assertEqual(found_in(page.replace("{}", "one")), [])
+        self.assertEqual(found_in(page.replace("{}", "six")), [(10, "  one", "  six")])
+
     def test_a_command_that_fails_is_told(self) -> None:
         self.assertEqual(found_in("```sh\nfalse\n```\n"), [(2, "nothing", "status 1")])
 
@@ -115,13 +120,6 @@ class Pages(unittest.TestCase):
         self.assertEqual(found_in("```python\n1\n```\n"), [(2, wanted, "python")])
         self.assertEqual(found_in("```\n1\n```\n"), [(2, wanted, "no word after its fence")])
         self.assertEqual(found_in("```sh\ntrue\n"), [(2, wanted, "a block without an end")])
-
-    def test_an_excerpt_stands_in_a_source_file(self) -> None:
-        excerpt = "```rust\n/// Claims work and finishes it.\nfn work<N: Site>({}"
-        self.assertEqual(found_in(excerpt.format("rt: &impl Wait, operator: &Operator<N>) -> Ended {\n```\n")), [])
-        self.assertEqual(
-            found_in(excerpt.format("\n```\n")), [(2, "these lines in a file of crates/*/src", "none that has them")]
-        )
 
     def test_a_whole_program_is_shown(self) -> None:
         source = "fn main() {\n}\n"
