@@ -8,11 +8,13 @@ from contextlib import contextmanager
 from typing import Any
 
 from selenium import webdriver
-from selenium.common.exceptions import NoSuchElementException, StaleElementReferenceException
+from selenium.common.exceptions import ElementNotInteractableException, NoSuchElementException, StaleElementReferenceException
 from selenium.webdriver.chrome.service import Service as Driver
 from selenium.webdriver.common.by import By
 
 WAIT_SECONDS = 30.0
+# What a look meets while a page is drawn anew.
+NOT_YET = (NoSuchElementException, StaleElementReferenceException, ElementNotInteractableException)
 WORDS = [
     "--headless=new",
     "--no-sandbox",
@@ -43,7 +45,7 @@ class Browser:
                 seen = look()
                 if seen:
                     return seen
-            except (NoSuchElementException, StaleElementReferenceException):
+            except NOT_YET:
                 pass
             if time.monotonic() > deadline:
                 raise TimeoutError(f"not seen within {seconds:g} seconds: {self.text()[-2000:]}")

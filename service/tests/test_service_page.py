@@ -1,34 +1,19 @@
-"""docs/SERVICE.md: the night on one machine goes as the page shows it, and its tables have each refusal, metric and path."""
+"""docs/SERVICE.md has each refusal, metric, path and word of a query. tools/paste_pages.py runs what it shows."""
 
 from __future__ import annotations
 
 import ast
-import importlib
 import re
-import sys
 from collections.abc import Iterator
-from pathlib import Path
 
-import pytest
-from catalogue_samples import BATCHCTL, ROOT
+from catalogue_samples import ROOT
 
 from job_host import routes_jobs, routes_lists, routes_work
 from job_host.metrics import Metrics
 from job_host.problems import STATUS_OF_PROBLEM, STATUS_OF_REFUSAL
 from job_host.settings import Bounds
 
-sys.path.insert(0, str(ROOT / "tools"))
-check_pages = importlib.import_module("check_pages")
-
 PAGE = ROOT / "docs" / "SERVICE.md"
-
-
-def test_the_night_on_one_machine_goes_as_the_page_says(tmp_path: Path, monkeypatch: pytest.MonkeyPatch) -> None:
-    (tmp_path / "jobhost").symlink_to(ROOT / "service" / "jobhost")
-    monkeypatch.setenv("PATH", f"{tmp_path}:/usr/bin:/bin")
-    monkeypatch.setenv("JOBHOST_BATCHCTL", str(Path(BATCHCTL[0]).resolve()))
-    differences = list(check_pages.check_page(Path(BATCHCTL[0]).resolve(), str(PAGE), PAGE.read_text()))
-    assert "\n".join(map(str, differences)) == ""
 
 
 def test_the_first_page_has_commands_of_that_night() -> None:
@@ -37,6 +22,17 @@ def test_the_first_page_has_commands_of_that_night() -> None:
     commands = [re.split(r" +[&#]", line)[0] for line in page if line.startswith("jobhost ")]
     assert commands
     assert [command for command in commands if not any(line.startswith(command) for line in night)] == []
+
+
+def test_the_first_page_names_crates_and_tests_that_are_there() -> None:
+    """The grounds of each row of the promise: crates of its proofs, and files of its tests."""
+    page = (ROOT / "README.md").read_text()
+    promise = page[page.index("| You use |") : page.index("We trust")]
+    named = {name for place in re.findall(r"\(([^()]*`[^()]*)\)", promise) for name in names_in(place)}
+    tests = {path.name for folder in ("tools", "service/tests") for path in (ROOT / folder).glob("*.py")}
+    crates = {path.name for path in (ROOT / "crates").iterdir()}
+    assert len(named) > 10
+    assert named - tests - crates == set()
 
 
 def rows() -> list[list[str]]:
@@ -83,6 +79,17 @@ def test_the_page_has_each_path_and_each_word_of_a_query() -> None:
         row = re.search(rf"^`{method} {re.escape(path)}(?![/\w]).*$", text, re.M)
         assert row is not None, path
         assert [word for word in words if word != "atLeast" and f"{word}=" not in row[0]] == [], path
+
+
+def test_the_page_has_an_example_of_each_path() -> None:
+    asked = re.findall(r"^(?:ask|until curl -sf) .*$", PAGE.read_text(), re.M)
+    others = [("GET", path) for path in ("/batch/events", "/metrics", "/health/leader", "/readyz")]
+    routes = [(route[0], route[1]) for route in [*routes_jobs.ROUTES, *routes_lists.ROUTES, *routes_work.ROUTES]]
+    for method, path in [*routes, *others]:
+        pattern = re.escape(path).replace(r"\{id\}", "[0-9]+") + r"(?![/\w])"
+        assert any(re.search(pattern, line) and (method in line or path == "/readyz") for line in asked), (method, path)
+    for action in (*routes_work.ACTIONS, "heartbeat", "stop", "restart", "abandon"):
+        assert any(f"?action={action}'" in line for line in asked), action
 
 
 def test_the_page_has_the_bounds_of_pages() -> None:
