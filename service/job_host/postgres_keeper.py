@@ -246,7 +246,8 @@ class PostgresKeeper(Keeper):
         await store.note_heard(term.sessions.take_heard())
         silent = await store.silent_clients(self._settings.bounds.name_seconds)
         with term.sessions.forgetting(silent, {held.session for held in term.engine.held.values()}) as dropped:
-            await store.drop_clients(term.epoch, dropped)
+            if dropped:
+                await store.drop_clients(term.epoch, dropped)
 
     async def _prune(self, store: PostgresStore, term: PostgresTerm) -> None:
         """Drops what is old, now and then. If that fails, the term goes on, and it is tried again."""

@@ -58,7 +58,11 @@ async def test_no_reply_leaves_before_its_commit(settings: Make) -> None:
         await table.fetch(LEADER_ROW)
         calls = [caller.start(), caller.ask("GET", "/batch/jobexecutions/1"), caller.change(9, "stop")]
         tasks = [asyncio.create_task(calls[0])]
-        await asyncio.sleep(0.2)
+
+        async def is_entered() -> bool:
+            return instance.service.keeper.operations == 1
+
+        await until(is_entered)
         tasks += [asyncio.create_task(call) for call in calls[1:]]
         done, _ = await asyncio.wait(tasks, timeout=0.7)
         assert not done
