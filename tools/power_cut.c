@@ -33,10 +33,10 @@ static int journal = -1;
 static uint64_t syncs, fail_at;
 static const char *disk;
 
-/* The files that differ on the disk, each with an open file of the disk's bytes. */
+/* The files that differ on the disk, each opened for writing, with an open file of the disk's bytes. */
 static struct differing {
     uint64_t number;
-    int bytes;
+    int bytes, memory;
 } differing[MOST_FILES];
 static int differing_count;
 
@@ -96,29 +96,30 @@ static void find_differing(const char *path, uint64_t number) {
         return;
     snprintf(place, sizeof place, "%s/%s", disk, slash ? slash + 1 : path);
     int bytes = open_next(place, O_RDWR | O_CLOEXEC, 0);
-    if (bytes >= 0)
-        differing[differing_count++] = (struct differing){number, bytes};
+    if (bytes < 0)
+        return;
+    int memory = open_next(path, O_WRONLY | O_CLOEXEC, 0);
+    if (memory < 0)
+        abort();
+    differing[differing_count++] = (struct differing){number, bytes, memory};
 }
 
 /* Puts the disk's bytes into the file, whose length stays: the length is not dropped from memory. */
-static void drop_memory(int file, uint64_t number) {
+static void drop_memory(uint64_t number) {
     struct differing *found = differing_of(number);
-    char path[64], piece[PIECE];
+    char piece[PIECE];
     struct stat now;
     note('a', number, 0, "", 0);
     if (!found)
         return;
-    snprintf(path, sizeof path, "/proc/self/fd/%d", file);
-    int out = open_next(path, O_WRONLY | O_CLOEXEC, 0);
-    if (out < 0 || fstat(out, &now) != 0)
+    if (fstat(found->memory, &now) != 0)
         abort();
     for (off_t at = 0; at < now.st_size; at += PIECE) {
         off_t size = now.st_size - at < PIECE ? now.st_size - at : PIECE;
         memset(piece, 0, PIECE);
-        if (syscall(SYS_pread64, found->bytes, piece, size, at) < 0 || syscall(SYS_pwrite64, out, piece, size, at) != size)
+        if (syscall(SYS_pread64, found->bytes, piece, size, at) < 0 || syscall(SYS_pwrite64, found->memory, piece, size, at) != size)
             abort();
     }
-    close(out);
 }
 
 /* Notes that a file was cut, and cuts the disk's bytes too. */
@@ -140,7 +141,7 @@ static int opened(int file, const char *path, int flags, int was_there) {
     if (was_there && flags & O_TRUNC)
         note_cut(number, 0);
     if (flags & O_DIRECT)
-        drop_memory(file, number);
+        drop_memory(number);
     return file;
 }
 
@@ -241,7 +242,7 @@ int posix_fadvise(int file, off_t place, off_t size, int advice) {
     struct stat found;
     int is_all = place == 0 && (size == 0 || (fstat(file, &found) == 0 && size >= found.st_size));
     if (advice == POSIX_FADV_DONTNEED && is_all && is_noted(file, &number))
-        drop_memory(file, number);
+        drop_memory(number);
     return 0;
 }
 

@@ -102,7 +102,9 @@ class Around(unittest.TestCase):
     def test_the_network_is_loopback_alone_with_each_port_free(self) -> None:
         with socket.create_server(("127.0.0.1", 0)) as held:
             serve = f"import socket; socket.create_server(('127.0.0.1', {held.getsockname()[1]}))"
-            self.assertEqual(pasted(shell(f'python3 -c "{serve}"', "grep -c : /proc/net/dev") + shell("1", word="")), [])
+            count = "import socket; print(len(socket.if_nameindex()))"
+            commands = shell(f'python3 -c "{serve}"', f'python3 -c "{count}"')
+            self.assertEqual(pasted(commands + shell("1", word="")), [])
 
     def test_the_copy_has_the_files_as_they_stand_and_nothing_that_was_built(self) -> None:
         files = files_of_the_repository()
