@@ -5,6 +5,9 @@
 
 One job execution is a start, a claim, a checkpoint and a finish. Clients of the service call over HTTP with a request key each;
 the repository in SQL is called without HTTP, on a connection for each client. All is measured in one run, in turn.
+This measures only how long it takes until a history is served again:
+
+    service/bench.py --clients '' --takeovers 0 --replay 900000
 """
 
 from __future__ import annotations
@@ -13,6 +16,7 @@ import argparse
 import asyncio
 import json
 import os
+import signal
 import statistics
 import subprocess
 import sys
@@ -31,7 +35,7 @@ sys.path.insert(0, str(Path(__file__).resolve().parent))
 sys.path.insert(0, str(Path(__file__).resolve().parent / "tests"))
 
 from instances import Caller, Process, until  # noqa: E402
-from postgres_server import PostgresServer  # noqa: E402
+from postgres_server import PostgresServer, children_of  # noqa: E402
 from sql_repository import SCHEMA, SqlRepository  # noqa: E402
 
 from job_host.lines import command  # noqa: E402
@@ -41,6 +45,7 @@ CHUNK = {"item-count": 100, "reader": {"ref": "rows"}, "writer": {"ref": "table"
 CATALOGUE = {"jobs": [{"id": "copy", "elements": [{"kind": "step", "id": "copy", "chunk": CHUNK}]}]}
 METRICS = {"READ_COUNT": 100, "WRITE_COUNT": 100, "COMMIT_COUNT": 1}
 TAKEOVER_AFTER = 1.0
+REPLAY_SECONDS = 120.0
 
 
 @dataclass
@@ -206,42 +211,105 @@ class Bench:
             return False
 
     async def replay(self, count: int) -> None:
-        """Fills a table with so many operations, and takes the time until an instance leads."""
-        dsn = self.database("replay")
-        first = self.service("replay", "--postgres", dsn)
-        first.start()
-        await first.until_role("leader")
-        first.kill()
-        await self._fill(dsn, count)
-        second = self.service("replay", "--postgres", dsn)
-        begun = time.perf_counter()
-        second.start()
-        try:
-            await second.until_role("leader")
-            print(f"from the start of an instance over {count} operations until it leads: {time.perf_counter() - begun:.2f} s")
-        finally:
-            second.kill()
+        """The seconds over so many operations until a service is there: after a start, a kill of batchctl, lost connections."""
+        lines = operations(count)
+        if self.has_log():
+            await self._replay_log(lines)
+        await self._replay_table(lines)
 
-    async def _fill(self, dsn: str, count: int) -> None:
-        lines = []
-        for place in range(0, count, 4):
-            work = place // 4 + 1
-            lines.append(command("start", 2, place + 1, {"job": "copy", "parameters": {"night": str(place)}}))
-            lines.append(command("claim", 2, place + 2, {}))
-            lines.append(command("checkpoint", 2, place + 3, {"work": work, "data": "100", "metrics": METRICS}))
-            lines.append(command("finish", 2, place + 4, {"work": work, "outcome": "COMPLETED"}))
+    def _hand(self, lines: list[bytes], *words: str) -> list[bytes]:
+        """Hands lines to batchctl. Returns its replies."""
         script = b"\n".join([json.dumps(CATALOGUE).encode(), *lines]) + b"\n"
-        done = subprocess.run([*self.batchctl, "script"], input=script, capture_output=True, check=True)
-        replies = done.stdout.decode().splitlines()
-        rows = [(number, 1, line.decode(), reply, None) for number, (line, reply) in enumerate(zip(lines, replies), 1)]
+        done = subprocess.run([*self.batchctl, "script", *words], input=script, capture_output=True, check=True)
+        return done.stdout.splitlines()
+
+    async def _replay_log(self, lines: list[bytes]) -> None:
+        data = self.folder / "replayed"
+        data.mkdir(mode=0o700)
+        self._hand(lines, "--log", str(data / "history.log"))
+        service = self.service("replayed", "--data", str(data), "--restored")
+        begun = time.perf_counter()
+        service.start()
+        try:
+            await tell(service, f"embedded, a start over {len(lines)} operations", begun, lambda: self._starts(service.url))
+            for quiet in (0.0, 3.0):
+                await asyncio.sleep(quiet)
+                begun = time.perf_counter()
+                os.kill(children_of(service.number)[0], signal.SIGKILL)
+                what = f"embedded, a kill of batchctl {quiet:g} s after an operation"
+                await tell(service, what, begun, lambda: self._starts(service.url))
+        finally:
+            service.kill()
+
+    async def _replay_table(self, lines: list[bytes]) -> None:
+        dsn = self.database("replay")
+        services = [self.service(f"replay-{number}", "--postgres", dsn) for number in range(2)]
+        try:
+            services[0].start()
+            await services[0].until_role("leader")
+            services[0].kill()
+            await self._fill(dsn, lines)
+            for service, role in zip(services, ("leader", "follower")):
+                begun = time.perf_counter()
+                service.start()
+                what = f"PostgreSQL, a start over {len(lines)} operations, {role}"
+                await tell(service, what, begun, lambda one=service, role=role: has_role(one, role, 2))  # type: ignore[misc]
+            begun = time.perf_counter()
+            self.server.sql("select pg_terminate_backend(pid) from pg_stat_activity where datname = 'replay'")
+            told = [
+                ("leader", lambda: has_role(services[0], "leader", 3)),
+                ("follower", lambda: has_role(services[1], "follower", 3)),
+            ]
+            for service, (role, condition) in zip(services, told):
+                await tell(service, f"PostgreSQL, connections that are lost, {role}", begun, condition)
+            if not await self._starts(services[0].url):
+                raise RuntimeError("the leader takes no calls")
+        finally:
+            for service in services:
+                service.kill()
+
+    async def _fill(self, dsn: str, lines: list[bytes]) -> None:
+        pairs = enumerate(zip(lines, self._hand(lines), strict=True), 1)
         table = await asyncpg.connect(dsn)
+        rows = [(number, 1, line.decode(), reply.decode(), None) for number, (line, reply) in pairs]
         await table.copy_records_to_table("job_host_operation", records=rows)
         await table.close()
 
 
+def operations(count: int) -> list[bytes]:
+    """The lines of whole job executions."""
+    lines = []
+    for place in range(0, count, 4):
+        work = place // 4 + 1
+        lines.append(command("start", 2, place + 1, {"job": "copy", "parameters": {"night": str(place)}}))
+        lines.append(command("claim", 2, place + 2, {}))
+        lines.append(command("checkpoint", 2, place + 3, {"work": work, "data": "100", "metrics": METRICS}))
+        lines.append(command("finish", 2, place + 4, {"work": work, "outcome": "COMPLETED"}))
+    return lines
+
+
+async def has_role(service: Process, role: str, epoch: int) -> bool:
+    try:
+        told = (await Caller(service.url).ask("GET", "/health/ready")).told
+    except aiohttp.ClientError:
+        return False
+    return bool(told["role"] == role and told["epoch"] >= epoch)
+
+
+async def tell(service: Process, what: str, begun: float, condition: Callable[[], Awaitable[bool]]) -> None:
+    """Prints the seconds until the condition holds, and the memory of the service and of its batchctl."""
+    await until(condition, REPLAY_SECONDS)
+    seconds = time.perf_counter() - begun
+    numbers = [str(number) for number in (service.number, *children_of(service.number))]
+    told = subprocess.run(["ps", "-o", "rss=", "-p", ",".join(numbers)], capture_output=True, text=True, check=True)
+    sizes = " and ".join(f"{int(size) // 1024}" for size in told.stdout.split())
+    print(f"{what}: {seconds:.2f} s, {sizes} MiB of memory")
+
+
 async def run(given: argparse.Namespace, bench: Bench) -> None:
-    counts = [int(word) for word in given.clients.split(",")]
-    await bench.throughput(counts, given.seconds)
+    counts = [int(word) for word in given.clients.split(",") if word]
+    if counts:
+        await bench.throughput(counts, given.seconds)
     if given.takeovers:
         await bench.takeover(given.takeovers)
     if given.replay:

@@ -119,6 +119,14 @@ def check_replies(operations: Sequence[Operation], replayed: Replayed) -> None:
             raise Wrong(f"operation {operation.number} was answered {operation.reply!r}, and its replay {reply!r}")
 
 
+def check_moments(operations: Sequence[Operation]) -> None:
+    """Moments rise in the order of the history."""
+    moments = [json.loads(operation.line)["at"] for operation in operations]
+    for number, (before, moment) in enumerate(zip(moments, moments[1:]), 2):
+        if moment <= before:
+            raise Wrong(f"operation {number} has the moment {moment}, and the one before it {before}")
+
+
 def check_calls(operations: Sequence[Operation], seen: Seen) -> None:
     """Each acknowledged operation stands in the history once, with its reply; each client's in its order."""
     by_key: dict[str, list[Operation]] = defaultdict(list)
@@ -190,6 +198,7 @@ def check(
     """Compares everything, and returns how much that was."""
     replayed = Replayed(batchctl, catalogue, operations, seen)
     check_replies(operations, replayed)
+    check_moments(operations)
     check_calls(operations, seen)
     check_beside(replayed)
     check_artifacts(operations, artifacts)

@@ -9,8 +9,8 @@ nothing if all is well. Otherwise it prints the page, the line, what is wanted a
 - A command of an `sh` block succeeds. In docs/SERVICE.md the block without a word below it is what the commands print, to
   standard error too; `..` in it stands for any text. Without such a block they print nothing. README doesn't show it.
 - A command of an `sh build` block succeeds, whatever it prints.
-- A `conf` block is part of a file, and an `sh machines` block for several machines: service/tests/test_three_machines.py runs
-  it. Other blocks are refused, except README's script with its replies (tools/check_pages.py).
+- A `conf` block is part of a file. An `sh machines` block is for several machines, and an `sh database` block for a service over
+  PostgreSQL: service/tests/test_three_machines.py and service/tests/test_procedures.py run them. Other blocks are refused, except README's script with its replies (tools/check_pages.py).
 - The commands of INSTEAD would take too long, or need other machines. Others run in their place. A command of this list that
   no page has is told.
 
@@ -63,8 +63,8 @@ INSTEAD = {
     # The worker gives an executable this file.
     'echo "exit-status: 120 ROWS" >> "$BATCH_EXIT_STATUS_FILE"': ":",
 }
-# Blocks for several machines: service/tests/test_three_machines.py runs each.
-MACHINES = "sh machines"
+# Blocks that tests of the service run.
+ELSEWHERE = ("sh machines", "sh database")
 # The folders of Debian's programs.
 DEBIAN = [Path("/usr/bin"), Path("/bin"), Path("/usr/sbin"), Path("/sbin")]
 OURS = {"batchctl", "jobhost"}
@@ -244,8 +244,8 @@ def unknown_blocks(blocks: list[Block], has_output: bool) -> Iterator[Difference
     """Blocks that this tool would pass over."""
     before = ""
     for block in blocks:
-        is_output = block.word == "" and (before in ("sh", MACHINES) or not has_output)
-        if not is_output and block.word not in ("sh", "sh build", MACHINES, "conf"):
+        is_output = block.word == "" and (before in ("sh", *ELSEWHERE) or not has_output)
+        if not is_output and block.word not in ("sh", "sh build", *ELSEWHERE, "conf"):
             yield Difference(block.page, block.number, "a block that is pasted", block.word or "no word after its fence")
         before = block.word
 

@@ -145,7 +145,8 @@ class Pages(unittest.TestCase):
         self.assertEqual(pasted(shell("one", word="")), [(2, wanted, "no word after its fence")])
         self.assertEqual(pasted(shell("one", word=""), has_output=False), [])
         self.assertEqual(pasted(shell("one = 1", word="conf")), [])
-        self.assertEqual(pasted(shell("false", word="sh machines") + shell("one", word="")), [])
+        for word in ("sh machines", "sh database"):
+            self.assertEqual(pasted(shell("false", word=word) + shell("one", word="")), [])
         self.assertEqual(
             pasted(shell("one = 1", word="conf") + shell("one", word="")), [(5, wanted, "no word after its fence")]
         )

@@ -9,7 +9,9 @@ from contextlib import closing
 from pathlib import Path
 
 from job_host.log_file import Beginning
+from job_host.sqlite_schema import refuse_later
 from job_host.sqlite_store import SqliteStore, history_in
+from job_host.store_version import LaterVersion
 
 log = logging.getLogger(__name__)
 
@@ -18,10 +20,17 @@ SET_ASIDE = "beside-{}.sqlite"
 
 
 def open_store(folder: Path, beginning: Beginning) -> SqliteStore:
-    """The file of the log's history, or a new one. That of another history is set aside until its log is back."""
+    """The file of the log's history, or a new one. That of another history is set aside until its log is back.
+
+    Raises LaterVersion if it is one that this program doesn't know.
+    """
     store = SqliteStore(folder / STORE_NAME)
     kept = store.history()
-    earlier = None if kept is not None and kept.beginning == beginning else earlier_file(folder, beginning)
+    try:
+        earlier = None if kept is not None and kept.beginning == beginning else earlier_file(folder, beginning)
+    except LaterVersion:
+        store.close()
+        raise
     if earlier is not None or not may_be_of(store, beginning):
         set_aside(store, folder)
         if earlier is not None:
@@ -44,8 +53,9 @@ def earlier_file(folder: Path, beginning: Beginning) -> Path | None:
     for path in folder.glob(SET_ASIDE.format("*")) if beginning.first is not None else ():
         with closing(sqlite3.connect(f"{path.resolve().as_uri()}?mode=ro", uri=True)) as connection:
             kept = history_in(connection)
-        if kept is not None and kept.beginning == beginning:
-            return path
+            if kept is not None and kept.beginning == beginning:
+                refuse_later(connection, path.name)
+                return path
     return None
 
 

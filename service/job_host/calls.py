@@ -8,6 +8,7 @@ from dataclasses import dataclass, field
 from typing import Any
 
 from job_host.lines import Members, is_accepted, read
+from job_host.pages import Page
 
 SERVICE = ""
 SERVICE_SESSION = 1
@@ -19,13 +20,18 @@ def nobody_left() -> bool:
     return False
 
 
+def everybody_heard() -> bool:
+    return False
+
+
 @dataclass(frozen=True)
 class Call:
     """A command of a client.
 
     `resolve` gives members that a query tells. With `wait`, a claim that is answered Nothing is made again until so many
-    seconds are over, or until the client is gone. That answer isn't kept: a claim by the same key is a new one. With `is_once`
-    the key is for all clients, as long as the job instance that the call made is there. A refusal isn't kept then.
+    seconds are over, or until the client is gone. While its machine is `is_unheard`, no work is given to it. That answer isn't
+    kept: a claim by the same key is a new one. With `is_once` the key is for all clients, as long as the job instance that the
+    call made is there. A refusal isn't kept then.
     """
 
     client: str
@@ -37,6 +43,7 @@ class Call:
     log: str | None = None
     wait: float = 0.0
     is_gone: Callable[[], bool] = nobody_left
+    is_unheard: Callable[[], bool] = everybody_heard
     is_once: bool = False
 
 
@@ -49,6 +56,15 @@ class WorkLog:
     element: str
     partition: int | None
     text: str
+
+
+@dataclass(frozen=True)
+class LogPage:
+    """A page of the logs of a job execution, or of one element of it."""
+
+    execution: int
+    element: str | None
+    page: Page
 
 
 @dataclass(frozen=True)
@@ -122,3 +138,16 @@ class Item:
     def fail(self, problem: Exception) -> None:
         _fail(self.heard, problem)
         _fail(self.done, problem)
+
+
+@dataclass(eq=False)
+class Begun:
+    """A call on its way to its hand-over. Once it has its moment it is an item, which is handed over after it is kept."""
+
+    call: Call
+    item: Item | None = None
+    is_kept: bool = False
+    handed: asyncio.Future[Item] = field(default_factory=lambda: asyncio.get_running_loop().create_future())
+
+    def fail(self, problem: Exception) -> None:
+        _fail(self.handed, problem)

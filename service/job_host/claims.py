@@ -12,6 +12,8 @@ from job_host.problems import Problem
 
 Begin = Callable[[Call], Awaitable[Item]]
 
+# Whether clients that wait are gone, or are heard again, is looked at so often.
+LOOK_SECONDS = 0.5
 # So many withdrawn claims are known: the oldest are forgotten, whose requests came long ago.
 MOST_WITHDRAWN = 10_000
 
@@ -38,6 +40,7 @@ class ClaimDesk:
         self._waiting: deque[Waiter] = deque()
         self._withdrawn: dict[tuple[str, str | None], None] = {}
         self._failure: Exception | None = None
+        self._is_passed_over = False
         self._wake = asyncio.Event()
 
     def wake(self) -> None:
@@ -73,9 +76,18 @@ class ClaimDesk:
             self._waiting.remove(waiter)
         else:
             item = await waiter.served
-        if item is None and call.is_gone():
+        if item is None:
+            await self._until_heard(call)
+            item = await self._begin(call)
+        return await item.done
+
+    @staticmethod
+    async def _until_heard(call: Call) -> None:
+        """Returns after the client was heard. Raises a problem if it is gone: the system finds out which, within seconds."""
+        while not call.is_gone() and call.is_unheard():
+            await asyncio.sleep(LOOK_SECONDS)
+        if call.is_gone():
             raise Problem("ClientGone", 408, "the client that waited is gone")
-        return await (item or await self._begin(call)).done
 
     async def serve(self) -> None:
         """Serves for ever. It ends with the exception by which a claim failed."""
@@ -84,16 +96,41 @@ class ClaimDesk:
             self._wake.clear()
             await self._serve_all()
 
+    async def watch(self) -> None:
+        """Ends claims whose clients are gone, and serves those that were unheard when there was work, for ever."""
+        while True:
+            await asyncio.sleep(LOOK_SECONDS)
+            for waiter in list(self._waiting):
+                self._end_gone(waiter)
+            if self._is_passed_over:
+                self.wake()
+
     async def _serve_all(self) -> None:
-        while self._waiting and await self._serve_first():
+        self._is_passed_over = False
+        while (waiter := self._next()) is not None and await self._serve_one(waiter):
             pass
 
-    async def _serve_first(self) -> bool:
-        """Claims for the first who waits. Returns whether there may be more work."""
-        waiter = self._waiting.popleft()
-        if waiter.call.is_gone():
-            waiter.served.set_result(None)
-            return True
+    def _next(self) -> Waiter | None:
+        """Takes the first who waits, and is heard: work isn't given to a machine that is gone, which nobody knows yet."""
+        for waiter in list(self._waiting):
+            if self._end_gone(waiter):
+                continue
+            if not waiter.call.is_unheard():
+                self._waiting.remove(waiter)
+                return waiter
+            self._is_passed_over = True
+        return None
+
+    def _end_gone(self, waiter: Waiter) -> bool:
+        """Ends a claim that waits if its client is gone. Returns whether it is."""
+        if not waiter.call.is_gone():
+            return False
+        self._waiting.remove(waiter)
+        waiter.served.set_result(None)
+        return True
+
+    async def _serve_one(self, waiter: Waiter) -> bool:
+        """Claims for one who waited. Returns whether there may be more work."""
         try:
             item = await self._begin(waiter.call)
             reply = await item.heard

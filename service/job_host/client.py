@@ -16,6 +16,7 @@ from typing import Any
 
 import aiohttp
 
+from job_host.peers import notice_gone
 from job_host.problems import OPERATIONS
 from job_host.requests import AT_LEAST, CLIENT, REQUEST_KEY
 
@@ -23,6 +24,8 @@ PAUSE = 0.2
 LONGEST_PAUSE = 2.0
 ASK_SECONDS = 30.0
 CONNECT_SECONDS = 5.0
+# A service whose machine acknowledges nothing for so long is gone.
+GONE_SECONDS = 10.0
 # Statuses of an instance that can't answer now, though another one may, or it itself later.
 PASSING = (408, 425, 429, 502, 503, 504)
 # Problems of status 503 that don't pass.
@@ -56,6 +59,16 @@ class Address:
     headers: dict[str, str] = field(default_factory=dict)
 
 
+class Connector(aiohttp.TCPConnector):
+    """Connections that end if the service's machine is gone, though it is long until an answer is due."""
+
+    async def connect(self, *given: Any, **named: Any) -> Any:
+        connection = await super().connect(*given, **named)
+        if connection.transport is not None:
+            notice_gone(connection.transport.get_extra_info("socket"), GONE_SECONDS)
+        return connection
+
+
 class Client:
     """An asynchronous client. One object is one client, whose reads don't go back.
 
@@ -76,7 +89,7 @@ class Client:
             headers["Authorization"] = f"Bearer {self._address.token}"
         tls = ssl.create_default_context(cafile=self._address.authority) if self._address.authority else None
         for force_close in (False, True):
-            connector = aiohttp.TCPConnector(ssl=tls if tls else True, limit=0, force_close=force_close)
+            connector = Connector(ssl=tls if tls else True, limit=0, force_close=force_close)
             self._sessions.append(aiohttp.ClientSession(headers=headers, connector=connector))
         return self
 

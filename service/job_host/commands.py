@@ -9,7 +9,7 @@ import os
 import re
 import socket
 import sys
-from collections.abc import Awaitable, Callable
+from collections.abc import AsyncIterator, Awaitable, Callable
 from typing import Any
 from urllib.parse import urlencode
 
@@ -26,8 +26,8 @@ UNFINISHED = ("STARTING", "STARTED", "STOPPING")
 STATUS = {"COMPLETED": 0, "FAILED": 3, "STOPPED": 4, "ABANDONED": 5}
 POLL = 0.5
 LOG_LINES = 10
-# The service's bound of a page.
-PAGE_SIZE = 1_000
+# The service's bounds of a page, and of one of logs.
+PAGE_SIZE, PAGE_OF_LOGS = 1_000, 100
 
 Command = Callable[[Client, argparse.Namespace], Awaitable[int]]
 
@@ -53,6 +53,20 @@ def parameters_of(words: list[str]) -> dict[str, str]:
         if "=" not in word:
             raise ValueError(f"{word}: a parameter is written NAME=VALUE")
     return dict(word.split("=", 1) for word in words)
+
+
+async def rows_of(client: Client, path: str, size: int, **words: str) -> AsyncIterator[dict[str, Any]]:
+    """The rows of a list, page by page: one that isn't full is the last."""
+    page, is_full = 0, True
+    while is_full:
+        told = await client.read(f"{path}?{urlencode({**words, 'page': page, 'pageSize': size})}")
+        page, is_full = page + 1, len(told) == size
+        for row in told:
+            yield row
+
+
+def logs_of(client: Client, execution: int, **words: str) -> AsyncIterator[dict[str, Any]]:
+    return rows_of(client, f"/batch/jobexecutions/{execution}/joblogs", PAGE_OF_LOGS, **words)
 
 
 async def execution_of(client: Client, execution: int) -> dict[str, Any]:
@@ -133,7 +147,7 @@ async def list_instances(client: Client, given: argparse.Namespace) -> int:
 
 
 async def show_work(client: Client, given: argparse.Namespace) -> int:
-    told = await client.read("/batch/work?withJobs=true")
+    told = [one async for one in rows_of(client, "/batch/work", PAGE_SIZE, withJobs="true")]
     Console().print(work_table(told, given.utc) if told else "no work item is under way")
     return 0
 
@@ -167,24 +181,26 @@ async def failed_executions(client: Client, job: str | None, count: int) -> tupl
 async def show_failed(client: Client, console: Console, one: dict[str, Any]) -> None:
     number = one["executionId"]
     execution = await execution_of(client, number)
-    logs = await client.read(f"/batch/jobexecutions/{number}/joblogs")
     console.print(plain(f"{one['jobName']}: job execution {number} is FAILED, exit status {one['exitStatus']}"))
     steps = {step["stepName"]: step["exitStatus"] for step in execution["stepExecutions"] if step["batchStatus"] == "FAILED"}
-    if not steps and logs:  # a decision has no step execution
-        steps = {logs[-1]["stepName"]: "FAILED"}
+    if not steps:  # a decision has no step execution
+        steps = {name: "FAILED" for name in [log["stepName"] async for log in logs_of(client, number)][-1:]}
     for name, exit_status in steps.items():
         console.print(plain(f"  step {name}: exit status {exit_status}"))
-        console.print(plain_lines("".join(f"    {line}\n" for line in last_lines(logs, name))), end="")
+        console.print(plain_lines("".join([f"    {line}\n" async for line in last_lines(client, number, name)])), end="")
     console.print(plain(f"  jobhost restart {number}"))
 
 
-def last_lines(logs: list[dict[str, Any]], step: str) -> list[str]:
+async def last_lines(client: Client, execution: int, step: str) -> AsyncIterator[str]:
     """The last lines of the logs of a step's work items."""
-    return [line for log in logs if log["stepName"] == step for line in log["log"].splitlines()[-LOG_LINES:]]
+    async for log in logs_of(client, execution, stepName=step):
+        for line in log["log"].splitlines()[-LOG_LINES:]:
+            yield line
 
 
 async def show_log(client: Client, given: argparse.Namespace) -> int:
-    sys.stdout.write(printable_lines(await client.read(f"/batch/jobexecutions/{given.execution}/joblogs?type=text")))
+    async for log in logs_of(client, given.execution):
+        sys.stdout.write(printable_lines(f"# work item {log['work']}, {log['stepName']}\n{log['log']}\n"))
     return 0
 
 

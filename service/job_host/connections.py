@@ -1,25 +1,26 @@
 """Connections: so many at once, and none that is slow to send a request or to take its answer.
 
-Some more than those are answered a refusal, so that their clients know why. All others are dropped.
+A caller for whose connection there is no room is answered a refusal, so that it knows why. Strangers are dropped.
 """
 
 from __future__ import annotations
 
 import asyncio
 import logging
+import socket
 from collections import deque
+from contextlib import suppress
 from typing import Any, cast
 
 from aiohttp import web
 from aiohttp.web_protocol import RequestHandler
 
+from job_host.room import Room
 from job_host.seldom import seldom
 from job_host.settings import Bounds
 
 IDLE_SECONDS = 75.0
 LINGERING_SECONDS = 1.0
-# So many connections above the bound are answered a refusal.
-SURPLUS = 64
 # So many requests of one connection wait for their turn, or twice as many: then no more is read of it.
 WAITING_REQUESTS = 16
 # What may have many requests is read in parts of so many bytes. Each request has this word.
@@ -35,11 +36,28 @@ QUIET.setLevel(logging.CRITICAL)
 class GuardedHandler(RequestHandler):
     """A connection that is dropped if a request, or the taking of an answer, makes no way for some seconds."""
 
-    __slots__ = ("_guard", "_bounds", "_begun", "_is_served", "_unsent", "_stuck_since", "_unread", "_is_held", "is_surplus")
+    __slots__ = (
+        "_guard",
+        "_bounds",
+        "_begun",
+        "_is_served",
+        "_unsent",
+        "_stuck_since",
+        "_unread",
+        "_is_held",
+        "_room",
+        "_is_admitted",
+        "_socket",
+        "has_begun",
+        "is_refused",
+    )
 
     def __init__(self, manager: GuardedServer, bounds: Bounds, **given: Any) -> None:
         super().__init__(manager, **given)
         self._bounds = bounds
+        self._room = manager.room
+        self._is_admitted = False
+        self._socket: socket.socket | None = None
         self._guard: asyncio.TimerHandle | None = None
         self._begun: float | None = None
         self._is_served = False
@@ -47,22 +65,53 @@ class GuardedHandler(RequestHandler):
         self._stuck_since: float | None = None
         self._unread: deque[bytes] = deque()
         self._is_held = False
-        self.is_surplus = False
+        self.has_begun = False
+        self.is_refused = False
+
+    def begin(self, accepted: socket.socket, address: bytes) -> None:
+        """Takes a place for a connection that was accepted, and will be handed over."""
+        self._socket = accepted
+        cast(GuardedServer, self._manager).enter(self, address)
+
+    def end_beginning(self) -> None:
+        """The connection was handed over, or never will be."""
+        self._socket = None
+        if not self.has_begun:
+            self._room.leave(self)
 
     def connection_made(self, transport: asyncio.BaseTransport) -> None:
         super().connection_made(transport)
-        self.is_surplus = cast(GuardedServer, self._manager).has_begun(self) > 0
+        self.has_begun = True
         self._begun = self._loop.time()
         self._watch()
 
     def connection_lost(self, exc: BaseException | None) -> None:
         if self._guard is not None:
             self._guard.cancel()
+        self._room.leave(self)
         super().connection_lost(exc)
+
+    def admit(self) -> bool:
+        """A caller was accepted. Returns whether there is room for its connection, which is closed else."""
+        self._is_admitted = cast(GuardedServer, self._manager).admit(self)
+        self.is_refused = not self._is_admitted
+        return self._is_admitted
+
+    def make_way(self) -> None:
+        """Ends the connection, since another one needs its place. What was answered to a caller is sent before that."""
+        if self._is_admitted:
+            self.close()
+        elif self.transport is not None:
+            self.transport.abort()
+        elif self._socket is not None:
+            # Its handshake ends by itself then: to cancel it would leave its descriptor with asyncio, which is given again.
+            with suppress(OSError):
+                self._socket.shutdown(socket.SHUT_RDWR)
 
     def data_received(self, data: bytes) -> None:
         if self._begun is None and not self._is_served:
             self._begun = self._loop.time()
+        self._room.note_idle(self, False)
         if data.count(VERSION_WORD) <= WAITING_REQUESTS:
             self._unread.append(data)
         else:
@@ -105,6 +154,7 @@ class GuardedHandler(RequestHandler):
     async def finish_response(self, request: web.BaseRequest, resp: web.StreamResponse, start_time: float) -> bool:
         is_reset = await super().finish_response(request, resp, start_time)
         self._read_on()
+        self._room.note_idle(self, self._begun is None and not self._messages)
         return is_reset
 
     def note_served(self, is_served: bool) -> None:
@@ -153,33 +203,19 @@ class GuardedServer(web.Server):
             logger=QUIET,
         )
         self._bounds = bounds
-        self._begun: set[GuardedHandler] = set()
         self._say = seldom(log.warning)
+        self.room = Room(bounds.connections)
 
-    def surplus(self) -> int:
-        """How many connections are above the bound, with those whose handshake lasts. It says so once a minute."""
-        surplus = len(self.connections) + len(self._begun) - self._bounds.connections
-        if surplus > 0:
-            self._say(f"{self._bounds.connections} connections are open: no more are served")
-        return surplus
+    def enter(self, handler: GuardedHandler, address: bytes) -> None:
+        """Lets a connection in. That another one made way is said once a minute."""
+        if self.room.enter(handler, address):
+            self._say(f"{self.room.count} connections are open: those by which no caller was accepted make way for new ones")
 
-    def may_begin(self) -> bool:
-        """Whether one more connection is answered, be it a refusal."""
-        return self.surplus() < SURPLUS
-
-    def begin(self) -> GuardedHandler:
-        """A handler of a connection that was accepted. It counts from now on, until it is forgotten."""
-        handler = self()
-        self._begun.add(handler)
-        return handler
-
-    def forget(self, handler: GuardedHandler) -> None:
-        self._begun.discard(handler)
-
-    def has_begun(self, handler: GuardedHandler) -> int:
-        """A handler has its connection. Returns how many are above the bound."""
-        self.forget(handler)
-        return self.surplus()
+    def admit(self, handler: GuardedHandler) -> bool:
+        is_admitted = self.room.admit(handler)
+        if not is_admitted:
+            self._say(f"{self._bounds.connections} connections of callers are open: no more are served")
+        return is_admitted
 
     def __call__(self) -> GuardedHandler:
         return GuardedHandler(self, self._bounds, loop=self._loop, **self._kwargs)

@@ -5,33 +5,33 @@ from __future__ import annotations
 import asyncio
 import logging
 import sqlite3
-from collections.abc import Callable, Sequence
+from collections import deque
+from collections.abc import Callable, Iterable, Sequence
 from concurrent.futures import ThreadPoolExecutor
 from contextlib import suppress
 from typing import Any, TypeVar
 
 from job_host import catalogue_growth, job_catalogue, log_file
 from job_host.beside_files import STORE_NAME, open_store
-from job_host.calls import SERVICE_SESSION, Call, Item, Kept, KeptRequest, WorkLog
+from job_host.calls import SERVICE_SESSION, Begun, Call, Item, Kept, KeptRequest, LogPage, WorkLog
 from job_host.catalogue_check import NoVerdict
 from job_host.coprocess import CatalogueRefused, CoProcess, CoProcessEnded
 from job_host.engine import Engine
-from job_host.follow_ups import follow_ups
 from job_host.keeper import Fatal, Keeper, check_catalogue, first_of
 from job_host.leases import Leases
-from job_host.lines import query, read
 from job_host.private_folder import make_private
 from job_host.problems import Problem, unavailable
+from job_host.replayed_log import ReplayedLog
 from job_host.sessions import Sessions
 from job_host.settings import ServeSettings
-from job_host.sqlite_store import OpenRequest, SqliteStore
+from job_host.sqlite_store import OpenRequest, SqliteStore, refuse_later_file
+from job_host.store_version import LaterVersion
 from job_host.term import Observers, Term, TermSettings, not_yet
 
 log = logging.getLogger(__name__)
 
 T = TypeVar("T")
 
-CHUNK = 5_000
 RETRY = 0.25
 # batchctl's exit status if it doesn't know its words.
 REFUSED_WORDS = 2
@@ -58,15 +58,22 @@ class Beside:
 
 
 class EmbeddedTerm(Term):
-    """Keys, lines and moments are on the disk before lines are handed over; many in one commit while the last is under way."""
+    """Keys, lines and moments are on the disk before lines are handed over; many in one commit while the last is under way.
+
+    Lines are handed over in the order of their moments. So a call that need not be kept before waits for the commit under way.
+    """
 
     def __init__(self, beside: Beside, *others: Any) -> None:
         super().__init__(*others)
         self._beside = beside
-        self._intents: list[tuple[Item, asyncio.Future[None]]] = []
-        self._taken: list[tuple[Item, asyncio.Future[None]]] = []
+        # Calls that wait for the next commit, and those that have their moments, in that order.
+        self._waiting: list[Begun] = []
+        self._in_order: deque[Begun] = deque()
         self._intent_made = asyncio.Event()
+        self._may_hand = asyncio.Event()
         self._kept_sessions = set(self.sessions.numbers())
+        # Names that stand in the file, and of which no call was accepted yet.
+        self._guests: dict[str, int] = {}
         self._unkept: list[Item] = []
 
     async def find(self, session: int, key: str) -> KeptRequest | None:
@@ -80,46 +87,100 @@ class EmbeddedTerm(Term):
 
     async def begin(self, call: Call) -> Item:
         self.check(call)
-        item = self.item_of(call)
-        if call.key is not None or item.session not in self._kept_sessions:
-            intended: asyncio.Future[None] = asyncio.get_running_loop().create_future()
-            self._intents.append((item, intended))
+        begun, session = Begun(call), self.sessions.number(call.client)
+        if call.key is not None or session not in self._kept_sessions:
+            self._waiting.append(begun)
             self._intent_made.set()
-            await intended
-        async with self.engine.turn:
-            self.check(call)
-            self.hand(item)
-        return item
+        else:
+            begun.is_kept = True
+            self._put_in_order(begun)
+            self._hand_soon()
+        return await begun.handed
+
+    def _put_in_order(self, begun: Begun) -> None:
+        """Gives a call its moment, and its place behind those that have theirs. One that makes no line fails alone."""
+        try:
+            begun.item = self.item_of(begun.call)
+        except Exception as fault:
+            return begun.fail(fault)
+        self._in_order.append(begun)
 
     async def keep_intents(self) -> None:
         """Keeps what is about to be handed over, for ever."""
         while True:
             await self._intent_made.wait()
             self._intent_made.clear()
-            self._taken, self._intents = self._intents, []
-            await self._keep_intents([item for item, _ in self._taken])
-            for _, intended in self._taken:
-                if not intended.done():
-                    intended.set_result(None)
-            self._taken = []
+            waiting, self._waiting = self._waiting, []
+            await self._keep_intents(waiting)
+            self._hand_soon()
 
-    async def _keep_intents(self, items: list[Item]) -> None:
-        clients = self.sessions.take_fresh()
-        dropped, self._unkept = self._unkept, []
+    async def _keep_intents(self, waiting: list[Begun]) -> None:
+        for begun in waiting:
+            self._put_in_order(begun)
+        items = [begun.item for begun in waiting if begun.item is not None]
+        told = [(item, item.call.client) for item in items if item.call is not None]
+        clients = {client: item.session for item, client in told if item.session not in self._kept_sessions}
+        refused, dropped = self._take_refused(), self._unkept
+        self._guests.update((client, session) for client, session in clients.items() if self.sessions.is_new(client))
+        self._unkept = []
         try:
-            await self._beside.do(lambda store: store.intend(items, clients, dropped))
-            self._kept_sessions.update(item.session for item in items)
+            await self._beside.do(lambda store: store.intend(items, clients, dropped, refused))
         except Problem as problem:
-            self.fail(problem)
+            return self.fail(problem)
+        self._kept_sessions.update(clients.values())
+        for begun in waiting:
+            begun.is_kept = True
+
+    async def hand_over(self) -> None:
+        """Hands over, for ever, what waits for the end of a read."""
+        while True:
+            await self._may_hand.wait()
+            self._may_hand.clear()
+            async with self.engine.turn:
+                self._hand_kept()
+
+    def _hand_soon(self) -> None:
+        """Hands over at once, unless a read of several steps has the turn. Nothing is awaited, so none begins meanwhile."""
+        if self.engine.turn.locked():
+            self._may_hand.set()
+        else:
+            self._hand_kept()
+
+    def _hand_kept(self) -> None:
+        while self._in_order and self._in_order[0].is_kept:
+            self._hand_first()
+
+    def _hand_first(self) -> None:
+        """Hands the first call over, unless nobody waits for it any more, or it may not be made any more."""
+        begun = self._in_order.popleft()
+        if begun.item is None or begun.handed.done():
+            return
+        try:
+            self.check(begun.call)
+        except Problem as problem:
+            return begun.fail(problem)
+        self.hand(begun.item)
+        begun.handed.set_result(begun.item)
+
+    def _take_refused(self) -> dict[str, int]:
+        """The clients of whose calls none was accepted, and none is in hand. They aren't known any more."""
+        refused = {client: session for client, session in self._guests.items() if not self.sessions.is_in_hand(client)}
+        for client, session in refused.items():
+            del self._guests[client]
+            self._kept_sessions.discard(session)
+        return refused
+
+    def note_accepted(self, client: str, session: int) -> None:
+        super().note_accepted(client, session)
+        self._guests.pop(client, None)
 
     def fail(self, problem: Problem) -> None:
         """Ends the term. What is about to be handed over, or waits for that, never is."""
         super().fail(problem)
-        for _, intended in [*self._taken, *self._intents]:
-            if not intended.done():
-                intended.set_exception(problem)
-                intended.exception()
-        self._taken, self._intents = [], []
+        for begun in [*self._waiting, *self._in_order]:
+            begun.fail(problem)
+        self._waiting.clear()
+        self._in_order.clear()
 
     async def keep(self, items: Sequence[Item]) -> None:
         if any(item.is_keyed or item.log is not None or item.number == 1 for item in items):
@@ -137,6 +198,7 @@ class EmbeddedKeeper(Keeper):
         self._observers = observers
         self._file = job_catalogue.read_file(settings.catalogue)
         self._log = settings.data / LOG_NAME
+        self._replayed = ReplayedLog(settings.batchctl, self._log)
         self._sessions = Sessions({}, settings.bounds.clients)
         self._beside: Beside | None = None
         self._closing = asyncio.Event()
@@ -148,8 +210,8 @@ class EmbeddedKeeper(Keeper):
                 await self._serve_once()
             except (CoProcessEnded, NoVerdict, Problem) as fault:
                 log.warning("begins again: %s", fault)
-            except catalogue_growth.CatalogueChanged as fault:
-                raise Fatal(f"CatalogueChanged: {fault}") from fault
+            except (catalogue_growth.CatalogueChanged, LaterVersion) as fault:
+                raise Fatal(f"{type(fault).__name__}: {fault}") from fault
             except Fatal:
                 raise
             except Exception:
@@ -158,17 +220,20 @@ class EmbeddedKeeper(Keeper):
                 await asyncio.wait_for(self._closing.wait(), RETRY)
 
     async def _serve_once(self) -> None:
-        """Serves until something fails. What fails throws the co-process away, and its log is replayed."""
+        """Serves until something fails. What fails throws the co-process away. The engine goes on with another one."""
         self.role = "starting"
+        self._refuse_later()
         process = await self._start()
         thread = ThreadPoolExecutor(1, "beside")
         store: SqliteStore | None = None
         try:
             store = self._open_store()
             self._beside = Beside(store, thread)
-            engine = Engine(process)
+            requests = store.open_requests()
+            engine, knows_all = await self._replayed.known(process, requests)
             self.engine = engine
-            await self._lead(engine, self._beside, await self._replay(engine, store))
+            replies = await self._replayed.bring_on(engine, process, knows_all, requests)
+            await self._lead(engine, self._beside, zip(requests, replies, strict=True))
         except sqlite3.Error as fault:
             raise unavailable("StoreLost", f"{type(fault).__name__}: {fault}") from fault
         finally:
@@ -177,6 +242,11 @@ class EmbeddedKeeper(Keeper):
             thread.shutdown(wait=True)
             if store is not None:
                 store.close()
+
+    def _refuse_later(self) -> None:
+        """Raises LaterVersion before batchctl has the log. A damaged file is told of when it is opened."""
+        with suppress(sqlite3.Error):
+            refuse_later_file(self._settings.data / STORE_NAME)
 
     def _open_store(self) -> SqliteStore:
         """The store beside the log. One that is damaged ends the service."""
@@ -228,65 +298,25 @@ class EmbeddedKeeper(Keeper):
             raise Fatal(f"{self._log}: {refused}") from refused
         return arranged
 
-    async def _replay(self, engine: Engine, store: SqliteStore) -> list[tuple[OpenRequest, Kept | None]]:
-        """Replays the log in a program of its own. It tells which work items are busy, and the replies of open request keys."""
-        catalogue = log_file.catalogue_of(self._log) or self._file
-        requests = {request.moment: request for request in store.open_requests()}
-        settled: dict[int, Kept] = {}
-        replayer = await CoProcess.start([*self._settings.batchctl, "script"], catalogue)
-        lines: list[bytes] = []
-        try:
-            for record in log_file.records(self._log):
-                if not record.is_catalogue:
-                    lines.append(record.line)
-                if len(lines) == CHUNK:
-                    await self._replay_chunk(replayer, engine, lines, requests, settled)
-                    lines = []
-            await self._replay_chunk(replayer, engine, lines, requests, settled)
-            await self._compare(replayer, engine)
-        finally:
-            await replayer.close()
-        return [(request, settled.get(moment)) for moment, request in requests.items()]
-
-    async def _replay_chunk(
-        self,
-        replayer: CoProcess,
-        engine: Engine,
-        lines: list[bytes],
-        requests: dict[int, OpenRequest],
-        settled: dict[int, Kept],
-    ) -> None:
-        replies = await replayer.ask_all(lines)
-        for line, reply in zip(lines, replies, strict=True):
-            moment = engine.enter(line, reply)
-            request = requests.get(moment)
-            if request is not None and request.line == line:
-                queries = follow_ups(read(line)["do"], read(reply))
-                settled[moment] = Kept(reply, tuple(await engine.process.ask_all(queries)), engine.entered)
-
-    @staticmethod
-    async def _compare(replayer: CoProcess, engine: Engine) -> None:
-        """Both programs have to tell the same of the history: else the file wasn't read as batchctl reads it."""
-        queries = [query("status_counts"), query("job_names")]
-        theirs, ours = await engine.process.ask_all(queries), await replayer.ask_all(queries)
-        if theirs != ours:
-            raise Fatal(f"a replay of the log comes to {ours!r}, and batchctl to {theirs!r}")
-
-    async def _lead(self, engine: Engine, beside: Beside, settled: list[tuple[OpenRequest, Kept | None]]) -> None:
+    async def _lead(self, engine: Engine, beside: Beside, settled: Iterable[tuple[OpenRequest, Kept | None]]) -> None:
         for request, kept in settled:
             await beside.do(lambda store, one=request, what=kept: store.settle(one, what))  # type: ignore[misc]
+        self._replayed.keep(engine)
         await self._match(engine, beside)
         self.history = await beside.do(lambda store: store.identity())
-        clients = await beside.do(lambda store: store.clients())
-        self._sessions = Sessions(clients, self._settings.bounds.clients, engine.last_session)
+        most = self._settings.bounds.clients
+        clients = await beside.do(lambda store: store.clients(most))
+        self._sessions = Sessions(clients, most, engine.last_session, engine.holding)
         settings = TermSettings(self._settings.refuse_from)
         term = EmbeddedTerm(beside, engine, self._sessions, settings, self._observers)
         self.term, self.role, self.epoch = term, "leader", self.epoch + 1
         log.warning("serves after %d operations", engine.entered)
         tasks = [
             term.keep_intents(),
+            term.hand_over(),
             term.commit_rounds(),
             term.desk.serve(),
+            term.desk.watch(),
             self.leases.watch(term),
             self._prune(beside, term),
             self.watch(engine),
@@ -319,8 +349,10 @@ class EmbeddedKeeper(Keeper):
         """Forgets client names that hold no work item and weren't heard for long."""
         heard = term.sessions.take_heard()
         await beside.do(lambda store: store.note_heard(heard))
-        silent = await beside.do(lambda store: store.silent_clients(self._settings.bounds.name_seconds))
-        with term.sessions.forgetting(silent, {held.session for held in term.engine.held.values()}) as dropped:
+        found = await beside.do(lambda store: store.silent_clients(self._settings.bounds.name_seconds))
+        # The store knows the log's last client, by whose session a start tells whether both belong together.
+        silent = [one for one in found if one.number != term.engine.last_session]
+        with term.sessions.forgetting(silent, term.engine.holding()) as dropped:
             await beside.do(lambda store: store.drop_clients(dropped))
 
     async def _prune(self, beside: Beside, term: EmbeddedTerm) -> None:
@@ -339,10 +371,10 @@ class EmbeddedKeeper(Keeper):
         if at_least > self.reading().entered:
             raise not_yet(at_least, self.committed)
 
-    async def logs(self, execution: int) -> list[WorkLog]:
+    async def logs(self, wanted: LogPage) -> list[WorkLog]:
         if self._beside is None:
             raise unavailable("Starting", "the history isn't here yet")
-        return await self._beside.do(lambda store: store.logs(execution))
+        return await self._beside.do(lambda store: store.logs(wanted))
 
     async def client_names(self, sessions: Sequence[int]) -> dict[int, str]:
         names = {one: self._sessions.name(one) for one in sessions}

@@ -12,6 +12,7 @@ from dataclasses import dataclass
 from typing import TYPE_CHECKING, NamedTuple
 
 from job_host.lines import read
+from job_host.pages import Page
 
 if TYPE_CHECKING:
     from job_host.engine import Engine
@@ -49,9 +50,11 @@ class Wanted:
     def is_by_status_alone(self) -> bool:
         return self.job is None and not self.search and not self.most_recent
 
+    def has_status(self, row: Row) -> bool:
+        return bool(row.status) and (not self.statuses or row.status in self.statuses)
+
     def takes(self, execution: int, row: Row, parameters: str) -> bool:
-        if not row.status or (self.statuses and row.status not in self.statuses):
-            return False
+        """Whether a job execution with such a status is meant."""
         if self.job is not None and row.job != self.job:
             return False
         if not self.search or self.search in (str(execution), str(row.instance)):
@@ -83,6 +86,10 @@ class ExecutionIndex:
         self._purged: dict[int, int] = {}
         # The operation that restarted a job execution: since then another one is its job instance's most recent one.
         self._restarted: dict[int, int] = {}
+        # The most recent job execution of each job instance; of each job execution its job instance, and the one it restarted.
+        self._newest = array("Q", [0])
+        self._instances = array("Q", [0])
+        self._earlier = array("Q", [0])
         self._turn = asyncio.Lock()
 
     @property
@@ -99,8 +106,29 @@ class ExecutionIndex:
     def note_purged(self, instance: int, operation: int) -> None:
         self._purged[instance] = operation
 
-    def note_restarted(self, execution: int, operation: int) -> None:
-        self._restarted[execution] = operation
+    def note_made(self, execution: int, restarted: int | None, operation: int) -> None:
+        """A start makes the next job instance, and a restart the next job execution of one."""
+        if restarted is None:
+            instance = len(self._newest)
+            self._newest.append(execution)
+        else:
+            instance = self._instances[restarted]
+            self._newest[instance] = execution
+            self._restarted[restarted] = operation
+        self._instances.append(instance)
+        self._earlier.append(restarted or 0)
+
+    def has_instance(self, instance: int) -> bool:
+        return 0 < instance < len(self._newest) and instance not in self._purged
+
+    def of_instance(self, instance: int, page: Page) -> list[int]:
+        """The job executions of a job instance, the newest first."""
+        found: list[int] = []
+        execution = self._newest[instance]
+        while execution and len(found) < page.start + page.size:
+            found.append(execution)
+            execution = self._earlier[execution]
+        return found[page.start :]
 
     def is_most_recent(self, execution: int, seen: int) -> bool:
         """Whether it is the most recent job execution of its job instance after so many operations."""
@@ -126,14 +154,18 @@ class ExecutionIndex:
         return (await self._engine.ask([line % one for one in executions])).replies if executions else []
 
     async def find(self, wanted: Wanted, start: int, count: int, most: int | None) -> tuple[list[int], bool]:
-        """The numbers of a page, and whether there are more behind it. `most` is how many there are, if that is known."""
-        enough = start + count + 1 if most is None else min(start + count + 1, most)
+        """The numbers of a page, and whether there are more behind it.
+
+        `most` is how many have one of the statuses, if that is known: behind the last of these there are no more.
+        """
         found: list[int] = []
-        high = self.last
-        while high > 0 and len(found) < enough:
+        high, passed = self.last, 0
+        while high > 0 and len(found) <= start + count and (most is None or passed < most):
             block = range(high, max(0, high - BLOCK), -1)
             await self._know(block, bool(wanted.search))
-            found += [one for one in block if self._is_wanted(wanted, one)]
+            with_status = [one for one in block if wanted.has_status(self._rows[one])]
+            found += [one for one in with_status if self._is_wanted(wanted, one)]
+            passed += len(with_status)
             high -= BLOCK
             await asyncio.sleep(0)
         return found[start : start + count], len(found) > start + count

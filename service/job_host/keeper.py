@@ -10,11 +10,12 @@ from contextlib import asynccontextmanager
 from dataclasses import dataclass
 from typing import Any
 
-from job_host.calls import Call, Kept, WorkLog
+from job_host.calls import Call, Kept, LogPage, WorkLog
 from job_host.coprocess import CatalogueRefused, CoProcess
 from job_host.engine import Answers, Engine
 from job_host.leases import Leases
 from job_host.lines import query, read
+from job_host.pages import Page
 from job_host.problems import Problem, of_refusal, unavailable
 from job_host.term import Term
 from job_host.work_items import Ended, Held
@@ -35,6 +36,22 @@ class HeldBy:
     held: Held
     client: str | None
     remaining: float | None
+
+
+@dataclass(frozen=True)
+class HeldPage:
+    """A page of the busy work items, by rising number: of all, of one job execution, or of one number."""
+
+    page: Page
+    execution: int | None = None
+    work: int | None = None
+
+    def of(self, held: Mapping[int, Held]) -> Sequence[Held]:
+        if self.work is not None:
+            found = [held[self.work]] if self.work in held else []
+        else:
+            found = list(held.values())
+        return self.page.of([one for one in found if self.execution in (None, one.execution)])
 
 
 class Fatal(Exception):
@@ -64,8 +81,8 @@ class Keeper(ABC):
         """Lets what is under way end, and stops."""
 
     @abstractmethod
-    async def logs(self, execution: int) -> list[WorkLog]:
-        """What workers handed in as logs of a job execution's work items, by rising number."""
+    async def logs(self, wanted: LogPage) -> list[WorkLog]:
+        """What workers handed in as logs of work items, by rising number."""
 
     @abstractmethod
     async def reach(self, at_least: int) -> None:
@@ -88,7 +105,7 @@ class Keeper(ABC):
                 log.error("batchctl didn't answer for %.0f seconds, and is killed", engine.process.silence)
                 engine.process.kill()
             elif engine.process.silence == 0.0:
-                engine.ask([query("status_counts")]).add_done_callback(lambda asked: asked.exception())
+                engine.look()
 
     @property
     def operations(self) -> int:
@@ -136,6 +153,8 @@ class Keeper(ABC):
         async with engine.turn:
             steps = Steps(engine)
             try:
+                # After its answer all operations are known that the answers to come see.
+                await steps.ask([query("status_counts")])
                 yield steps
             except Problem as problem:
                 refusal = problem
@@ -159,18 +178,18 @@ class Keeper(ABC):
         gone = set(await self.purged(list(executions.values())))
         return {key: reply for key, reply in once.items() if executions[key] in gone}
 
-    async def held_work(self, at_least: int) -> tuple[list[HeldBy], int]:
+    async def held_work(self, wanted: HeldPage, at_least: int) -> tuple[list[HeldBy], int]:
         """Who holds which work item since when, and how many operations that saw."""
         await self.reach(at_least)
         engine, term = self.reading(), self.term
-        seen, held = engine.entered, list(engine.held.values())
+        seen, held = engine.entered, wanted.of(engine.held)
         if term is not None:
             await term.until_committed(seen)
         names = await self.client_names([one.session for one in held])
         return [HeldBy(one, names.get(one.session), self._remaining(one.work)) for one in held], seen
 
-    async def work_items(self, execution: int, at_least: int) -> tuple[list[tuple[Ended | None, HeldBy]], int]:
-        """The work items of a job execution, as far as they are known, and how many operations that saw."""
+    async def work_items(self, execution: int, page: Page, at_least: int) -> tuple[list[tuple[Ended | None, HeldBy]], int]:
+        """A page of the work items of a job execution, as far as they are known, and how many operations that saw."""
         await self.reach(at_least)
         engine, term = self.reading(), self.term
         seen = engine.entered
@@ -178,7 +197,7 @@ class Keeper(ABC):
         busy = [(None, one) for one in engine.held.values() if one.execution == execution]
         if term is not None:
             await term.until_committed(seen)
-        items = sorted([*noted, *busy], key=lambda item: item[1].work)
+        items = page.of(sorted([*noted, *busy], key=lambda item: item[1].work))
         names = await self.client_names([held.session for _, held in items])
         told = [
             (ended, HeldBy(held, names.get(held.session), self._remaining(held.work) if ended is None else None))
@@ -193,10 +212,11 @@ class Keeper(ABC):
     async def heartbeat(self, client: str, work: int, log: str | None) -> tuple[bool, int]:
         """Renews a lease. Returns whether the work item's job execution is asked to stop, and how many operations that saw."""
         term = self.leading()
-        await term.meet(client)
+        with term.sessions.hearing(client):
+            await term.meet(client)
+            session = term.sessions.known(client)
         held = term.engine.held.get(work)
-        is_holder = held is not None and held.session == term.sessions.number(client)
-        if held is None or not is_holder:
+        if held is None or held.session != session:
             await term.confirm()
             raise Problem("NoLease", 409, "no lease of this client on this work item: it is over, or another client's")
         self.leases.renew(work)
@@ -222,6 +242,13 @@ class Steps:
         answers = await self._engine.ask(queries)
         self.seen = answers.seen
         return answers.replies
+
+    async def executions_of(self, instance: int, page: Page) -> list[int]:
+        """The job executions of a job instance, the newest first. Raises the refusal of one that isn't there."""
+        if not self._engine.executions.has_instance(instance):
+            told = read((await self.ask([query("job_executions", instance=instance)]))[0])
+            raise of_refusal(told, self.seen) or ValueError(f"job instance {instance} isn't known here")
+        return self._engine.executions.of_instance(instance, page)
 
 
 async def check_catalogue(batchctl: Sequence[str], catalogue: bytes) -> None:

@@ -4,8 +4,7 @@ from __future__ import annotations
 
 import hashlib
 import json
-import time
-from collections.abc import Mapping
+from collections.abc import Mapping, Sequence
 from typing import Any
 
 Members = Mapping[str, Any]
@@ -46,6 +45,19 @@ def read(line: bytes | str) -> dict[str, Any]:
     return value
 
 
+class LinesDigest:
+    """A digest of lines, one behind the other. However they are divided, it is the same."""
+
+    def __init__(self) -> None:
+        self._digest = hashlib.sha256()
+
+    def add(self, lines: Sequence[bytes]) -> None:
+        self._digest.update(b"".join(line + b"\n" for line in lines))
+
+    def value(self) -> str:
+        return self._digest.hexdigest()
+
+
 def is_accepted(reply: bytes) -> bool:
     """Whether a command with this reply was entered in the history."""
     return not reply.startswith((b'{"refused":', b'{"nothing":', b'{"fault":'))
@@ -54,14 +66,3 @@ def is_accepted(reply: bytes) -> bool:
 def refusal_of(reply: Mapping[str, Any]) -> str | None:
     name = reply.get("refused")
     return name if isinstance(name, str) else None
-
-
-class Moments:
-    """Moments from the clock in milliseconds. Each is greater than the one before it, so no two operations have one."""
-
-    def __init__(self, last: int = 0) -> None:
-        self.last = last
-
-    def next(self) -> int:
-        self.last = max(self.last + 1, time.time_ns() // 1_000_000)
-        return self.last

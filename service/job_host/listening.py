@@ -1,8 +1,9 @@
-"""Listening sockets: a connection counts from its accept on, also during its TLS handshake, which has its time."""
+"""Listening sockets: a connection has a place from its accept on, also during its TLS handshake, which has its time."""
 
 from __future__ import annotations
 
 import asyncio
+import ipaddress
 import logging
 import socket
 import ssl
@@ -12,11 +13,17 @@ from typing import cast
 from aiohttp import web
 
 from job_host.connections import GuardedHandler, GuardedServer
+from job_host.peers import notice_gone
 from job_host.seldom import seldom
+from job_host.settings import Bounds
 
 log = logging.getLogger(__name__)
 
-BACKLOG = 128
+BACKLOG = 1_024
+# So many are accepted at a time, so that those before them come to show who they are.
+ACCEPTED = 8
+# The part of an address of IPv6 by which its network is known.
+NETWORK_BYTES = 8
 # After a failure, as without a free file descriptor, connections are accepted again after so long.
 ACCEPT_AGAIN_SECONDS = 1.0
 
@@ -24,11 +31,12 @@ ACCEPT_AGAIN_SECONDS = 1.0
 class Listener:
     """Accepts connections on one or several sockets."""
 
-    def __init__(self, server: GuardedServer, tls: ssl.SSLContext | None, handshake_seconds: float) -> None:
+    def __init__(self, server: GuardedServer, tls: ssl.SSLContext | None, bounds: Bounds) -> None:
         self.sockets: list[socket.socket] = []
         self._server = server
         self._tls = tls
-        self._handshake_seconds = handshake_seconds if tls is not None else None
+        self._bounds = bounds
+        self._handshake_seconds = bounds.handshake if tls is not None else None
         self._loop = asyncio.get_running_loop()
         self._beginning: set[asyncio.Task[None]] = set()
         self._say = seldom(log.warning)
@@ -38,7 +46,7 @@ class Listener:
         found = await self._loop.getaddrinfo(host, port, type=socket.SOCK_STREAM, flags=socket.AI_PASSIVE)
         try:
             for family, address in dict.fromkeys((one[0], one[4]) for one in found):
-                self.sockets.append(listening_socket(family, address))
+                self.sockets.append(listening_socket(family, address, self._bounds.slow_after))
         except OSError:
             self.close()
             raise
@@ -47,9 +55,9 @@ class Listener:
 
     def _accept(self, listening: socket.socket) -> None:
         """Takes the connections that have come."""
-        for _ in range(BACKLOG):
+        for _ in range(ACCEPTED):
             try:
-                connection, _ = listening.accept()
+                connection, address = listening.accept()
             except (BlockingIOError, InterruptedError, ConnectionAbortedError):
                 return
             except OSError as fault:
@@ -57,23 +65,21 @@ class Listener:
                 self._loop.remove_reader(listening)
                 self._loop.call_later(ACCEPT_AGAIN_SECONDS, self._accept_again, listening)
                 return
-            if not self._server.may_begin():
-                connection.close()
-                continue
-            self._begin(connection)
+            self._begin(connection, network_of(address[0]))
 
     def _accept_again(self, listening: socket.socket) -> None:
         if listening in self.sockets:
             self._loop.add_reader(listening, self._accept, listening)
 
-    def _begin(self, connection: socket.socket) -> None:
-        handler = self._server.begin()
+    def _begin(self, connection: socket.socket, address: bytes) -> None:
+        handler = self._server()
+        handler.begin(connection, address)
         task = self._loop.create_task(self._hand_on(connection, handler))
         self._beginning.add(task)
 
         def end(task: asyncio.Task[None]) -> None:
             self._beginning.discard(task)
-            self._server.forget(handler)
+            handler.end_beginning()
             if task.cancelled():
                 connection.close()
 
@@ -100,10 +106,16 @@ class Listener:
         await asyncio.gather(*tasks, return_exceptions=True)
 
 
-def listening_socket(family: int, address: tuple[object, ...]) -> socket.socket:
-    """Raises OSError if it can't listen."""
+def network_of(address: str) -> bytes:
+    """An address of IPv4, or the network of one of IPv6, within which a client may have as many as it likes."""
+    return ipaddress.ip_address(address.partition("%")[0]).packed[:NETWORK_BYTES]
+
+
+def listening_socket(family: int, address: tuple[object, ...], slow_after: float) -> socket.socket:
+    """Its connections have its options. Raises OSError if it can't listen."""
     made = socket.socket(family, socket.SOCK_STREAM)
     try:
+        notice_gone(made, slow_after)
         made.setsockopt(socket.SOL_SOCKET, socket.SO_REUSEADDR, 1)
         if family == socket.AF_INET6:
             made.setsockopt(socket.IPPROTO_IPV6, socket.IPV6_V6ONLY, 1)

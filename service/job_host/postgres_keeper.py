@@ -13,7 +13,7 @@ from contextlib import asynccontextmanager, suppress
 from typing import Any
 
 from job_host import catalogue_growth, job_catalogue
-from job_host.calls import Item, Kept, KeptRequest, WorkLog
+from job_host.calls import Item, Kept, KeptRequest, LogPage, WorkLog
 from job_host.catalogue_check import NoVerdict
 from job_host.coprocess import CoProcess, CoProcessEnded
 from job_host.engine import Engine, ReplayDiffers
@@ -23,6 +23,7 @@ from job_host.postgres_store import LOST, Leader, NoPrimary, NotDurable, Postgre
 from job_host.problems import Problem, unavailable
 from job_host.sessions import Sessions
 from job_host.settings import ServeSettings
+from job_host.store_version import LaterVersion
 from job_host.term import Observers, Term, TermSettings, not_yet
 
 log = logging.getLogger(__name__)
@@ -44,28 +45,35 @@ class PostgresTerm(Term):
     def __init__(self, store: PostgresStore, epoch: int, *others: Any) -> None:
         super().__init__(*others)
         self._store = store
+        self._kept_sessions = set(self.sessions.numbers())
         self.epoch = epoch
 
     async def find(self, session: int, key: str) -> KeptRequest | None:
         try:
             return await self._store.request(session, key)
         except LOST as fault:
-            raise unavailable("StoreLost", f"{type(fault).__name__}: {fault}") from fault
+            raise self._lost(fault) from fault
 
     async def session_of(self, name: str) -> int | None:
         try:
             return await self._store.session_of(name)
         except LOST as fault:
-            raise unavailable("StoreLost", f"{type(fault).__name__}: {fault}") from fault
+            raise self._lost(fault) from fault
 
     async def forget(self, key: str, kept: Kept) -> None:
         try:
             await self._store.drop_once({key: kept.reply})
         except LOST as fault:
-            raise unavailable("StoreLost", f"{type(fault).__name__}: {fault}") from fault
+            raise self._lost(fault) from fault
+
+    def _lost(self, fault: Exception) -> Problem:
+        """What is told of a connection that is lost: why the term has failed, if it has, as its connections end with it."""
+        return self.failure or unavailable("StoreLost", f"{type(fault).__name__}: {fault}")
 
     async def keep(self, items: Sequence[Item]) -> None:
-        clients = self.sessions.take_fresh()
+        told = [(item, item.call.client) for item in items if item.call is not None]
+        kept = [(item, client) for item, client in told if item.number is not None or item.is_keyed]
+        clients = {client: item.session for item, client in kept if item.session not in self._kept_sessions}
         try:
             stands = await self._store.commit(self.epoch, items, clients)
         except LOST as fault:
@@ -73,6 +81,7 @@ class PostgresTerm(Term):
             raise unavailable("CommitFailed", "the operation may have been kept: ask again by its key") from fault
         if not stands:
             raise unavailable("NotLeader", "another instance has taken over")
+        self._kept_sessions.update(clients.values())
 
 
 class CatalogueGrew(Exception):
@@ -113,6 +122,9 @@ class PostgresKeeper(Keeper):
         self._bring: bytes | None = None
         self._has_begun = False
         self._store: PostgresStore | None = None
+        # It outlives a connection that is lost, and a term. It has entered nothing of a later epoch.
+        self._kept: Engine | None = None
+        self._entered_epoch = 0
         self._sessions = Sessions({}, settings.bounds.clients)
         self._poke = asyncio.Event()
         self._followed = asyncio.Condition()
@@ -120,12 +132,18 @@ class PostgresKeeper(Keeper):
 
     async def run(self) -> None:
         await check_catalogue(self._settings.batchctl, self._file)
+        try:
+            await self._serve()
+        finally:
+            await self._throw_away()
+
+    async def _serve(self) -> None:
         while not self._closing.is_set():
             try:
                 await self._serve_once()
             except (NoPrimary, CoProcessEnded, CatalogueGrew, NoVerdict, Problem, *LOST) as fault:
                 log.warning("begins again: %s %s", type(fault).__name__, fault)
-            except (ReplayDiffers, NotDurable, catalogue_growth.CatalogueChanged) as fault:
+            except (ReplayDiffers, NotDurable, LaterVersion, catalogue_growth.CatalogueChanged) as fault:
                 raise Fatal(f"{type(fault).__name__}: {fault}") from fault
             except Exception:
                 log.exception("begins again")
@@ -133,15 +151,13 @@ class PostgresKeeper(Keeper):
                 await asyncio.wait_for(self._closing.wait(), RETRY)
 
     async def _serve_once(self) -> None:
-        """Follows, then leads, until something fails. What fails throws the co-process and the connections away."""
+        """Follows, then leads, until something fails. What fails throws the connections away."""
         self.role = "starting"
         store = await PostgresStore.open(self._settings.postgres, self._settings.commit_timeout)
         self._store = store
-        engine: Engine | None = None
         watching: asyncio.Future[None] | None = None
         try:
-            engine = await self._start_engine(store)
-            self.engine = engine
+            engine = self.engine = await self._engine_over(store)
             watching = asyncio.ensure_future(self.watch(engine))
             epoch = await self._follow(store, engine)
             if epoch is not None:
@@ -150,14 +166,42 @@ class PostgresKeeper(Keeper):
             self.role, self.term, self.engine, self._store = "starting", None, None, None
             if watching is not None:
                 watching.cancel()
-            if engine is not None:
-                await engine.process.close()
             store.close()
 
-    async def _start_engine(self, store: PostgresStore) -> Engine:
+    async def _engine_over(self, store: PostgresStore) -> Engine:
+        """The engine from before, if it knows what the table has and no more; else a new one, which replays the table."""
         self._catalogue, self._bring = await self._choose(await store.catalogue())
         self._has_begun = True
+        if self._kept is not None and not await self._may_go_on(store, self._kept):
+            log.warning("batchctl is begun again: it has ended, or knows what isn't in the table")
+            await self._throw_away()
+            # Another instance may lead before this one has replayed the table.
+            leader = await store.leader()
+            if leader.holder == self._holder:
+                await self._resign(store, leader.epoch)
+        if self._kept is None:
+            self._kept = await self._start_engine()
+        return self._kept
+
+    async def _may_go_on(self, store: PostgresStore, engine: Engine) -> bool:
+        """Whether all that the engine has entered is in the table, from the last operation that was known to be there on.
+
+        A commit whose answer was lost may be there or not, and another leader may have written others, in a later epoch. Each
+        leader began with all operations before its own. So what comes before that last one is the same, too.
+        """
+        if engine.process.catalogue != self._catalogue or not await engine.has_noted_all():
+            return False
+        recent = list(engine.recent)
+        first = recent[0].number if recent else 1
+        return await store.operations_after(first - 1, self._entered_epoch, len(recent)) == recent
+
+    async def _start_engine(self) -> Engine:
         return Engine(await CoProcess.start([*self._settings.batchctl, "script"], self._catalogue))
+
+    async def _throw_away(self) -> None:
+        engine, self._kept = self._kept, None
+        if engine is not None:
+            await engine.process.close()
 
     async def _choose(self, kept: bytes | None) -> tuple[bytes, bytes | None]:
         """The catalogue to go by; and again, if it is to be kept.
@@ -205,12 +249,20 @@ class PostgresKeeper(Keeper):
             raise CatalogueGrew(f"by epoch {leader.epoch}")
 
     async def _catch_up(self, store: PostgresStore, engine: Engine, epoch: int) -> None:
-        """Replays what the table has more than the co-process, up to this epoch, whose catalogue the co-process has."""
-        while records := await store.operations_after(engine.entered, epoch, CHUNK):
+        """Replays what the table has more than the co-process, up to this epoch, whose catalogue the co-process has.
+
+        The next operations are read while those before them are replayed.
+        """
+        self._entered_epoch = epoch
+        records = await store.operations_after(engine.entered, epoch, CHUNK)
+        while records:
+            coming = asyncio.ensure_future(store.operations_after(records[-1].number, epoch, CHUNK))
+            coming.add_done_callback(lambda done: done.cancelled() or done.exception())
             async with engine.turn:
                 await engine.replay(records)
             async with self._followed:
                 self._followed.notify_all()
+            records = await coming
 
     async def _lead(self, store: PostgresStore, engine: Engine, epoch: int) -> None:
         """Leads until the epoch is another's, a part fails, or the service is to end."""
@@ -218,7 +270,8 @@ class PostgresKeeper(Keeper):
         beat = min(1.0, self._settings.takeover_after / BEATS)
         async with beating(store, epoch, beat):
             await self._catch_up(store, engine, epoch)
-            self._sessions = Sessions(await store.clients(), self._settings.bounds.clients)
+            most = self._settings.bounds.clients
+            self._sessions = Sessions(await store.clients(most), most, engine.last_session, engine.holding)
         self.history = (await store.leader()).history
         settings = TermSettings(self._settings.refuse_from, beat)
         term = PostgresTerm(store, epoch, engine, self._sessions, settings, self._observers)
@@ -228,24 +281,28 @@ class PostgresKeeper(Keeper):
         log.warning("leads by epoch %d, after %d operations", epoch, engine.entered)
         async with self._followed:
             self._followed.notify_all()
-        rounds = [term.commit_rounds(), term.desk.serve(), self.leases.watch(term), self._prune(store, term)]
+        rounds = [term.commit_rounds(), term.desk.serve(), term.desk.watch(), self.leases.watch(term), self._prune(store, term)]
         try:
             await first_of([*rounds, engine.process.wait(), self._closing.wait()])
         finally:
-            # Its co-process may know more than the table: nobody reads it any more.
+            # Its co-process may know more than the table: nobody reads it before that is known.
             engine.process.log_end()
             self.role, self.term, self.engine = "starting", None, None
             if engine.process.has_ended or (self._closing.is_set() and term.failure is None):
-                # A server that waits for its standby isn't waited for.
-                with suppress(*LOST):
-                    await asyncio.wait_for(store.resign(epoch), RESIGN_SECONDS)
+                await self._resign(store, epoch)
             term.fail(unavailable("NotLeader", "this instance leads no more"))
+
+    @staticmethod
+    async def _resign(store: PostgresStore, epoch: int) -> None:
+        """Lets another instance lead at once. A server that waits for its standby isn't waited for."""
+        with suppress(*LOST):
+            await asyncio.wait_for(store.resign(epoch), RESIGN_SECONDS)
 
     async def _forget_names(self, store: PostgresStore, term: PostgresTerm) -> None:
         """Forgets client names that hold no work item and weren't heard for long."""
         await store.note_heard(term.sessions.take_heard())
         silent = await store.silent_clients(self._settings.bounds.name_seconds)
-        with term.sessions.forgetting(silent, {held.session for held in term.engine.held.values()}) as dropped:
+        with term.sessions.forgetting(silent, term.engine.holding()) as dropped:
             if dropped:
                 await store.drop_clients(term.epoch, dropped)
 
@@ -279,11 +336,11 @@ class PostgresKeeper(Keeper):
                 with suppress(asyncio.TimeoutError):
                     await asyncio.wait_for(self._followed.wait(), min(remaining, 0.05))
 
-    async def logs(self, execution: int) -> list[WorkLog]:
+    async def logs(self, wanted: LogPage) -> list[WorkLog]:
         if self._store is None:
             raise unavailable("Starting", "the history isn't here yet")
         try:
-            return await self._store.logs(execution)
+            return await self._store.logs(wanted)
         except LOST as fault:
             raise unavailable("StoreLost", f"{type(fault).__name__}: {fault}") from fault
 

@@ -68,6 +68,16 @@ NEWEST_TABLE = "job_host_client_heard"
 # A number that only this package locks, so that two instances don't make the tables at once.
 SCHEMA_LOCK = 7_402_118_431
 
+# `to_regclass` wouldn't see a table that another instance made while this one waited for the lock.
+HAS_VERSION = "select exists (select from pg_class where relname = 'job_host_version' and pg_table_is_visible(oid))"
+VERSION = "select version from job_host_version"
+MAKE_VERSION_TABLE = """
+create table if not exists job_host_version (one boolean primary key default true check (one), version integer not null)
+"""
+KEEP_VERSION = """
+insert into job_host_version (version) values ($1) on conflict (one) do update set version = excluded.version
+"""
+
 # The update finds no row if another epoch stands, and waits for a takeover that is under way. It is a write, so a primary that
 # has lost its standby can't answer it. Everything else is written only if it found the row.
 ROUND = """
@@ -133,6 +143,11 @@ SILENT = """
 select c.name, c.session, exists (select from job_host_request r where r.session = c.session)
 from job_host_client c join job_host_client_heard h using (session)
 where h.heard_at < now() - make_interval(secs => $1) and c.session < (select max(session) from job_host_client)
+"""
+
+LOGS = """
+select work, execution, element, partition, log from job_host_work_log
+where execution = $1 and ($2::text is null or element = $2) order by work offset $3 limit $4
 """
 
 # A leader that was cut off drops nothing: a later one waits for the row, or has changed it.

@@ -11,23 +11,20 @@ from typing import Any
 
 import asyncpg
 
-from job_host.calls import EVERYBODY_SESSION, Item, Kept, KeptRequest, WorkLog
+from job_host.calls import EVERYBODY_SESSION, Item, Kept, KeptRequest, LogPage, WorkLog
 from job_host.engine import Record
 from job_host.lines import digest
+from job_host.postgres_migrations import migrate
 from job_host.postgres_schema import (
-    ADD_HISTORY,
     BEAT,
     BEGIN_HISTORY,
     BEGINNING,
     DROP_CLIENTS,
-    HAS_HISTORY,
     HEARD,
-    NEWEST_TABLE,
+    LOGS,
     NOTE_FIRST,
     RESIGN,
     ROUND,
-    SCHEMA,
-    SCHEMA_LOCK,
     SILENT,
     TAKE_OVER,
 )
@@ -98,26 +95,16 @@ class PostgresStore:
 
     @classmethod
     async def open(cls, dsns: Sequence[str], timeout: float) -> PostgresStore:
-        """Connects, and makes the tables if they aren't there. Raises NoPrimary, NotDurable or what LOST has."""
+        """Connects, and brings the tables to this version. Raises NoPrimary, NotDurable, LaterVersion or what LOST has."""
         commits = await connect_primary(dsns, None)
         try:
             await cls._check_durable(commits)
-            await cls._make_tables(commits)
+            await migrate(commits)
             reads = await connect_primary(dsns, timeout)
         except BaseException:
             commits.terminate()
             raise
         return cls(commits, reads, timeout)
-
-    @staticmethod
-    async def _make_tables(connection: asyncpg.Connection) -> None:
-        """Makes the tables in one transaction. If they are there, no commit under way is waited for."""
-        if await connection.fetchval(HAS_HISTORY) and await connection.fetchval("select to_regclass($1)", NEWEST_TABLE):
-            return
-        async with connection.transaction():
-            await connection.execute("select pg_advisory_xact_lock($1)", SCHEMA_LOCK)
-            await connection.execute(SCHEMA)
-            await connection.execute(ADD_HISTORY)
 
     @staticmethod
     async def _check_durable(connection: asyncpg.Connection) -> None:
@@ -159,9 +146,10 @@ class PostgresStore:
         )
         return [Record(row["number"], row["line"].encode(), row["reply"].encode()) for row in rows]
 
-    async def clients(self) -> dict[str, int]:
-        rows = await self._fetch("select name, session from job_host_client")
-        return {row["name"]: row["session"] for row in rows}
+    async def clients(self, most: int) -> dict[str, int]:
+        """Names with the greatest sessions, no more than so many, by rising session."""
+        rows = await self._fetch("select name, session from job_host_client order by session desc limit $1", most)
+        return {row["name"]: row["session"] for row in reversed(rows)}
 
     async def session_of(self, name: str) -> int | None:
         rows = await self._fetch("select session from job_host_client where name = $1", name)
@@ -194,9 +182,9 @@ class PostgresStore:
         kept = Kept(rows[0]["reply"].encode(), answers, rows[0]["seen"])
         return KeptRequest(bytes(rows[0]["fingerprint"]), kept)
 
-    async def logs(self, execution: int) -> list[WorkLog]:
-        statement = "select work, execution, element, partition, log from job_host_work_log where execution = $1 order by work"
-        return [WorkLog(*row) for row in await self._fetch(statement, execution)]
+    async def logs(self, wanted: LogPage) -> list[WorkLog]:
+        element = None if wanted.element is None else without_nul(wanted.element)
+        return [WorkLog(*row) for row in await self._fetch(LOGS, wanted.execution, element, *wanted.page)]
 
     async def take_over(self, seen: Leader, holder: str, url: str, catalogue: bytes | None) -> int | None:
         """The next epoch, if the leader's row is still as it was seen. The catalogue is kept with it."""
@@ -281,6 +269,11 @@ class PostgresStore:
             await self._reads.execute(statement, EVERYBODY_SESSION, list(once), replies)
 
 
+def without_nul(text: str) -> str:
+    """A text as PostgreSQL keeps it."""
+    return text.replace("\0", "\ufffd")
+
+
 def _columns(items: Sequence[Item], clients: dict[str, int]) -> list[Any]:
     """The columns of a round's rows, in the order of its statement; and a digest of the history's first operation."""
     entered = [item for item in items if item.number is not None]
@@ -301,8 +294,8 @@ def _columns(items: Sequence[Item], clients: dict[str, int]) -> list[Any]:
         [item.seen for item in keyed],
         [log.work for log in logs],
         [log.execution for log in logs],
-        [log.element.replace("\0", "\ufffd") for log in logs],
+        [without_nul(log.element) for log in logs],
         [log.partition for log in logs],
-        [log.text.replace("\0", "\ufffd") for log in logs],
+        [without_nul(log.text) for log in logs],
         next((digest(item.line) for item in entered if item.number == 1), None),
     ]

@@ -16,8 +16,10 @@ from aiohttp import web
 from job_host.access import NAME, Access, Caller
 from job_host.keeper import Keeper
 from job_host.lines import MOST_NUMBER
+from job_host.pages import USUAL_SIZE, Page
+from job_host.peers import is_unheard, notice_gone
 from job_host.problems import OPERATIONS, Problem, bad_request
-from job_host.settings import Bounds, ServeSettings
+from job_host.settings import MOST_OPERATIONS, Bounds, ServeSettings
 
 KEY = re.compile(r"[\x21-\x7e]+")
 NUMBER = re.compile(r"[0-9]{1,20}")
@@ -28,6 +30,8 @@ CLIENT = "Batch-Client"
 REQUEST_KEY = "Idempotency-Key"
 AT_LEAST = "Batch-At-Least"
 
+# Words of a query that say which page of a list is meant.
+PAGE_WORDS = ("page", "pageSize")
 # Words of a query that may come several times.
 SEVERAL = frozenset({"status", "instanceState"})
 # Words of Open Liberty that say in which application a job is.
@@ -65,6 +69,25 @@ class Gate:
                 del self._in_hand[client]
 
 
+class Places:
+    """How many requests of one kind are in hand, which last."""
+
+    def __init__(self, most: int, told: str) -> None:
+        self._most = most
+        self._told = told
+        self.count = 0
+
+    @contextmanager
+    def enter(self) -> Iterator[None]:
+        if self.count >= self._most:
+            raise Problem("TooManyRequests", 429, f"{self._most} {self._told}")
+        self.count += 1
+        try:
+            yield
+        finally:
+            self.count -= 1
+
+
 @dataclass(frozen=True)
 class Host:
     """The service, as routes see it."""
@@ -73,6 +96,7 @@ class Host:
     keeper: Keeper
     access: Access
     gate: Gate
+    waits: Places
     ending: asyncio.Event
 
 
@@ -127,6 +151,17 @@ class Asked:
     def query_number(self, name: str, default: int) -> int:
         return number(self.request.query.get(name, str(default)), name)
 
+    def page(self, most: int) -> Page:
+        """The page of a list that is meant, with so many rows at most. It begins within as many as there can be."""
+        page, size = self.query_number("page", 0), self.query_number("pageSize", USUAL_SIZE)
+        if not 0 < size <= most or page * size > MOST_OPERATIONS:
+            raise bad_request(f"a page has 1 to {most} rows, and begins within the first {MOST_OPERATIONS}")
+        return Page(page * size, size)
+
+    def page_of_large_rows(self) -> Page:
+        """A page of a list whose rows hold lists or long texts."""
+        return self.page(self.host.settings.bounds.page_of_large_rows)
+
     def query_flag(self, name: str) -> bool:
         given = self.request.query.get(name, "false")
         if given not in ("true", "false"):
@@ -158,6 +193,27 @@ class Asked:
         """Whether nobody waits for the answer any more, or nobody who may have it."""
         transport = self.request.transport
         return transport is None or transport.is_closing() or not self.host.access.knows(self.request, self.caller)
+
+    def is_unheard(self) -> bool:
+        """Whether the client's machine was asked for a sign, and hasn't given one yet."""
+        transport = self.request.transport
+        return transport is not None and is_unheard(transport.get_extra_info("socket"))
+
+    @contextmanager
+    def waiting(self) -> Iterator[None]:
+        """While a claim waits, its client is soon noticed to be gone. Raises a problem if too many claims wait."""
+        bounds = self.host.settings.bounds
+        with self.host.waits.enter():
+            self._notice_gone(bounds.gone_after)
+            try:
+                yield
+            finally:
+                self._notice_gone(bounds.slow_after)
+
+    def _notice_gone(self, seconds: float) -> None:
+        transport = self.request.transport
+        if transport is not None and not transport.is_closing():
+            notice_gone(transport.get_extra_info("socket"), seconds)
 
     def answer(self, told: Any, seen: int, status: int = 200) -> web.Response:
         """An answer that says how many operations it saw."""

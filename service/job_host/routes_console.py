@@ -6,8 +6,6 @@ import asyncio
 import hashlib
 import json
 import time
-from collections.abc import Iterator
-from contextlib import contextmanager
 from importlib import resources
 from typing import Any
 
@@ -75,24 +73,6 @@ class ConsoleFiles:
         if request.headers.get("If-None-Match") == tag:
             return web.Response(status=304, headers=headers)
         return web.Response(body=content, content_type=kind, charset="utf-8", headers=headers)
-
-
-class Watchers:
-    """Those who follow the events, up to a bound."""
-
-    def __init__(self, most: int) -> None:
-        self._most = most
-        self.count = 0
-
-    @contextmanager
-    def enter(self) -> Iterator[None]:
-        if self.count >= self._most:
-            raise Problem("TooManyRequests", 429, f"{self._most} consoles follow already")
-        self.count += 1
-        try:
-            yield
-        finally:
-            self.count -= 1
 
 
 def state_of(keeper: Keeper) -> dict[str, Any]:

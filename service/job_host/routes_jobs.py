@@ -2,15 +2,18 @@
 
 from __future__ import annotations
 
+from collections.abc import Sequence
 from typing import Any
 
 from aiohttp import web
 
 from job_host import views
-from job_host.calls import Call, Kept
+from job_host.calls import Call, Kept, LogPage
+from job_host.keeper import Steps
 from job_host.lines import Members, fingerprint, query, read
+from job_host.pages import USUAL_SIZE, Page
 from job_host.problems import OPERATIONS, bad_request, of_refusal
-from job_host.requests import REQUEST_KEY, Asked, Route, expect_members
+from job_host.requests import PAGE_WORDS, REQUEST_KEY, Asked, Route, expect_members
 
 
 def answer_of(reply: bytes, seen: int | None = None) -> dict[str, Any]:
@@ -41,17 +44,26 @@ def begun(asked: Asked, kept: Kept, status: int) -> web.StreamResponse:
     return asked.answer(views.begun(told["execution"], read(kept.answers[0])), kept.seen, status)
 
 
+async def instances_of(steps: Steps, numbers: Sequence[int]) -> list[dict[str, Any]]:
+    """Job instances, each with links to the first page of its job executions."""
+    linked = [await steps.executions_of(number, Page(0, USUAL_SIZE)) for number in numbers]
+    replies = await steps.ask([query("job_execution", execution=executions[0]) for executions in linked])
+    told = [answer_of(reply, steps.seen)["job_execution"] for reply in replies]
+    return [views.job_instance(newest, executions) for newest, executions in zip(told, linked)]
+
+
 async def show_instance(asked: Asked) -> web.StreamResponse:
-    answers = await asked.keeper.ask([query("job_executions", instance=asked.path_number())], asked.at_least)
-    return asked.answer(views.job_instance(answer_of(answers.replies[0], answers.seen)["job_executions"]), answers.seen)
+    async with asked.keeper.steps(asked.at_least) as steps:
+        (told,) = await instances_of(steps, [asked.path_number()])
+    return asked.answer(told, steps.seen)
 
 
 async def show_instance_of(asked: Asked) -> web.StreamResponse:
     """The job instance of a job execution."""
     async with asked.keeper.steps(asked.at_least) as steps:
-        told = answer_of((await steps.ask([query("job_instance", execution=asked.path_number())]))[0], steps.seen)
-        replies = await steps.ask([query("job_executions", instance=told["instance"])])
-    return asked.answer(views.job_instance(answer_of(replies[0])["job_executions"]), steps.seen)
+        of = answer_of((await steps.ask([query("job_instance", execution=asked.path_number())]))[0], steps.seen)
+        (told,) = await instances_of(steps, [of["instance"]])
+    return asked.answer(told, steps.seen)
 
 
 async def purge_instance(asked: Asked) -> web.StreamResponse:
@@ -68,8 +80,8 @@ async def change_instance(asked: Asked) -> web.StreamResponse:
     instance, parameters = asked.path_number(), await parameters_of(asked)
 
     async def resolve() -> Members:
-        answers = await asked.keeper.ask([query("job_executions", instance=instance)])
-        newest = answer_of(answers.replies[0], answers.seen)["job_executions"][0]["execution"]
+        async with asked.keeper.steps(0) as steps:
+            (newest,) = await steps.executions_of(instance, Page(0, 1))
         return {"execution": newest, "parameters": parameters}
 
     print_of = fingerprint("restart instance", instance, parameters)
@@ -84,9 +96,10 @@ async def parameters_of(asked: Asked) -> Any:
 
 
 async def list_executions(asked: Asked) -> web.StreamResponse:
+    """The newest job executions of a job instance, page by page."""
+    page = asked.page_of_large_rows()
     async with asked.keeper.steps(asked.at_least) as steps:
-        told = await steps.ask([query("job_executions", instance=asked.path_number())])
-        executions = [one["execution"] for one in answer_of(told[0])["job_executions"]]
+        executions = await steps.executions_of(asked.path_number(), page)
         replies = await steps.ask([line for execution in executions for line in execution_queries(execution)])
     shown = [show(replies[place : place + 3], steps.seen) for place in range(0, len(replies), 3)]
     return asked.answer(shown, steps.seen)
@@ -123,22 +136,22 @@ async def change_execution(asked: Asked) -> web.StreamResponse:
 
 
 async def list_steps(asked: Asked) -> web.StreamResponse:
-    execution = asked.path_number()
+    execution, page = asked.path_number(), asked.page(asked.host.settings.bounds.page_size)
     queries = [query("job_instance", execution=execution), query("step_executions", execution=execution)]
     answers = await asked.keeper.ask(queries, asked.at_least)
     instance, steps = [answer_of(reply) for reply in answers.replies]
-    told = [views.step_execution(step, instance["instance"]) for step in steps["step_executions"]]
+    told = [views.step_execution(step, instance["instance"]) for step in page.of(steps["step_executions"])]
     return asked.answer(told, answers.seen)
 
 
 async def show_logs(asked: Asked) -> web.StreamResponse:
     """What the workers of a job execution handed in as logs, by work item; with `type=text`, one behind the other."""
-    execution, kind = asked.path_number(), asked.request.query.get("type")
+    execution, kind, page = asked.path_number(), asked.request.query.get("type"), asked.page_of_large_rows()
     if kind not in (None, "text"):
         raise bad_request("type is text, or left out")
     answers = await asked.keeper.ask([query("job_instance", execution=execution)], asked.at_least)
     answer_of(answers.replies[0], answers.seen)
-    logs = await asked.keeper.logs(execution)
+    logs = await asked.keeper.logs(LogPage(execution, asked.request.query.get("stepName"), page))
     if kind == "text":
         text = "".join(f"# work item {log.work}, {log.element}\n{log.text}\n" for log in logs)
         return web.Response(text=text, headers={OPERATIONS: str(answers.seen)})
@@ -159,10 +172,10 @@ ROUTES = [
     Route("GET", "/batch/jobinstances/{id}", "read", show_instance, ("atLeast",)),
     Route("DELETE", "/batch/jobinstances/{id}", "operate", purge_instance),
     Route("PUT", "/batch/jobinstances/{id}", "operate", change_instance, ("action",)),
-    Route("GET", "/batch/jobinstances/{id}/jobexecutions", "read", list_executions, ("atLeast",)),
+    Route("GET", "/batch/jobinstances/{id}/jobexecutions", "read", list_executions, (*PAGE_WORDS, "atLeast")),
     Route("GET", "/batch/jobexecutions/{id}", "read", show_execution, ("atLeast",)),
     Route("PUT", "/batch/jobexecutions/{id}", "operate", change_execution, ("action",)),
     Route("GET", "/batch/jobexecutions/{id}/jobinstance", "read", show_instance_of, ("atLeast",)),
-    Route("GET", "/batch/jobexecutions/{id}/stepexecutions", "read", list_steps, ("atLeast",)),
-    Route("GET", "/batch/jobexecutions/{id}/joblogs", "read", show_logs, ("type", "atLeast")),
+    Route("GET", "/batch/jobexecutions/{id}/stepexecutions", "read", list_steps, (*PAGE_WORDS, "atLeast")),
+    Route("GET", "/batch/jobexecutions/{id}/joblogs", "read", show_logs, ("type", "stepName", *PAGE_WORDS, "atLeast")),
 ]

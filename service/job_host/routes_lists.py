@@ -14,14 +14,15 @@ from job_host.execution_index import Wanted, parameter_text
 from job_host.job_catalogue import jobs_of
 from job_host.keeper import HeldBy
 from job_host.lines import query, read
+from job_host.pages import USUAL_SIZE
 from job_host.problems import Problem, bad_request
-from job_host.requests import Asked, Route
-from job_host.routes_jobs import answer_of
+from job_host.requests import PAGE_WORDS, Asked, Route
+from job_host.routes_jobs import answer_of, instances_of
 from job_host.settings import MOST_OPERATIONS
 from job_host.work_items import Ended
 
 STATUSES = ("STARTING", "STARTED", "STOPPING", "STOPPED", "FAILED", "COMPLETED", "ABANDONED")
-WORDS_OF_EXECUTIONS = ("status", "jobName", "search", "mostRecent", "page", "pageSize")
+WORDS_OF_EXECUTIONS = ("status", "jobName", "search", "mostRecent", *PAGE_WORDS)
 SEARCH_CHARACTERS = 256
 PARAMETER_CHARACTERS = 160
 
@@ -43,8 +44,7 @@ async def show_catalogue(asked: Asked) -> web.StreamResponse:
         counts = await steps.ask([query("job_instance_count", job=job) for job in jobs])
         lists = await steps.ask([query("job_instances", job=job, start=0, count=1) for job in jobs])
         newest = [one["instance"] for told in lists for one in read(told).get("instances", ())]
-        replies = await steps.ask([query("job_executions", instance=one) for one in newest])
-        instances = [views.job_instance(answer_of(reply)["job_executions"]) for reply in replies]
+        instances = await instances_of(steps, newest)
     by_job = {one["jobName"]: one for one in instances}
     told = [
         {"jobName": job, "instances": read(count).get("count", 0), "newest": by_job.get(job)}
@@ -56,7 +56,7 @@ async def show_catalogue(asked: Asked) -> web.StreamResponse:
 async def list_instances(asked: Asked) -> web.StreamResponse:
     """The newest job instances of one job, or of all, page by page."""
     bounds = asked.host.settings.bounds
-    page, size = asked.query_number("page", 0), asked.query_number("pageSize", 50)
+    page, size = asked.query_number("page", 0), asked.query_number("pageSize", USUAL_SIZE)
     if size > bounds.page_size or (page + 1) * size > bounds.listed:
         raise bad_request(f"a page has at most {bounds.page_size} job instances, and the first {bounds.listed} can be listed")
     job = asked.request.query.get("jobName")
@@ -71,8 +71,8 @@ async def list_instances(asked: Asked) -> web.StreamResponse:
         numbers = [one["instance"] for told in lists for one in answer_of(told)["instances"]]
         if job is None:
             numbers = sorted(numbers, reverse=True)[page * size : count]
-        replies = await steps.ask([query("job_executions", instance=one) for one in numbers])
-    return asked.answer([views.job_instance(answer_of(reply)["job_executions"]) for reply in replies], steps.seen)
+        instances = await instances_of(steps, numbers)
+    return asked.answer(instances, steps.seen)
 
 
 async def list_with_state(asked: Asked, wanted: Wanted, start: int, count: int) -> web.StreamResponse:
@@ -84,8 +84,7 @@ async def list_with_state(asked: Asked, wanted: Wanted, start: int, count: int) 
         if wanted.job is not None:
             answer_of((await steps.ask([query("job_instance_count", job=wanted.job)]))[0], steps.seen)
         told = [read(reply) for reply in await steps.ask([query("job_instance", execution=one) for one in numbers])]
-        replies = await steps.ask([query("job_executions", instance=one["instance"]) for one in told if "instance" in one])
-    instances = [views.job_instance(answer_of(reply)["job_executions"]) for reply in replies]
+        instances = await instances_of(steps, [one["instance"] for one in told if "instance" in one])
     return asked.answer([one for one in instances if one["instanceState"] in wanted.statuses], steps.seen)
 
 
@@ -109,15 +108,11 @@ def wanted_of(asked: Asked) -> Wanted:
 
 async def list_all_executions(asked: Asked) -> web.StreamResponse:
     """The newest job executions that a filter takes, page by page. One that changes meanwhile may be left out."""
-    wanted, size, page = wanted_of(asked), asked.query_number("pageSize", 50), asked.query_number("page", 0)
-    most = asked.host.settings.bounds.page_size
-    if not 0 < size <= most or page * size > MOST_OPERATIONS:
-        raise bad_request(f"a page has 1 to {most} job executions")
+    wanted, page = wanted_of(asked), asked.page(asked.host.settings.bounds.page_size)
     counted = await asked.keeper.ask([query("status_counts")], asked.at_least)
-    before = answer_of(counted.replies[0])["counts"]
-    known = 0 if with_status(wanted, before) == 0 else total_of(wanted, before)
     executions = asked.keeper.reading().executions
-    numbers, more = await executions.find(wanted, page * size, size, known)
+    most_with_status = with_status(wanted, answer_of(counted.replies[0])["counts"])
+    numbers, more = await executions.find(wanted, *page, most_with_status)
     asks = ("job_execution", "parameters")
     lines = [query("status_counts"), *(query(ask, execution=one) for one in numbers for ask in asks)]
     answers = await asked.keeper.ask(lines, counted.seen)
@@ -145,11 +140,11 @@ def brief(told: dict[str, Any], parameters: dict[str, str]) -> dict[str, Any]:
 
 
 async def list_work_items(asked: Asked) -> web.StreamResponse:
-    """The work items of a job execution: each partition, each decision, and who ran it."""
-    execution = asked.path_number()
+    """The work items of a job execution, page by page: each partition, each decision, and who ran it."""
+    execution, page = asked.path_number(), asked.page(asked.host.settings.bounds.page_size)
     answers = await asked.keeper.ask([query("job_instance", execution=execution)], asked.at_least)
     answer_of(answers.replies[0], answers.seen)
-    items, seen = await asked.keeper.work_items(execution, answers.seen)
+    items, seen = await asked.keeper.work_items(execution, page, answers.seen)
     return asked.answer([work_item(ended, by) for ended, by in items], seen)
 
 
@@ -191,9 +186,9 @@ async def show_caller(asked: Asked) -> web.StreamResponse:
 
 ROUTES = [
     Route("GET", "/batch/catalogue", "read", show_catalogue, ("jobName", "atLeast")),
-    Route("GET", "/batch/jobinstances", "read", list_instances, ("page", "pageSize", "jobName", "instanceState", "atLeast")),
+    Route("GET", "/batch/jobinstances", "read", list_instances, (*PAGE_WORDS, "jobName", "instanceState", "atLeast")),
     Route("GET", "/batch/jobexecutions", "read", list_all_executions, (*WORDS_OF_EXECUTIONS, "atLeast")),
-    Route("GET", "/batch/jobexecutions/{id}/workitems", "read", list_work_items, ("atLeast",)),
+    Route("GET", "/batch/jobexecutions/{id}/workitems", "read", list_work_items, (*PAGE_WORDS, "atLeast")),
     Route("GET", "/batch/history", "read", show_history),
     Route("GET", "/batch/caller", "read", show_caller),
 ]

@@ -2,17 +2,22 @@
 
 from __future__ import annotations
 
+from contextlib import nullcontext
+from dataclasses import replace
 from typing import Any
 
 from aiohttp import web
 
 from job_host import views
 from job_host.calls import Call, Kept
+from job_host.keeper import HeldPage
 from job_host.lines import Members, fingerprint, query, read
 from job_host.problems import Problem, bad_request
-from job_host.requests import REQUEST_KEY, Asked, Route, expect_members
+from job_host.requests import PAGE_WORDS, REQUEST_KEY, Asked, Route, expect_members
 from job_host.routes_jobs import answer_of
 
+# Words of a query that narrow the list of busy work items.
+HELD_WORDS = ("executionId", "work")
 ACTIONS = {
     "checkpoint": ("data", "metrics"),
     "finish": ("outcome", "exit", "metrics"),
@@ -28,8 +33,10 @@ async def claim(asked: Asked) -> web.StreamResponse:
     longest = asked.host.settings.bounds.longest_poll
     if isinstance(wait, bool) or not isinstance(wait, (int, float)) or not 0 <= wait <= longest:
         raise bad_request(f"wait is a number of seconds from 0 to {longest:g}")
-    call = Call(asked.named_client(), "claim", {}, asked.key, fingerprint("claim"), wait=float(wait), is_gone=asked.is_gone)
-    return claimed(asked, await asked.keeper.submit(call))
+    call = Call(asked.named_client(), "claim", {}, asked.key, fingerprint("claim"), wait=float(wait))
+    call = replace(call, is_gone=asked.is_gone, is_unheard=asked.is_unheard)
+    with asked.waiting() if wait > 0 else nullcontext():
+        return claimed(asked, await asked.keeper.submit(call))
 
 
 def claimed(asked: Asked, kept: Kept) -> web.StreamResponse:
@@ -51,9 +58,9 @@ async def withdraw(asked: Asked) -> web.StreamResponse:
 
 
 async def list_held(asked: Asked) -> web.StreamResponse:
-    """Which client holds which work item since when. With `withJobs` each has the job's name."""
+    """Which client holds which work item since when, page by page. With `withJobs` each has the job's name."""
     with_jobs = asked.query_flag("withJobs")
-    held, seen = await asked.keeper.held_work(asked.at_least)
+    held, seen = await asked.keeper.held_work(held_page(asked), asked.at_least)
     told: list[dict[str, Any]] = [
         {
             "work": one.held.work,
@@ -71,6 +78,11 @@ async def list_held(asked: Asked) -> web.StreamResponse:
         told = [{**one, "jobName": read(reply).get("job")} for one, reply in zip(told, answers.replies)]
         seen = answers.seen
     return asked.answer(told, seen)
+
+
+def held_page(asked: Asked) -> HeldPage:
+    execution, work = [asked.query_number(name, 0) if name in asked.request.query else None for name in HELD_WORDS]
+    return HeldPage(asked.page(asked.host.settings.bounds.page_size), execution, work)
 
 
 async def change_work(asked: Asked) -> web.StreamResponse:
@@ -117,7 +129,7 @@ async def heartbeat(asked: Asked) -> web.StreamResponse:
 
 
 ROUTES = [
-    Route("GET", "/batch/work", "read", list_held, ("withJobs", "atLeast")),
+    Route("GET", "/batch/work", "read", list_held, ("withJobs", *HELD_WORDS, *PAGE_WORDS, "atLeast")),
     Route("POST", "/batch/work", "work", claim),
     Route("DELETE", "/batch/work", "work", withdraw),
     Route("PUT", "/batch/work/{id}", "read", change_work, ("action",)),

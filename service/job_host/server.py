@@ -3,6 +3,7 @@
 from __future__ import annotations
 
 import asyncio
+import gc
 import logging
 import signal
 import time
@@ -17,14 +18,15 @@ from job_host.browsers import CONSOLE, Browsers
 from job_host.embedded_keeper import EmbeddedKeeper
 from job_host.coprocess import CoProcessEnded
 from job_host.connections import GuardedHandler, GuardedServer
+from job_host.descriptors import fitted, raise_limit
 from job_host.keeper import Fatal, Keeper
 from job_host.leases import Leases
 from job_host.listening import GuardedSite, Listener
 from job_host.metrics import Metrics
 from job_host.printable import begin_log
 from job_host.problems import Problem, unavailable
-from job_host.requests import Asked, Gate, Host, Route, refuse_others
-from job_host.routes_console import EVENTS_PATH, ConsoleFiles, Watchers, show_events
+from job_host.requests import Asked, Gate, Host, Places, Route, refuse_others
+from job_host.routes_console import EVENTS_PATH, ConsoleFiles, show_events
 from job_host.seldom import seldom
 from job_host.settings import MOST_OPERATIONS, ServeSettings
 
@@ -35,6 +37,8 @@ SHUTDOWN_SECONDS = 10.0
 # Calls in hand have so long to their ends.
 CALLS_SECONDS = 10.0
 FAILURE_CHARACTERS = 500
+# So many new objects are waited for before the garbage is collected: what is known of a history is much, and is no garbage.
+COLLECTED = 20_000
 # Open Liberty has the same paths below another root.
 LIBERTY_ROOT = "/ibm/api"
 ROOTS = ("", LIBERTY_ROOT)
@@ -65,9 +69,10 @@ class Service:
         self.metrics = Metrics()
         self.keeper = make_keeper(settings, self.metrics)
         self.browsers = Browsers(settings.advertise)
-        self.watchers = Watchers(settings.bounds.watchers)
+        self.watchers = Places(settings.bounds.watchers, "consoles follow already")
+        waits = Places(settings.bounds.waits, "claims wait for work already: this one may be made again")
         self.ending = asyncio.Event()
-        self.host = Host(settings, self.keeper, self.access, Gate(settings.bounds), self.ending)
+        self.host = Host(settings, self.keeper, self.access, Gate(settings.bounds), waits, self.ending)
         self.port = settings.port
         self.certificate: Certificate | None = None
         self._runner: web.ServerRunner | None = None
@@ -105,6 +110,9 @@ class Service:
 
     def _asked(self, request: web.Request, right: str, words: Sequence[str]) -> Asked:
         caller = self.access.caller(request)
+        if isinstance(request.protocol, GuardedHandler) and not request.protocol.admit():
+            told = f"{self.settings.bounds.connections} connections have requests in hand, and no more are served"
+            raise unavailable("TooManyConnections", told)
         if right not in caller.rights:
             raise Problem("RoleLacksRight", 403, "this isn't for the token's role")
         asked = Asked(request, self.host, caller)
@@ -137,7 +145,7 @@ class Service:
         response = await self._answered(request, handler)
         if isinstance(connection, GuardedHandler):
             connection.note_served(False)
-            if connection.is_surplus:
+            if connection.is_refused:
                 response.force_close()
         resource = request.match_info.route.resource
         route = resource.canonical.removeprefix(LIBERTY_ROOT) if resource is not None else "none"
@@ -149,7 +157,6 @@ class Service:
 
     async def _answered(self, request: web.Request, handler: Serve) -> web.StreamResponse:
         try:
-            self._check_connection(request)
             self.browsers.check(request)
             return await handler(request)
         except Problem as problem:
@@ -166,12 +173,6 @@ class Service:
         except Exception:
             log.exception("a request failed: %s %s", request.method, request.path)
             return Problem("InternalError", 500, "the service's log says more").response()
-
-    def _check_connection(self, request: web.Request) -> None:
-        if isinstance(request.protocol, GuardedHandler) and request.protocol.is_surplus:
-            raise unavailable(
-                "TooManyConnections", f"{self.settings.bounds.connections} connections are open, and no more are served"
-            )
 
     def access_or_nothing(self, request: web.Request) -> None:
         """A path or method that isn't known is told of to those with a token alone."""
@@ -217,11 +218,12 @@ class Service:
     async def listen(self) -> None:
         application = self.application()
         application.freeze()
-        server = GuardedServer(application, self.settings.bounds)
+        bounds = self.settings.bounds
+        server = GuardedServer(application, bounds)
         self._runner = web.ServerRunner(server)
         await self._runner.setup()
         self.certificate = Certificate(self.settings)
-        listener = Listener(server, self.certificate.context, self.settings.bounds.handshake)
+        listener = Listener(server, self.certificate.context, bounds)
         await listener.listen(self.settings.host, self.settings.port)
         await GuardedSite(self._runner, listener, CALLS_SECONDS).start()
         if self.settings.port == 0:
@@ -280,8 +282,9 @@ def failures_note(say: Callable[[str], None]) -> Callable[[asyncio.AbstractEvent
 def serve(settings: ServeSettings) -> int:
     """Serves, and returns an exit status: 0 after a signal, 1 if a person has to look."""
     begin_log("jobhost")
+    gc.set_threshold(COLLECTED)
     try:
-        asyncio.run(Service(settings).run())
+        asyncio.run(Service(fitted(settings, raise_limit())).run())
     except Fatal as fault:
         log.error("stops: %s", fault)
         return 1

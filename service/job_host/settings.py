@@ -26,12 +26,19 @@ class Bounds:
     clients: int = 100_000
     name_seconds: float = 86_400.0
     page_size: int = 1_000
+    page_of_large_rows: int = 100
     listed: int = 10_000
     longest_poll: float = 60.0
     slow_after: float = 10.0
+    gone_after: float = 5.0
     handshake: float = 10.0
     at_least_seconds: float = 5.0
     days_of_keys: int = 7
+
+    @property
+    def waits(self) -> int:
+        """How many claims may wait: callers who start, stop and read have room beside them."""
+        return max(1, self.connections * 3 // 4)
 
 
 @dataclass(frozen=True)

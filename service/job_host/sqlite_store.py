@@ -13,46 +13,18 @@ from contextlib import closing
 from dataclasses import dataclass
 from pathlib import Path
 
-from job_host.calls import EVERYBODY_SESSION, Item, Kept, KeptRequest, WorkLog
+from job_host.calls import EVERYBODY_SESSION, Item, Kept, KeptRequest, LogPage, WorkLog
 from job_host.lines import digest
 from job_host.log_file import Beginning
 from job_host.sessions import Silent
-
-SCHEMA = """
-create table if not exists history (
-    one integer primary key check (one = 1),
-    identity text not null,
-    catalogue text not null,
-    first text
-);
-create table if not exists client (name text primary key, session integer not null unique);
-create table if not exists client_heard (session integer primary key, heard_at real not null);
-create table if not exists request (
-    session integer not null,
-    key text not null,
-    fingerprint blob not null,
-    moment integer not null,
-    line blob not null,
-    reply blob,
-    answers text,
-    seen integer,
-    kept_at real not null,
-    primary key (session, key)
-) without rowid;
-create index if not exists request_open on request (moment) where reply is null;
-create index if not exists request_kept_at on request (kept_at);
-create table if not exists work_log (
-    work integer primary key,
-    execution integer not null,
-    element text not null,
-    partition integer,
-    log text not null
-);
-create index if not exists work_log_execution on work_log (execution);
-"""
+from job_host.sqlite_schema import migrate, refuse_later
 
 INTEND = """
 insert or replace into request (session, key, fingerprint, moment, line, kept_at) values (?, ?, ?, ?, ?, ?)
+"""
+# A client of whose calls nothing is left.
+UNNAME = """
+delete from client where name = ? and session = ? and not exists (select 1 from request where request.session = client.session)
 """
 UNKEEP = "delete from request where session = ? and key = ? and moment = ? and reply is null"
 # A name that was forgotten may still stand here, if it was heard again at once.
@@ -67,6 +39,10 @@ on conflict (session) do update set heard_at = excluded.heard_at
 SILENT = """
 select name, session, exists (select 1 from request where request.session = client.session and reply is not null)
 from client join client_heard using (session) where heard_at < ? and session < (select max(session) from client)
+"""
+LOGS = """
+select work, execution, element, partition, log from work_log
+where execution = :execution and (:element is null or element = :element) order by work limit :size offset :start
 """
 ANSWER = "update request set reply = ?, answers = ?, seen = ? where session = ? and key = ?"
 
@@ -96,16 +72,27 @@ def history_in(connection: sqlite3.Connection) -> History | None:
     return None if row is None else History(row[0], Beginning(row[1], row[2]))
 
 
+def refuse_later_file(path: Path) -> None:
+    """Raises LaterVersion if a file's tables are of a later version. Nothing is written."""
+    if path.exists():
+        with closing(sqlite3.connect(path)) as connection:
+            refuse_later(connection, path.name)
+
+
 class SqliteStore:
-    """One connection, for one thread. Each commit is on the disk when its call returns. A new file is its owner's alone."""
+    """One connection, for one thread. Each commit is on the disk when its call returns. A new file is its owner's alone.
+
+    Its tables are brought to this version. Raises LaterVersion if they are of a later one.
+    """
 
     def __init__(self, path: Path) -> None:
+        refuse_later_file(path)
         os.close(os.open(path, os.O_RDWR | os.O_CREAT, stat.S_IRUSR | stat.S_IWUSR))
         self._connection = sqlite3.connect(path, isolation_level=None, check_same_thread=False)
         for pragma in ("journal_mode = wal", "synchronous = full", "busy_timeout = 5000"):
             self._connection.execute(f"pragma {pragma}")
         self._check()
-        self._connection.executescript(SCHEMA)
+        migrate(self._connection)
 
     def _check(self) -> None:
         """Raises a DatabaseError if the file is damaged."""
@@ -143,8 +130,10 @@ class SqliteStore:
     def _note_first(self, first: str | None) -> None:
         self._connection.execute("update history set first = ? where first is null", (first,))
 
-    def clients(self) -> dict[str, int]:
-        return dict(self._connection.execute("select name, session from client"))
+    def clients(self, most: int) -> dict[str, int]:
+        """Names with the greatest sessions, no more than so many, by rising session."""
+        rows = self._connection.execute("select name, session from client order by session desc limit ?", (most,))
+        return dict(reversed(rows.fetchall()))
 
     def session_of(self, name: str) -> int | None:
         row = self._connection.execute("select session from client where name = ?", (name,)).fetchone()
@@ -174,10 +163,12 @@ class SqliteStore:
             self._connection.executemany("delete from client where name = ? and session = ?", clients.items())
             self._connection.executemany("delete from client_heard where session = ?", [(one,) for one in clients.values()])
 
-    def intend(self, items: Sequence[Item], clients: Mapping[str, int], dropped: Sequence[Item] = ()) -> None:
+    def intend(
+        self, items: Sequence[Item], clients: Mapping[str, int], dropped: Sequence[Item], refused: Mapping[str, int]
+    ) -> None:
         """Keeps what is about to be handed over: new clients, and of keyed calls the key, the line and its moment.
 
-        The keys of `dropped` go, if nothing was handed over by them since.
+        The keys of `dropped` go, if nothing was handed over by them since; and the `refused` clients that hold no key.
         """
         now = time.time()
         gone = [(item.key_session, item.call.key, item.moment) for item in dropped if item.call is not None]
@@ -188,8 +179,9 @@ class SqliteStore:
         ]
         with self._connection:
             self._connection.execute("begin")
-            self._connection.executemany(CLIENT, clients.items())
             self._connection.executemany(UNKEEP, gone)
+            self._connection.executemany(UNNAME, refused.items())
+            self._connection.executemany(CLIENT, clients.items())
             self._connection.executemany(INTEND, rows)
 
     def answer(self, items: Sequence[Item]) -> None:
@@ -242,9 +234,9 @@ class SqliteStore:
         answers = tuple(text.encode() for text in json.loads(row[2]))
         return KeptRequest(row[0], Kept(row[1], answers, row[3]))
 
-    def logs(self, execution: int) -> list[WorkLog]:
-        statement = "select work, execution, element, partition, log from work_log where execution = ? order by work"
-        return [WorkLog(*row) for row in self._connection.execute(statement, (execution,))]
+    def logs(self, wanted: LogPage) -> list[WorkLog]:
+        words = {"execution": wanted.execution, "element": wanted.element, **wanted.page._asdict()}
+        return [WorkLog(*row) for row in self._connection.execute(LOGS, words)]
 
     def logged_executions(self) -> list[int]:
         return [row[0] for row in self._connection.execute("select distinct execution from work_log")]

@@ -14,7 +14,8 @@ from job_host.calls import EVERYBODY_SESSION, SERVICE, Call, Item, Kept, KeptReq
 from job_host.claims import ClaimDesk, ClaimWithdrawn
 from job_host.engine import Answers, Engine
 from job_host.follow_ups import follow_ups
-from job_host.lines import Moments, command, is_accepted, query, read, refusal_of
+from job_host.lines import command, is_accepted, query, read, refusal_of
+from job_host.moments import Moments
 from job_host.problems import Problem, unavailable
 from job_host.sessions import Sessions
 
@@ -33,7 +34,7 @@ class TermSettings:
 
 
 class Term(ABC):
-    """A term ends by `fail`: what wasn't kept until then is answered by a problem, and the co-process is of no more use."""
+    """A term ends by `fail`: what wasn't kept until then is answered by a problem, and nothing more is handed over."""
 
     def __init__(self, engine: Engine, sessions: Sessions, settings: TermSettings, observers: Observers) -> None:
         self.engine = engine
@@ -68,9 +69,10 @@ class Term(ABC):
 
     async def submit(self, call: Call) -> Kept:
         """Makes a call, or gives the first reply of its request key. One call with a key is under way at a time."""
-        await self.meet(call.client)
         if call.key is None:
-            return await self._perform(call)
+            with self.sessions.hearing(call.client):
+                await self.meet(call.client)
+                return await self._perform(call)
         slot = (None if call.is_once else call.client, call.key)
         before = self._under_way.get(slot)
         if before is None:
@@ -94,15 +96,18 @@ class Term(ABC):
             done.exception()
 
     async def _once(self, call: Call, key: str) -> Kept:
-        found = await self.find(EVERYBODY_SESSION if call.is_once else self.sessions.number(call.client), key)
-        if found is not None and call.is_once and await self._is_purged(found.kept):
-            await self.forget(key, found.kept)
-            found = None
-        if found is None:
-            return await self._perform(call)
-        if found.fingerprint != call.fingerprint:
-            raise key_reused()
-        return found.kept
+        with self.sessions.hearing(call.client):
+            await self.meet(call.client)
+            session = EVERYBODY_SESSION if call.is_once else self.sessions.known(call.client)
+            found = None if session is None else await self.find(session, key)
+            if found is not None and call.is_once and await self._is_purged(found.kept):
+                await self.forget(key, found.kept)
+                found = None
+            if found is None:
+                return await self._perform(call)
+            if found.fingerprint != call.fingerprint:
+                raise key_reused()
+            return found.kept
 
     async def _is_purged(self, started: Kept) -> bool:
         """Whether the job instance that a start made is there no more."""
@@ -144,6 +149,7 @@ class Term(ABC):
         return item
 
     def item_of(self, call: Call) -> Item:
+        """The line of a call with its moment. Lines are handed over in the order of their moments."""
         session = self.sessions.number(call.client)
         moment = self.moments.next()
         try:
@@ -151,6 +157,10 @@ class Term(ABC):
         except ValueError as fault:
             raise Problem("BadLine", 400, str(fault)) from fault
         return Item(call, session, line, moment, log=self.log_of(call.members.get("work"), call.log))
+
+    def note_accepted(self, client: str, session: int) -> None:
+        """A call of a client was accepted, so its name is kept."""
+        self.sessions.keep(client, session)
 
     def log_of(self, work: object, text: str | None) -> WorkLog | None:
         """A log to keep beside a busy work item."""
@@ -170,6 +180,8 @@ class Term(ABC):
         item.reply, item.number, item.seen = reply, number, seen
         if number is None:
             item.log = None
+        else:
+            self.note_accepted(item.call.client, item.session)
         if not item.heard.done():
             item.heard.set_result(reply)
         queries = follow_ups(item.call.do, read(reply))
@@ -205,11 +217,12 @@ class Term(ABC):
         return taken
 
     async def commit_rounds(self) -> None:
-        """Keeps what is answered, round by round. Each beat has a round, with or without replies."""
+        """Keeps what is answered, round by round. Each beat has a round, with or without replies, and a look at the clock."""
         while self.failure is None:
             with suppress(asyncio.TimeoutError):
                 await asyncio.wait_for(self._wake.wait(), self.settings.beat)
             self._wake.clear()
+            self.moments.look()
             items = self._take_ready()
             try:
                 await self._commit(items)
@@ -223,6 +236,7 @@ class Term(ABC):
         await self.keep(items)
         self.observers.commit(time.monotonic() - begun, len(items))
         self.committed = max([self.committed, *(item.number for item in items if item.number is not None)])
+        self.engine.note_kept(self.committed)
         for item in items:
             item.end()
         self._tell_readers()

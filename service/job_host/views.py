@@ -40,9 +40,8 @@ def instance_links(instance: int, executions: Sequence[int]) -> list[dict[str, s
     return told + [link("job execution", f"/batch/jobexecutions/{execution}") for execution in executions]
 
 
-def job_instance(executions: Sequence[Told]) -> dict[str, Any]:
-    """A job instance by its job executions, the newest first."""
-    newest = executions[0]
+def job_instance(newest: Told, executions: Sequence[int]) -> dict[str, Any]:
+    """A job instance by its newest job execution, and with links to these."""
     instance = newest["instance"]
     return {
         "jobName": newest["job"],
@@ -53,7 +52,7 @@ def job_instance(executions: Sequence[Told]) -> dict[str, Any]:
         "exitStatus": newest["exit"],
         "lastUpdatedTime": moment(newest["updated"]),
         "executionId": newest["execution"],
-        "_links": instance_links(instance, [one["execution"] for one in executions]),
+        "_links": instance_links(instance, executions),
     }
 
 

@@ -3,14 +3,13 @@
 from __future__ import annotations
 
 from collections import deque
-from dataclasses import dataclass
+from typing import NamedTuple
 
 MOST_ENDED = 100_000
 LOST = "LOST"
 
 
-@dataclass(frozen=True)
-class Held:
+class Held(NamedTuple):
     """A busy work item: the session that claimed it, and the moment of its claim."""
 
     work: int
@@ -21,8 +20,7 @@ class Held:
     since: int
 
 
-@dataclass(frozen=True)
-class Ended:
+class Ended(NamedTuple):
     """A work item that is over: when, and what was told of it. One that was lost has the outcome LOST."""
 
     held: Held
@@ -36,12 +34,13 @@ class EndedWork:
 
     def __init__(self, most: int = MOST_ENDED) -> None:
         self._most = most
-        self._by_execution: dict[int, deque[Ended]] = {}
+        # Lists: most have one or two, and an empty deque takes more than ten of these.
+        self._by_execution: dict[int, list[Ended]] = {}
         self._order: deque[int] = deque()
 
     def note(self, ended: Ended) -> None:
         execution = ended.held.execution
-        self._by_execution.setdefault(execution, deque()).append(ended)
+        self._by_execution.setdefault(execution, []).append(ended)
         self._order.append(execution)
         if len(self._order) > self._most:
             self._forget(self._order.popleft())
@@ -49,7 +48,7 @@ class EndedWork:
     def _forget(self, execution: int) -> None:
         """Forgets the first one of a job execution."""
         ended = self._by_execution[execution]
-        ended.popleft()
+        del ended[0]
         if not ended:
             del self._by_execution[execution]
 

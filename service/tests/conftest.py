@@ -19,6 +19,8 @@ import artifact_files  # noqa: E402
 from postgres_server import PostgresServer  # noqa: E402
 
 from job_host.command_line import main  # noqa: E402
+from job_host.coprocess import CoProcess  # noqa: E402
+from job_host.engine import Engine  # noqa: E402
 from job_host.server import Service  # noqa: E402
 from job_host.settings import Bounds, ServeSettings, find_batchctl  # noqa: E402
 
@@ -139,3 +141,31 @@ def has_log(tmp_path_factory: pytest.TempPathFactory) -> None:
     done = subprocess.run(words, input=b'{"jobs":[]}\n', capture_output=True, check=False)
     if done.returncode == 2:
         pytest.skip("this batchctl has no `script --log`")
+
+
+@pytest.fixture
+def started(monkeypatch: pytest.MonkeyPatch) -> list[str]:
+    """The words behind `batchctl script` of each co-process that was started."""
+    words: list[str] = []
+    start = CoProcess.start
+
+    async def note(given: Any, catalogue: bytes) -> CoProcess:
+        words.append(" ".join(given[2:3]))
+        return await start(given, catalogue)
+
+    monkeypatch.setattr(CoProcess, "start", note)
+    return words
+
+
+@pytest.fixture
+def entered(monkeypatch: pytest.MonkeyPatch) -> list[Any]:
+    """What engines were told to enter."""
+    told: list[Any] = []
+    enter = Engine.enter
+
+    def note(engine: Engine, *given: Any) -> Any:
+        told.append(given)
+        return enter(engine, *given)
+
+    monkeypatch.setattr(Engine, "enter", note)
+    return told

@@ -16,8 +16,8 @@ from instances import listening, until
 from test_probes import make_certificate
 
 from job_host import server
-from job_host.connections import SURPLUS
 from job_host.requests import Asked, Route
+from job_host.room import MOST_BESIDE
 from job_host.seldom import seldom
 from job_host.server import Service
 from job_host.settings import Bounds
@@ -134,15 +134,15 @@ async def test_a_connection_without_a_handshake_counts_and_has_its_time(idle: Id
     context = ssl.create_default_context()
     context.check_hostname, context.verify_mode = False, ssl.CERT_NONE
     async with listening(idle(Bounds(connections=4, handshake=1.5), **files)) as service:
-        held = [raw(service) for _ in range(4)]
+        held = [raw(service) for _ in range(MOST_BESIDE)]
         await asyncio.sleep(0.2)
         reader, writer = await asyncio.open_connection("127.0.0.1", service.port, ssl=context)
         writer.write(REQUEST)
-        assert b"TooManyConnections" in await asyncio.wait_for(reader.read(), 5)
+        assert (await asyncio.wait_for(reader.readline(), 5)).startswith(b"HTTP/1.1 200 ")
         writer.close()
-        more = [raw(service) for _ in range(SURPLUS + 10)]
-        dropped = await asyncio.gather(*(end_of(one, 0.5) for one in more))
-        assert sum(dropped) == 10
+        assert await asyncio.gather(*(end_of(one, 0.3) for one in held)) == [True] + [False] * (MOST_BESIDE - 1)
+        more = [raw(service) for _ in range(MOST_BESIDE + 10)]
+        assert await asyncio.gather(*(end_of(one, 0.3) for one in more)) == [True] * 10 + [False] * MOST_BESIDE
         assert all(await asyncio.gather(*(end_of(one, 5) for one in held + more)))
         reader, writer = await asyncio.open_connection("127.0.0.1", service.port, ssl=context)
         writer.write(REQUEST)
@@ -165,7 +165,7 @@ async def test_each_connection_of_tls_is_counted_no_longer_than_it_is_there(idle
                 pass
 
         async def are_gone() -> bool:
-            return int(cast(Any, service._runner).server.surplus()) == -service.settings.bounds.connections
+            return int(cast(Any, service._runner).server.room.count) == 0
 
         await until(are_gone, 5)
 

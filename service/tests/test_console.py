@@ -75,6 +75,7 @@ JOBS = [
             step("last", "report"),
         ],
     },
+    {"id": "many", "elements": [step("print", "report", partitions=64)]},
     {"id": "long", "elements": [step(f"s{number}", "report", **leads(number)) for number in range(1000)]},
 ]
 
@@ -189,6 +190,26 @@ def test_a_night_is_started_fails_is_read_mended_restarted_and_completed_by_clic
     assert "2 (this one)" in others and "extract COMPLETED" in others
     told = ask(service.url, "GET", "/batch/jobexecutions/2").told
     assert (told["batchStatus"], told["jobParameters"]) == ("COMPLETED", {"date": "2026-11-27"})
+
+
+def test_what_failed_last_was_not_restarted_since(browser: Browser, service: Process) -> None:
+    async def fail_both() -> None:
+        caller = Caller(service.url)
+        for work in (1, 2):
+            await caller.start("nightly")
+            await caller.claim()
+            await caller.finish(work, "FAILED")
+
+    def failed_last() -> list[str]:
+        return [row.text for row in browser.all("section[data-key='Failed last'] tbody th")]
+
+    asyncio.run(fail_both())
+    browser.open(service.url)
+    browser.until(lambda: failed_last() == ["2", "1"])
+    for number, rest in ((2, ["1"]), (1, [])):
+        asyncio.run(Caller(service.url).change(number, "restart"))
+        browser.until(lambda rest=rest: failed_last() == rest, 10)  # type: ignore[misc]
+    browser.see("No job instance is FAILED.")
 
 
 # Whether the page's own words behind a text of the service still run from left to right.
@@ -394,6 +415,70 @@ def test_lists_are_searched_narrowed_and_paged_by_clicks(browser: Browser, servi
     browser.click(".search button")
     browser.until(lambda: len(browser.all("tbody tr")) == 11)
     assert browser.run("return document.activeElement.closest('form.search') !== null")
+
+
+def test_attempts_of_a_job_instance_are_paged_by_clicks(browser: Browser, service: Process) -> None:
+    """Also what is said of all of them is true: which is the newest, and whether a step was run."""
+
+    def attempts() -> list[str]:
+        rows = browser.all("section[data-key='Earlier and later job executions'] tbody th")
+        return [row.text.removesuffix(" (this one)") for row in rows]
+
+    async def restart_often() -> None:
+        caller = Caller(service.url)
+        await caller.start("nightly")
+        await caller.claim()
+        await caller.finish(1)
+        for number in range(1, 61):
+            await caller.claim()
+            await caller.finish(number + 1, "FAILED")
+            await caller.change(number, "restart")
+        await caller.change(61, "stop")
+
+    asyncio.run(restart_often())
+    browser.open(service.url + "/#/execution/61")
+    browser.until(lambda: attempts() == [str(number) for number in range(61, 11, -1)])
+    assert states(browser) == {name: "\u00b7 not run here" for name in ("extract", "load", "report")}
+    browser.click_text("Older", "section[data-key='Earlier and later job executions']")
+    browser.until(lambda: attempts() == [str(number) for number in range(11, 0, -1)])
+    assert states(browser)["extract"] == "\u2713 COMPLETED in 1"
+    assert browser.all("[data-action=restart]") and not browser.all("[data-action=stop]")
+    browser.click("[data-action=purge]")
+    browser.see("14, 13, 12 and those before them), with all their steps", "dialog")
+    browser.click("dialog [data-cancel]")
+    browser.click_text("Newer", "section[data-key='Earlier and later job executions']")
+    browser.until(lambda: attempts()[0] == "61")
+    browser.open(service.url + "/#/execution/1")
+    browser.see("Why it failed")
+    assert not browser.all("[data-action=restart]") and states(browser)["extract"] == "\u2713 COMPLETED"
+
+
+def test_logs_of_many_partitions_are_paged_and_what_failed_is_told(browser: Browser, service: Process) -> None:
+    async def finish_many() -> None:
+        caller = Caller(service.url)
+        await caller.start("many")
+        for number in range(1, 65):
+            await caller.claim()
+        for number in range(1, 65):
+            await caller.finish(number, "FAILED" if number == 64 else "COMPLETED", log=f"log {number}.")
+        await caller.change(1, "restart")
+        await caller.claim()
+
+    def logs() -> int:
+        return len(browser.all("section[data-key=Logs] details"))
+
+    asyncio.run(finish_many())
+    browser.open(service.url + "/#/execution/1")
+    browser.see("print is FAILED", ".reason")
+    browser.see("log 64.", ".reason pre")
+    browser.see("64: 63 COMPLETED, 1 FAILED", "section[data-key=Steps]")
+    browser.until(lambda: logs() == 50)
+    browser.click_text("Later", "section[data-key=Logs]")
+    browser.until(lambda: logs() == 14)
+    browser.see("work item 64", "section[data-key=Logs]")
+    browser.open(service.url + "/#/execution/2")
+    browser.click("[data-action=stop]")
+    browser.see("Running now: print, partition 63, held by", "dialog")
 
 
 def test_it_follows_by_itself_over_a_new_start_of_the_service(browser: Browser, service: Process) -> None:

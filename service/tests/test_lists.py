@@ -116,7 +116,8 @@ async def test_the_most_recent_job_execution_of_each_job_instance(settings: Make
 
 async def test_a_restart_that_an_answer_has_not_seen_changes_nothing_of_it() -> None:
     index = ExecutionIndex(cast(Engine, SlowEngine()))
-    index.note_restarted(1, 7)
+    index.note_made(1, None, 1)
+    index.note_made(2, 1, 7)
     assert [index.is_most_recent(1, seen) for seen in (6, 7)] == [True, False]
 
 
@@ -175,6 +176,36 @@ async def test_an_operation_that_comes_while_a_list_is_read_is_not_missed() -> N
         found.append((await finding)[0])
     assert found == [[], [], [1]]
     assert (await index.find(Wanted(frozenset({"STOPPED"})), 0, 10, None))[0] == [1] and engine.waiting is None
+
+
+class TellingEngine:
+    """Answers queries by the batch statuses of job executions 1, 2, .., and knows which it was asked for."""
+
+    def __init__(self, *statuses: str) -> None:
+        self.entered = len(statuses)
+        self.asked: list[int] = []
+        self._statuses = statuses
+
+    def ask(self, queries: list[bytes]) -> asyncio.Future[Answers]:
+        numbers = [int(json.loads(line)["execution"]) for line in queries]
+        self.asked += numbers
+        told = [{"instance": one, "job": "short", "status": self._statuses[one - 1], "exit": None} for one in numbers]
+        answered: asyncio.Future[Answers] = asyncio.get_running_loop().create_future()
+        answered.set_result(Answers([json.dumps({"job_execution": one}).encode() for one in told], self.entered))
+        return answered
+
+
+async def test_a_list_ends_behind_the_last_job_execution_of_its_status(monkeypatch: pytest.MonkeyPatch) -> None:
+    """Also if it leaves some of these out, as they were restarted, or are of another job."""
+    monkeypatch.setattr("job_host.execution_index.BLOCK", 1)
+    for wanted in (Wanted(frozenset({"FAILED"}), most_recent=True), Wanted(frozenset({"FAILED"}), job="wide")):
+        engine = TellingEngine("COMPLETED", "COMPLETED", "FAILED", "COMPLETED")
+        index = ExecutionIndex(cast(Engine, engine))
+        for number in range(1, 5):
+            index.note_changed(number, number)
+            index.note_made(number, 3 if number == 4 else None, number)
+        assert await index.find(wanted, 0, 10, 1) == ([], False)
+        assert engine.asked == [4, 3]
 
 
 async def test_the_catalogue_is_told(settings: Make) -> None:

@@ -109,7 +109,7 @@ async def test_a_file_of_an_earlier_version_goes_with_a_log_that_has_operations(
     async with running(made) as instance:
         before = await fail_first(instance)
     with closing(sqlite3.connect(made.data / "beside.sqlite", isolation_level=None)) as beside:
-        beside.execute("drop table history")
+        beside.executescript("drop table history; pragma user_version = 0")
     if is_new:
         (made.data / LOG_NAME).unlink()
     async with running(made) as instance:
@@ -128,6 +128,7 @@ async def test_emptied_tables_know_no_key(settings: Make, is_earlier: bool) -> N
     table = await asyncpg.connect(made.postgres[0])
     if is_earlier:
         await table.execute("alter table job_host_leader drop column history, drop column first_operation")
+        await table.execute("drop table job_host_version")
         async with running(made) as instance:
             assert (await Caller(instance.url).start("wide", key="a")).operations == 1
             before = instance.service.keeper.history

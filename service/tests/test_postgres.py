@@ -307,9 +307,9 @@ async def test_a_leader_that_is_not_ready_for_long_keeps_the_lead(settings: Make
     """It gives signs before it is ready. The follower would take over after a second and a half."""
     clients = PostgresStore.clients
 
-    async def slowly(store: PostgresStore) -> dict[str, int]:
+    async def slowly(store: PostgresStore, most: int) -> dict[str, int]:
         await asyncio.sleep(4.0)
-        return await clients(store)
+        return await clients(store, most)
 
     monkeypatch.setattr(PostgresStore, "clients", slowly)
     made = settings()

@@ -46,10 +46,8 @@ class Answers:
             return {"jobExecutions": [INSTANCE], "more": False}
         if path.startswith("/batch/work"):
             return [HELD]
-        if path.endswith("joblogs?type=text"):
-            return LOG
-        if path.endswith("joblogs"):
-            return [{"stepName": EVIL, "log": LOG}]
+        if "/joblogs" in path:
+            return [{"work": 1, "stepName": EVIL, "log": LOG}]
         return EXECUTION
 
     async def operate(self, *given: Any, **more: Any) -> Any:
@@ -83,7 +81,8 @@ async def test_no_command_lets_a_text_act_on_the_terminal(
 
 async def test_a_log_keeps_its_lines(capsys: pytest.CaptureFixture[str]) -> None:
     await commands.show_log(cast(Client, Answers()), argparse.Namespace(execution=1))
-    assert capsys.readouterr().out == f"one\ntwo\tthree\xa0{SHOWN}\\u000dover\n"
+    told = capsys.readouterr().out
+    assert told == f"# work item 1, {SHOWN}\none\ntwo\tthree\xa0{SHOWN}\\u000dover\n\n"
 
 
 def test_a_refusal_is_shown_in_one_line(monkeypatch: pytest.MonkeyPatch, capsys: pytest.CaptureFixture[str]) -> None:

@@ -10,6 +10,7 @@ from catalogue_samples import ROOT
 
 from job_host import routes_jobs, routes_lists, routes_work
 from job_host.metrics import Metrics
+from job_host.pages import USUAL_SIZE
 from job_host.problems import STATUS_OF_PROBLEM, STATUS_OF_REFUSAL
 from job_host.settings import Bounds
 
@@ -95,4 +96,6 @@ def test_the_page_has_an_example_of_each_path() -> None:
 def test_the_page_has_the_bounds_of_pages() -> None:
     bounds, text = Bounds(), PAGE.read_text()
     assert f"50 if it is left out and {bounds.page_size:,} at most" in text
+    assert f"of the job executions of a job instance, {bounds.page_of_large_rows}." in text
     assert f"the first {bounds.listed:,}, and" in text
+    assert f"links its newest {USUAL_SIZE} job executions" in text

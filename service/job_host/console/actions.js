@@ -1,7 +1,7 @@
 // Operations: each asks a question that names what will happen, and makes one operation if it is answered.
 
 import { element, told, UNFINISHED } from "./dom.js";
-import { operate, passes, read, Refused, requestKey, TokenNeeded } from "./service.js";
+import { operate, passes, read, Refused, requestKey, TokenNeeded, USUAL_SIZE } from "./service.js";
 
 const MEANINGS = {
   JobExecutionNotRunningException: "It has ended meanwhile, so there is nothing to stop.",
@@ -54,13 +54,12 @@ const QUESTIONS = {
     };
   },
   async stop({ execution }) {
-    const [one, held] = await Promise.all([read(`/batch/jobexecutions/${execution}`), read("/batch/work")]);
-    const busy = held.filter((each) => String(each.executionId) === String(execution));
+    const [one, busy] = await Promise.all([read(`/batch/jobexecutions/${execution}`), read("/batch/work", { executionId: execution })]);
     return {
       title: ["Stop job execution ", execution, " of ", told(one.jobName), "?"],
       body: [
         paragraph("Nothing more of it is handed out to workers. It is STOPPED after what runs now has ended, and can be restarted then."),
-        busy.length ? paragraph("Running now: ", listed(busy.map(place)), ".") : paragraph("Nothing of it runs now, so it is STOPPED at once."),
+        busy.length ? paragraph("Running now: ", listed(busy.map(place)), busy.length < USUAL_SIZE ? "." : "; and perhaps more.") : paragraph("Nothing of it runs now, so it is STOPPED at once."),
       ],
       confirm: "Stop",
       make: (parameters, key) => operate("PUT", `/batch/jobexecutions/${execution}?action=stop`, null, key),
@@ -80,13 +79,14 @@ const QUESTIONS = {
   },
   async purge({ instance }) {
     const all = await read(`/batch/jobinstances/${instance}/jobexecutions`);
-    const numbers = all.map((one) => String(one.executionId));
+    const numbers = all.map((one) => String(one.executionId)).join(", ");
+    const named = all.length < USUAL_SIZE ? `Its ${all.length} job executions (${numbers})` : `Its job executions (${numbers} and those before them)`;
     return {
       title: ["Purge job instance ", instance, " of ", told(all[0].jobName), "?"],
       body: [
         paragraph(all.length === 1
-          ? `Its job execution ${numbers[0]}, with all its steps, checkpoints and logs, is removed for good.`
-          : `Its ${all.length} job executions (${numbers.join(", ")}), with all their steps, checkpoints and logs, are removed for good.`,
+          ? `Its job execution ${numbers}, with all its steps, checkpoints and logs, is removed for good.`
+          : `${named}, with all their steps, checkpoints and logs, are removed for good.`,
         " Nobody finds anything of it afterwards."),
         all.some((one) => UNFINISHED.includes(one.batchStatus)) ? paragraph("One of them still runs, so this will be refused.") : null,
       ],
@@ -98,7 +98,7 @@ const QUESTIONS = {
     };
   },
   async lose({ work }) {
-    const one = (await read("/batch/work")).find((each) => String(each.work) === String(work));
+    const [one] = await read("/batch/work", { work });
     if (!one) throw new Refused(409, { title: "WorkNotRunning" });
     return {
       title: ["Lose work item ", work, "?"],

@@ -6,7 +6,8 @@ const SIGNS = {
   STARTING: "\u25cc", STARTED: "\u25b6", STOPPING: "\u25d0", STOPPED: "\u25a0",
   FAILED: "\u2715", COMPLETED: "\u2713", ABANDONED: "\u2298", LOST: "\u2715",
 };
-const MOST_ROWS = 500;
+// Rows of a table, and so of a page of a list with small rows.
+export const MOST_ROWS = 500;
 const SVG = "http://www.w3.org/2000/svg";
 
 function fill(node, attributes, children) {
@@ -93,6 +94,18 @@ export function table(caption, columns, rows, empty) {
     element("caption", rows.length > MOST_ROWS ? {} : { class: "unseen" }, rows.length > MOST_ROWS ? `${caption}: the first ${MOST_ROWS} of ${rows.length}` : caption),
     element("thead", { role: "rowgroup" }, element("tr", { role: "row" }, head)),
     element("tbody", { role: "rowgroup" }, body));
+}
+
+export function pageOf(query, name = "page") {
+  return Math.max(0, Number.parseInt(query.get(name) || "0", 10) || 0);
+}
+
+// Links to the pages before and after one of a list. `to` tells the address of a page.
+export function pager(label, page, hasMore, to, text = "", [before, after] = ["Newer", "Older"]) {
+  return element("nav", { class: "pager", "aria-label": label },
+    page > 0 ? link(to(page - 1), before) : element("span", {}, before),
+    element("span", {}, text),
+    hasMore ? link(to(page + 1), after) : element("span", {}, after));
 }
 
 export function facts(pairs) {

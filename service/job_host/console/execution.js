@@ -1,26 +1,44 @@
 // The page of a job execution: what it came to and why, its picture, its steps, their logs, and its other attempts.
 
 import {
-  badge, button, element, executionLink, facts, framed, heading, isNarrow, jobLink, room, section, span, table, told, UNFINISHED, when,
+  badge, button, element, executionLink, facts, framed, heading, isNarrow, jobLink, MOST_ROWS, pageOf, pager, room, section, span, table, told, UNFINISHED, when,
 } from "./dom.js";
 import { picture, runnables } from "./picture.js";
-import { read, shapeOf } from "./service.js";
+import { read, shapeOf, USUAL_SIZE } from "./service.js";
 
 const LOG_LINES = 12;
-const MOST_LOGS = 500;
+const MOST_REASONS = 8;
+const MOST_PARTITIONS = 64;
+// The lists of the page, each with its rows at once, and the words of the address that say which of its pages is shown.
+const LISTS = { others: USUAL_SIZE, items: MOST_ROWS, logs: USUAL_SIZE };
 
-async function load({ number }) {
+async function load({ number, query }) {
   const path = `/batch/jobexecutions/${number}`;
   const one = await read(path);
-  const [others, items, logs, shape] = await Promise.all([
-    read(`/batch/jobinstances/${one.instanceId}/jobexecutions`), read(`${path}/workitems`), read(`${path}/joblogs`),
+  const instance = `/batch/jobinstances/${one.instanceId}`;
+  const page = (name) => ({ ...(LISTS[name] === USUAL_SIZE ? {} : { pageSize: LISTS[name] }), ...(pageOf(query, name) ? { page: pageOf(query, name) } : {}) });
+  const [newest, others, items, logs, shape] = await Promise.all([
+    read(instance), read(`${instance}/jobexecutions`, page("others")), read(`${path}/workitems`, page("items")), read(`${path}/joblogs`, page("logs")),
     shapeOf(one.jobName),
   ]);
-  return { one, others, items, logs, shape };
+  const lists = { others, items, logs };
+  const isWhole = Object.fromEntries(Object.entries(lists).map(([name, rows]) => [name, !pageOf(query, name) && rows.length < LISTS[name]]));
+  return { one, newest, ...lists, isWhole, shape, reasons: await reasonsOf(path, one, items, isWhole.logs ? logs : null) };
+}
+
+// What failed: the name of each step and decision, its exit status, and its logs. They are read if they may stand on another page.
+async function reasonsOf(path, one, items, logs) {
+  if (one.batchStatus !== "FAILED") return [];
+  const steps = one.stepExecutions.filter((step) => step.batchStatus === "FAILED").map((step) => [step.stepName, step.exitStatus]);
+  const isStep = (item) => one.stepExecutions.some((step) => step.stepName === item.stepName);
+  const decisions = items.filter((item) => ["FAILED", "LOST"].includes(item.outcome) && !isStep(item))
+    .map((item) => [item.stepName, item.exitStatus || item.outcome]);
+  return Promise.all([...steps, ...decisions].slice(0, logs ? undefined : MOST_REASONS).map(async ([name, exit]) =>
+    ({ name, exit, logs: logs ? logs.filter((log) => log.stepName === name) : await read(`${path}/joblogs`, { stepName: name, pageSize: MOST_PARTITIONS }) })));
 }
 
 // What stands in the box of a step or decision: what this job execution made of it, or an earlier one.
-function stateOf(id, { one, others, items }) {
+function stateOf(id, { one, others, items, isWhole }) {
   const step = one.stepExecutions.find((each) => each.stepName === id);
   if (step) return { status: step.batchStatus, text: saying(step.batchStatus, step.exitStatus) };
   const item = items.filter((each) => each.stepName === id).pop();
@@ -28,19 +46,20 @@ function stateOf(id, { one, others, items }) {
   const earlier = others.filter((each) => each.executionId < one.executionId)
     .find((each) => each.stepExecutions.some((done) => done.stepName === id && done.batchStatus === "COMPLETED"));
   if (earlier) return { status: "COMPLETED", text: `COMPLETED in ${earlier.executionId}`, kind: "carried" };
-  return { status: "", text: UNFINISHED.includes(one.batchStatus) ? "not yet run" : "not run" };
+  const here = isWhole.others ? "" : " here";
+  return { status: "", text: !isWhole.items ? "not on this page" : `${UNFINISHED.includes(one.batchStatus) ? "not yet run" : "not run"}${here}` };
 }
 
 function saying(status, exit) {
   return exit && exit !== status ? `${status}: ${exit}` : status;
 }
 
-function actions({ one, others }, may) {
+function actions({ one, newest }, may) {
   if (!may("operate")) return null;
   const data = { execution: one.executionId };
-  const isNewest = others[0].executionId === one.executionId;
+  const isNewest = newest.executionId === one.executionId;
   const isOver = ["FAILED", "STOPPED"].includes(one.batchStatus);
-  const unfinished = others.some((each) => UNFINISHED.includes(each.batchStatus));
+  const unfinished = UNFINISHED.includes(newest.batchStatus);
   return element("p", { class: "actions" },
     isOver && isNewest ? button("restart", "Restart", data, "main") : null,
     UNFINISHED.includes(one.batchStatus) ? button("stop", "Stop", data, "main") : null,
@@ -60,14 +79,9 @@ function lastLines(text) {
 }
 
 // Which step failed, with what exit status, and what its log ends with.
-function reason({ one, items, logs }) {
-  if (one.batchStatus !== "FAILED") return null;
-  const steps = one.stepExecutions.filter((step) => step.batchStatus === "FAILED").map((step) => [step.stepName, step.exitStatus]);
-  const isStep = (item) => one.stepExecutions.some((step) => step.stepName === item.stepName);
-  const decisions = items.filter((item) => ["FAILED", "LOST"].includes(item.outcome) && !isStep(item))
-    .map((item) => [item.stepName, item.exitStatus || item.outcome]);
-  const shown = [...steps, ...decisions].map(([name, exit]) => {
-    const log = logs.filter((each) => each.stepName === name).map((each) => lastLines(each.log)).filter(Boolean).join("\n");
+function reason({ reasons }) {
+  const shown = reasons.map(({ name, exit, logs }) => {
+    const log = logs.map((each) => lastLines(each.log)).filter(Boolean).join("\n");
     return element("div", { "data-key": `why ${name}` },
       element("p", {}, element("strong", {}, told(name)), " is FAILED, exit status ", told(exit)),
       log ? element("pre", { tabindex: "0", role: "group", "aria-label": `End of the log of ${name}`, dir: "auto" }, log) : null);
@@ -82,17 +96,18 @@ function metrics(counts) {
 }
 
 // How many partitions a step has, and what those that were claimed came to.
-function partitionsOf(step, element, items) {
+function partitionsOf(step, element, { items, isWhole }) {
   if (!element || !element.partitions) return "";
   const groups = new Map();
   for (const item of items.filter((each) => each.stepName === step.stepName)) {
     const outcome = item.outcome || "STARTED";
     groups.set(outcome, (groups.get(outcome) || 0) + 1);
   }
-  return [`${element.partitions}: `, [...groups].map(([outcome, number]) => `${number} ${outcome}`).join(", ")];
+  return [`${element.partitions}${isWhole.items ? "" : ", on this page"}: `, [...groups].map(([outcome, number]) => `${number} ${outcome}`).join(", ")];
 }
 
-function stepsTable({ one, shape, items }) {
+function stepsTable(data) {
+  const { one, shape } = data;
   const elements = new Map(runnables(shape.elements).map((each) => [each.id, each]));
   const columns = [
     { name: "Step" }, { name: "Status" }, { name: "Exit status" }, { name: "Partitions" }, { name: "Started" }, { name: "Ended" },
@@ -101,7 +116,7 @@ function stepsTable({ one, shape, items }) {
   return table("Step executions", columns, one.stepExecutions.map((step) => ({
     key: step.stepName,
     cells: [
-      told(step.stepName), badge(step.batchStatus), step.exitStatus === step.batchStatus ? "" : told(step.exitStatus), partitionsOf(step, elements.get(step.stepName), items),
+      told(step.stepName), badge(step.batchStatus), step.exitStatus === step.batchStatus ? "" : told(step.exitStatus), partitionsOf(step, elements.get(step.stepName), data),
       when(step.startTime), when(step.endTime), span(step.startTime, step.endTime), metrics(step.metrics),
     ],
   })), "No step was run.");
@@ -124,7 +139,7 @@ function workTable({ items }, may) {
 }
 
 function logList({ one, logs }) {
-  const shown = logs.filter((log) => log.log).slice(-MOST_LOGS);
+  const shown = logs.filter((log) => log.log);
   if (!shown.length) return element("p", { class: "empty" }, "No worker has handed in a log.");
   const isOpen = one.batchStatus === "FAILED" || shown.length === 1;
   return shown.map((log) => element("details", { "data-key": `log ${log.work}`, "aria-label": `${log.stepName}, work item ${log.work}`, open: isOpen },
@@ -146,6 +161,13 @@ function attempts({ one, others }) {
   })), "There is none.");
 }
 
+// Links to the other pages of a list, if it has any.
+function turn(name, label, data, { number, query }, words) {
+  if (data.isWhole[name]) return null;
+  const to = (page) => `#/execution/${number}?${new URLSearchParams({ ...Object.fromEntries(query), [name]: page })}`;
+  return pager(label, pageOf(query, name), data[name].length === LISTS[name], to, "", words);
+}
+
 export const execution = {
   page: "executions",
   load,
@@ -165,9 +187,9 @@ export const execution = {
       ])),
       section("Parameters", parameterList(one.jobParameters)),
       section("Steps", stepsTable(data)),
-      section("Work items", workTable(data, may)),
-      section("Logs", logList(data)),
-      section("Earlier and later job executions", attempts(data)),
+      section("Work items", workTable(data, may), turn("items", "Pages of the work items", data, route, ["Earlier", "Later"])),
+      section("Logs", logList(data), turn("logs", "Pages of the logs", data, route, ["Earlier", "Later"])),
+      section("Earlier and later job executions", attempts(data), turn("others", "Pages of the job executions", data, route)),
     ];
   },
 };

@@ -1,12 +1,12 @@
 // The pages: each has what it reads, and what it shows of that.
 
 import {
-  badge, button, count, element, executionLink, facts, framed, heading, isNarrow, jobLink, link, room, section, span, STATUSES, table, told, UNFINISHED, when,
+  badge, button, count, element, executionLink, facts, framed, heading, isNarrow, jobLink, link, MOST_ROWS, pageOf, pager, room, section, span, STATUSES,
+  table, told, UNFINISHED, when,
 } from "./dom.js";
 import { picture } from "./picture.js";
-import { read, shapeOf } from "./service.js";
+import { read, shapeOf, USUAL_SIZE } from "./service.js";
 
-const PAGE_SIZE = 50;
 const NEWEST = 8;
 
 function fill(history) {
@@ -55,7 +55,8 @@ export const jobs = {
   page: "jobs",
   async load() {
     const [catalogue, all, failed, history] = await Promise.all([
-      read("/batch/catalogue"), read("/batch/jobs"), read("/batch/jobexecutions", { status: "FAILED", pageSize: NEWEST }), read("/batch/history"),
+      read("/batch/catalogue"), read("/batch/jobs"), read("/batch/jobexecutions", { status: "FAILED", mostRecent: "true", pageSize: NEWEST }),
+      read("/batch/history"),
     ]);
     return { catalogue, statusCounts: all.statusCounts, failed, history };
   },
@@ -78,7 +79,7 @@ export const jobs = {
       heading("Jobs"),
       counts(statusCounts, {}, null),
       section("Jobs of the catalogue", table("Jobs of the catalogue, each with its newest job instance", columns, rows, "The catalogue has no job.")),
-      section("Failed last", executionsTable("Job executions that are FAILED, the newest first", failed.jobExecutions, "No job execution is FAILED.")),
+      section("Failed last", executionsTable("Job instances that are FAILED, the newest first", failed.jobExecutions, "No job instance is FAILED.")),
       section("History", fullness(history)),
     ];
   },
@@ -96,7 +97,7 @@ function fullness(history) {
 export const executions = {
   page: "executions",
   load({ query }) {
-    const given = { pageSize: PAGE_SIZE, page: query.get("page") || "0" };
+    const given = { pageSize: USUAL_SIZE, page: pageOf(query) };
     for (const name of ["status", "search", "jobName"]) if (query.get(name)) given[name] = query.get(name);
     return read("/batch/jobexecutions", given);
   },
@@ -105,14 +106,13 @@ export const executions = {
   draw(data, { query }) {
     const [status, search, jobName] = ["status", "search", "jobName"].map((name) => query.get(name) || "");
     const kept = { ...(search ? { search } : {}), ...(jobName ? { jobName } : {}) };
-    const page = Number(query.get("page") || 0);
     const caption = `Job executions${status ? ` that are ${status}` : ""}${search ? " that the search finds" : ""}, the newest first`;
     return [
       heading("Job executions"),
       searchForm(status, search, jobName),
       counts(data.statusCounts, kept, status),
       element("section", { "aria-label": caption }, executionsTable(caption, data.jobExecutions, "No job execution is found.")),
-      pager(data, { ...kept, ...(status ? { status } : {}) }, page),
+      turn(data, { ...kept, ...(status ? { status } : {}) }, pageOf(query)),
     ];
   },
 };
@@ -125,15 +125,12 @@ function searchForm(status, search, jobName) {
     jobName ? element("span", {}, "of the job ", told(jobName), " ", link(`#/executions?${new URLSearchParams(status ? { status } : {})}`, "of all jobs")) : null);
 }
 
-function pager(data, kept, page) {
-  const to = (number, label) => link(`#/executions?${new URLSearchParams({ ...kept, page: number })}`, label);
-  const first = page * PAGE_SIZE + 1;
+function turn(data, kept, page) {
+  const first = page * USUAL_SIZE + 1;
   const last = first + data.jobExecutions.length - 1;
   const of = data.total === null ? "" : ` of ${data.total.toLocaleString("en")}`;
-  return element("nav", { class: "pager", "aria-label": "Pages of the list" },
-    page > 0 ? to(page - 1, "Newer") : element("span", {}, "Newer"),
-    element("span", {}, data.jobExecutions.length ? `${first.toLocaleString("en")} to ${last.toLocaleString("en")}${of}` : ""),
-    data.more ? to(page + 1, "Older") : element("span", {}, "Older"));
+  const text = data.jobExecutions.length ? `${first.toLocaleString("en")} to ${last.toLocaleString("en")}${of}` : "";
+  return pager("Pages of the list", page, data.more, (number) => `#/executions?${new URLSearchParams({ ...kept, page: number })}`, text);
 }
 
 // A job: its picture, and its newest job executions.
@@ -161,11 +158,13 @@ export const job = {
 // Work: who holds which work item since when.
 export const work = {
   page: "work",
-  load: () => read("/batch/work"),
+  load: ({ query }) => read("/batch/work", { pageSize: MOST_ROWS, page: pageOf(query) }),
   title: () => "Work",
   isLive: (data) => data.length > 0,
-  draw(data, route, may) {
+  draw(data, { query }, may) {
     const mayLose = may("operate") || may("work");
+    const [page, isFull] = [pageOf(query), data.length === MOST_ROWS];
+    const held = isFull || page ? "" : `${count(data.length, "work item")} ${data.length === 1 ? "is" : "are"} held. `;
     const columns = [
       { name: "Work item", kind: "number" }, { name: "Step" }, { name: "Partition", kind: "number" }, { name: "Job execution", kind: "number" },
       { name: "Worker" }, { name: "Since" }, { name: "For", kind: "number" }, { name: "Lease left", kind: "number" },
@@ -181,8 +180,9 @@ export const work = {
     }));
     return [
       heading("Work"),
-      element("p", {}, data.length ? `${count(data.length, "work item")} ${data.length === 1 ? "is" : "are"} held. A lease that runs out loses its work item.` : ""),
+      element("p", {}, data.length ? `${held}A lease that runs out loses its work item.` : ""),
       element("section", { "aria-label": "Work items" }, table("Which worker holds which work item", columns, rows, "No worker holds a work item.")),
+      isFull || page ? pager("Pages of the work items", page, isFull, (number) => `#/work?page=${number}`, "", ["Earlier", "Later"]) : null,
     ];
   },
 };

@@ -1,5 +1,7 @@
 // The service: reads that never go back, operations by one request key each, and the stream of events.
 
+// Rows of a page of a list if none are named.
+export const USUAL_SIZE = 50;
 const PATIENCE = 30000;
 const PAUSE = 500;
 const PASSING = [408, 425, 429, 502, 503, 504];
