@@ -10,7 +10,8 @@ Three tables are printed:
 - So many lines (2,000) one at a time, each after the reply before: the median and the 99th percentile of a line that
   is accepted and of one that is not. Beside it a write of 100 bytes and a sync of the same disk, by this script.
 - So many operations (1,000,000), of one job execution that is stopped again and again: without a log, into a new log, and an
-  opening of that log with no line. Seconds, and peak memory.
+  opening of that log with no line. Seconds, and peak memory. Beside it the bytes of that log, written at once and synced by
+  this script: an opening writes them too, and no program over that disk takes less.
 
 The log stands in DIR, else in the folder of temporary files: its disk decides. Each run is compared with what it has to write.
 """
@@ -36,7 +37,7 @@ PROGRAM = ROOT / "crates" / "batchctl" / "out" / "batchctl"
 CHUNK = {"reader": {"ref": "count:5"}, "writer": {"ref": "sink"}}
 NIGHTLY = {"jobs": [{"id": "nightly", "elements": [{"kind": "step", "id": "s", "chunk": CHUNK}]}]}
 STOPPED = {"jobs": [{"id": "a", "elements": [{"kind": "step", "id": "s", "batchlet": {"ref": "ok"}}]}]}
-SYNCS = 1000
+SYNCS, COPIES = 1000, 5
 MIB = 1024
 
 
@@ -178,6 +179,22 @@ def times_of_syncs(folder: Path) -> list[float]:
         return times_of(write_and_sync)
 
 
+def seconds_of_copy(log: Path) -> float:
+    """How long the bytes of a log take to be written at once into a new file, and synced."""
+    held, copy = log.read_bytes(), log.with_suffix(".copy")
+
+    def write_and_sync() -> float:
+        begin = time.perf_counter()
+        with copy.open("wb", buffering=0) as file:
+            file.write(held)
+            os.fdatasync(file.fileno())
+        return time.perf_counter() - begin
+
+    seconds = statistics.median(write_and_sync() for _ in range(COPIES))
+    copy.unlink()
+    return seconds
+
+
 def measure_lines(words: Words, count: int) -> None:
     """Lines one at a time."""
     lines, log = night_of(count // 5), words.folder / "lines.log"
@@ -210,6 +227,7 @@ def measure_openings(words: Words, count: int) -> None:
     if runs[0][1].told != runs[1][1].told or runs[2][1].told:
         sys.exit("the replies with a log differ from those without one")
     rows = [[what, f"{one.seconds:.2f}", f"{one.memory:,.0f}"] for what, one in runs]
+    rows.append(["the bytes of that log, written and synced by this script", f"{seconds_of_copy(log):.2f}", ""])
     print_table([f"{count:,} operations", "seconds", "peak memory, MiB"], rows)
     print(f"The log has {log.stat().st_size:,} bytes.")
 

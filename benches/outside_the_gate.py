@@ -18,7 +18,7 @@ sys.path.insert(0, str(ROOT / "tools"))
 from repository import copy_of, uses_by_crate  # noqa: E402
 
 # What the programs use of the repository, and of the kit.
-USES = {"batch_operator", "sessions", "seat_rules", "jsl_json", "op_log", "jsl_model", "batch_ids"}
+USES = {"batch_service", "seq_repository", "batch_operator", "sessions", "seat_rules", "jsl_json", "op_log", "jsl_model", "batch_ids"}
 LIBRARIES = USES | {"sqlite_items", "anyhow", "atomic_table"}
 
 

@@ -1,5 +1,6 @@
 #!/bin/sh
-# The gate's part of the service: layout, types, and the tests with real PostgreSQL servers and worker processes.
+# The gate's part of the service: layout and types, of its figures in benches/ too, and the tests with real PostgreSQL servers and
+# worker processes.
 #
 #     service/check.sh [WORDS OF PYTEST ..]
 #
@@ -9,9 +10,13 @@ cd "$(dirname "$0")"
 : "${JOBHOST_BATCHCTL:=$PWD/../crates/batchctl/out/batchctl}"
 export JOBHOST_BATCHCTL
 python=/usr/bin/python3
-$python -m flake8 .
-$python -m black --check -q .
+figures="../benches/service_calls.py ../benches/console_lists.py ../benches/sql_repository.py"
+# shellcheck disable=SC2086
+$python -m flake8 . $figures
+# shellcheck disable=SC2086
+$python -m black --config pyproject.toml --check -q . $figures
 MYPYPATH=tests:. $python -m mypy check_catalogues.py
 $python -m mypy
-MYPYPATH=tests:. $python -m mypy tests soak.py soak_check.py bench.py bench_console.py screenshots.py sql_repository.py
+# shellcheck disable=SC2086
+MYPYPATH=tests:.:../benches $python -m mypy tests soak.py soak_check.py screenshots.py $figures
 $python -m pytest -q "$@"

@@ -21,10 +21,10 @@ sys.path.insert(0, str(Path(__file__).resolve().parent / "tests"))
 
 from random_catalogues import RandomCatalogue, random_catalogue  # noqa: E402
 
-from job_host.catalogue_check import ask, found_faults  # noqa: E402
-from job_host.catalogue_file import read_json  # noqa: E402
-from job_host.catalogue_text import one_line  # noqa: E402
-from job_host.settings import find_batchctl  # noqa: E402
+from job_host.catalogue.check import ask, found_faults  # noqa: E402
+from job_host.catalogue.file import read_json  # noqa: E402
+from job_host.catalogue.text import one_line  # noqa: E402
+from job_host.commands.program import find_batchctl  # noqa: E402
 
 
 def json_of(data: bytes) -> object:

@@ -37,8 +37,9 @@ from postgres_server import PostgresServer, children_of  # noqa: E402
 from soak_check import Acknowledged, Operation, Read, Seen, Wrong, check  # noqa: E402
 from workers import WorkerProcess  # noqa: E402
 
-from job_host import job_catalogue, log_file  # noqa: E402
-from job_host.settings import find_batchctl  # noqa: E402
+from job_host.catalogue.jobs import read_file  # noqa: E402
+from job_host.commands.program import find_batchctl  # noqa: E402
+from job_host.service.history import log_file  # noqa: E402
 
 CLIENTS, WORKERS, SLOTS = 8, 4, 2
 TAKEOVER, LEASE = 1.0, 3.0
@@ -304,7 +305,7 @@ def operations_of_log(parts: Parts) -> list[Operation]:
 
     data = parts.folder / "data"
     lines = [record.line for record in log_file.records(data / "history.log") if not record.is_catalogue]
-    script = b"\n".join([job_catalogue.read_file(parts.catalogue), *lines]) + b"\n"
+    script = b"\n".join([read_file(parts.catalogue), *lines]) + b"\n"
     replies = subprocess.run([*parts.batchctl, "script"], input=script, capture_output=True, check=True).stdout.splitlines()
     with sqlite3.connect(data / "beside.sqlite") as beside:
         keys = dict(beside.execute("select line, key from request"))
@@ -348,7 +349,7 @@ async def soak(parts: Parts, kills: int, seed: int, most_seconds: float) -> None
     await until_quiet(parts)
     parts.stop()
     operations = await operations_of(parts)
-    told = check(parts.batchctl, job_catalogue.read_file(parts.catalogue), operations, seen, parts.artifacts)
+    told = check(parts.batchctl, read_file(parts.catalogue), operations, seen, parts.artifacts)
     print(f"killed: {dict(killer.kills)}; seed {seed}")
     print("compared: " + ", ".join(f"{count} {what}" for what, count in told.items()))
     if sum(killer.kills.values()) < kills:

@@ -13,8 +13,8 @@ from typing import Any
 
 sys.path.insert(0, str(Path(__file__).resolve().parent))
 
-from job_host import views  # noqa: E402
-from job_host.lines import command, query  # noqa: E402
+from job_host.protocol.lines import command, query  # noqa: E402
+from job_host.service.routes import views  # noqa: E402
 
 
 class Wrong(Exception):

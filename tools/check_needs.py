@@ -16,7 +16,7 @@ from pathlib import Path
 
 ROOT = Path(__file__).resolve().parent.parent
 INSTALL = ROOT / "service" / "install.sh"
-LIBRARIES = [str(path) for path in sorted((ROOT / "tools").glob("*.c"))]
+LIBRARIES = [str(path) for path in sorted((ROOT / "tools" / "tests" / "libraries").glob("*.c"))]
 # The tools run by the `python3` on the path. The service runs by Debian's, which has its packages.
 DEBIANS_PYTHON = "/usr/bin/python3"
 IS_NEW_ENOUGH = "import sys; sys.exit(sys.version_info < (3, 11))"
@@ -42,7 +42,7 @@ def needs() -> list[Need]:
         Need("rt, Rattle's toolchain", "", shutil.which("rt") is not None),
         Need("python3, 3.11 or newer, on the path", "python3", succeeds("python3", "-c", IS_NEW_ENOUGH)),
         Need(f"{DEBIANS_PYTHON}, 3.11 or newer", "python3", succeeds(DEBIANS_PYTHON, "-c", IS_NEW_ENOUGH)),
-        Need("cc, with the headers of tools/*.c", "gcc libc6-dev", succeeds("cc", "-fsyntax-only", *LIBRARIES)),
+        Need("cc, with the headers of tools/tests/libraries/*.c", "gcc libc6-dev", succeeds("cc", "-fsyntax-only", *LIBRARIES)),
         Need("valgrind", "valgrind", succeeds("valgrind", "--version")),
     ]
 

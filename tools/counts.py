@@ -1,8 +1,8 @@
 """Prints what the repository has by crate: lines, public functions, must-fail edits and tests. Checks the page that has it.
 
     python3 tools/counts.py            prints the table
-    python3 tools/counts.py --check    compares docs/TESTING.md's tables of crates and of plants with the repository
-    python3 tools/counts.py --write    puts both tables into the page
+    python3 tools/counts.py --check    compares docs/TESTING.md's table of crates with the repository
+    python3 tools/counts.py --write    puts the table into the page
 """
 
 from __future__ import annotations
@@ -13,7 +13,6 @@ import sys
 from pathlib import Path
 
 from repository import ROOT, uses_by_crate
-from try_plants import table as table_of_plants
 
 PAGE = ROOT / "docs" / "TESTING.md"
 LINES = ["code", "specs", "proofs", "public functions"]
@@ -64,25 +63,33 @@ def other_lines(page: list[str], wanted: list[str]) -> list[str]:
     return [line for line in wanted if line not in has] + [line for line in has if line not in wanted]
 
 
+def otherwise() -> list[str]:
+    """What the page has otherwise, a line for each."""
+    other = other_lines(PAGE.read_text().splitlines(), table_of_crates(COUNTED))
+    return [f"{PAGE.relative_to(ROOT)}: otherwise: {line}" for line in other]
+
+
+def write() -> None:
+    page, wanted = PAGE.read_text().splitlines(), table_of_crates(COUNTED)
+    begin, end = table_in(page, wanted[0])
+    page[begin:end] = wanted
+    PAGE.write_text("\n".join(page) + "\n")
+
+
 def main() -> int:
     parser = argparse.ArgumentParser(description=(__doc__ or "").splitlines()[0])
-    parser.add_argument("--check", action="store_true", help="compare the page's tables")
-    parser.add_argument("--write", action="store_true", help="put the tables into the page")
+    parser.add_argument("--check", action="store_true", help="compare the page's table")
+    parser.add_argument("--write", action="store_true", help="put the table into the page")
     words = parser.parse_args()
-    tables = [table_of_crates(COUNTED), table_of_plants()[0]]
-    page = PAGE.read_text().splitlines()
     if words.check:
-        other = [line for wanted in tables for line in other_lines(page, wanted)]
+        other = otherwise()
         for line in other:
-            print(f"{PAGE.relative_to(ROOT)}: otherwise: {line}")
+            print(line)
         return 1 if other else 0
     if words.write:
-        for wanted in tables:
-            begin, end = table_in(page, wanted[0])
-            page[begin:end] = wanted
-        PAGE.write_text("\n".join(page) + "\n")
-        return 0
-    print("\n".join(table_of_crates(LINES + COUNTED)))
+        write()
+    else:
+        print("\n".join(table_of_crates(LINES + COUNTED)))
     return 0
 
 

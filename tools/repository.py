@@ -6,16 +6,35 @@ import shutil
 from pathlib import Path
 
 ROOT = Path(__file__).resolve().parent.parent
+# The line ahead of the crates of a layer, and the layer of crates ahead of each such line.
+LAYER, NO_LAYER = "# layer: ", "no layer"
+
+
+def lines_of_crates(root: Path) -> list[str]:
+    return (root / "crates.txt").read_text().splitlines()
+
+
+def crate_of(line: str) -> str:
+    """The crate that a line of crates.txt names; none, if it is a comment."""
+    name, colon, _ = line.partition("#")[0].partition(":")
+    return name.split()[0] if colon else ""
 
 
 def uses_by_crate(root: Path = ROOT) -> dict[str, list[str]]:
     """The crates of a repository's crates.txt, each with the libraries that it uses."""
-    uses: dict[str, list[str]] = {}
-    for line in (root / "crates.txt").read_text().splitlines():
-        name, colon, libraries = line.partition(":")
-        if colon and not line.startswith("#"):
-            uses[name.split()[0]] = libraries.split()
-    return uses
+    return {crate: line.partition(":")[2].split() for line in lines_of_crates(root) if (crate := crate_of(line))}
+
+
+def layers(root: Path = ROOT) -> dict[str, list[str]]:
+    """The crates by the layers of crates.txt, the lowest layer first. A line `# layer: NAME` is ahead of the crates of each."""
+    found: dict[str, list[str]] = {}
+    layer = NO_LAYER
+    for line in lines_of_crates(root):
+        if line.startswith(LAYER):
+            layer = line.removeprefix(LAYER)
+        elif crate := crate_of(line):
+            found.setdefault(layer, []).append(crate)
+    return found
 
 
 def with_libraries(crates: set[str], root: Path = ROOT) -> set[str]:
@@ -47,7 +66,7 @@ def copy_of(crates: set[str], folder: Path) -> Path:
     was built or kept in `out/`. Gives the folder that the crates are in."""
     kept = with_libraries(crates)
     shutil.copy(ROOT / "HANDLES", folder / "HANDLES")
-    lines = [line for line in (ROOT / "crates.txt").read_text().splitlines() if line.split(":")[0].split()[0] in kept]
+    lines = [line for line in lines_of_crates(ROOT) if crate_of(line) in kept]
     (folder / "crates.txt").write_text("\n".join(lines) + "\n")
     for name in kept:
         shutil.copytree(ROOT / "crates" / name, folder / "crates" / name, ignore=shutil.ignore_patterns("out"))

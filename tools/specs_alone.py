@@ -15,7 +15,7 @@ import sys
 from dataclasses import dataclass
 from pathlib import Path
 
-ROOT = Path(__file__).resolve().parent.parent
+from repository import ROOT
 
 IN_SPECS = re.compile(r"\bRattle(?:\.\w+)*\.proofs\b")
 IN_SOURCES = re.compile(r"\bRattle\.(?!std\.)(?:\w+\.)*proofs\b")

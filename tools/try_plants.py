@@ -3,9 +3,10 @@
     python3 tools/try_plants.py CRATE..            tries all plants of these crates
     python3 tools/try_plants.py --new CRATE..      only those that have no verdict on the code as it stands
     python3 tools/try_plants.py --only NAME CRATE  only the plant of this name; --only may be given again
-    python3 tools/try_plants.py                    tries nothing
-    python3 tools/try_plants.py --check            tries nothing, and says which plants do not stand once in their files, and
-                                                   which of the tests that plants name are not there
+    python3 tools/try_plants.py                    tries nothing, and prints the verdicts
+    python3 tools/try_plants.py --check            tries nothing, and says what is wrong with plants as they stand: a text that
+                                                   does not stand once in its file, or that nothing else replaces; two plants
+                                                   of one name; a test that is not there
 
 A plant that is still proved is a gap in a contract, unless `refused_by` names a test that refuses it, or it costs time alone.
 Each function is proved by itself, so one check tries a plant in each of many functions; a second plant of a function waits
@@ -62,8 +63,8 @@ class Plant:
     """A wrong body: a text that stands once in a file, and what stands there instead.
 
     A `reason` says why no contract refuses the plant. `refused_by` names the tests that do: scripts (cases/scripts/NAME),
-    command lines (cases/commands.toml), tests in Rattle (crates/CRATE: NAME) or tools of the gate (tools/NAME.py). A plant with
-    `costs` has the same results as the code that it replaces, and costs time alone.
+    command lines (cases/commands.toml), tests in Rattle (crates/CRATE: NAME) or in Python (tools/tests/test_NAME.py). A plant
+    with `costs` has the same results as the code that it replaces, and costs time alone.
     """
 
     name: str
@@ -115,10 +116,12 @@ def plant_of(entry: dict[str, Any]) -> Plant:
 def plants_of(crate: str) -> list[Plant]:
     with (ROOT / "plants" / f"{crate}.toml").open("rb") as file:
         entries = tomllib.load(file)["plant"]
-    names = [entry["name"] for entry in entries]
-    if twice := sorted({name for name in names if names.count(name) > 1}):
-        sys.exit(f"plants/{crate}.toml: two plants have the name {' or '.join(twice)}, and a name has one verdict")
     return [plant_of(entry) for entry in entries]
+
+
+def twice_named(plants: list[Plant]) -> list[str]:
+    """The names that more than one of these plants have. A name has one verdict."""
+    return [name for name, count in Counter(plant.name for plant in plants).items() if count > 1]
 
 
 def group_of(plants: list[Plant], sources: dict[str, str]) -> list[Plant]:
@@ -331,13 +334,13 @@ def table() -> tuple[list[str], list[str]]:
 
 
 def is_there(test: str) -> bool:
-    """Whether the repository has this test: a test in Rattle, a tool of the gate, or a file of cases with its replies."""
+    """Whether the repository has this test: one in Rattle, a file of tests in Python, or a file of cases with its replies."""
     folder, colon, name = test.partition(": ")
     if colon:
         head = re.compile(rf"^#\[test\]\n(?:#\[.*\n)*fn {re.escape(name)}\(", re.M)
         return any(head.search(path.read_text()) for path in (ROOT / folder / "src").rglob("*.rt"))
     if test.startswith("tools/"):
-        return f" {test}\n" in (ROOT / ".ci" / "run").read_text()
+        return re.fullmatch(r"tools/tests/test_\w+\.py", test) is not None and (ROOT / test).is_file()
     has_script = any((ROOT / f"{test}{ending}").is_file() for ending in (".script", ".scripts"))
     return (has_script and (ROOT / f"{test}.replies").is_file()) or (test == "cases/commands.toml" and (ROOT / test).is_file())
 
@@ -346,6 +349,8 @@ def faults_of(plant: Plant, crate: Path) -> list[str]:
     """What is wrong with a plant of this crate as it stands."""
     path = crate / plant.file
     faults = [] if path.is_file() and plant.put(path.read_text()) is not None else ["its text does not stand there once"]
+    if any(old == new for old, new in [(plant.old, plant.new), *plant.more]):
+        faults.append("a text does not differ from what replaces it")
     faults += [f"there is no test {test}" for test in plant.refused_by if not is_there(test)]
     if plant.costs not in ("", "time") or (plant.costs and plant.refused_by):
         faults.append("`costs` is time, and is left out if a test refuses the plant")
@@ -356,9 +361,13 @@ def faults_of(plant: Plant, crate: Path) -> list[str]:
 
 def faults() -> list[str]:
     """What is wrong with plants as they stand."""
-    plants = [(name, plant) for name in crates_with_plants() for plant in plants_of(name)]
-    found = [(name, plant, fault) for name, plant in plants for fault in faults_of(plant, ROOT / "crates" / name)]
-    return [f"plants/{name}.toml: {plant.name}: {fault}" for name, plant, fault in found]
+    found = list[str]()
+    for crate in crates_with_plants():
+        plants = plants_of(crate)
+        told = [f"{name}: two plants have this name" for name in twice_named(plants)]
+        told += [f"{plant.name}: {fault}" for plant in plants for fault in faults_of(plant, ROOT / "crates" / crate)]
+        found += [f"plants/{crate}.toml: {line}" for line in told]
+    return found
 
 
 def main() -> int:
@@ -373,6 +382,9 @@ def main() -> int:
         for fault in found:
             print(fault)
         return 1 if found else 0
+    for crate in words.crates:
+        if twice := twice_named(plants_of(crate)):
+            sys.exit(f"plants/{crate}.toml: two plants have the name {' or '.join(twice)}, and a name has one verdict")
     try_crates(words.crates, words.new, words.only)
     lines, gaps = table()
     print("\n".join(lines))

@@ -21,7 +21,8 @@ from collections import Counter
 from dataclasses import dataclass
 from pathlib import Path
 
-ROOT = Path(__file__).resolve().parent.parent
+from repository import ROOT
+
 LISTED = ROOT / "tools" / "want_of_memory.toml"
 
 MAKER = re.compile(r"\b(?:\w+::)*(?:AllocError|AllocFailed|OutOfMemory)\b")
@@ -93,16 +94,21 @@ def listed() -> Counter[Place]:
     return Counter({Place(entry["file"], entry["text"]): len(entry["reasons"]) for entry in entries})
 
 
-def main() -> int:
+def faults() -> list[str]:
+    """The places that are not listed, and those that are gone, a line for each."""
     found = Counter(Place(str(file.relative_to(ROOT)), text) for file in sources() for text in places_in(file.read_text()))
     known = listed()
-    for place in found - known:
-        print(f"{place.file}: answers want of memory of its own accord: {place.text}", file=sys.stderr)
-    for place in known - found:
-        print(f"{place.file}: is listed, and is gone: {place.text}", file=sys.stderr)
-    if found != known:
+    new = [f"{place.file}: answers want of memory of its own accord: {place.text}" for place in found - known]
+    return new + [f"{place.file}: is listed, and is gone: {place.text}" for place in known - found]
+
+
+def main() -> int:
+    wrong = faults()
+    for line in wrong:
+        print(line, file=sys.stderr)
+    if wrong:
         return 1
-    print(f"want of memory is answered of its own accord in {found.total()} places, each listed with its reason")
+    print(f"want of memory is answered of its own accord in {listed().total()} places, each listed with its reason")
     return 0
 
 

@@ -145,10 +145,7 @@ def main() -> int:
     differs = False
     for name, case in CASES.items():
         script, replies = case()
-        for path, wanted in [
-            (DATA / name, text(script)),
-            (DATA / (name.partition(".")[0] + ".replies"), text(replies)),
-        ]:
+        for path, wanted in [(DATA / name, text(script)), (DATA / (name.partition(".")[0] + ".replies"), text(replies))]:
             if path.read_text() == wanted:
                 continue
             differs = True

@@ -2,7 +2,7 @@
 
 import sys
 
-from job_host.command_line import main
+from job_host.commands.command_line import main
 
 if __name__ == "__main__":
     sys.exit(main())

@@ -8,10 +8,10 @@ from collections.abc import Collection, Iterator
 from pathlib import Path
 from typing import Any
 
-from job_host.catalogue_check import Checked, check
-from job_host.catalogue_faults import Fault, Note
-from job_host.catalogue_file import read_data
-from job_host.settings import find_batchctl
+from job_host.catalogue.check import Checked, check
+from job_host.catalogue.faults import Fault, Note
+from job_host.catalogue.file import read_data
+from job_host.commands.program import find_batchctl
 
 ROOT = Path(__file__).resolve().parents[2]
 BATCHCTL = find_batchctl(None)

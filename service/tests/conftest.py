@@ -18,11 +18,12 @@ sys.path.insert(0, str(Path(__file__).resolve().parents[1]))
 import artifact_files  # noqa: E402
 from postgres_server import PostgresServer  # noqa: E402
 
-from job_host.command_line import main  # noqa: E402
-from job_host.coprocess import CoProcess  # noqa: E402
-from job_host.engine import Engine  # noqa: E402
-from job_host.server import Service  # noqa: E402
-from job_host.settings import Bounds, ServeSettings, find_batchctl  # noqa: E402
+from job_host.commands.command_line import main  # noqa: E402
+from job_host.commands.program import find_batchctl  # noqa: E402
+from job_host.service.history.coprocess import CoProcess  # noqa: E402
+from job_host.service.history.engine import Engine  # noqa: E402
+from job_host.service.server import Service  # noqa: E402
+from job_host.service.settings import Bounds, ServeSettings  # noqa: E402
 
 Say = Callable[..., Awaitable[tuple[int, str]]]
 

@@ -19,8 +19,8 @@ from typing import Any
 import aiohttp
 from postgres_server import free_port
 
-from job_host.server import Service
-from job_host.settings import ServeSettings
+from job_host.service.server import Service
+from job_host.service.settings import ServeSettings
 
 READY_SECONDS = 30.0
 COMMAND = Path(__file__).resolve().parents[1] / "jobhost"

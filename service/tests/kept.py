@@ -4,7 +4,7 @@ from __future__ import annotations
 
 from instances import Caller, Instance, until
 
-from job_host.engine import Engine
+from job_host.service.history.engine import Engine
 
 
 def engine_of(instance: Instance) -> Engine:

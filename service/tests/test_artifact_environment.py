@@ -13,10 +13,10 @@ from typing import Any
 
 import pytest
 
-from job_host.artifact_output import Tail
-from job_host.artifacts import Ended
-from job_host.chunks import Chunk
-from job_host.worker import Batchlet, Told
+from job_host.worker.artifacts import Ended
+from job_host.worker.chunks import Chunk
+from job_host.worker.output import Tail
+from job_host.worker.worker import Batchlet, Told
 
 # It tells its file's parameters and mode, and the lengths of its variables.
 SHOWS = """#!/usr/bin/python3

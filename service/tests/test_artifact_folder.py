@@ -12,9 +12,10 @@ from typing import Any, cast
 import pytest
 from instances import until
 
-from job_host import artifact_folder, worker
-from job_host.client import Client
-from job_host.worker import Worker
+from job_host.protocol.client import Client
+from job_host.worker import worker
+from job_host.worker.folder import names_of
+from job_host.worker.worker import Worker
 
 COUNT = 200
 
@@ -46,8 +47,8 @@ class Service:
 @pytest.fixture(autouse=True)
 def quick(monkeypatch: pytest.MonkeyPatch) -> None:
     """A tenth of the pauses."""
-    monkeypatch.setattr(artifact_folder, "SHORTEST_SECONDS", 0.1, raising=True)
-    monkeypatch.setattr(artifact_folder, "LONGEST_SECONDS", 6.0, raising=True)
+    monkeypatch.setattr("job_host.worker.folder.SHORTEST_SECONDS", 0.1, raising=True)
+    monkeypatch.setattr("job_host.worker.folder.LONGEST_SECONDS", 6.0, raising=True)
     monkeypatch.setattr(worker, "LOOK_SECONDS", 0.02, raising=False)
 
 
@@ -146,4 +147,4 @@ async def test_a_worker_ends_at_once_though_it_claims_nothing(artifacts: Path) -
     ],
 )
 def test_the_names_of_a_work_item(work: dict[str, Any], names: list[str]) -> None:
-    assert artifact_folder.names_of(work) == names
+    assert names_of(work) == names

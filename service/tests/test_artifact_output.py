@@ -10,8 +10,8 @@ import pytest
 from instances import Caller, running
 from workers import run_job, working
 
-from job_host.artifact_output import LINE_BYTES, Tail
-from job_host.settings import ServeSettings
+from job_host.service.settings import ServeSettings
+from job_host.worker.output import LINE_BYTES, Tail
 
 Make = Callable[..., ServeSettings]
 

@@ -13,7 +13,7 @@ import pytest
 from instances import Caller, Instance, running
 from postgres_server import PostgresServer, programs
 
-from job_host.settings import ServeSettings
+from job_host.service.settings import ServeSettings
 
 Make = Callable[..., ServeSettings]
 

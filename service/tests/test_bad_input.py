@@ -15,8 +15,8 @@ from typing import Any
 import pytest
 from instances import Caller, Instance, running
 
-from job_host import routes_jobs, routes_lists, routes_work
-from job_host.settings import Bounds, ServeSettings
+from job_host.service.routes import jobs, lists, work
+from job_host.service.settings import Bounds, ServeSettings
 
 REQUESTS = int(os.environ.get("JOBHOST_RANDOM_REQUESTS", "5000"))
 SEED = int(os.environ.get("JOBHOST_SEED", "11"))
@@ -140,7 +140,7 @@ HEADERS = [
     "Sec-Fetch-Site: same-origin",
     "Batch-Forgery-Token: \xff",
 ]
-KNOWN = [(route.method, route.path) for route in [*routes_jobs.ROUTES, *routes_lists.ROUTES, *routes_work.ROUTES]]
+KNOWN = [(route.method, route.path) for route in [*jobs.ROUTES, *lists.ROUTES, *work.ROUTES]]
 
 
 @dataclass(frozen=True)

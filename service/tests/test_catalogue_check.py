@@ -13,10 +13,10 @@ import pytest
 from catalogue_samples import BATCHCTL, catalogues_of_the_repository, checked, one_job, step, told
 from random_catalogues import random_catalogue
 
-from job_host import job_catalogue
-from job_host.catalogue_check import NoVerdict, Verdict, ask, check, found_faults, in_order_of
-from job_host.catalogue_file import CatalogueFile, read_json
-from job_host.catalogue_text import MOST_LINE_BYTES, Source, one_line
+from job_host.catalogue.check import NoVerdict, Verdict, ask, check, found_faults, in_order_of
+from job_host.catalogue.file import CatalogueFile, read_json
+from job_host.catalogue.jobs import read_file
+from job_host.catalogue.text import MOST_LINE_BYTES, Source, one_line
 
 RANDOM = int(os.environ.get("JOBHOST_RANDOM_CATALOGUES", "400"))
 SEED = int(os.environ.get("JOBHOST_SEED", "11"))
@@ -303,5 +303,5 @@ def test_without_batchctl_there_is_no_verdict(tmp_path: Path) -> None:
 def test_a_service_reads_a_catalogue_as_batchctl_does(tmp_path: Path, text: str, name: str | None) -> None:
     path = tmp_path / "catalogue.json"
     path.write_text(text)
-    answer = ask(BATCHCTL, job_catalogue.read_file(path)).answer
+    answer = ask(BATCHCTL, read_file(path)).answer
     assert (answer or {}).get("fault") == name

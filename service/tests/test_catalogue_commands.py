@@ -11,7 +11,7 @@ from pathlib import Path
 import pytest
 from catalogue_samples import BATCHCTL, ROOT, one_job, step
 
-from job_host.command_line import main
+from job_host.commands.command_line import main
 
 GOOD = one_job(step("s"))
 BAD = '{"jobs": [\n{"id": "a\\u001b[31m", "elements": [7]}]}'

@@ -12,11 +12,11 @@ from catalogue_samples import one_job, step
 from defusedxml.ElementTree import fromstring
 from random_catalogues import Maker
 
-from job_host import catalogue_diagram
-from job_host.catalogue_check import jobs_in
-from job_host.catalogue_diagram import NoDiagram, draw, graph_of
-from job_host.catalogue_file import read_json
-from job_host.catalogue_tree import Job
+from job_host.catalogue import diagram
+from job_host.catalogue.check import jobs_in
+from job_host.catalogue.diagram import NoDiagram, draw, graph_of
+from job_host.catalogue.file import read_json
+from job_host.catalogue.tree import Job
 
 
 def jobs_of(text: str) -> list[Job]:
@@ -88,9 +88,9 @@ def test_random_catalogues_are_drawn() -> None:
 
 
 def test_without_graphviz_there_is_no_picture(monkeypatch: pytest.MonkeyPatch, tmp_path: Path) -> None:
-    monkeypatch.setattr(catalogue_diagram, "DOT", (str(tmp_path / "dot"),))
+    monkeypatch.setattr(diagram, "DOT", (str(tmp_path / "dot"),))
     with pytest.raises(NoDiagram, match="package graphviz"):
         draw(jobs_of(WHOLE))
-    monkeypatch.setattr(catalogue_diagram, "DOT", ("dot", "-Tnothing"))
+    monkeypatch.setattr(diagram, "DOT", ("dot", "-Tnothing"))
     with pytest.raises(NoDiagram, match="dot: "):
         draw(jobs_of(WHOLE))

@@ -8,8 +8,8 @@ from typing import Any
 import pytest
 from catalogue_samples import BATCHCTL, step
 
-from job_host.catalogue_diff import Comparison, compare
-from job_host.catalogue_growth import CatalogueChanged, changed_jobs, grown, is_begun_by
+from job_host.catalogue.diff import Comparison, compare
+from job_host.catalogue.growth import CatalogueChanged, changed_jobs, grown, is_begun_by
 
 Job = dict[str, Any]
 pytestmark = pytest.mark.usefixtures("has_log")

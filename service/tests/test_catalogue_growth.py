@@ -11,8 +11,8 @@ import pytest
 from conftest import NIGHTLY, SHORT, batchlet
 from instances import Caller, running
 
-from job_host.keeper import Fatal
-from job_host.settings import ServeSettings
+from job_host.service.keepers.keeper import Fatal
+from job_host.service.settings import ServeSettings
 
 Make = Callable[..., ServeSettings]
 Write = Callable[..., Path]

@@ -14,10 +14,10 @@ import pytest
 from catalogue_samples import checked, told
 from random_catalogues import Maker, objects_in
 
-from job_host import jsl
-from job_host.catalogue_file import CatalogueFile, read_data
-from job_host.catalogue_text import plain
-from job_host.jsl_substitution import Resolved, resolve
+from job_host.catalogue import jsl
+from job_host.catalogue.file import CatalogueFile, read_data
+from job_host.catalogue.jsl_substitution import Resolved, resolve
+from job_host.catalogue.text import plain
 
 SAMPLES = Path(__file__).parent / "jsl"
 ALLOW = re.compile(r"--allow ([\w-]+)")

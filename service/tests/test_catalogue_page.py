@@ -10,11 +10,11 @@ from pathlib import Path
 import pytest
 from catalogue_samples import BATCHCTL, ROOT
 
-from job_host import jsl
-from job_host.catalogue_forms import FORMS
+from job_host.catalogue import jsl
+from job_host.catalogue.forms import FORMS
 
 sys.path.insert(0, str(ROOT / "tools"))
-check_pages = importlib.import_module("check_pages")
+page_blocks = importlib.import_module("page_blocks")
 
 PAGE = ROOT / "docs" / "CATALOGUE.md"
 
@@ -23,7 +23,9 @@ def test_the_commands_print_what_the_page_shows(tmp_path: Path, monkeypatch: pyt
     (tmp_path / "jobhost").symlink_to(ROOT / "service" / "jobhost")
     monkeypatch.setenv("PATH", f"{tmp_path}:/usr/bin:/bin")
     monkeypatch.setenv("JOBHOST_BATCHCTL", str(Path(BATCHCTL[0]).resolve()))
-    differences = list(check_pages.check_page(Path(BATCHCTL[0]).resolve(), str(PAGE), PAGE.read_text()))
+    blocks = list(page_blocks.blocks_in(str(PAGE), PAGE.read_text()))
+    differences = list(page_blocks.unknown_blocks(blocks, "a block that can be checked", ("sh", "sh build")))
+    differences += page_blocks.check_shell(Path(BATCHCTL[0]).resolve(), blocks)
     assert "\n".join(map(str, differences)) == ""
 
 

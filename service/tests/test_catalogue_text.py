@@ -7,7 +7,7 @@ from typing import Any
 
 import pytest
 
-from job_host.catalogue_text import WIDTH, NotJson, Reader, Source, Value, decoded, laid_out, one_line, plain
+from job_host.catalogue.text import WIDTH, NotJson, Reader, Source, Value, decoded, laid_out, one_line, plain
 
 
 @pytest.mark.parametrize(

@@ -8,9 +8,9 @@ from typing import Any
 
 import pytest
 
-from job_host.artifact_output import Tail
-from job_host.artifacts import Ended
-from job_host.chunks import Chunk
+from job_host.worker.artifacts import Ended
+from job_host.worker.chunks import Chunk
+from job_host.worker.output import Tail
 
 # A part that notes what it is told. It reads the numbers up to 5 and drops 3 and 4. The writer answers the mark of a file.
 PART = """#!/usr/bin/python3

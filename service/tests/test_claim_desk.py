@@ -9,10 +9,10 @@ from typing import Any, cast
 
 import pytest
 
-from job_host.calls import Call, Item
-from job_host.claims import ClaimDesk
-from job_host.problems import Problem, unavailable
-from job_host.server import Service
+from job_host.service.problems import Problem, unavailable
+from job_host.service.server import Service
+from job_host.service.terms.calls import Call, Item
+from job_host.service.terms.claims import ClaimDesk
 
 ENDED = unavailable("Starting", "this instance begins again")
 

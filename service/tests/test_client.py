@@ -12,7 +12,7 @@ from aiohttp import web
 from aiohttp.test_utils import TestServer
 from postgres_server import free_port
 
-from job_host.client import Address, Client, Unreachable
+from job_host.protocol.client import Address, Client, Unreachable
 
 Answer = Callable[[web.Request], Awaitable[web.StreamResponse]]
 

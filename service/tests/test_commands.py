@@ -18,10 +18,10 @@ import pytest
 from conftest import Say
 from instances import Caller, running
 
-from job_host import commands
-from job_host.command_line import main, make_parser
-from job_host.settings import ServeSettings
-from job_host.terminal import clock
+from job_host.commands import jobs
+from job_host.commands.command_line import main, make_parser
+from job_host.commands.terminal import clock
+from job_host.service.settings import ServeSettings
 
 Make = Callable[..., ServeSettings]
 NOBODY = ["list", "--url", "http://127.0.0.1:9", "--patience", "0"]
@@ -55,7 +55,7 @@ def nameless(monkeypatch: pytest.MonkeyPatch) -> list[int]:
 
 def test_a_user_id_without_a_name_stands_for_itself(nameless: list[int], capsys: pytest.CaptureFixture[str]) -> None:
     given = argparse.Namespace(url="http://one", client=None, token=None, authority=None, patience=1.0)
-    assert commands.address_of(given).client == f"{os.getuid()}-{socket.gethostname()}"
+    assert jobs.address_of(given).client == f"{os.getuid()}-{socket.gethostname()}"
     assert main(NOBODY) == 1
     assert capsys.readouterr().err.startswith("jobhost: GET /batch/jobinstances")
 
@@ -202,7 +202,7 @@ async def test_of_what_failed_the_newest_are_told_and_that_there_are_more(
         assert await heads() == await heads("--count", "2") == [third, first]
         more = "more job instances are FAILED: these are the newest 1 (--count)"
         assert await heads("--count", "1") == [third, more]
-        monkeypatch.setattr(commands, "PAGE_SIZE", 1)
+        monkeypatch.setattr(jobs, "PAGE_SIZE", 1)
         assert await heads() == [third, first]
         for count in ("0", "-1", "x"):
             with pytest.raises(SystemExit):

@@ -11,10 +11,10 @@ from typing import Any, cast
 import pytest
 from instances import Caller, listening, running
 
-from job_host.embedded_keeper import EmbeddedTerm
-from job_host.problems import unavailable
-from job_host.server import Service
-from job_host.settings import ServeSettings
+from job_host.service.keepers.embedded_term import EmbeddedTerm
+from job_host.service.problems import unavailable
+from job_host.service.server import Service
+from job_host.service.settings import ServeSettings
 
 
 async def fail(*given: Any) -> Any:

@@ -15,12 +15,12 @@ import pytest
 from instances import listening, until
 from test_probes import make_certificate
 
-from job_host import server
-from job_host.requests import Asked, Route
-from job_host.room import MOST_BESIDE
-from job_host.seldom import seldom
-from job_host.server import Service
-from job_host.settings import Bounds
+from job_host.protocol.seldom import seldom
+from job_host.service import server
+from job_host.service.http.requests import Asked, Route
+from job_host.service.http.room import MOST_BESIDE
+from job_host.service.server import Service
+from job_host.service.settings import Bounds
 
 REQUEST = b"GET /livez HTTP/1.1\r\nHost: localhost\r\n\r\n"
 Idle = Callable[..., Service]

@@ -17,7 +17,7 @@ from selenium.webdriver.common.action_chains import ActionChains
 from selenium.webdriver.common.keys import Keys
 from workers import WorkerProcess
 
-from job_host.settings import ServeSettings
+from job_host.service.settings import ServeSettings
 
 Make = Callable[..., ServeSettings]
 READER, OPERATOR = "r" * 20, "o" * 20

@@ -13,11 +13,12 @@ import aiohttp
 import pytest
 from instances import Caller, running
 
-from job_host.browsers import FORGERY_TOKEN, Browsers
-from job_host.settings import ServeSettings
+from job_host.protocol.headers import FORGERY_TOKEN
+from job_host.service.http.browsers import Browsers
+from job_host.service.settings import ServeSettings
 
 Make = Callable[..., ServeSettings]
-CONSOLE = Path(__file__).resolve().parents[1] / "job_host" / "console"
+CONSOLE = Path(__file__).resolve().parents[1] / "job_host" / "service" / "console"
 READER, OPERATOR = "r" * 20, "o" * 20
 
 ORIGINS: list[tuple[dict[str, str], int, str]] = [

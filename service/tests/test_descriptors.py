@@ -11,8 +11,8 @@ from pathlib import Path
 import pytest
 from instances import Caller, Process, until
 
-from job_host.descriptors import OTHERS, fitted
-from job_host.settings import Bounds, ServeSettings
+from job_host.service.http.descriptors import OTHERS, fitted
+from job_host.service.settings import Bounds, ServeSettings
 
 Start = Callable[[int, int], Process]
 

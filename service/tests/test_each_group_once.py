@@ -20,7 +20,7 @@ from catalogue_samples import ROOT
 from instances import Caller, running
 from workers import end_of
 
-from job_host.settings import ServeSettings
+from job_host.service.settings import ServeSettings
 
 Make = Callable[..., ServeSettings]
 KILLS, JOBS, ITEMS = 50, 4, 160

@@ -15,10 +15,11 @@ import pytest
 from conftest import NIGHTLY, SHORT
 from instances import Caller, Process, running, until
 
-from job_host import log_file
-from job_host.embedded_keeper import LOG_NAME, EmbeddedTerm
-from job_host.keeper import Fatal
-from job_host.settings import ServeSettings
+from job_host.service.history import log_file
+from job_host.service.keepers.embedded import LOG_NAME
+from job_host.service.keepers.embedded_term import EmbeddedTerm
+from job_host.service.keepers.keeper import Fatal
+from job_host.service.settings import ServeSettings
 
 Make = Callable[..., ServeSettings]
 
@@ -125,7 +126,7 @@ async def test_a_catalogue_may_add_jobs_and_change_none(embedded: Make, tmp_path
 
 
 async def test_two_services_never_have_one_log(embedded: Make, monkeypatch: pytest.MonkeyPatch) -> None:
-    monkeypatch.setattr("job_host.embedded_keeper.IN_USE_SECONDS", 0.5)
+    monkeypatch.setattr("job_host.service.keepers.embedded.IN_USE_SECONDS", 0.5)
     made = embedded()
     async with running(made):
         with pytest.raises(Fatal, match="in use"):

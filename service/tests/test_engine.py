@@ -6,8 +6,8 @@ import asyncio
 
 import pytest
 
-from job_host.coprocess import CoProcess
-from job_host.engine import STATE, Engine, Record, ReplayDiffers
+from job_host.service.history.coprocess import CoProcess
+from job_host.service.history.engine import STATE, Engine, Record, ReplayDiffers
 
 START = b'{"do":"start","by":3,"at":%d,"job":"short"}'
 CLAIM = b'{"do":"claim","by":4,"at":30}'

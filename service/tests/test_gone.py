@@ -17,13 +17,13 @@ import pytest
 from instances import COMMAND, Caller, Instance, listening, running, until
 from test_connections import REQUEST, connections, raw
 
-from job_host import client
-from job_host.calls import Call, Item
-from job_host.claims import ClaimDesk
-from job_host.client import Address, Client
-from job_host.problems import Problem
-from job_host.server import Service
-from job_host.settings import Bounds, ServeSettings
+from job_host.protocol import client
+from job_host.protocol.client import Address, Client
+from job_host.service.problems import Problem
+from job_host.service.server import Service
+from job_host.service.settings import Bounds, ServeSettings
+from job_host.service.terms.calls import Call, Item
+from job_host.service.terms.claims import ClaimDesk
 
 Make = Callable[..., ServeSettings]
 CLAIM = b"POST /batch/work HTTP/1.1\r\nHost: localhost\r\nContent-Type: application/json\r\nBatch-Client: dead%d\r\n"

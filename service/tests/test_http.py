@@ -15,9 +15,9 @@ import aiohttp
 import pytest
 from instances import Caller, Instance, running, until
 
-from job_host.access import Access, SettingsRefused
-from job_host.settings import Bounds, ServeSettings
-from job_host.term import Term
+from job_host.service.http.access import Access, SettingsRefused
+from job_host.service.settings import Bounds, ServeSettings
+from job_host.service.terms.term import Term
 
 Make = Callable[..., ServeSettings]
 READER, OPERATOR, WORKER = ("r" * 20, "o" * 20, "w" * 20)

@@ -13,10 +13,11 @@ from instances import Caller, Instance, running, until
 from kept import engine_of, executions, make_some, until_epoch
 from postgres_server import PostgresServer
 
-from job_host.coprocess import CoProcessEnded
-from job_host.engine import Engine
-from job_host.postgres_store import PostgresStore
-from job_host.settings import Bounds, ServeSettings, find_batchctl
+from job_host.commands.program import find_batchctl
+from job_host.service.history.coprocess import CoProcessEnded
+from job_host.service.history.engine import Engine
+from job_host.service.settings import Bounds, ServeSettings
+from job_host.service.stores.postgres import PostgresStore
 
 Make = Callable[..., ServeSettings]
 

@@ -16,12 +16,13 @@ import pytest
 from instances import Caller, Instance, running, until
 from kept import engine_of, executions, make_some, until_epoch
 
-from job_host import log_file
-from job_host.beside_files import STORE_NAME
-from job_host.coprocess import CoProcess
-from job_host.embedded_keeper import LOG_NAME, EmbeddedTerm
-from job_host.engine import Engine
-from job_host.settings import ServeSettings
+from job_host.service.history import log_file
+from job_host.service.history.coprocess import CoProcess
+from job_host.service.history.engine import Engine
+from job_host.service.keepers.embedded import LOG_NAME
+from job_host.service.keepers.embedded_term import EmbeddedTerm
+from job_host.service.settings import ServeSettings
+from job_host.service.stores.beside_files import STORE_NAME
 
 Make = Callable[..., ServeSettings]
 
@@ -45,7 +46,7 @@ async def until_state(engine: Engine) -> None:
 async def test_after_a_kill_nothing_is_entered_again(
     embedded: Make, monkeypatch: pytest.MonkeyPatch, started: list[str], entered: list[Any]
 ) -> None:
-    monkeypatch.setattr("job_host.keeper.ASK_SECONDS", 0.05)
+    monkeypatch.setattr("job_host.service.keepers.keeper.ASK_SECONDS", 0.05)
     async with running(embedded()) as instance:
         one, two = Caller(instance.url, "one"), Caller(instance.url, "two")
         await make_some(instance.url)
@@ -143,7 +144,7 @@ async def test_a_key_whose_reply_was_heard_and_not_kept(embedded: Make, entered:
 
 async def test_an_open_key_that_the_engine_does_not_know_is_looked_up(embedded: Make, monkeypatch: pytest.MonkeyPatch) -> None:
     """As if an older SQLite file were back: its key is open, though its operation is in the log for long."""
-    monkeypatch.setattr("job_host.keeper.ASK_SECONDS", 0.05)
+    monkeypatch.setattr("job_host.service.keepers.keeper.ASK_SECONDS", 0.05)
     made = embedded()
     async with running(made) as instance:
         caller = Caller(instance.url, "one")

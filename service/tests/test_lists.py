@@ -13,10 +13,11 @@ import pytest
 from conftest import JOBS
 from instances import Caller, Instance, running
 
-from job_host.engine import Answers, Engine
-from job_host.execution_index import ExecutionIndex, Wanted
-from job_host.settings import Bounds, ServeSettings
-from job_host.work_items import Ended, EndedWork, Held
+from job_host.service.history.answers import Answers
+from job_host.service.history.engine import Engine
+from job_host.service.history.execution_index import ExecutionIndex, Wanted
+from job_host.service.history.work_items import Ended, EndedWork, Held
+from job_host.service.settings import Bounds, ServeSettings
 
 Make = Callable[..., ServeSettings]
 
@@ -197,7 +198,7 @@ class TellingEngine:
 
 async def test_a_list_ends_behind_the_last_job_execution_of_its_status(monkeypatch: pytest.MonkeyPatch) -> None:
     """Also if it leaves some of these out, as they were restarted, or are of another job."""
-    monkeypatch.setattr("job_host.execution_index.BLOCK", 1)
+    monkeypatch.setattr("job_host.service.history.execution_index.BLOCK", 1)
     for wanted in (Wanted(frozenset({"FAILED"}), most_recent=True), Wanted(frozenset({"FAILED"}), job="wide")):
         engine = TellingEngine("COMPLETED", "COMPLETED", "FAILED", "COMPLETED")
         index = ExecutionIndex(cast(Engine, engine))

@@ -13,12 +13,14 @@ import asyncpg
 import pytest
 from instances import Answer, Caller, Instance, running, until
 
-from job_host import log_file, moments
-from job_host.calls import Call
-from job_host.embedded_keeper import LOG_NAME, EmbeddedTerm
-from job_host.moments import JUMP, REST, Moments
-from job_host.problems import Problem
-from job_host.settings import ServeSettings
+from job_host.service.history import log_file
+from job_host.service.keepers.embedded import LOG_NAME
+from job_host.service.keepers.embedded_term import EmbeddedTerm
+from job_host.service.problems import Problem
+from job_host.service.settings import ServeSettings
+from job_host.service.terms import moments
+from job_host.service.terms.calls import Call
+from job_host.service.terms.moments import JUMP, REST, Moments
 
 Make = Callable[..., ServeSettings]
 
@@ -48,7 +50,7 @@ def clock(monkeypatch: pytest.MonkeyPatch) -> Clock:
 
 def warned(caplog: pytest.LogCaptureFixture) -> list[str]:
     """What was said of the clock, without its first words and its last ones."""
-    lines = [record.getMessage() for record in caplog.records if record.name == "job_host.moments"]
+    lines = [record.getMessage() for record in caplog.records if record.name == "job_host.service.terms.moments"]
     assert all(line.startswith("this machine's clock, ") and line.endswith(moments.STAYS) for line in lines)
     return [line.partition("+0000, ")[2].partition(": ")[0] for line in lines]
 

@@ -12,10 +12,10 @@ import pytest
 from instances import Caller, Instance, running, until
 from workers import working
 
-from job_host.postgres_keeper import PostgresKeeper
-from job_host.problems import Problem
-from job_host.sessions import Sessions, Silent
-from job_host.settings import Bounds, ServeSettings
+from job_host.service.keepers.postgres import PostgresKeeper
+from job_host.service.problems import Problem
+from job_host.service.settings import Bounds, ServeSettings
+from job_host.service.terms.sessions import Sessions, Silent
 
 Make = Callable[..., ServeSettings]
 # The service looks for old keys and silent names at its start.

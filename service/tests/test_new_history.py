@@ -12,8 +12,8 @@ import asyncpg
 import pytest
 from instances import Caller, Instance, running
 
-from job_host.embedded_keeper import LOG_NAME
-from job_host.settings import ServeSettings
+from job_host.service.keepers.embedded import LOG_NAME
+from job_host.service.settings import ServeSettings
 
 Make = Callable[..., ServeSettings]
 

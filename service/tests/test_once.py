@@ -13,8 +13,8 @@ import pytest
 from conftest import NIGHTLY, SHORT, Say
 from instances import Caller, Instance, running, until
 
-from job_host.calls import EVERYBODY_SESSION
-from job_host.settings import Bounds, ServeSettings
+from job_host.service.settings import Bounds, ServeSettings
+from job_host.service.terms.calls import EVERYBODY_SESSION
 
 Make = Callable[..., ServeSettings]
 # Keys are dropped as soon as the service looks for old ones, which it does at its start.

@@ -13,11 +13,11 @@ import pytest
 from conftest import SHORT, Say, batchlet
 from instances import Caller, running
 
-from job_host.engine import Engine
-from job_host.execution_index import ExecutionIndex
-from job_host.pages import Page
+from job_host.service.history.engine import Engine
+from job_host.service.history.execution_index import ExecutionIndex
+from job_host.service.pages import Page
 
-from job_host.settings import Bounds, ServeSettings
+from job_host.service.settings import Bounds, ServeSettings
 
 Make = Callable[..., ServeSettings]
 
@@ -187,8 +187,8 @@ async def test_other_bounds_of_a_page(settings: Make) -> None:
 
 
 async def test_commands_show_all_pages(settings: Make, say: Say, monkeypatch: pytest.MonkeyPatch) -> None:
-    monkeypatch.setattr("job_host.commands.PAGE_SIZE", 20)
-    monkeypatch.setattr("job_host.commands.PAGE_OF_LOGS", 13)
+    monkeypatch.setattr("job_host.commands.jobs.PAGE_SIZE", 20)
+    monkeypatch.setattr("job_host.commands.jobs.PAGE_OF_LARGE_ROWS", 13)
     monkeypatch.setenv("COLUMNS", "200")
     async with running(settings()) as instance:
         await claim_many(Caller(instance.url))

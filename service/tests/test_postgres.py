@@ -17,12 +17,12 @@ from conftest import NIGHTLY, SHORT
 from instances import Caller, Instance, Process, running, until
 from postgres_server import PostgresServer
 
-from job_host.beside_files import STORE_NAME
-from job_host.coprocess import CoProcessEnded
-from job_host.engine import Engine
-from job_host.keeper import Fatal
-from job_host.postgres_store import PostgresStore
-from job_host.settings import Bounds, ServeSettings
+from job_host.service.history.coprocess import CoProcessEnded
+from job_host.service.history.engine import Engine
+from job_host.service.keepers.keeper import Fatal
+from job_host.service.settings import Bounds, ServeSettings
+from job_host.service.stores.beside_files import STORE_NAME
+from job_host.service.stores.postgres import PostgresStore
 
 Make = Callable[..., ServeSettings]
 LEADER_ROW = "select epoch from job_host_leader for update"
@@ -356,8 +356,8 @@ async def kept_keys(settings: ServeSettings) -> list[str]:
 
 
 async def test_old_keys_are_dropped_in_parts(either: Make, monkeypatch: pytest.MonkeyPatch) -> None:
-    for module in ("embedded_keeper", "postgres_keeper"):
-        monkeypatch.setattr(f"job_host.{module}.PRUNED", 10)
+    for module in ("embedded", "postgres"):
+        monkeypatch.setattr(f"job_host.service.keepers.{module}.PRUNED", 10)
     made = either(bounds=Bounds(days_of_keys=0))
     async with running(made) as instance:
         for number in range(25):

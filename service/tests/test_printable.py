@@ -9,10 +9,10 @@ from typing import Any, cast
 
 import pytest
 
-from job_host import commands
-from job_host.client import Client, Refused
-from job_host.command_line import main
-from job_host.printable import PrintableFormatter, printable, printable_lines
+from job_host.commands import jobs
+from job_host.commands.command_line import main
+from job_host.protocol.client import Client, Refused
+from job_host.protocol.printable import PrintableFormatter, printable, printable_lines
 
 EVIL = "a\x1b[31m\x1b]0;title\x07\x9b2J\x08\u202e[bold]b"
 SHOWN = r"a\u001b[31m\u001b]0;title\u0007\u009b2J\u0008\u202e[bold]b"
@@ -57,13 +57,13 @@ class Answers:
 @pytest.mark.parametrize(
     ("command", "words"),
     [
-        (commands.show_log, {}),
-        (commands.failed, {"job": None, "count": 5}),
-        (commands.status, {}),
-        (commands.watch, {}),
-        (commands.list_instances, {"job": None, "count": 5}),
-        (commands.show_work, {}),
-        (commands.restart, {"parameter": [], "no_parameters": False, "wait": True}),
+        (jobs.show_log, {}),
+        (jobs.failed, {"job": None, "count": 5}),
+        (jobs.status, {}),
+        (jobs.watch, {}),
+        (jobs.list_instances, {"job": None, "count": 5}),
+        (jobs.show_work, {}),
+        (jobs.restart, {"parameter": [], "no_parameters": False, "wait": True}),
     ],
 )
 async def test_no_command_lets_a_text_act_on_the_terminal(
@@ -80,7 +80,7 @@ async def test_no_command_lets_a_text_act_on_the_terminal(
 
 
 async def test_a_log_keeps_its_lines(capsys: pytest.CaptureFixture[str]) -> None:
-    await commands.show_log(cast(Client, Answers()), argparse.Namespace(execution=1))
+    await jobs.show_log(cast(Client, Answers()), argparse.Namespace(execution=1))
     told = capsys.readouterr().out
     assert told == f"# work item 1, {SHOWN}\none\ntwo\tthree\xa0{SHOWN}\\u000dover\n\n"
 
@@ -89,7 +89,7 @@ def test_a_refusal_is_shown_in_one_line(monkeypatch: pytest.MonkeyPatch, capsys:
     async def refuse(client: Client, given: argparse.Namespace) -> int:
         raise Refused(409, {"title": EVIL, "detail": "one\ntwo"})
 
-    monkeypatch.setattr(commands, "abandon", refuse)
+    monkeypatch.setattr(jobs, "abandon", refuse)
     assert main(["abandon", "1"]) == 1
     assert capsys.readouterr().err == f"jobhost: {SHOWN}: one\\u000atwo\n"
 

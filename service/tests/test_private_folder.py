@@ -11,10 +11,10 @@ from pathlib import Path
 import pytest
 from instances import Caller, running
 
-from job_host.log_file import Beginning
-from job_host.private_folder import make_private
-from job_host.settings import ServeSettings
-from job_host.sqlite_store import SqliteStore
+from job_host.service.history.log_file import Beginning
+from job_host.service.settings import ServeSettings
+from job_host.service.stores.private_folder import make_private
+from job_host.service.stores.sqlite import SqliteStore
 
 
 @pytest.fixture(autouse=True)

@@ -16,7 +16,7 @@ import aiohttp
 import pytest
 from instances import Caller, Process, running, until
 
-from job_host.settings import ServeSettings
+from job_host.service.settings import ServeSettings
 
 Make = Callable[..., ServeSettings]
 OLD, NEW = "o" * 20, "n" * 20
@@ -150,7 +150,7 @@ async def test_files_at_fault_leave_the_earlier_ones_in_use(process: Process, tm
 
 async def test_a_batchctl_that_hangs_is_not_ready_and_then_killed(either: Make, monkeypatch: pytest.MonkeyPatch) -> None:
     for name, seconds in [("ASK_SECONDS", 0.1), ("SILENT_SECONDS", 0.5), ("KILL_SECONDS", 2.0)]:
-        monkeypatch.setattr(f"job_host.keeper.{name}", seconds)
+        monkeypatch.setattr(f"job_host.service.keepers.keeper.{name}", seconds)
     async with running(either()) as instance:
         caller, engine = Caller(instance.url), instance.service.keeper.engine
         assert (await caller.start("short", key="a")).operations == 1 and engine is not None

@@ -22,10 +22,10 @@ from instances import COMMAND, Answer, Caller
 from postgres_server import PostgresServer, free_port, programs
 from unversioned import make_unversioned
 
-from job_host.beside_files import STORE_NAME
+from job_host.service.stores.beside_files import STORE_NAME
 
 sys.path.insert(0, str(ROOT / "tools"))
-check_pages, paste_pages = (importlib.import_module(name) for name in ("check_pages", "paste_pages"))
+page_blocks = importlib.import_module("page_blocks")
 
 PAGE = (ROOT / "docs" / "SERVICE.md").read_text()
 SECONDS = 60.0
@@ -40,7 +40,7 @@ class Part:
 
     def __init__(self, title: str, end: str) -> None:
         text = PAGE[PAGE.index(f"\n{title}") + 1 :]
-        self.blocks = list(check_pages.blocks_in("page", text[: text.index(f"\n{end}")]))
+        self.blocks = list(page_blocks.blocks_in("page", text[: text.index(f"\n{end}")]))
 
     def take(self, word: str) -> Any:
         """The next block with this word. Those before it, with other words, aren't wanted."""
@@ -101,7 +101,7 @@ class Shell:
 
     def paste(self, block: Any, between: Callable[[], None] = lambda: None) -> str:
         """What the commands of a block print. `between` is called after the first one."""
-        first, *rest = [command.text for command in paste_pages.commands_in(block)]
+        first, *rest = [command.text for command in page_blocks.commands_in(block)]
         printed = self.run(first)
         between()
         return printed + "".join(self.run(text) for text in rest)

@@ -11,10 +11,10 @@ from pathlib import Path
 import pytest
 from instances import Caller, Instance, running
 
-from job_host.beside_files import STORE_NAME
-from job_host.embedded_keeper import LOG_NAME
-from job_host.keeper import Fatal
-from job_host.settings import ServeSettings
+from job_host.service.keepers.embedded import LOG_NAME
+from job_host.service.keepers.keeper import Fatal
+from job_host.service.settings import ServeSettings
+from job_host.service.stores.beside_files import STORE_NAME
 
 Make = Callable[..., ServeSettings]
 

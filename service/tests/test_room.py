@@ -14,10 +14,10 @@ from instances import Caller, listening, running, until
 from test_connections import REQUEST, answer_to, end_of, raw
 from test_probes import make_certificate, write_tokens
 
-from job_host.listening import network_of
-from job_host.room import Room
-from job_host.server import Service
-from job_host.settings import Bounds, ServeSettings
+from job_host.service.http.listening import network_of
+from job_host.service.http.room import Room
+from job_host.service.server import Service
+from job_host.service.settings import Bounds, ServeSettings
 
 Make = Callable[..., ServeSettings]
 Idle = Callable[..., Service]

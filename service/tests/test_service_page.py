@@ -1,4 +1,4 @@
-"""docs/SERVICE.md has each refusal, metric, path and word of a query. tools/paste_pages.py runs what it shows."""
+"""docs/SERVICE.md has each refusal, metric, path and word of a query. tools/tests/test_pasted_pages.py runs what it shows."""
 
 from __future__ import annotations
 
@@ -8,11 +8,11 @@ from collections.abc import Iterator
 
 from catalogue_samples import ROOT
 
-from job_host import routes_jobs, routes_lists, routes_work
-from job_host.metrics import Metrics
-from job_host.pages import USUAL_SIZE
-from job_host.problems import STATUS_OF_PROBLEM, STATUS_OF_REFUSAL
-from job_host.settings import Bounds
+from job_host.protocol.problem_statuses import STATUS_OF_PROBLEM, STATUS_OF_REFUSAL
+from job_host.service.metrics import Metrics
+from job_host.service.pages import USUAL_SIZE
+from job_host.service.routes import jobs, lists, work
+from job_host.service.settings import Bounds
 
 PAGE = ROOT / "docs" / "SERVICE.md"
 
@@ -30,7 +30,7 @@ def test_the_first_page_names_crates_and_tests_that_are_there() -> None:
     page = (ROOT / "README.md").read_text()
     promise = page[page.index("| You use |") : page.index("We trust")]
     named = {name for place in re.findall(r"\(([^()]*`[^()]*)\)", promise) for name in names_in(place)}
-    tests = {path.name for folder in ("tools", "service/tests") for path in (ROOT / folder).glob("*.py")}
+    tests = {path.name for folder in ("tools/tests", "service/tests") for path in (ROOT / folder).glob("*.py")}
     crates = {path.name for path in (ROOT / "crates").iterdir()}
     assert len(named) > 10
     assert named - tests - crates == set()
@@ -53,7 +53,7 @@ def names_in(cell: str) -> list[str]:
 
 def raised() -> Iterator[tuple[str, int]]:
     """The problems that the service makes, with their statuses."""
-    trees = [ast.parse(path.read_text()) for path in (ROOT / "service" / "job_host").glob("*.py")]
+    trees = [ast.parse(path.read_text()) for path in (ROOT / "service" / "job_host").rglob("*.py")]
     for call in [node for tree in trees for node in ast.walk(tree) if isinstance(node, ast.Call) and node.args]:
         words = [word.value for word in call.args if isinstance(word, ast.Constant)]
         if ast.unparse(call.func) == "unavailable":
@@ -76,7 +76,7 @@ def test_the_page_has_each_metric() -> None:
 
 def test_the_page_has_each_path_and_each_word_of_a_query() -> None:
     text = "\n".join(cells[0] for cells in rows())
-    for method, path, _, _, words in [*routes_jobs.ROUTES, *routes_lists.ROUTES, *routes_work.ROUTES]:
+    for method, path, _, _, words in [*jobs.ROUTES, *lists.ROUTES, *work.ROUTES]:
         row = re.search(rf"^`{method} {re.escape(path)}(?![/\w]).*$", text, re.M)
         assert row is not None, path
         assert [word for word in words if word != "atLeast" and f"{word}=" not in row[0]] == [], path
@@ -85,11 +85,11 @@ def test_the_page_has_each_path_and_each_word_of_a_query() -> None:
 def test_the_page_has_an_example_of_each_path() -> None:
     asked = re.findall(r"^(?:ask|until curl -sf) .*$", PAGE.read_text(), re.M)
     others = [("GET", path) for path in ("/batch/events", "/metrics", "/health/leader", "/readyz")]
-    routes = [(route[0], route[1]) for route in [*routes_jobs.ROUTES, *routes_lists.ROUTES, *routes_work.ROUTES]]
+    routes = [(route[0], route[1]) for route in [*jobs.ROUTES, *lists.ROUTES, *work.ROUTES]]
     for method, path in [*routes, *others]:
         pattern = re.escape(path).replace(r"\{id\}", "[0-9]+") + r"(?![/\w])"
         assert any(re.search(pattern, line) and (method in line or path == "/readyz") for line in asked), (method, path)
-    for action in (*routes_work.ACTIONS, "heartbeat", "stop", "restart", "abandon"):
+    for action in (*work.ACTIONS, "heartbeat", "stop", "restart", "abandon"):
         assert any(f"?action={action}'" in line for line in asked), action
 
 

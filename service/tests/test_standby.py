@@ -13,7 +13,8 @@ import pytest
 from instances import Answer, Caller, running, until
 from postgres_server import PostgresServer
 
-from job_host.settings import ServeSettings, find_batchctl
+from job_host.commands.program import find_batchctl
+from job_host.service.settings import ServeSettings
 
 
 @pytest.fixture

@@ -18,15 +18,15 @@ import pytest
 from instances import COMMAND, Caller, Instance, Process, running
 from unversioned import make_unversioned, make_unversioned_tables
 
-from job_host import postgres_migrations, sqlite_schema
-from job_host.beside_files import STORE_NAME
-from job_host.embedded_keeper import LOG_NAME
-from job_host.keeper import Fatal
-from job_host.postgres_migrations import make_tables
-from job_host.postgres_store import PostgresStore
-from job_host.settings import ServeSettings
-from job_host.sqlite_schema import FIRST
-from job_host.sqlite_store import SqliteStore
+from job_host.service.keepers.embedded import LOG_NAME
+from job_host.service.keepers.keeper import Fatal
+from job_host.service.settings import ServeSettings
+from job_host.service.stores import postgres_migrations, sqlite_schema
+from job_host.service.stores.beside_files import STORE_NAME
+from job_host.service.stores.postgres import PostgresStore
+from job_host.service.stores.postgres_migrations import make_tables
+from job_host.service.stores.sqlite import SqliteStore
+from job_host.service.stores.sqlite_schema import FIRST
 
 Make = Callable[..., ServeSettings]
 

@@ -14,10 +14,10 @@ from typing import Any
 import pytest
 from instances import until
 
-from job_host.artifact_output import Tail
-from job_host.artifacts import Ended
-from job_host.chunks import Chunk
-from job_host.worker import Batchlet, Told
+from job_host.worker.artifacts import Ended
+from job_host.worker.chunks import Chunk
+from job_host.worker.output import Tail
+from job_host.worker.worker import Batchlet, Told
 
 # A process in a session of its own, whose parents have ended. It takes no notice of SIGTERM.
 HIDDEN = """
@@ -45,8 +45,8 @@ WORKER = """
 import asyncio, sys
 from pathlib import Path
 sys.path[:0] = [sys.argv[1]]
-from job_host.artifact_output import Tail
-from job_host.worker import Batchlet, Told
+from job_host.worker.output import Tail
+from job_host.worker.worker import Batchlet, Told
 claimed = {"work": {"work": 1, "execution": 1, "element": "only", "ref": "waits", "kind": "batchlet"}}
 asyncio.run(Batchlet(Path(sys.argv[2]), claimed, Tail(), Told()).run())
 """

@@ -19,7 +19,7 @@ from instances import COMMAND
 from postgres_server import ACCOUNT, as_account, free_port, programs, run
 
 sys.path.insert(0, str(ROOT / "tools"))
-check_pages = importlib.import_module("check_pages")
+page_blocks = importlib.import_module("page_blocks")
 
 SECONDS = 60.0
 # The page's passwords and tokens, which end with two points.
@@ -35,7 +35,7 @@ class Steps:
     def __init__(self) -> None:
         page = (ROOT / "docs" / "SERVICE.md").read_text()
         section = page[page.index("\n## Three machines\n") + 1 :]
-        self._blocks = list(check_pages.blocks_in("page", section[: section.index("\n## ")]))
+        self._blocks = list(page_blocks.blocks_in("page", section[: section.index("\n## ")]))
         assert page.count("```sh machines\n") == sum(block.word == "sh machines" for block in self._blocks)
 
     def take(self, word: str) -> str:

@@ -11,7 +11,7 @@ from pathlib import Path
 from instances import COMMAND, Caller, Process, running, until
 from workers import WorkerProcess, end_of, run_job, working
 
-from job_host.settings import ServeSettings
+from job_host.service.settings import ServeSettings
 
 Make = Callable[..., ServeSettings]
 

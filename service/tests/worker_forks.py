@@ -13,8 +13,8 @@ from pathlib import Path
 
 sys.path.insert(0, str(Path(__file__).resolve().parents[1]))
 
-from job_host import worker  # noqa: E402
-from job_host.client import Address  # noqa: E402
+from job_host.protocol.client import Address  # noqa: E402
+from job_host.worker import worker  # noqa: E402
 
 
 def run(url: str, folder: str, database: str) -> None:

@@ -6,7 +6,7 @@ ghost use Rattle.batch_commands.specs.Turns.{Lists, ListsAll, ListsWith};
 use crate::replies::{put, put_refusal};
 use batch_history::Answer;
 use batch_ids::ExecutionId;
-use batch_operator::Operator;
+use batch_service::Operator;
 use script_engine::{EngineFault, OutputBuffer, Sink, execution_text};
 use seat_rules::Site;
 use sessions::Session;

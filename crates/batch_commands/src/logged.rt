@@ -6,7 +6,7 @@ ghost use Rattle.file_host.specs.Making.{IsMade, IsOpening};
 ghost use Rattle.script_engine.specs.Script.{catalogue_at};
 ghost use Rattle.script_log.specs.Reading.{reading};
 ghost use Rattle.script_log.specs.Runs.{history_of};
-ghost use Rattle.logged_script.specs.Histories.{Answers};
+ghost use Rattle.batch_service.specs.Answering.{Answers};
 ghost use Rattle.logged_script.specs.Texts.{log_fault_text};
 ghost use Rattle.logged_script.specs.declared.opening.OpeningFault.TheVariants.{OutOfMemory};
 ghost use Rattle.batch_commands.specs.declared.logged_fault.OverLogFault.TheVariants.{Refused};
@@ -16,12 +16,13 @@ ghost use Rattle.batch_commands.specs.Logging.{AnswersOver, FailsFirst, HasFirst
 use crate::logged_fault::OverLogFault;
 use crate::main_program::DONE;
 use crate::replies::{flush, put};
+use batch_service::{RestoredLog, ScriptEngine};
 use durable_log::Log;
 use file_host::{Disk, FileFault, FileHost, make_anew, read_file};
 use jsl_model::Catalogue;
 use logged_script::{
-    LogFault, LoggedFault, OpeningFault, RestoredLog, ScriptEngine, answer_restored, catalogue_at,
-    log_fault_text, new_log, restore,
+    LogFault, LoggedFault, OpeningFault, answer_restored, catalogue_at, log_fault_text, new_log,
+    restore,
 };
 use script_engine::{EngineFault, Line, OutputBuffer, ReadFault, Sink, Source, fault_text};
 use script_lines::InputBuffer;

@@ -11,7 +11,7 @@ use crate::replies::{flush, put_pool, put_refusal};
 use crate::starts::answer_starts;
 use batch_history::WorkItem;
 use batch_ids::Moment;
-use batch_operator::{CopyCount, Operator};
+use batch_service::{CopyCount, Operator};
 use built_in_artifacts::pool_with_built_ins;
 use job_threads::Gate;
 use jsl_model::Catalogue;

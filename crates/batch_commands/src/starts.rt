@@ -9,7 +9,7 @@ ghost use Rattle.batch_commands.specs.Turns.{PutsFault, TurnsTo, TurnsToLine, St
 
 use crate::replies::{put, put_refusal, put_reply};
 use batch_ids::Refusal;
-use batch_operator::Operator;
+use batch_service::Operator;
 use script_engine::{
     EngineFault, Line, OutputBuffer, Sink, Source, StartFault, StartLine, bad_line_text, read_start,
 };

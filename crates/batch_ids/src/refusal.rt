@@ -19,7 +19,7 @@ pub enum Refusal {
     /// No job instance has this job name (a query by job name).
     #[error("{}", self.name())]
     NoSuchJobException,
-    /// No job instance has this number (a query by job instance).
+    /// No job instance has this number (purge, and queries by job instance).
     #[error("{}", self.name())]
     NoSuchJobInstanceException,
     /// No job execution has this number (restart, stop, abandon, and queries by job execution).
@@ -28,7 +28,8 @@ pub enum Refusal {
     /// The job execution is finished (stop).
     #[error("{}", self.name())]
     JobExecutionNotRunningException,
-    /// The job execution, or another one of its job instance, is unfinished (abandon).
+    /// The job execution, or another one of its job instance, is unfinished (abandon). A job
+    /// execution of the job instance is unfinished (purge).
     #[error("{}", self.name())]
     JobExecutionIsRunningException,
     /// The job execution is COMPLETED (restart).

@@ -1,4 +1,1 @@
 mod Replied
-pub mod Crossing
-pub mod JobCrossing
-mod RowsCrossing

@@ -19,7 +19,7 @@ use Rattle.batch_ids.specs.declared.refusal.Refusal.TheVariants.{JobExecutionNot
 use Rattle.jsl_model.specs.Jobs.{JobTree}
 use Rattle.seat_rules.proofs.Prefixes.{prefix_length, prefix_self, prefix_trans}
 use Rattle.seat_rules.specs.Places.{IsLegalLog}
-use Rattle.batch_history.specs.Legal.{entries_by}
+use Rattle.batch_history.specs.Legal.{entries_by, most_operations}
 use Rattle.seat_rules.specs.Views.{Each, HasStop, informed}
 use Rattle.seat_rules.specs.declared.view.SessionView.{SessionView}
 use Rattle.sessions.specs.Answered.{entered, moved_on, operation}
@@ -37,18 +37,18 @@ entered_longer log who call at (Ok r) = entered_by (is_nothing r) log (operation
 entered_longer log who call at (Err refusal) = prefix_self log
 
 -- the answer of a desk whose log this was
-pub replied : (catalogue : List JobTree) (v w : SessionView) (log now : List Entry) (call : Call) (at : ℕ) (result : Result Reply Refusal)
-    → IsDue result (reply 1000000 (history catalogue log) v.number call) → now ≡ entered log v.number call at result
+pub replied : (limit : ℕ) (catalogue : List JobTree) (v w : SessionView) (log now : List Entry) (call : Call) (at : ℕ) (result : Result Reply Refusal)
+    → limit ≡ most_operations → IsDue result (reply limit (history catalogue log) v.number call) → now ≡ entered log v.number call at result
     → w ≡ moved_on v now (entered v.mine v.number call at result) → IsPrefix v.seen log → entries_by w.number w.seen ≡ w.mine
     → IsLegalLog catalogue now → v.least ≤ length log → Each (HasStop w.seen v.least) v.stops → IsReplied catalogue v w call at result
-replied catalogue v w log now call at result due now_is w_is begins own legal least stops =
+replied limit catalogue v w log now call at result full due now_is w_is begins own legal least stops =
     let seen : w.seen ≡ now = ap (λ (s : SessionView). s.seen) w_is in
     let longer : IsPrefix log w.seen = subst (IsPrefix log) (sym (seen ∙ now_is)) (entered_longer log v.number call at result) in
     let long = prefix_length log w.seen longer in
     record {
       log = log;
       begins = begins;
-      reply = due;
+      reply = subst (λ (l : ℕ). IsDue result (reply l (history catalogue log) v.number call)) full due;
       session = w_is ∙ ap (λ (l : List Entry). moved_on v l (entered v.mine v.number call at result)) now_is;
       sees = record {
         grows = prefix_trans v.seen log w.seen begins longer;

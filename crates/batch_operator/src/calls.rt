@@ -5,12 +5,12 @@ use batch_ids::{
     ExecutionId, InstanceId, MetricStep, Moment, Parameters, Refusal, T256, Text, WorkId,
     WorkOutcome,
 };
-use op_log::{Call, Reply};
+use op_log::{Call, JobRepository, Reply};
 use seat_rules::Site;
 use sessions::Session;
 use std::sync::Wait;
 
-impl<N: Site> Operator<N> {
+impl<N: Site, J: JobRepository> Operator<N, J> {
     /// Starts a job: creates a job instance and its first job execution. The reply is
     /// `Reply::Execution`. See Jakarta Batch 2.1, "JobOperator", start.
     ///

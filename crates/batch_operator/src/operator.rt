@@ -1,14 +1,15 @@
 ghost use Rattle.std.specs.Prelude.{◌≡◌, ◌<◌, ◌≤◌, ◌%◌, ◌∷◌, ◌++◌, [], IsTrue, IfOk, IfErr, length};
+ghost use Rattle.batch_history.specs.Legal.{most_operations};
 ghost use Rattle.seat_rules.specs.Places.{IsLegalLog};
 ghost use Rattle.seat_rules.specs.Views.{glanced_at, new_session};
 ghost use Rattle.batch_operator.specs.Calls.{IsAnswered, IsReplied};
 
 use crate::copy_count::CopyCount;
-use crate::states::{counts_of_nothing, repositories_of_nothing, seated};
+use crate::states::{seated, states_of_nothing};
 use batch_ids::{ExecutionId, Moment, OutOfMemory, Refusal};
 use jsl_model::Catalogue;
-use op_log::{Answer, Call, Query, Reply, Repository};
-use read_copies::{Copies, StatusCounts};
+use op_log::{Answer, Call, JobRepository, Query, Reply};
+use read_copies::{Copies, RepositoryState, StatusCounts};
 use seat_rules::{BookSeat, SeatTable, Site};
 use sessions::{Desk, Session};
 use std::alloc::Global;
@@ -17,8 +18,8 @@ use stop_signals::{look, stop};
 
 /// A desk that hosts no read copy, as the operator's lock guards it.
 #[derive(Drop)]
-pub(crate) struct Kept<N: Site> {
-    pub(crate) desk: Desk<N, 1_000_000>,
+pub(crate) struct Kept<N: Site, J: JobRepository> {
+    pub(crate) desk: Desk<N, J>,
     ghost alone: { desk.hosted ≡ [] },
 }
 
@@ -30,25 +31,26 @@ pub(crate) struct Kept<N: Site> {
 /// `operations_at_least` and `stop_seen` take no lock.
 ///
 /// The storage grows by doubling. For that, an operation costs constant time on average, and at
-/// worst time proportional to the length of the log or of the rows. A row is looked for first at
-/// the position that its number suggests. If a purge has moved it, a binary search finds it.
+/// worst time proportional to the length of the log or of the rows. A row is found at the position
+/// that its number suggests, which takes constant time: a purge moves no row.
 ///
 /// The walk of a job execution is stored from its first operation to its end. If memory for it was
 /// refused, a call rebuilds it. That costs time proportional to the number of the job's elements
 /// and partitions, multiplied by the number of the plan's entries and the work items of the job
 /// execution. Each call's own comment states its further costs.
 #[derive(Drop)]
-pub struct Operator<N: Site> {
-    pub(crate) desk: Mutex<Kept<N>>,
+pub struct Operator<N: Site, J: JobRepository> {
+    pub(crate) desk: Mutex<Kept<N, J>>,
     pub(crate) table: SeatTable,
-    pub(crate) repositories: Copies<Repository<1_000_000>, N>,
-    pub(crate) counts: Copies<StatusCounts, N>,
+    pub(crate) repositories: Copies<RepositoryState<J>, N>,
+    pub(crate) counts: Copies<StatusCounts<J>, N>,
+    ghost full: { J.limit ≡ most_operations },
     ghost named: { table ≡ N.place },
     ghost some: { 0 < repositories },
     ghost both: { counts ≡ repositories },
 }
 
-impl<N: Site> Operator<N> {
+impl<N: Site, J: JobRepository> Operator<N, J> {
     /// Returns an operator with an empty history over this catalogue, on the new table that `N`
     /// names.
     ///
@@ -61,14 +63,15 @@ impl<N: Site> Operator<N> {
         seat: BookSeat,
         catalogue: Catalogue,
         copies: CopyCount,
-    ) -> Result<Operator<N>, OutOfMemory>
+    ) -> Result<Operator<N, J>, OutOfMemory>
+        requires limit { J.limit ≡ most_operations }
         requires table { table ≡ N.place }
         requires seat { seat ≡ N.place.table }
         requires catalogue { catalogue ≡ N.place.catalogue }
         ensures { IfOk result (λ operator. operator.repositories ≡ copies.count) }
     {
-        let repositories = repositories_of_nothing(alloc, &catalogue, copies)?;
-        let counts = counts_of_nothing(alloc, &catalogue, copies)?;
+        let repositories = states_of_nothing(alloc, &catalogue, copies)?;
+        let counts = states_of_nothing(alloc, &catalogue, copies)?;
         let mut desk = Desk::new(alloc, seat, catalogue)?;
         match seated(alloc, repositories, counts, &mut desk, &table) {
             Ok(copies) => Ok(Operator {

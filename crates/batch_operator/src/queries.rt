@@ -2,7 +2,7 @@ ghost use Rattle.batch_operator.specs.Calls.{IsAnswered};
 
 use crate::operator::Operator;
 use batch_ids::{ExecutionId, InstanceId, Refusal, T256};
-use op_log::{Answer, Query};
+use op_log::{Answer, JobRepository, Query};
 use seat_rules::Site;
 use sessions::Session;
 use std::sync::Wait;
@@ -10,7 +10,7 @@ use std::sync::Wait;
 /// A query is answered from a read copy, if that has absorbed at least the operations that the
 /// session has seen or was shown. Otherwise, the whole history answers it. The session has then
 /// seen the operations that the answer takes into account.
-impl<N: Site> Operator<N> {
+impl<N: Site, J: JobRepository> Operator<N, J> {
     /// Returns the names of the jobs that have a job instance, in the order of each job's
     /// lowest-numbered one. See Jakarta Batch 2.1, "JobOperator", getJobNames.
     ///

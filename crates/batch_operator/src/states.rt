@@ -1,67 +1,51 @@
 ghost use Rattle.std.specs.Prelude.{◌≡◌, [], vec_len, IfOk};
 ghost use Rattle.std.specs.List.{All};
-ghost use Rattle.read_copies.specs.States.{StandsForCounts, StandsForLog};
 
 use crate::copy_count::CopyCount;
 use batch_ids::OutOfMemory;
 use jsl_model::Catalogue;
-use op_log::Repository;
-use read_copies::{Copies, StatusCounts};
+use op_log::JobRepository;
+use read_copies::{Absorb, Copies, RepositoryState, StatusCounts};
 use seat_rules::{SeatTable, Site};
 use sessions::Desk;
 use std::alloc::Global;
 
-/// Returns `copies` repositories over the catalogue, each without operations.
-pub fn repositories_of_nothing(
+/// Returns `copies` states over the catalogue, each after no operation.
+pub fn states_of_nothing<S: Absorb>(
     alloc: Global,
     catalogue: &Catalogue,
     copies: CopyCount,
-) -> Result<Vec<Repository<1_000_000>>, OutOfMemory>
-    ensures empty { IfOk result (λ states. All (λ s. StandsForLog s catalogue.now []) states.items) }
+) -> Result<Vec<S>, OutOfMemory>
+    requires { S.can_begin }
+    ensures empty { IfOk result (λ states. All (λ s. S.stands s catalogue.now []) states.items) }
     ensures count { IfOk result (λ states. vec_len states ≡ copies.count) }
 {
     let mut states = Vec::new(alloc);
     for number in 0..copies.value() {
-        states.push(Repository::new(alloc, catalogue.try_clone()?)?)?;
-    }
-    Ok(states)
-}
-
-/// Returns `copies` counts over the catalogue, each without operations.
-pub fn counts_of_nothing(
-    alloc: Global,
-    catalogue: &Catalogue,
-    copies: CopyCount,
-) -> Result<Vec<StatusCounts>, OutOfMemory>
-    ensures empty { IfOk result (λ states. All (λ s. StandsForCounts s catalogue.now []) states.items) }
-    ensures count { IfOk result (λ states. vec_len states ≡ copies.count) }
-{
-    let mut states = Vec::new(alloc);
-    for number in 0..copies.value() {
-        states.push(StatusCounts::new(alloc, catalogue.try_clone()?)?)?;
+        states.push(S::begin(alloc, catalogue.try_clone()?)?)?;
     }
     Ok(states)
 }
 
 /// The read copies of an operator: as many of its repository as of its counts.
 #[derive(Drop)]
-pub struct ReadCopies<N: Site> {
-    pub repositories: Copies<Repository<1_000_000>, N>,
-    pub counts: Copies<StatusCounts, N>,
+pub struct ReadCopies<N: Site, J: JobRepository> {
+    pub repositories: Copies<RepositoryState<J>, N>,
+    pub counts: Copies<StatusCounts<J>, N>,
 }
 
 /// Returns read copies of these states, each with a seat at the desk's table.
-pub fn seated<N: Site>(
+pub fn seated<N: Site, J: JobRepository>(
     alloc: Global,
-    repositories: Vec<Repository<1_000_000>>,
-    counts: Vec<StatusCounts>,
-    desk: &mut Desk<N, 1_000_000>,
+    repositories: Vec<RepositoryState<J>>,
+    counts: Vec<StatusCounts<J>>,
+    desk: &mut Desk<N, J>,
     table: &SeatTable,
-) -> Result<ReadCopies<N>, OutOfMemory>
+) -> Result<ReadCopies<N, J>, OutOfMemory>
     requires table { table.now ≡ N.place }
     requires alone { desk.old.hosted ≡ [] }
-    requires repositories { All (λ s. StandsForLog s N.place.catalogue []) repositories.items }
-    requires counts { All (λ s. StandsForCounts s N.place.catalogue []) counts.items }
+    requires repositories { All (λ s. ⟦<RepositoryState<J> as Absorb>⟧.stands s N.place.catalogue []) repositories.items }
+    requires counts { All (λ s. ⟦<StatusCounts<J> as Absorb>⟧.stands s N.place.catalogue []) counts.items }
     ensures desk { desk.new ≡ desk.old }
     ensures repositories { IfOk result (λ seated. seated.repositories ≡ vec_len repositories) }
     ensures counts { IfOk result (λ seated. seated.counts ≡ vec_len counts) }

@@ -4,6 +4,7 @@ use crate::built_in::BuiltIn;
 use crate::built_in_artifact::BuiltInArtifact;
 use batch_ids::Refusal;
 use batch_operator::Operator;
+use job_repository::JobRepository;
 use job_threads::{Gate, Kit, PoolReport, pool};
 use seat_rules::Site;
 use std::alloc::Global;
@@ -16,10 +17,15 @@ use std::thread::Threads;
 /// # Errors
 ///
 /// Returns the errors of `pool`.
-pub fn pool_with_built_ins<N: Site + Send + Sync, R: Threads + Wait + Sync, G: Gate + Sync>(
+pub fn pool_with_built_ins<
+    N: Site + Send + Sync,
+    J: JobRepository + Send,
+    R: Threads + Wait + Sync,
+    G: Gate + Sync,
+>(
     rt: &R,
     alloc: Global,
-    operator: &Operator<N>,
+    operator: &Operator<N, J>,
     names: &[&str],
     workers: u64,
     gate: &G,

@@ -10,6 +10,12 @@ use std::alloc::{AllocError, Global};
 
 const OPEN: [u8; 3] = *b"111";
 
+// The bytes of the mark and of the five columns, with the spaces around them.
+const COLUMNS: usize = 48;
+
+// The line feed of a record, and a shut gate.
+const ENDING: [u8; 4] = *b"\n000";
+
 // Returns the bytes of a record, and of a shut gate after it. Its link to the next record is `next`.
 pub(crate) fn frame(
     alloc: Global,
@@ -22,14 +28,15 @@ pub(crate) fn frame(
     ensures { IfOk result (λ bytes. bytes.items ≡ frame link (record_shown added.entry) ++ shut) }
 {
     let size = added.line.len() as u32;
-    let mut bytes = [b' ', added.mark, b' '].to_vec(alloc)?;
+    let mut bytes = Vec::with_capacity(alloc, COLUMNS + added.line.len() + ENDING.len())?;
+    bytes.extend_from_slice(&[b' ', added.mark, b' '])?;
     push_column(&mut bytes, size)?;
     push_column(&mut bytes, size)?;
     push_column(&mut bytes, link.number)?;
     push_column(&mut bytes, next.check)?;
     push_column(&mut bytes, added.reply_check)?;
     bytes.extend_from_slice(added.line)?;
-    bytes.extend_from_slice(b"\n000")?;
+    bytes.extend_from_slice(&ENDING)?;
     Ok(bytes)
 }
 

@@ -1,27 +1,18 @@
 -- Copies of a history that goes on, and what a copy takes in next.
 use Rattle.std.proofs.Common.{◌≡◌, ℕ, ◌+◌, ◌≤◌, ◌<◌, None, Some, inl, inr, replicate, List, [], ◌∷◌, ◌++◌, length, get_or, take, drop, sym, ◌∙◌, ap, subst, arith}
 use Rattle.std.specs.Prelude.{slice_get}
-use Rattle.std.proofs.lemmas.List.{length-append, length-reverse, length-take-le, map-append, replicate-append-replicate, take-append-drop, take-append-le}
+use Rattle.std.proofs.lemmas.List.{map-append, replicate-append-replicate, take-append-drop, take-append-le}
 use Rattle.std.proofs.lemmas.Option.{slice_get_cases, slice_get_within}
-use Rattle.jsl_model.specs.Jobs.{JobTree}
 use Rattle.batch_history.proofs.Legal.{legal-beginning}
-use Rattle.batch_history.specs.Legal.{IsLegal, grown, most_operations}
-use Rattle.batch_history.specs.Rows.{History, Rows, history}
+use Rattle.batch_history.specs.Legal.{IsLegal, grown}
+use Rattle.batch_history.specs.Rows.{History, history}
 use Rattle.batch_history.specs.declared.call.Entry.{Entry}
 use Rattle.op_log.proofs.Taking.{take-next}
-use Rattle.seq_repository.specs.Kept.{Kept, StandsFor, IsNext}
 use Rattle.event_core.specs.Copies.{IsCopy, AreCopies, lengths}
 use Rattle.event_core.specs.Headline.{Continues}
 use Rattle.event_core.specs.Worlds.{operations, first}
-
--- what stands for a history has its number of operations
-pub counted : (kept : Kept) (h : History) → StandsFor kept h → kept.count ≡ operations h
-counted kept h stands = ap (λ (r : Rows). r.count) stands ∙ length-reverse h.log
-
--- a copy has no more than there is
-pub copy-within : (h : History) (kept : Kept) → IsCopy h kept → kept.count ≤ operations h
-copy-within h kept copy =
-    omega (arith, counted kept (first kept.count h) copy, ap length (take-append-drop kept.count h.log), length-append (take kept.count h.log) (drop kept.count h.log))
+use Rattle.event_core.specs.declared.copies.LaggingCopy.{LaggingCopy}
+use Rattle.event_core.proofs.Soundness.{operations-continue}
 
 -- the first operations stay
 pub first-stays : (k : ℕ) (h g : History) → Continues h g → k ≤ operations h → first k h ≡ first k g
@@ -29,39 +20,34 @@ first-stays k h g c within =
     ap (history h.catalogue) (sym (take-append-le k h.log c.more within)) ∙ ap (first k) (sym c.grown)
 
 -- a copy stays one
-pub copy-stays : (h g : History) (kept : Kept) → Continues h g → IsCopy h kept → IsCopy g kept
-copy-stays h g kept c copy = subst (StandsFor kept) (first-stays kept.count h g c (copy-within h kept copy)) copy
+pub copy-stays : {J : Type 0} (stands : J → History → Type 0) (h g : History) (copy : LaggingCopy J) → Continues h g → IsCopy stands h copy → IsCopy stands g copy
+copy-stays stands h g copy c is = record {
+  stood = subst (stands copy.repository) (first-stays copy.entries h g c is.within) is.stood;
+  within = omega (arith, is.within, operations-continue h g c);
+}
 
-pub copies-stay : (h g : History) (copies : List Kept) → Continues h g → AreCopies h copies → AreCopies g copies
-copies-stay h g copies c each = λ k d lt. copy-stays h g (get_or copies k d) c (each k d lt)
+pub copies-stay : {J : Type 0} (stands : J → History → Type 0) (h g : History) (copies : List (LaggingCopy J)) → Continues h g → AreCopies stands h copies → AreCopies stands g copies
+copies-stay stands h g copies c each = λ k d lt. copy-stays stands h g (get_or copies k d) c (each k d lt)
 
 -- the first operations and the next one
 first-more : (k : ℕ) (h : History) (e : Entry) → slice_get h.log k ≡ Some e → grown (first k h) e ≡ first (k + 1) h
 first-more k h e there = ap (history h.catalogue) (sym (take-next h.log k e there))
 
--- what a copy takes in next
-pub next-taken : (h : History) (kept : Kept) (k : ℕ) (e : Entry) → IsLegal most_operations h → IsCopy h kept → kept.count ≡ k → slice_get h.log k ≡ Some e → IsNext most_operations kept e
-next-taken h kept k e legal copy is there =
-    let here : slice_get h.log kept.count ≡ Some e = ap (slice_get h.log) is ∙ there in
-    record {
-      history = first kept.count h;
-      stands = copy;
-      legal = subst (IsLegal most_operations) (sym (first-more kept.count h e here))
-          (legal-beginning most_operations h legal (take (kept.count + 1) h.log) (drop (kept.count + 1) h.log) (sym (take-append-drop (kept.count + 1) h.log)));
-    }
-
--- it is a copy then, of one operation more
-pub taken-more : (h : History) (kept new : Kept) (e : Entry) → IsCopy h kept → slice_get h.log kept.count ≡ Some e
-    → StandsFor new (grown (first kept.count h) e) → (new.count ≡ kept.count + 1) × IsCopy h new
-taken-more h kept new e copy there stands =
-    let more : StandsFor new (first (kept.count + 1) h) = subst (StandsFor new) (first-more kept.count h e there) stands in
-    let within : kept.count < length h.log = slice_get_within h.log kept.count e there in
-    let count : new.count ≡ kept.count + 1 = counted new (first (kept.count + 1) h) more ∙ length-take-le (kept.count + 1) h.log (omega arith) in
-    (count, subst (λ n. StandsFor new (first n h)) (sym count) more)
-
 -- the first operations of a legal history are legal
-pub legal-first : (k : ℕ) (h : History) → IsLegal most_operations h → IsLegal most_operations (first k h)
-legal-first k h legal = legal-beginning most_operations h legal (take k h.log) (drop k h.log) (sym (take-append-drop k h.log))
+pub legal-first : {limit : ℕ} (k : ℕ) (h : History) → IsLegal limit h → IsLegal limit (first k h)
+legal-first {limit} k h legal = legal-beginning limit h legal (take k h.log) (drop k h.log) (sym (take-append-drop k h.log))
+
+-- what a repository that has the first operations may take in next
+pub next-taken : {limit : ℕ} (stands : History → Type 0) (h : History) (k : ℕ) (e : Entry) → IsLegal limit h → stands (first k h) → slice_get h.log k ≡ Some e
+    → (g : History) × stands g × IsLegal limit (grown g e)
+next-taken {limit} stands h k e legal stood there = (first k h, stood, subst (IsLegal limit) (sym (first-more k h e there)) (legal-first (k + 1) h legal))
+
+-- it has one operation more then
+pub taken-more : (stands : History → Type 0) (h : History) (k : ℕ) (e : Entry) → slice_get h.log k ≡ Some e → stands (grown (first k h) e)
+    → stands (first (k + 1) h) × (k + 1 ≤ operations h)
+taken-more stands h k e there stood =
+    let within : k < length h.log = slice_get_within h.log k e there in
+    (subst stands (first-more k h e there) stood, omega (arith, within))
 
 -- where there is no operation, the history has ended
 pub ended-at : (log : List Entry) (k : ℕ) → slice_get log k ≡ None → length log ≤ k
@@ -74,16 +60,9 @@ ended-at log k none =
     no-some : (e : Entry) → Some e ≡ None → ⊥
     no-some e is = cc
 
--- a repository with no operation is a copy of the history with none
-pub empty-copy : (catalogue : List JobTree) (kept : Kept) → StandsFor kept record { catalogue = catalogue; log = [] }
-    → (kept.count ≡ 0) × IsCopy record { catalogue = catalogue; log = [] } kept
-empty-copy catalogue kept stands =
-    let h : History = record { catalogue = catalogue; log = [] } in
-    let none : kept.count ≡ 0 = counted kept h stands in
-    (none, subst (λ n. StandsFor kept (first n h)) (sym none) stands)
-
 -- so many of them, and one more
-pub lengths-push : (copies : List Kept) (kept : Kept) (n : ℕ) → lengths copies ≡ replicate n 0 → kept.count ≡ 0 → lengths (copies ++ kept ∷ []) ≡ replicate (n + 1) 0
-lengths-push copies kept n before none =
-    map-append (λ (kept : Kept). kept.count) copies (kept ∷ [])
-    ∙ (ap (λ l. l ++ kept.count ∷ []) before ∙ (ap (λ m. replicate n 0 ++ m ∷ []) none ∙ replicate-append-replicate n 1 0))
+pub lengths-push : {J : Type 0} (copies : List (LaggingCopy J)) (copy : LaggingCopy J) (n : ℕ) → lengths copies ≡ replicate n 0 → copy.entries ≡ 0
+    → lengths (copies ++ copy ∷ []) ≡ replicate (n + 1) 0
+lengths-push {J} copies copy n before none =
+    map-append (λ (copy : LaggingCopy J). copy.entries) copies (copy ∷ [])
+    ∙ (ap (λ l. l ++ copy.entries ∷ []) before ∙ (ap (λ m. replicate n 0 ++ m ∷ []) none ∙ replicate-append-replicate n 1 0))

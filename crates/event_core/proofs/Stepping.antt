@@ -15,10 +15,10 @@ use Rattle.batch_history.specs.declared.call.Entry.{Entry}
 use Rattle.batch_history.specs.declared.call.Reply.{Reply}
 use Rattle.batch_history.specs.declared.query.Answer.{Answer}
 use Rattle.batch_history.specs.declared.query.Query.{Query}
-use Rattle.seq_repository.specs.Kept.{Kept}
 use Rattle.event_core.specs.Copies.{lengths}
 use Rattle.event_core.specs.Seeing.{seen_by, with_seen, joined, has_seen_no_more}
 use Rattle.event_core.specs.Worlds.{State, Step, operations, first, skipped, if_there, replied, published, with_copy, answered_after, met, step, IsSound}
+use Rattle.event_core.specs.declared.copies.LaggingCopy.{LaggingCopy}
 use Rattle.event_core.specs.declared.event.Event.{Event}
 use Rattle.event_core.specs.declared.event.Event.TheVariants.{Call as Calls, Publish, Read, Ask, Meet}
 use Rattle.event_core.specs.declared.event.Outcome.TheVariants.{Replied, Answered, Published, Met}
@@ -101,13 +101,15 @@ published_so s copy upto n m copies has is put =
     ∙ ap (λ (l : List ℕ). record { outcome = Published m; after = record s { copies = l } }) (sym put))
 
 -- the lengths of copies of which one was changed
-pub lengths-set : (copies : List Kept) (copy : ℕ) (kept : Kept) → lengths (slice_set copies copy kept) ≡ slice_set (lengths copies) copy kept.count
-lengths-set copies copy kept = map-set (λ (kept : Kept). kept.count) copies copy kept
+pub lengths-set : {J : Type 0} (copies : List (LaggingCopy J)) (place : ℕ) (copy : LaggingCopy J)
+    → lengths (slice_set copies place copy) ≡ slice_set (lengths copies) place copy.entries
+lengths-set {J} copies place copy = map-set (λ (copy : LaggingCopy J). copy.entries) copies place copy
 
 -- the length of the copy at a place
-pub length-at : (copies : List Kept) (copy : ℕ) (kept : Kept) → slice_get copies copy ≡ Some kept → slice_get (lengths copies) copy ≡ Some kept.count
-length-at copies copy kept there =
-    slice_get-map (λ (kept : Kept). kept.count) copies copy ∙ ap (option_map (λ (kept : Kept). kept.count)) there
+pub length-at : {J : Type 0} (copies : List (LaggingCopy J)) (place : ℕ) (copy : LaggingCopy J) → slice_get copies place ≡ Some copy
+    → slice_get (lengths copies) place ≡ Some copy.entries
+length-at {J} copies place copy there =
+    slice_get-map (λ (copy : LaggingCopy J). copy.entries) copies place ∙ ap (option_map (λ (copy : LaggingCopy J). copy.entries)) there
 
 -- what holds at every error
 pub on-err : {A E : Type 0} (r : Result A E) (P : Type 0) → P → OnErr r P

@@ -1,5 +1,5 @@
 use batch_ids::{Moment, Refusal};
-use seq_repository::{Answer, Call, Query, Reply};
+use job_repository::{Answer, Call, Query, Reply};
 
 /// An event in a world. Sessions are numbered from 1, copies from 0.
 #[derive(PartialEq, Eq, Debug, Drop)]

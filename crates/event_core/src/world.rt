@@ -5,12 +5,12 @@ ghost use Rattle.batch_history.specs.Replies.{reply};
 ghost use Rattle.event_core.specs.Headline.{FollowOneHistory};
 ghost use Rattle.event_core.specs.Worlds.{empty_world, IsCutShort, outcomes, step};
 
-use crate::copies::{LIMIT, copy_at, empty_copies, take_in};
+use crate::copies::{LaggingCopy, copy_at, empty_copies};
 use crate::event::{Event, Outcome};
 use crate::sessions::{Seen, Sessions};
 use batch_ids::{Moment, OutOfMemory, Refusal};
 use jsl_model::Catalogue;
-use op_log::{Answer, Book, Call, Query, Reply, Repository};
+use op_log::{Book, Call, JobRepository, Query, Reply};
 use std::alloc::{AllocError, Global};
 use std::marker::Model;
 
@@ -18,16 +18,19 @@ use std::marker::Model;
 /// copies that lag behind it. Contracts see its history, the part that each session has seen, and
 /// the number of operations that each copy has.
 ///
-/// Its invariant says that the history is legal, and that no session has seen more operations than
-/// there are. Each copy represents the first operations of the history, as many as the copy has.
+/// Its invariant says that the repository's limit is 1,000,000, that the history is legal, and that
+/// no session has seen more operations than there are. Each copy represents the first operations of
+/// the history, as many as the copy has.
 #[derive(Debug, Drop)]
-pub struct World {
-    book: Book<LIMIT>,
+pub struct World<J: JobRepository> {
+    book: Book<J>,
     sessions: Sessions,
-    copies: Vec<Repository<LIMIT>>,
+    copies: Vec<LaggingCopy<J>>,
 }
 
-impl Model for World {
+impl<J: JobRepository> Model for World<J> {
+    ghost use Rattle.std.specs.Prelude.{◌≡◌};
+    ghost use Rattle.batch_history.specs.Legal.{most_operations};
     ghost use Rattle.event_core.specs.Copies.{AreCopies, state_of};
     ghost use Rattle.event_core.specs.Worlds.{IsSound, State};
     ghost use Rattle.jsl_model.specs.contracts.element.Body as body;
@@ -39,10 +42,10 @@ impl Model for World {
 
     ghost view = { λ w. state_of w.book w.sessions w.copies.items };
 
-    ghost invariant = { λ w. IsSound (state_of w.book w.sessions w.copies.items) × AreCopies w.book w.copies.items };
+    ghost invariant = { λ w. IsSound (state_of w.book w.sessions w.copies.items) × AreCopies J.stands w.book w.copies.items × (J.limit ≡ most_operations) };
 }
 
-impl World {
+impl<J: JobRepository> World<J> {
     /// Returns a world before the first event. It has an empty history over this catalogue,
     /// `sessions` sessions that have seen nothing, and `copies` copies without operations.
     ///
@@ -57,7 +60,8 @@ impl World {
         catalogue: Catalogue,
         sessions: u64,
         copies: u64,
-    ) -> Result<World, OutOfMemory>
+    ) -> Result<World<J>, OutOfMemory>
+        requires limit { J.limit ≡ most_operations }
         ensures { IfOk result (λ world. world ≡ empty_world catalogue sessions copies) }
     {
         let copies = empty_copies(alloc, &catalogue, copies)?;
@@ -120,7 +124,7 @@ impl World {
             return Ok(Outcome::Skipped);
         }
         let taker = &mut self.copies[copy as usize];
-        take_in(taker, &self.book, upto)?;
+        taker.take_in(&self.book, upto)?;
         Ok(Outcome::Published {
             length: taker.len(),
         })
@@ -197,12 +201,13 @@ impl World {
 /// Returns the book's reply to a call, or its refusal.
 ///
 /// Returns `OutOfMemory` as an error of its own if memory is refused.
-fn act(
-    book: &mut Book<LIMIT>,
+fn act<J: JobRepository>(
+    book: &mut Book<J>,
     who: u64,
     call: &Call,
     at: Moment,
 ) -> Result<Result<Reply, Refusal>, OutOfMemory>
+    requires limit { J.limit ≡ most_operations }
     ensures reply { IfOk result (λ given. given ≡ reply most_operations book.old who call.now) }
     ensures after { IfOk result (λ given. book.new
         ≡ history_after book.old who call.now at given) }
@@ -237,27 +242,28 @@ fn told<R>(given: Result<R, Refusal>) -> Result<Result<R, Refusal>, OutOfMemory>
 ///
 /// Returns only `OutOfMemory`, instead of all outcomes, if memory is refused.
 #[tactic(auto, using(crate::proofs::Following::follow_one_history))]
-pub fn run(
+pub fn run<J: JobRepository>(
     alloc: Global,
     catalogue: Catalogue,
     sessions: u64,
     copies: u64,
     events: &[Event],
 ) -> Result<Vec<Outcome>, OutOfMemory>
+    requires limit { J.limit ≡ most_operations }
     ensures outcomes { IfOk result (λ told. told.items
         ≡ outcomes (empty_world catalogue sessions copies) events.now) }
     ensures one_history { FollowOneHistory (empty_world catalogue sessions copies) events.now }
 {
-    let mut world = World::new(alloc, catalogue, sessions, copies)?;
+    let mut world = World::<J>::new(alloc, catalogue, sessions, copies)?;
     let outcomes = outcomes_of(alloc, &mut world, events);
     drop(world);
     outcomes
 }
 
 /// Returns the outcomes of these events in this world.
-fn outcomes_of(
+fn outcomes_of<J: JobRepository>(
     alloc: Global,
-    world: &mut World,
+    world: &mut World<J>,
     events: &[Event],
 ) -> Result<Vec<Outcome>, OutOfMemory>
     ensures { IfOk result (λ told. told.items ≡ outcomes world.old events.now) }

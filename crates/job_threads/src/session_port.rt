@@ -6,6 +6,7 @@ use crate::report::Onward;
 use batch_history::{Answer, Reply};
 use batch_ids::{ExecutionId, MetricStep, Moment, Refusal, T256, Text, WorkId, WorkOutcome};
 use batch_operator::Operator;
+use job_repository::JobRepository;
 use seat_rules::Site;
 use sessions::Session;
 use std::sync::Wait;
@@ -13,9 +14,9 @@ use std::sync::Wait;
 /// A session at an operator, as the port of a worker. Its reports are the checkpoints and finishes
 /// among the session's own accepted operations. Its stops are those that the session has found.
 #[derive(Drop)]
-pub struct SessionPort<'a, R: Wait, N: Site> {
+pub struct SessionPort<'a, R: Wait, N: Site, J: JobRepository> {
     rt: &'a R,
-    operator: &'a Operator<N>,
+    operator: &'a Operator<N, J>,
     session: Session<N>,
     found_stop: bool,
     finds: u64,
@@ -23,9 +24,13 @@ pub struct SessionPort<'a, R: Wait, N: Site> {
     refused_loss: Option<Refusal>,
 }
 
-impl<'a, R: Wait, N: Site> SessionPort<'a, R, N> {
+impl<'a, R: Wait, N: Site, J: JobRepository> SessionPort<'a, R, N, J> {
     /// Returns the port of this session.
-    pub fn new(rt: &'a R, operator: &'a Operator<N>, session: Session<N>) -> SessionPort<'a, R, N> {
+    pub fn new(
+        rt: &'a R,
+        operator: &'a Operator<N, J>,
+        session: Session<N>,
+    ) -> SessionPort<'a, R, N, J> {
         SessionPort {
             rt,
             operator,
@@ -83,7 +88,7 @@ fn finds_after(finds: u64, found: bool) -> u64
     if found { finds.wrapping_add(1) } else { finds }
 }
 
-impl<R: Wait, N: Site> Port for SessionPort<'_, R, N> {
+impl<R: Wait, N: Site, J: JobRepository> Port for SessionPort<'_, R, N, J> {
     ghost use Rattle.job_threads.specs.Ports.{reports_in, stops_of};
 
     ghost reports = { λ port. reports_in port.session.mine };

@@ -6,6 +6,7 @@ use crate::session_port::SessionPort;
 use crate::working::{Gate, WorkerReport, worker};
 use batch_ids::Refusal;
 use batch_operator::Operator;
+use job_repository::JobRepository;
 use seat_rules::Site;
 use std::alloc::Global;
 use std::sync::Wait;
@@ -57,9 +58,9 @@ fn with_numbers(alloc: Global, kits: Vec<Kit>) -> Result<Vec<Numbered>, Refusal>
 }
 
 /// Runs one worker, with a session of its own.
-fn work_alone<N: Site, R: Wait, G: Gate>(
+fn work_alone<N: Site, J: JobRepository, R: Wait, G: Gate>(
     rt: &R,
-    operator: &Operator<N>,
+    operator: &Operator<N, J>,
     gate: &G,
     one: Numbered,
 ) -> Result<WorkerReport, Refusal> {
@@ -95,10 +96,15 @@ fn total(reports: &[Result<WorkerReport, Refusal>]) -> Result<PoolReport, Refusa
 ///
 /// Waits for all workers first. Then returns the refusal of the lowest-numbered worker that has
 /// one, or `OutOfMemory` if memory is refused.
-pub fn pool<N: Site + Send + Sync, R: Threads + Wait + Sync, G: Gate + Sync>(
+pub fn pool<
+    N: Site + Send + Sync,
+    J: JobRepository + Send,
+    R: Threads + Wait + Sync,
+    G: Gate + Sync,
+>(
     rt: &R,
     alloc: Global,
-    operator: &Operator<N>,
+    operator: &Operator<N, J>,
     kits: Vec<Kit>,
     gate: &G,
 ) -> Result<PoolReport, Refusal>

@@ -12,13 +12,12 @@ use Rattle.batch_history.specs.declared.call.Reply.{Reply}
 use Rattle.script_lines.specs.declared.line.TheConstants.{MAX_LINE}
 use Rattle.jsl_json.specs.declared.fault.ReadFault.{ReadFault}
 use Rattle.jsl_model.specs.Jobs.{JobTree}
-use Rattle.seq_repository.specs.Kept.{Kept, StandsFor}
 use Rattle.script_text.specs.Replies.{bad_line_text}
 use Rattle.script_text.specs.declared.command.Command.{Command}
 use Rattle.script_text.specs.declared.command.Command.TheVariants.{BadLine, TextTooLong, Act, Ask}
 use Rattle.script_engine.specs.Script.{begin, catalogue_at, command_at, history_for, history_past, line_after, line_text}
 use Rattle.script_engine.specs.Standing.{Stands}
-use Rattle.script_engine.proofs.Applying.{begun, counted_all}
+use Rattle.script_engine.proofs.Applying.{begun}
 use Rattle.script_log.specs.Replays.{replayed}
 use Rattle.script_log.specs.Runs.{History as LogHistory, after}
 use Rattle.logged_script.specs.Histories.{history_at, is_kept, jobs_read, reply_at}
@@ -101,13 +100,11 @@ long_line h line long =
     (both.0, kept, ap (λ (b : Bool). cond b record { catalogue = h.catalogue; lines = h.lines ++ line ∷ [] } h) kept)
 
 -- a line that was answered is kept exactly if there is one operation more, and the repository stands for the history behind it
-pub whole_line : (before behind : Kept) (h : LogHistory) (line : List ℕ) → Stands before (history_at h) → Stands behind (line_after (history_at h) line)
-    → (nat_lt before.count behind.count ≡ is_kept h line) × Stands behind (history_at (after is_kept h line))
-whole_line before behind h line stands next = (
-  ap₂ nat_lt (counted_all before (history_at h) stands) (counted_all behind (line_after (history_at h) line) next),
-  subst (λ (now : History). Stands behind now) (sym (after_line h line)) next,
-)
+pub whole_line : (limit : ℕ) (stands : History → Type 0) (before behind : ℕ) (h : LogHistory) (line : List ℕ) → before ≡ length (history_at h).log → behind ≡ length (line_after (history_at h) line).log
+    → Stands limit stands (line_after (history_at h) line) → (nat_lt before behind ≡ is_kept h line) × Stands limit stands (history_at (after is_kept h line))
+whole_line limit stands before behind h line few more next = (ap₂ nat_lt few more, subst (λ (now : History). Stands limit stands now) (sym (after_line h line)) next)
 
 -- before the first line
-pub fresh : (kept : Kept) (catalogue : List JobTree) (line : List ℕ) → catalogue_at line ≡ Ok catalogue → StandsFor kept (begin catalogue) → Stands kept (history_at (replayed line []))
-fresh kept catalogue line is stands = subst (λ (read : Result (List JobTree) ReadFault). Stands kept (begin (jobs_read read))) (sym is) (begun kept catalogue stands)
+pub fresh : (limit : ℕ) (stands : History → Type 0) (catalogue : List JobTree) (line : List ℕ) → limit ≡ most_operations → catalogue_at line ≡ Ok catalogue → stands (begin catalogue)
+    → Stands limit stands (history_at (replayed line []))
+fresh limit stands catalogue line most is stood = subst (λ (read : Result (List JobTree) ReadFault). Stands limit stands (begin (jobs_read read))) (sym is) (begun limit stands catalogue most stood)

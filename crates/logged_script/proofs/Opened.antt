@@ -2,6 +2,7 @@
 use Rattle.std.proofs.Common.{◌≡◌, ◌∙◌, inl, inr, ℕ, Bool, true, false, List, [], Ok, sym, ap, subst}
 use Rattle.std.specs.Prelude.{box_value}
 use Rattle.jsl_model.specs.Jobs.{JobTree}
+use Rattle.batch_history.specs.Rows.{History}
 use Rattle.durable_log.specs.Format.{LogRecord}
 use Rattle.durable_log.specs.Files.{StandsFor}
 use Rattle.durable_log.specs.Logs.{records_of}
@@ -24,16 +25,17 @@ use Rattle.logged_script.specs.declared.opening.OpeningFault.{OpeningFault}
 use Rattle.logged_script.specs.declared.opening.OpeningFault.TheVariants.{Refused, OutOfMemory}
 
 -- an engine that stands for the lines over the given catalogue stands for those of the records, whose catalogue has the same jobs
-stands-same : (engine : ScriptEngine) (records : List LogRecord) (line : List ℕ) → GoesOnFrom records line false → Answers engine (replayed line records) → Answers engine (history_of records)
-stands-same engine records line G stands =
+stands-same : {J : Type 0} (limit : ℕ) (stands : J → History → Type 0) (engine : ScriptEngine J) (records : List LogRecord) (line : List ℕ) → GoesOnFrom records line false
+    → Answers limit stands engine (replayed line records) → Answers limit stands engine (history_of records)
+stands-same limit stands engine records line G answers =
     let jobs : jobs_read (catalogue_at line) ≡ jobs_read (catalogue_at (last_catalogue [] records)) = ap jobs_read G.is_given ∙ G.has_grown ∙ sym (ap jobs_read G.has.read) in
-    subst (λ (jobs : List JobTree). Stands (box_value engine.repository) (history_past (begin jobs) (kept_lines records))) jobs stands
+    subst (λ (jobs : List JobTree). Stands limit (stands (box_value engine.repository)) (history_past (begin jobs) (kept_lines records))) jobs answers
 
 -- an engine that was brought to the lines of the records answers over the records with which the run begins
-pub answers-begun : (engine : ScriptEngine) (records now : List LogRecord) (line : List ℕ) (grown : Bool) → GoesOnFrom records line grown → now ≡ records_begun records line grown
-    → Answers engine (replayed line records) → Answers engine (history_of now)
-answers-begun engine records now line true G is stands = subst (λ (h : LogHistory). Answers engine h) (sym (ap history_of is ∙ history-catalogue records line)) stands
-answers-begun engine records now line false G is stands = subst (λ (rs : List LogRecord). Answers engine (history_of rs)) (sym is) (stands-same engine records line G stands)
+pub answers-begun : {J : Type 0} (limit : ℕ) (stands : J → History → Type 0) (engine : ScriptEngine J) (records now : List LogRecord) (line : List ℕ) (grown : Bool) → GoesOnFrom records line grown
+    → now ≡ records_begun records line grown → Answers limit stands engine (replayed line records) → Answers limit stands engine (history_of now)
+answers-begun limit stands engine records now line true G is answers = subst (λ (h : LogHistory). Answers limit stands engine h) (sym (ap history_of is ∙ history-catalogue records line)) answers
+answers-begun limit stands engine records now line false G is answers = subst (λ (rs : List LogRecord). Answers limit stands engine (history_of rs)) (sym is) (stands-same limit stands engine records line G answers)
 
 -- the file is no log
 pub not-read : (file line : List ℕ) (fault : ReadFault) → HasFault file fault → IsOpeningFault file line (fault_of_read fault)

@@ -25,6 +25,7 @@ is_kept h line = nat_lt (length (history_at h).log) (length (line_after (history
 abbrev pub reply_at : LogHistory → List ℕ → List ℕ
 reply_at h line = line_text (history_at h) line
 
--- the repository represents the history
-abbrev pub Answers : ScriptEngine → LogHistory → Type 0
-Answers engine h = Stands (box_value engine.repository) (history_at h)
+-- the engine's repository, of 1,000,000 operations, represents the history. `stands` says which histories a
+-- repository represents
+abbrev pub Answers : {J : Type 0} → ℕ → (J → History → Type 0) → ScriptEngine J → LogHistory → Type 0
+Answers limit stands engine h = Stands limit (stands (box_value engine.repository)) (history_at h)

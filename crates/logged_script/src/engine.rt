@@ -1,34 +1,36 @@
 // A job repository that replies to the lines of a script.
 ghost use Rattle.std.specs.Prelude.{◌≡◌, [], List, ℕ, Ok, IfOk};
+ghost use Rattle.batch_history.specs.Legal.{most_operations};
 ghost use Rattle.script_engine.specs.Script.{catalogue_at};
 ghost use Rattle.script_log.specs.Replays.{replayed};
 ghost use Rattle.logged_script.specs.Histories.{Answers, is_kept, reply_at};
 
 use batch_ids::OutOfMemory;
+use job_repository::JobRepository;
 use jsl_model::Catalogue;
-use script_engine::{LIMIT, answer_whole, bad_line_text, boxed_repository};
+use script_engine::{answer_whole, bad_line_text, boxed_repository};
 use script_lines::MAX_LINE;
 use script_log::{Answered, Engine};
 use script_text::CommandReader;
-use seq_repository::Repository;
 use std::alloc::{AllocError, Global};
 
 /// A job repository that replies to the lines of a script, one after another. A line is logged if
 /// it is a call that is accepted with another reply than Nothing.
 #[derive(Drop)]
-pub struct ScriptEngine {
+pub struct ScriptEngine<J: JobRepository> {
     commands: CommandReader,
-    repository: Box<Repository<LIMIT>>,
+    repository: Box<J>,
 }
 
-impl ScriptEngine {
+impl<J: JobRepository> ScriptEngine<J> {
     /// Makes a repository over this catalogue, without operations.
     ///
     /// # Errors
     ///
     /// Returns `OutOfMemory` if memory is refused. The catalogue is dropped.
-    pub fn new(alloc: Global, catalogue: Catalogue) -> Result<ScriptEngine, OutOfMemory>
-        ensures { IfOk result (λ engine. (line : List ℕ) → catalogue_at line ≡ Ok catalogue → Answers engine (replayed line [])) }
+    pub fn new(alloc: Global, catalogue: Catalogue) -> Result<ScriptEngine<J>, OutOfMemory>
+        requires { J.limit ≡ most_operations }
+        ensures { IfOk result (λ engine. (line : List ℕ) → catalogue_at line ≡ Ok catalogue → Answers J.limit J.stands engine (replayed line [])) }
     {
         let repository = boxed_repository(alloc, catalogue)?;
         Ok(ScriptEngine {
@@ -38,8 +40,8 @@ impl ScriptEngine {
     }
 }
 
-impl Engine for ScriptEngine {
-    ghost stands = { Answers };
+impl<J: JobRepository> Engine for ScriptEngine<J> {
+    ghost stands = { Answers J.limit J.stands };
 
     ghost keeps = { is_kept };
 
@@ -50,7 +52,7 @@ impl Engine for ScriptEngine {
             let text = bad_line_text(alloc)?;
             return Ok(Answered { text, kept: false });
         }
-        let repository: &mut Repository<LIMIT> = &mut self.repository;
+        let repository: &mut J = &mut self.repository;
         let before = repository.len();
         let answered = answer_whole(alloc, &mut self.commands, repository, line)?;
         let kept = before < repository.len();

@@ -1,5 +1,6 @@
 // Restoring the log of a script: pure functions over the bytes of its file.
 ghost use Rattle.std.specs.Prelude.{◌≡◌, ◌≤◌, ◌^◌, List, [], length, map, Ok, IfOk, IfErr};
+ghost use Rattle.batch_history.specs.Legal.{most_operations};
 ghost use Rattle.durable_log.specs.Files.{StandsFor};
 ghost use Rattle.durable_log.specs.Logs.{records_of, IsRest};
 ghost use Rattle.durable_log.specs.Shown.{record_shown, IsEnd};
@@ -17,6 +18,7 @@ use crate::catalogue::has_grown;
 use crate::engine::ScriptEngine;
 use crate::fault::LogFault;
 use durable_log::{CleanLog, End, LogFile, ReadFault, Record, read_log, restored, with_record};
+use job_repository::JobRepository;
 use jsl_model::Catalogue;
 use script_log::{CATALOGUE_MARK, ReplayFault, replay};
 use std::alloc::{AllocError, Global};
@@ -53,21 +55,21 @@ impl From<AllocError> for OpeningFault {
 
 /// The restored log of a script, and the engine that represents the history of its records.
 #[derive(Drop)]
-pub struct RestoredLog {
+pub struct RestoredLog<J: JobRepository> {
     /// The bytes of the new file, and the place at which its log goes on.
     pub file: LogFile,
     /// The bytes after the records of the old file, if its end wasn't clean.
     pub cut: Vec<u8>,
     /// The engine.
-    pub engine: ScriptEngine,
+    pub engine: ScriptEngine<J>,
 }
 
 // A log whose lines were run again.
 #[derive(Drop)]
-struct Replayed {
+struct Replayed<J: JobRepository> {
     end: End,
     grown: bool,
-    engine: ScriptEngine,
+    engine: ScriptEngine<J>,
 }
 
 // Returns the fault of a log whose file can't be read as one.
@@ -97,15 +99,15 @@ fn unanswered(fault: ReplayFault) -> OpeningFault
 }
 
 // Runs the lines of records again, over a fresh engine.
-fn replay_records(
+fn replay_records<J: JobRepository>(
     alloc: Global,
     records: &[Record<'_>],
-    mut engine: ScriptEngine,
+    mut engine: ScriptEngine<J>,
     line: &[u8],
-) -> Result<ScriptEngine, OpeningFault>
-    requires { Answers engine (replayed line.now []) }
+) -> Result<ScriptEngine<J>, OpeningFault>
+    requires { Answers J.limit J.stands engine (replayed line.now []) }
     ensures alike { IfOk result (λ _. AreAlike is_kept reply_at (replayed line.now []) (map record_shown records.now)) }
-    ensures answers { IfOk result (λ ran. Answers ran (replayed line.now (map record_shown records.now))) }
+    ensures answers { IfOk result (λ ran. Answers J.limit J.stands ran (replayed line.now (map record_shown records.now))) }
     ensures fault { IfErr result (λ fault. (why : WhyNot) × (fault ≡ fault_of_replay why)
         × IsReplayFault is_kept reply_at line.now (map record_shown records.now) why) }
 {
@@ -116,18 +118,19 @@ fn replay_records(
 }
 
 // Reads a log, and runs its lines again.
-fn replay_file(
+fn replay_file<J: JobRepository>(
     alloc: Global,
     file: &[u8],
     line: &[u8],
     catalogue: Catalogue,
-) -> Result<Replayed, OpeningFault>
-    requires { catalogue_at line.now ≡ Ok catalogue }
+) -> Result<Replayed<J>, OpeningFault>
+    requires limit { J.limit ≡ most_operations }
+    requires catalogue { catalogue_at line.now ≡ Ok catalogue }
     ensures whole { IfOk result (λ _. StandsFor (records_of file.now) file.now) }
     ensures end { IfOk result (λ ran. IsEnd file.now ran.end) }
     ensures goes_on { IfOk result (λ ran. GoesOnFrom (records_of file.now) line.now ran.grown) }
     ensures alike { IfOk result (λ _. AreAlike is_kept reply_at (replayed line.now []) (records_of file.now)) }
-    ensures answers { IfOk result (λ ran. Answers ran.engine (replayed line.now (records_of file.now))) }
+    ensures answers { IfOk result (λ ran. Answers J.limit J.stands ran.engine (replayed line.now (records_of file.now))) }
     ensures fault { IfErr result (IsOpeningFault file.now line.now) }
 {
     let contents = match read_log(alloc, file) {
@@ -190,13 +193,14 @@ fn new_file(
 /// - `Refused`, with the first fault in this order: `Foreign`, `Later`, `Damaged`; `Foreign` if
 ///   record 0 is no catalogue or the last catalogue can't be read; `OtherCatalogue`; `OtherReply`.
 /// - `OutOfMemory` if memory is refused, instead of any result.
-pub fn restore(
+pub fn restore<J: JobRepository>(
     alloc: Global,
     file: Vec<u8>,
     line: &[u8],
     catalogue: Catalogue,
-) -> Result<RestoredLog, OpeningFault>
-    requires { catalogue_at line.now ≡ Ok catalogue }
+) -> Result<RestoredLog<J>, OpeningFault>
+    requires limit { J.limit ≡ most_operations }
+    requires catalogue { catalogue_at line.now ≡ Ok catalogue }
     ensures begun { IfOk result (λ log. IsBegun file.items line.now (records_of log.file.bytes.items)) }
 
     // Each legal history over the log's catalogue is legal over the given one, with equal rows.
@@ -204,7 +208,7 @@ pub fn restore(
 
     ensures rest { IfOk result (λ log. IsRest log.file.bytes.items log.file.rest) }
     ensures cut { IfOk result (λ log. IsCutOff file.items log.cut.items) }
-    ensures answers { IfOk result (λ log. Answers log.engine (history_of (records_of log.file.bytes.items))) }
+    ensures answers { IfOk result (λ log. Answers J.limit J.stands log.engine (history_of (records_of log.file.bytes.items))) }
     ensures fault { IfErr result (IsOpeningFault file.items line.now) }
 {
     let ran = match replay_file(alloc, &file, line, catalogue) {

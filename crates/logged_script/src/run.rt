@@ -13,6 +13,7 @@ ghost use Rattle.logged_script.specs.Logged.{IsAnsweredOver, outcome_of_run};
 use crate::engine::ScriptEngine;
 use crate::outcome::{LoggedFault, unanswered};
 use durable_log::{Host, Log};
+use job_repository::JobRepository;
 use script_lines::InputBuffer;
 use script_log::{Reader, RunFault, answer_lines};
 use std::alloc::Global;
@@ -41,16 +42,16 @@ fn outcome_of(ran: Result<(), RunFault>) -> Result<(), LoggedFault>
 /// - `Log` if the file failed or is full. No reply to a line that isn't on the disk was sent.
 /// - `OutOfMemory` if memory is refused. The replies to the lines before were sent. At most one line
 ///   was read that has no reply.
-pub fn answer_restored<R: Reader<H>, H: Host>(
+pub fn answer_restored<J: JobRepository, R: Reader<H>, H: Host>(
     alloc: Global,
     input: &mut InputBuffer,
     source: &mut R,
     mut log: Log<H>,
-    mut engine: ScriptEngine,
+    mut engine: ScriptEngine<J>,
 ) -> (Result<(), LoggedFault>, H)
     requires settled { IsSettled H.seen H.heard H.may_leave log }
     requires nothing_waits { waiting_in log ≡ [] }
-    requires answers { Answers engine (history_of (records_of (H.seen log.host))) }
+    requires answers { Answers J.limit J.stands engine (history_of (records_of (H.seen log.host))) }
 
     // The reader is called only after the listener has heard the replies to all lines that were
     // delivered whole.

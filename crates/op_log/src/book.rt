@@ -5,31 +5,29 @@ ghost use Rattle.batch_history.specs.Due.{IsDue};
 ghost use Rattle.batch_history.specs.Legal.{after_call, grown, IsLegal};
 ghost use Rattle.batch_history.specs.Replies.{is_nothing, reply};
 ghost use Rattle.batch_history.specs.Rows.{History};
-ghost use Rattle.op_log.specs.Replied.{replied, StandsForSome};
-ghost use Rattle.seq_repository.specs.Kept.{IsNext, StandsFor};
+ghost use Rattle.op_log.specs.Replied.{replied};
 
 use batch_ids::{Moment, OutOfMemory, Refusal};
+use job_repository::{Answer, Call, Entry, JobRepository, Query, Reply};
 use jsl_model::Catalogue;
-use seq_repository::{Answer, Call, Entry, Query, Reply, Repository};
 use std::alloc::Global;
 use std::marker::Model;
 use std::mem::replace;
 
-/// A job repository, with the log of the operations that it accepted, at most `LIMIT` of them.
-/// Contracts see the history: the catalogue and the log, in the order of acceptance.
+/// A job repository, with the log of the operations that it accepted. Contracts see the history:
+/// the catalogue and the log, in the order of acceptance.
 ///
 /// Its type guarantees that the log is legal: each entry has the reply that its call was due after
 /// the entries before it. It also guarantees that the repository represents the history.
 #[derive(Debug, Drop)]
-pub struct Book<const LIMIT: u64> {
-    repository: Repository<LIMIT>,
+pub struct Book<J: JobRepository> {
+    repository: J,
     log: Vec<Entry>,
 }
 
-impl<const LIMIT: u64> Model for Book<LIMIT> {
+impl<J: JobRepository> Model for Book<J> {
     ghost use Rattle.batch_history.specs.Legal.{IsLegal};
     ghost use Rattle.batch_history.specs.Rows.{History};
-    ghost use Rattle.seq_repository.specs.Kept.{StandsFor};
     ghost use Rattle.jsl_model.specs.contracts.element.Body as body;
     ghost use Rattle.std.specs.Coded.{codes};
 
@@ -37,24 +35,25 @@ impl<const LIMIT: u64> Model for Book<LIMIT> {
 
     ghost coded = { Prim.hlevel (codes, body.the_row.coded) };
 
-    ghost view = { λ b. record { catalogue = b.repository.catalogue; log = b.log.items } };
+    ghost view = { λ b. record { catalogue = J.jobs b.repository; log = b.log.items } };
 
-    ghost invariant = { λ b. StandsFor b.repository record { catalogue = b.repository.catalogue; log = b.log.items } × IsLegal LIMIT record { catalogue = b.repository.catalogue; log = b.log.items } };
+    ghost invariant = { λ b. J.stands b.repository record { catalogue = J.jobs b.repository; log = b.log.items } × IsLegal J.limit record { catalogue = J.jobs b.repository; log = b.log.items } };
 }
 
-impl<const LIMIT: u64> Book<LIMIT> {
+impl<J: JobRepository> Book<J> {
     /// Creates a book with an empty log over this catalogue.
     ///
-    /// `LIMIT` is at most 1,000,000. All memory that the book takes later comes from `alloc`.
+    /// The repository's limit is at most 1,000,000. All memory that the book takes later comes from
+    /// `alloc`.
     ///
     /// # Errors
     ///
     /// None today: an empty book takes no memory.
-    pub fn new(alloc: Global, catalogue: Catalogue) -> Result<Book<LIMIT>, OutOfMemory>
-        requires { LIMIT ≤ 1000000 }
+    pub fn new(alloc: Global, catalogue: Catalogue) -> Result<Book<J>, OutOfMemory>
+        requires { J.limit ≤ 1000000 }
         ensures { result ≡ Ok record { catalogue = catalogue; log = [] } }
     {
-        let repository = Repository::new(alloc, catalogue)?;
+        let repository = J::new(alloc, catalogue)?;
         Ok(Book {
             repository,
             log: Vec::new(alloc),
@@ -64,7 +63,7 @@ impl<const LIMIT: u64> Book<LIMIT> {
     /// Returns the number of accepted operations. It takes no memory.
     pub fn len(&self) -> usize
         ensures length { result ≡ length self.now.log }
-        ensures legal { IsLegal LIMIT self.now }
+        ensures legal { IsLegal J.limit self.now }
     {
         self.log.len()
     }
@@ -83,15 +82,15 @@ impl<const LIMIT: u64> Book<LIMIT> {
     ///
     /// The log grows by doubling. So for the log, an accepted call takes constant time on average,
     /// and at worst time proportional to the length of the log. In addition, it takes the time and
-    /// memory of `Repository::apply`.
+    /// memory of `JobRepository::apply`.
     ///
     /// # Errors
     ///
     /// The first refusal of the call that applies. After the call's own refusals, `RepositoryFull`
-    /// if the log has `LIMIT` entries. It may return `OutOfMemory` instead of any of these results.
-    /// A refused call changes nothing.
+    /// if the log has as many entries as the limit says. It may return `OutOfMemory` instead of any
+    /// of these results. A refused call changes nothing.
     pub fn act(&mut self, who: u64, call: Call, at: Moment) -> Result<Reply, Refusal>
-        ensures reply { IsDue result (reply LIMIT self.old who call) }
+        ensures reply { IsDue result (reply J.limit self.old who call) }
         ensures after { IfOk result (λ reply. self.new ≡ after_call self.old who call at reply) }
         ensures refused { OnErr result (self.new ≡ self.old) }
     {
@@ -131,21 +130,21 @@ impl<const LIMIT: u64> Book<LIMIT> {
 
 /// Decides an entry's call. Enters it with its reply if the call is accepted and the reply is not
 /// Nothing. The log then has room for one more entry, and doesn't change.
-fn enter_due<const LIMIT: u64>(
-    repository: &mut Repository<LIMIT>,
+fn enter_due<J: JobRepository>(
+    repository: &mut J,
     log: &mut Vec<Entry>,
     entry: &mut Entry,
 ) -> Result<Reply, Refusal>
-    requires stands { StandsForSome LIMIT repository.old }
-    ensures due { (h : History) → StandsFor repository.old h
-        → IsDue result (reply LIMIT h entry.old.who entry.old.call) }
+    requires stands { (h : History) × J.stands repository.old h × IsLegal J.limit h }
+    ensures due { (h : History) → J.stands repository.old h
+        → IsDue result (reply J.limit h entry.old.who entry.old.call) }
     ensures log { log.new.items ≡ log.old.items }
     ensures room { OnOk result (vec_len log.new < vec_capacity log.new) }
     ensures replied { IfOk result (λ given. is_nothing given ≡ false
         → entry.new ≡ replied entry.old given) }
     ensures entered { IfOk result (λ given. is_nothing given ≡ false → (h : History)
-        → IsLegal LIMIT h → StandsFor repository.old h
-        → StandsFor repository.new (grown h (replied entry.old given))) }
+        → IsLegal J.limit h → J.stands repository.old h
+        → J.stands repository.new (grown h (replied entry.old given))) }
     ensures nothing { IfOk result (λ given. is_nothing given ≡ true
         → repository.new ≡ repository.old) }
     ensures refused { OnErr result (repository.new ≡ repository.old) }
@@ -162,13 +161,13 @@ fn enter_due<const LIMIT: u64>(
 
 /// Returns the reply that an entry's call is due. The log then has room for one more entry, and
 /// doesn't change.
-fn due_with_room<const LIMIT: u64>(
-    repository: &Repository<LIMIT>,
+fn due_with_room<J: JobRepository>(
+    repository: &J,
     log: &mut Vec<Entry>,
     entry: &Entry,
 ) -> Result<Reply, Refusal>
-    ensures due { (h : History) → StandsFor repository.now h
-        → IsDue result (reply LIMIT h entry.now.who entry.now.call) }
+    ensures due { (h : History) → J.stands repository.now h
+        → IsDue result (reply J.limit h entry.now.who entry.now.call) }
     ensures log { log.new.items ≡ log.old.items }
     ensures room { OnOk result (vec_len log.new < vec_capacity log.new) }
 {
@@ -177,18 +176,18 @@ fn due_with_room<const LIMIT: u64>(
 }
 
 /// Enters an entry with the reply that its call is due, unless the reply is Nothing.
-fn enter_accepted<const LIMIT: u64>(
-    repository: &mut Repository<LIMIT>,
+fn enter_accepted<J: JobRepository>(
+    repository: &mut J,
     entry: &mut Entry,
     reply: &Reply,
 ) -> Result<(), OutOfMemory>
     requires next { is_nothing reply.now ≡ false
-        → IsNext LIMIT repository.old (replied entry.old reply.now) }
+        → (h : History) × J.stands repository.old h × IsLegal J.limit (grown h (replied entry.old reply.now)) }
     ensures replied { OnOk result (is_nothing reply.now ≡ false
         → entry.new ≡ replied entry.old reply.now) }
     ensures entered { OnOk result (is_nothing reply.now ≡ false → (h : History)
-        → IsLegal LIMIT h → StandsFor repository.old h
-        → StandsFor repository.new (grown h (replied entry.old reply.now))) }
+        → IsLegal J.limit h → J.stands repository.old h
+        → J.stands repository.new (grown h (replied entry.old reply.now))) }
     ensures nothing { OnOk result (is_nothing reply.now ≡ true
         → repository.new ≡ repository.old) }
     ensures refused { OnErr result (repository.new ≡ repository.old) }

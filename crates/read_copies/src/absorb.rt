@@ -1,9 +1,11 @@
 use batch_ids::{OutOfMemory, Refusal};
+use jsl_model::Catalogue;
 use op_log::Entry;
+use std::alloc::Global;
 
 /// The state after the first operations of a log, which answers questions about them.
 pub trait Absorb: Drop {
-    ghost use Rattle.std.specs.Prelude.{◌≡◌, ◌∷◌, ◌++◌, [], List, Result, OnErr, OnOk};
+    ghost use Rattle.std.specs.Prelude.{◌≡◌, ◌∷◌, ◌++◌, [], List, Result, IfOk, OnErr, OnOk};
     ghost use Rattle.batch_history.specs.Due.{IsDue};
     ghost use Rattle.batch_history.specs.declared.call.Entry.{Entry};
     ghost use Rattle.batch_ids.specs.declared.refusal.Refusal.{Refusal};
@@ -21,6 +23,18 @@ pub trait Absorb: Drop {
 
     /// The answer to a question after a log over a catalogue.
     ghost answer: { List JobTree → List Entry → Self.Ask → Result Self.Said Refusal };
+
+    /// What a state is begun under.
+    ghost can_begin: { Type 0 };
+
+    /// Returns the state after no operation, over this catalogue.
+    ///
+    /// # Errors
+    ///
+    /// Returns `OutOfMemory` if memory is refused.
+    fn begin(alloc: Global, catalogue: Catalogue) -> Result<Self, OutOfMemory>
+        requires { can_begin }
+        ensures { IfOk result (λ state. stands state catalogue []) };
 
     /// Absorbs the next operation.
     ///

@@ -7,6 +7,7 @@ ghost use Rattle.seat_rules.specs.Views.{Each, HasStop, informed};
 
 use crate::absorb::Absorb;
 use batch_ids::{OutOfMemory, Refusal};
+use op_log::JobRepository;
 use seat_rules::{CopySeat, SeatTable, Site};
 use sessions::{Desk, Session};
 use std::marker::Model;
@@ -36,11 +37,7 @@ impl<S: Absorb, N: Site> Model for Copied<S, N> {
 impl<S: Absorb, N: Site> Copied<S, N> {
     /// Returns a copy that has absorbed nothing, and whose state represents the empty log.
     /// Allocates nothing.
-    pub fn new<const LIMIT: u64>(
-        state: S,
-        desk: &mut Desk<N, LIMIT>,
-        table: &SeatTable,
-    ) -> Copied<S, N>
+    pub fn new<J: JobRepository>(state: S, desk: &mut Desk<N, J>, table: &SeatTable) -> Copied<S, N>
         requires table { table.now ≡ N.place }
         requires alone { desk.old.hosted ≡ [] }
         requires empty { S.stands state N.place.catalogue [] }
@@ -102,9 +99,9 @@ impl<S: Absorb, N: Site> Copied<S, N> {
     ///
     /// Returns `OutOfMemory` if memory is refused. The copy then has the operations that it
     /// absorbed before.
-    pub fn bring<const LIMIT: u64>(
+    pub fn bring<J: JobRepository>(
         &mut self,
-        desk: &mut Desk<N, LIMIT>,
+        desk: &mut Desk<N, J>,
         table: &SeatTable,
     ) -> Result<(), OutOfMemory>
         requires table { table.now ≡ N.place }
@@ -120,10 +117,10 @@ impl<S: Absorb, N: Site> Copied<S, N> {
     }
 }
 
-fn absorb_rest<S: Absorb, N: Site, const LIMIT: u64>(
+fn absorb_rest<S: Absorb, N: Site, J: JobRepository>(
     state: &mut S,
     entries: &mut u64,
-    desk: &Desk<N, LIMIT>,
+    desk: &Desk<N, J>,
 ) -> Result<(), OutOfMemory>
     requires stands { S.stands state.old N.place.catalogue (take entries.old desk.now.log) }
     requires short { entries.old ≤ length desk.now.log }

@@ -9,6 +9,7 @@ ghost use Rattle.seat_rules.specs.Views.{Each, HasStop, informed};
 use crate::absorb::Absorb;
 use crate::copied::Copied;
 use batch_ids::{OutOfMemory, Refusal};
+use op_log::JobRepository;
 use seat_rules::{SeatTable, Site};
 use sessions::{Desk, Session};
 use std::alloc::Global;
@@ -35,10 +36,10 @@ impl<S: Absorb, N: Site> Copies<S, N> {
     /// # Errors
     ///
     /// Returns `OutOfMemory` if memory is refused.
-    pub fn new<const LIMIT: u64>(
+    pub fn new<J: JobRepository>(
         alloc: Global,
         states: Vec<S>,
-        desk: &mut Desk<N, LIMIT>,
+        desk: &mut Desk<N, J>,
         table: &SeatTable,
     ) -> Result<Copies<S, N>, OutOfMemory>
         requires table { table.now ≡ N.place }
@@ -103,11 +104,11 @@ impl<S: Absorb, N: Site> Copies<S, N> {
     ///
     /// Returns `OutOfMemory` if memory is refused. The copy then has the operations that it
     /// absorbed before.
-    pub fn publish<const LIMIT: u64>(
+    pub fn publish<J: JobRepository>(
         &self,
         rt: &impl Wait,
         j: usize,
-        desk: &mut Desk<N, LIMIT>,
+        desk: &mut Desk<N, J>,
         table: &SeatTable,
     ) -> Result<(), OutOfMemory>
         requires table { table.now ≡ N.place }

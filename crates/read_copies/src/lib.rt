@@ -12,4 +12,5 @@ mod status_counts;
 pub use absorb::Absorb;
 pub use copied::Copied;
 pub use copies::Copies;
+pub use states::RepositoryState;
 pub use status_counts::StatusCounts;

@@ -1,58 +1,38 @@
-ghost use Rattle.std.specs.Prelude.{◌≡◌, [], IfOk};
-ghost use Rattle.read_copies.specs.States.{StandsForCounts};
+ghost use Rattle.std.specs.Prelude.{◌≡◌};
+ghost use Rattle.batch_history.specs.Legal.{most_operations};
 
 use crate::absorb::Absorb;
 use batch_ids::{OutOfMemory, Refusal};
 use jsl_model::Catalogue;
-use op_log::{CountsByStatus, Entry, Repository};
+use op_log::{CountsByStatus, Entry, JobRepository};
 use std::alloc::Global;
-use std::marker::Model;
 
 /// The number of job executions with each batch status, beside a repository of its own. Thus a
 /// reader waits for no other query.
 #[derive(Drop)]
-pub struct StatusCounts {
-    repository: Repository<1_000_000>,
+pub struct StatusCounts<J: JobRepository> {
+    repository: J,
     counts: CountsByStatus,
 }
 
-impl Model for StatusCounts {
-    ghost use Rattle.jsl_model.specs.contracts.element.Body as body;
-    ghost use Rattle.read_copies.specs.States.{Counted};
-    ghost use Rattle.std.specs.Coded.{codes};
-
-    ghost Value = { Counted };
-
-    ghost coded = { Prim.hlevel (codes, body.the_row.coded) };
-
-    ghost view = { λ s. record { kept = s.repository; counts = s.counts } };
-}
-
-impl StatusCounts {
-    /// Returns the counts for an empty log over this catalogue.
-    ///
-    /// # Errors
-    ///
-    /// Returns `OutOfMemory` if memory is refused.
-    pub fn new(alloc: Global, catalogue: Catalogue) -> Result<StatusCounts, OutOfMemory>
-        ensures { IfOk result (λ state. StandsForCounts state catalogue []) }
-    {
-        let repository = Repository::new(alloc, catalogue)?;
-        let counts = repository.status_counts();
-        Ok(StatusCounts { repository, counts })
-    }
-}
-
-impl Absorb for StatusCounts {
+impl<J: JobRepository> Absorb for StatusCounts<J> {
     ghost use Rattle.read_copies.specs.States.{StandsForCounts, counts_after};
 
     type Ask = ();
 
     type Said = CountsByStatus;
 
-    ghost stands = { StandsForCounts };
+    ghost can_begin = { J.limit ≡ most_operations };
+
+    ghost stands = { λ state. StandsForCounts J.limit (J.stands state.repository) state.counts };
 
     ghost answer = { counts_after };
+
+    fn begin(alloc: Global, catalogue: Catalogue) -> Result<StatusCounts<J>, OutOfMemory> {
+        let repository = J::new(alloc, catalogue)?;
+        let counts = repository.status_counts();
+        Ok(StatusCounts { repository, counts })
+    }
 
     fn absorb(&mut self, entry: &Entry) -> Result<(), OutOfMemory> {
         self.repository.enter(entry)?;

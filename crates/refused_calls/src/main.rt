@@ -12,29 +12,12 @@
 //! made again without marks. The other lines are for the object.
 #![tactic(auto)]
 
-mod books;
-mod catalogues;
-mod copies;
-mod desks;
-mod jobs;
-mod lines;
-mod logs;
-mod memory;
-mod operators;
-mod parameters;
-mod pools;
 mod programs;
-mod readings;
-mod restarts;
-mod rows;
 mod states;
-mod texts;
-mod walks;
-mod workers;
-mod worlds;
 
 use anyhow::{Result, bail};
-use lines::{Line, Script, echoed};
+use batch_service::Repository;
+use call_lines::{Line, Script, echoed};
 use std::rt::Env;
 use std::sync::Wait;
 use std::thread::Threads;
@@ -48,14 +31,14 @@ fn run_values<R: Wait + Print + AllocGlobal>(rt: &R, kind: &str, lines: &str) ->
     for text in lines.lines() {
         let line = echoed(rt, text)?;
         match kind {
-            "texts" => texts::run_text(rt, line)?,
-            "parameters" => parameters::run_parameters(rt, line)?,
-            "jobs" => jobs::run_job(rt, line)?,
-            "rows" => rows::run_row(rt, line)?,
-            "restarts" => restarts::run_restart(rt, line)?,
-            "readings" => readings::run_reading(rt, line)?,
-            "logs" => logs::run_log(rt, line)?,
-            "workers" => workers::run_work(rt, line)?,
+            "texts" => value_calls::run_text(rt, line)?,
+            "parameters" => value_calls::run_parameters(rt, line)?,
+            "jobs" => value_calls::run_job(rt, line)?,
+            "rows" => value_calls::run_row(rt, line)?,
+            "restarts" => value_calls::run_restart(rt, line)?,
+            "readings" => program_calls::run_reading(rt, line)?,
+            "logs" => program_calls::run_log(rt, line)?,
+            "workers" => program_calls::run_work(rt, line)?,
             "arguments" => programs::run_arguments(rt, line)?,
             _ => bail!("no script is called {kind}"),
         }
@@ -71,16 +54,16 @@ fn run_object<R: Wait + Print + AllocGlobal>(
     script: Script<'_>,
 ) -> Result<bool> {
     match kind {
-        "book" => books::run_book::<_, 1_000_000>(rt, script),
-        "full_book" => books::run_book::<_, 2>(rt, script),
-        "repository" => books::run_repository::<_, 1_000_000>(rt, script),
-        "full_repository" => books::run_repository::<_, 2>(rt, script),
-        "desk" => desks::run_desk(rt, script, false),
-        "full_desk" => desks::run_desk(rt, script, true),
-        "copies" => copies::run_copies(rt, script),
+        "book" => repository_calls::run_book::<Repository<1_000_000>, _>(rt, script),
+        "full_book" => repository_calls::run_book::<Repository<2>, _>(rt, script),
+        "repository" => repository_calls::run_repository::<Repository<1_000_000>, _>(rt, script),
+        "full_repository" => repository_calls::run_repository::<Repository<2>, _>(rt, script),
+        "desk" => repository_calls::run_desk::<Repository<1_000_000>, _>(rt, script),
+        "full_desk" => repository_calls::run_desk::<Repository<2>, _>(rt, script),
+        "copies" => repository_calls::run_copies::<Repository<1_000_000>, _>(rt, script),
         "states" => states::run_states(rt, script),
-        "operator" => operators::run_operator(rt, script),
-        "world" => worlds::run_world(rt, script),
+        "operator" => repository_calls::run_operator::<Repository<1_000_000>, _>(rt, script),
+        "world" => repository_calls::run_world::<Repository<1_000_000>, _>(rt, script),
         _ => run_other(rt, kind, script),
     }
 }
@@ -92,13 +75,13 @@ fn run_other<R: Wait + Print + AllocGlobal>(
     script: Script<'_>,
 ) -> Result<bool> {
     match kind {
-        "events" => worlds::run_events(rt, script),
-        "catalogue" => catalogues::run_catalogue(rt, script),
-        "walk" => walks::run_walk(rt, script),
-        "commands" => readings::run_commands(rt, script.lines),
-        "lines" => readings::run_lines(rt, script),
-        "run_script" => readings::run_whole(rt, script),
-        "answer_script" => readings::answer_whole(rt, script),
+        "events" => repository_calls::run_events::<Repository<1_000_000>, _>(rt, script),
+        "catalogue" => value_calls::run_catalogue(rt, script),
+        "walk" => value_calls::run_walk(rt, script),
+        "commands" => program_calls::run_commands(rt, script.lines),
+        "lines" => program_calls::run_lines(rt, script),
+        "run_script" => program_calls::run_whole::<Repository<1_000_000>, _>(rt, script),
+        "answer_script" => program_calls::answer_whole::<Repository<1_000_000>, _>(rt, script),
         _ => {
             run_values(rt, kind, script.lines)?;
             Ok(true)
@@ -112,7 +95,7 @@ fn run_kind<R: Threads + Wait + Print + AllocGlobal + Sync>(
     script: Script<'_>,
 ) -> Result<bool> {
     match kind {
-        "pool" => pools::run_pools(rt, script),
+        "pool" => program_calls::run_pools::<Repository<1_000_000>, _>(rt, script),
         "program" => programs::run_program(rt, script),
         _ => run_object(rt, kind, script),
     }

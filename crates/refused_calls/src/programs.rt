@@ -1,7 +1,7 @@
 //! The words of a command line, and the program.
-use crate::lines::{Line, Made, Script, tell, tell_text};
 use anyhow::Result;
 use batch_commands::{arguments, program};
+use call_lines::{Line, Made, Script, tell, tell_text};
 use clap::Error;
 use std::alloc::Global;
 use std::sync::Wait;

@@ -2,15 +2,15 @@
 ghost use Rattle.std.specs.Prelude.{◌≡◌, slice_get, IfOk};
 ghost use Rattle.batch_history.specs.Legal.{IsLegal, most_operations};
 
-use crate::lines::{
-    Answered, Answers, Line, Made, Replied, Script, answer_lines, tell, tell_refused,
-};
-use crate::told;
 use anyhow::{Result, bail};
 use batch_ids::Moment;
+use batch_service::{Book, RepositoryState, StatusCounts};
+use call_lines::{
+    Answered, Answers, Line, Made, Replied, Script, answer_lines, tell, tell_refused, told,
+};
 use jsl_json::read_catalogue;
-use op_log::{Book, Call, Entry, Query, Repository};
-use read_copies::{Absorb, StatusCounts};
+use op_log::{Call, Entry, Query};
+use read_copies::Absorb;
 use std::alloc::Global;
 use std::marker::Model;
 use std::sync::Wait;
@@ -20,7 +20,7 @@ use std::sync::Wait;
 #[derive(Drop)]
 struct Behind {
     book: Book<1_000_000>,
-    copy: Repository<1_000_000>,
+    copy: RepositoryState,
     counts: StatusCounts,
     counted: u64,
 }
@@ -33,7 +33,7 @@ impl Model for Behind {
 
     ghost view = { λ b. b.counted };
 
-    ghost invariant = { λ b. AreBehind b.book b.copy b.counts b.counted };
+    ghost invariant = { λ b. AreBehind b.book b.copy.repository b.counts b.counted };
 }
 
 /// Returns the operation of a book with this number, from 0 on.
@@ -53,17 +53,17 @@ fn operation_of(book: &Book<1_000_000>, number: u64) -> Result<&Entry>
 impl Behind {
     /// Enters the next operation into the copy after a preview of its call.
     fn enter(&mut self, alloc: Global, line: Line<'_>) -> Result<Made<()>> {
-        let entry = operation_of(&self.book, self.copy.len())?;
-        drop(self.copy.preview(entry.who, &entry.call));
+        let entry = operation_of(&self.book, self.copy.repository.len())?;
+        drop(self.copy.repository.preview(entry.who, &entry.call));
         line.mark(alloc);
-        let entered = self.copy.enter(entry);
+        let entered = self.copy.repository.enter(entry);
         line.mark(alloc);
         Ok(entered)
     }
 
     /// Lets the copy absorb the next operation, as a state of a read copy.
     fn absorb(&mut self, alloc: Global, line: Line<'_>) -> Result<Made<()>> {
-        let entry = operation_of(&self.book, self.copy.len())?;
+        let entry = operation_of(&self.book, self.copy.repository.len())?;
         line.mark(alloc);
         let absorbed = self.copy.absorb(entry);
         line.mark(alloc);
@@ -101,7 +101,7 @@ impl Answers for Behind {
 
     /// Asks the copy, which has to have all operations.
     fn ask<R: Wait>(&mut self, _rt: &R, query: Query) -> Result<Answered> {
-        if self.copy.len() < self.book.len() as u64 {
+        if self.copy.repository.len() < self.book.len() as u64 {
             drop(query);
             bail!("the copy lacks operations");
         }
@@ -114,7 +114,7 @@ impl Answers for Behind {
             "absorb" => tell(rt, self.absorb(rt.alloc(), line)?),
             "count" => tell(rt, self.count(rt.alloc(), line)?),
             "counts" => self.tell_counts(rt, line),
-            "show" => tell(rt, &self.copy),
+            "show" => tell(rt, &self.copy.repository),
             _ => bail!("{}: no line of a state", line.text),
         }
     }
@@ -130,9 +130,9 @@ pub(crate) fn run_states<R: Wait + Print + AllocGlobal>(
     let of_copy = catalogue.try_clone()?;
     let of_counts = catalogue.try_clone()?;
     let book = Book::new(alloc, catalogue);
-    let copy = Repository::new(alloc, of_copy);
+    let copy = RepositoryState::begin(alloc, of_copy);
     script.first.mark(alloc);
-    let counts = StatusCounts::new(alloc, of_counts);
+    let counts = StatusCounts::begin(alloc, of_counts);
     script.first.mark(alloc);
     match (book, copy, counts) {
         (Ok(book), Ok(copy), Ok(counts)) => {

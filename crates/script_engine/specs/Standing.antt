@@ -1,8 +1,10 @@
 -- The history of a repository that replies to lines.
+use Rattle.std.specs.Prelude.{ℕ, ◌≡◌}
 use Rattle.batch_history.specs.Legal.{IsLegal, most_operations}
 use Rattle.batch_history.specs.Rows.{History}
-use Rattle.seq_repository.specs.Kept.{Kept, StandsFor}
 
--- a repository represents a legal history
-abbrev pub Stands : Kept → History → Type 0
-Stands kept h = StandsFor kept h × IsLegal most_operations h
+-- a repository of 1,000,000 operations represents a legal history. `stands` says which histories it represents
+pub record Stands (limit : ℕ) (stands : History → Type 0) (h : History) : Type 0 where
+  pub limit_is : limit ≡ most_operations
+  pub stood : stands h
+  pub legal : IsLegal most_operations h

@@ -13,13 +13,10 @@ ghost use Rattle.script_engine.specs.declared.summary.Kind.TheVariants.{Refused,
 
 use crate::summary::Kind;
 use batch_ids::{Moment, OutOfMemory, Refusal};
+use job_repository::{Answer, Call, JobRepository, Query, Reply};
 use script_lines::Line;
 use script_text::{Command, CommandReader, answer_text, bad_line_text, reply_text};
-use seq_repository::{Answer, Call, Query, Reply, Repository};
 use std::alloc::{AllocError, Global};
-
-/// The most operations that the repository of a script accepts.
-pub const LIMIT: u64 = 1_000_000;
 
 /// The reply to a line, with the line's kind.
 #[derive(Drop)]
@@ -33,18 +30,18 @@ pub struct Answered {
 /// Replies to a line after the operations before it. After an `Err` the repository's history is not
 /// determined.
 #[tactic(auto, unfolding(crate::specs::Script::line_text, crate::specs::Script::line_after, crate::specs::Summaries::line_kind))]
-pub(crate) fn answer(
+pub(crate) fn answer<J: JobRepository>(
     alloc: Global,
     commands: &mut CommandReader,
-    repository: &mut Repository<LIMIT>,
+    repository: &mut J,
     line: &Line,
 ) -> Result<Answered, OutOfMemory>
-    ensures text { (h : History) → Stands repository.old h
+    ensures text { (h : History) → Stands J.limit (J.stands repository.old) h
         → IfOk result (λ answered. (bytes : List ℕ) → Shows line.now bytes → answered.text.items ≡ line_text h bytes) }
-    ensures kind { (h : History) → Stands repository.old h
+    ensures kind { (h : History) → Stands J.limit (J.stands repository.old) h
         → IfOk result (λ answered. (bytes : List ℕ) → Shows line.now bytes → answered.kind ≡ line_kind h bytes) }
-    ensures after { (h : History) → Stands repository.old h
-        → OnOk result ((bytes : List ℕ) → Shows line.now bytes → Stands repository.new (line_after h bytes)) }
+    ensures after { (h : History) → Stands J.limit (J.stands repository.old) h
+        → OnOk result ((bytes : List ℕ) → Shows line.now bytes → Stands J.limit (J.stands repository.new) (line_after h bytes)) }
 {
     match line {
         Line::Whole(bytes) => answer_whole(alloc, commands, repository, bytes),
@@ -59,18 +56,18 @@ pub(crate) fn answer(
 ///
 /// Returns `OutOfMemory` if memory is refused. The repository's history is not determined then.
 #[tactic(auto, unfolding(crate::specs::Script::line_text, crate::specs::Script::line_after, crate::specs::Summaries::line_kind))]
-pub fn answer_whole(
+pub fn answer_whole<J: JobRepository>(
     alloc: Global,
     commands: &mut CommandReader,
-    repository: &mut Repository<LIMIT>,
+    repository: &mut J,
     bytes: &[u8],
 ) -> Result<Answered, OutOfMemory>
-    ensures text { length bytes.now ≤ MAX_LINE → (h : History) → Stands repository.old h
+    ensures text { length bytes.now ≤ MAX_LINE → (h : History) → Stands J.limit (J.stands repository.old) h
         → IfOk result (λ answered. answered.text.items ≡ line_text h bytes.now) }
-    ensures kind { length bytes.now ≤ MAX_LINE → (h : History) → Stands repository.old h
+    ensures kind { length bytes.now ≤ MAX_LINE → (h : History) → Stands J.limit (J.stands repository.old) h
         → IfOk result (λ answered. answered.kind ≡ line_kind h bytes.now) }
-    ensures after { length bytes.now ≤ MAX_LINE → (h : History) → Stands repository.old h
-        → OnOk result (Stands repository.new (line_after h bytes.now)) }
+    ensures after { length bytes.now ≤ MAX_LINE → (h : History) → Stands J.limit (J.stands repository.old) h
+        → OnOk result (Stands J.limit (J.stands repository.new) (line_after h bytes.now)) }
 {
     if bytes.is_empty() {
         return Ok(Answered {
@@ -83,14 +80,14 @@ pub fn answer_whole(
 }
 
 /// Replies to a command.
-fn answer_command(
+fn answer_command<J: JobRepository>(
     alloc: Global,
-    repository: &mut Repository<LIMIT>,
+    repository: &mut J,
     command: Command,
 ) -> Result<Answered, OutOfMemory>
-    ensures text { (h : History) → Stands repository.old h → IfOk result (λ answered. answered.text.items ≡ text_for h command) }
-    ensures kind { (h : History) → Stands repository.old h → IfOk result (λ answered. answered.kind ≡ kind_for h command) }
-    ensures after { (h : History) → Stands repository.old h → OnOk result (Stands repository.new (history_for h command)) }
+    ensures text { (h : History) → Stands J.limit (J.stands repository.old) h → IfOk result (λ answered. answered.text.items ≡ text_for h command) }
+    ensures kind { (h : History) → Stands J.limit (J.stands repository.old) h → IfOk result (λ answered. answered.kind ≡ kind_for h command) }
+    ensures after { (h : History) → Stands J.limit (J.stands repository.old) h → OnOk result (Stands J.limit (J.stands repository.new) (history_for h command)) }
 {
     match command {
         Command::BadLine => reply_bad_line(alloc),
@@ -144,16 +141,16 @@ fn kind_of<R>(reply: &Result<R, Refusal>) -> Result<Kind, OutOfMemory>
 }
 
 /// Replies to a call.
-fn act(
+fn act<J: JobRepository>(
     alloc: Global,
-    repository: &mut Repository<LIMIT>,
+    repository: &mut J,
     by: u64,
     at: Moment,
     call: Call,
 ) -> Result<Answered, OutOfMemory>
-    ensures text { (h : History) → Stands repository.old h → IfOk result (λ answered. answered.text.items ≡ text_for h (Act by at call)) }
-    ensures kind { (h : History) → Stands repository.old h → IfOk result (λ answered. answered.kind ≡ kind_for h (Act by at call)) }
-    ensures after { (h : History) → Stands repository.old h → OnOk result (Stands repository.new (history_for h (Act by at call))) }
+    ensures text { (h : History) → Stands J.limit (J.stands repository.old) h → IfOk result (λ answered. answered.text.items ≡ text_for h (Act by at call)) }
+    ensures kind { (h : History) → Stands J.limit (J.stands repository.old) h → IfOk result (λ answered. answered.kind ≡ kind_for h (Act by at call)) }
+    ensures after { (h : History) → Stands J.limit (J.stands repository.old) h → OnOk result (Stands J.limit (J.stands repository.new) (history_for h (Act by at call))) }
 {
     let reply = repository.apply(by, &call, at);
     let answered = reply_line(alloc, &reply);
@@ -162,13 +159,13 @@ fn act(
 }
 
 /// Replies to a query.
-fn ask(
+fn ask<J: JobRepository>(
     alloc: Global,
-    repository: &Repository<LIMIT>,
+    repository: &J,
     query: &Query,
 ) -> Result<Answered, OutOfMemory>
-    ensures text { (h : History) → Stands repository.now h → IfOk result (λ answered. answered.text.items ≡ text_for h (Ask query.now)) }
-    ensures kind { (h : History) → Stands repository.now h → IfOk result (λ answered. answered.kind ≡ kind_for h (Ask query.now)) }
+    ensures text { (h : History) → Stands J.limit (J.stands repository.now) h → IfOk result (λ answered. answered.text.items ≡ text_for h (Ask query.now)) }
+    ensures kind { (h : History) → Stands J.limit (J.stands repository.now) h → IfOk result (λ answered. answered.kind ≡ kind_for h (Ask query.now)) }
 {
     let answer = repository.ask(query);
     let answered = answer_line(alloc, &answer);

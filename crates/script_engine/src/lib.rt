@@ -11,7 +11,7 @@ mod run;
 mod start;
 mod summary;
 
-pub use answer::{Answered, LIMIT, answer_whole};
+pub use answer::{Answered, answer_whole};
 pub use catalogue::{catalogue_in, tell_fault};
 pub use fault::EngineFault;
 pub use jsl_json::ReadFault;

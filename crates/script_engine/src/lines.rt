@@ -21,7 +21,7 @@ impl<S: Source + Drop> Lines<S> {
     ///
     /// # Errors
     ///
-    /// Returns `OutOfMemory` if memory for 65,536 bytes is refused. The reader is dropped.
+    /// Returns `OutOfMemory` if memory for 1,048,576 bytes is refused. The reader is dropped.
     pub fn new(alloc: Global, source: S) -> Result<Lines<S>, OutOfMemory>
         ensures reader { IfOk result (λ lines. S.tape lines.source ≡ S.tape source) }
         ensures begun { IfOk result (λ lines. (lines.input ≡ nothing_read) × (lines.failed ≡ false)) }

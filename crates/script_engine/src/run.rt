@@ -1,20 +1,20 @@
 ghost use Rattle.std.specs.Prelude.{◌≡◌, ◌≤◌, [], length, Err, IfOk, box_value};
 ghost use Rattle.script_lines.specs.declared.input_buffer.TheConstants.{MAX_READS};
 ghost use Rattle.script_engine.specs.declared.fault.EngineFault.TheVariants.{Read};
-ghost use Rattle.seq_repository.specs.Kept.{StandsFor};
+ghost use Rattle.batch_history.specs.Legal.{most_operations};
 ghost use Rattle.script_engine.specs.Script.{begin};
 ghost use Rattle.script_engine.specs.InTurn.{MayReadInTurn};
 ghost use Rattle.script_engine.specs.Ran.{Ran, RanInMemory, RanSoFar, HoldsReplies, has_writer_failed};
 
-use crate::answer::{LIMIT, answer};
+use crate::answer::answer;
 use crate::catalogue::{catalogue_in, tell_fault};
 use crate::fault::EngineFault;
 use crate::summary::Summary;
 use batch_ids::OutOfMemory;
+use job_repository::JobRepository;
 use jsl_model::Catalogue;
 use script_lines::{Counted, InputBuffer, OutputBuffer, Sink, SliceSource, SourceInTurn};
 use script_text::CommandReader;
-use seq_repository::Repository;
 use std::alloc::{AllocError, Global};
 
 /// Makes a repository over this catalogue, without operations, on the heap.
@@ -22,13 +22,14 @@ use std::alloc::{AllocError, Global};
 /// # Errors
 ///
 /// Returns `OutOfMemory` if memory is refused. The catalogue is dropped.
-pub fn boxed_repository(
+pub fn boxed_repository<J: JobRepository>(
     alloc: Global,
     catalogue: Catalogue,
-) -> Result<Box<Repository<LIMIT>>, OutOfMemory>
-    ensures { IfOk result (λ repository. StandsFor (box_value repository) (begin catalogue)) }
+) -> Result<Box<J>, OutOfMemory>
+    requires { J.limit ≤ 1000000 }
+    ensures { IfOk result (λ repository. J.stands (box_value repository) (begin catalogue)) }
 {
-    match Box::new(alloc, Repository::new(alloc, catalogue)?) {
+    match Box::new(alloc, J::new(alloc, catalogue)?) {
         Ok(repository) => Ok(repository),
         Err(refused) => {
             drop(refused);
@@ -38,12 +39,13 @@ pub fn boxed_repository(
 }
 
 /// Runs a script, and leaves the last replies in the output.
-fn run<R: SourceInTurn<W>, W: Sink>(
+fn run<J: JobRepository, R: SourceInTurn<W>, W: Sink>(
     alloc: Global,
     reader: &mut R,
     output: &mut OutputBuffer,
     writer: &mut W,
 ) -> Result<Summary, EngineFault>
+    requires limit { J.limit ≡ most_operations }
     requires empty { output.old ≡ [] }
     requires in_turn { MayReadInTurn (R.tape reader.old) (W.tape writer.old) R.may_read }
     ensures { RanSoFar (R.tape reader.old) (R.tape reader.new) (W.tape writer.old) (W.tape writer.new) output.new result }
@@ -54,8 +56,8 @@ fn run<R: SourceInTurn<W>, W: Sink>(
         Ok(catalogue) => catalogue,
         Err(fault) => return Err(tell_fault(alloc, output, writer, fault)),
     };
-    let mut boxed = boxed_repository(alloc, catalogue)?;
-    let repository: &mut Repository<LIMIT> = &mut boxed;
+    let mut boxed = boxed_repository::<J>(alloc, catalogue)?;
+    let repository: &mut J = &mut boxed;
     let mut commands = CommandReader::new(alloc);
     let mut summary = Summary::default();
     while let Some(line) = input.next_line(reader, output, writer)? {
@@ -87,7 +89,7 @@ fn has_writer_failed(outcome: &Result<Summary, EngineFault>) -> bool
 /// and no catalogue.
 ///
 /// At most 1,000,000 operations are accepted. They are entered into the rows of a repository, and
-/// none is stored as an entry. Replies are collected, 65,536 bytes at most. They are written before
+/// none is stored as an entry. Replies are collected, 1,048,576 bytes at most. They are written before
 /// the reader is called again, and at the end. So the reader may wait for the replies to all lines
 /// before the next.
 ///
@@ -99,11 +101,12 @@ fn has_writer_failed(outcome: &Result<Summary, EngineFault>) -> bool
 ///   to the complete lines were written.
 /// - `Write` if the writer failed. It has a beginning of the replies to the lines read.
 /// - `OutOfMemory` if memory is refused. The replies to the lines before were written.
-pub fn run_script<R: SourceInTurn<W>, W: Sink>(
+pub fn run_script<J: JobRepository, R: SourceInTurn<W>, W: Sink>(
     alloc: Global,
     reader: &mut R,
     writer: &mut W,
 ) -> Result<Summary, EngineFault>
+    requires limit { J.limit ≡ most_operations }
     // The reader is called only after the writer has taken the replies to all lines that were
     // delivered whole.
     requires in_turn { MayReadInTurn (R.tape reader.old) (W.tape writer.old) R.may_read }
@@ -111,7 +114,7 @@ pub fn run_script<R: SourceInTurn<W>, W: Sink>(
     ensures { Ran (R.tape reader.old) (R.tape reader.new) (W.tape writer.old) (W.tape writer.new) result }
 {
     let mut output = OutputBuffer::new(alloc)?;
-    let outcome = run(alloc, reader, &mut output, writer);
+    let outcome = run::<J, R, W>(alloc, reader, &mut output, writer);
     if has_writer_failed(&outcome) {
         return outcome;
     }
@@ -125,13 +128,17 @@ pub fn run_script<R: SourceInTurn<W>, W: Sink>(
 /// After `OutOfMemory` the text has the replies to the lines before. After `Write`, which means
 /// that memory for the text was refused, it has a beginning of them. No read fails. `Read` is
 /// returned only for a script of at least [`MAX_READS`](crate::MAX_READS) bytes.
-pub fn answer_script(alloc: Global, script: &[u8]) -> (Vec<u8>, Result<Summary, EngineFault>)
+pub fn answer_script<J: JobRepository>(
+    alloc: Global,
+    script: &[u8],
+) -> (Vec<u8>, Result<Summary, EngineFault>)
+    requires { J.limit ≡ most_operations }
     ensures replies { HoldsReplies script.now result.0.items result.1 }
     ensures ran { RanInMemory script.now result.0.items result.1 }
     ensures long { result.1 ≡ Err Read → MAX_READS ≤ length script.now }
 {
     let mut reader = SliceSource::new(script);
     let mut writer = Counted::new(Vec::new(alloc));
-    let outcome = run_script(alloc, &mut reader, &mut writer);
+    let outcome = run_script::<J, _, _>(alloc, &mut reader, &mut writer);
     (writer.into_inner(), outcome)
 }

@@ -24,7 +24,7 @@ pub record Told : Type 0 where
 
 -- the number of bytes for which a read must offer room
 abbrev pub wide : ℕ
-wide = 65536
+wide = 1048576
 
 -- the number of narrow calls after one more call
 abbrev pub narrow_after : ℕ → ℕ → ℕ

@@ -11,13 +11,13 @@ use std::alloc::{AllocError, Global};
 use std::marker::Model;
 
 // The number of bytes in a read.
-const CHUNK: usize = 65536;
+const CHUNK: usize = 1_048_576;
 
 /// The most calls of a reader by one [`InputBuffer`].
 pub const MAX_READS: u64 = 1 << 40;
 
 /// The bytes that were read from a reader and haven't been used yet. It belongs to one reader,
-/// which must be the same at each call. It has a buffer of 65,536 bytes, which is allocated once.
+/// which must be the same at each call. It has a buffer of 1,048,576 bytes, which is allocated once.
 #[derive(Drop)]
 pub struct InputBuffer {
     alloc: Global,
@@ -123,7 +123,7 @@ impl InputBuffer {
         }
     }
 
-    /// Calls the reader once, for at most 65,536 bytes. All bytes at hand must be used:
+    /// Calls the reader once, for at most 1,048,576 bytes. All bytes at hand must be used:
     /// [`InputBuffer::line_at_hand`] has returned an [`AtHand::Part`].
     ///
     /// # Errors

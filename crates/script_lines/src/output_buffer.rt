@@ -7,7 +7,7 @@ use std::alloc::{AllocError, Global};
 use std::marker::Model;
 
 /// The most bytes that may wait in an [`OutputBuffer`].
-pub const OUTPUT_BUFFER_SIZE: usize = 65536;
+pub const OUTPUT_BUFFER_SIZE: usize = 1_048_576;
 
 /// Output that waits to be written, in a buffer of [`OUTPUT_BUFFER_SIZE`] bytes that never grows.
 /// Contracts see the waiting bytes.
@@ -89,7 +89,7 @@ impl OutputBuffer {
     /// `DeviceFault` if the writer failed. It has then taken a front of the waiting bytes and
     /// `text`. The waiting bytes from then on are not specified: the output is of no more use.
     pub fn put<W: Sink>(&mut self, writer: &mut W, text: &[u8]) -> Result<(), DeviceFault>
-        ensures size { OUTPUT_BUFFER_SIZE ≡ 65536 }
+        ensures size { OUTPUT_BUFFER_SIZE ≡ 1048576 }
         ensures ok { OnOk result ((W.tape writer.new).bytes ++ self.new ≡ ((W.tape writer.old).bytes ++ self.old) ++ text.now) }
         ensures ok_grown { OnOk result ((sent : List ℕ) × Takes (W.tape writer.old) (W.tape writer.new) sent) }
         ensures ok_failures { OnOk result ((W.tape writer.new).failures ≡ (W.tape writer.old).failures) }

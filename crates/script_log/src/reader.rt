@@ -16,7 +16,7 @@ pub trait Reader<H: Host> {
     /// Whether the reader may be called after this past, when the listener has heard these bytes.
     ghost may_read: { Told → List ℕ → Type 0 };
 
-    /// Calls the reader once, for at most 65,536 bytes. All bytes at hand must be used.
+    /// Calls the reader once, for at most 1,048,576 bytes. All bytes at hand must be used.
     ///
     /// # Errors
     ///

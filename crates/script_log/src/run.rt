@@ -59,7 +59,7 @@ fn has_broken(outcome: &Result<(), RunFault>) -> bool
 
 /// Replies to the lines at hand in `input`, then to those that `source` delivers, up to its end. A
 /// recorded line is a record of the log, with the check of its reply. Replies are collected, up to
-/// 65,536 bytes, and records, until they have more than 2^24 bytes. Before the reader is asked for
+/// 1,048,576 bytes, and records, until they have more than 2^24 bytes. Before the reader is asked for
 /// more, and at the end, the waiting records are committed, all at once. Then the replies are sent.
 /// Nothing is committed if no line was recorded.
 ///

@@ -18,3 +18,6 @@ pub mod Shown
 pub mod Standing
 pub mod Reported
 pub mod Slots
+pub mod Crossing
+mod JobCrossing
+mod RowsCrossing

@@ -6,6 +6,7 @@ mod adding;
 mod after;
 mod agenda;
 mod answers;
+mod bound;
 mod cursors;
 mod entering;
 mod replies;

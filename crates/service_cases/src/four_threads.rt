@@ -6,7 +6,7 @@ ghost use Rattle.std.specs.Prelude.{◌≡◌};
 
 use anyhow::{Result, bail};
 use batch_ids::{ExecutionId, MetricStep, Parameters, Refusal, T256, WorkId, WorkOutcome};
-use batch_operator::{CopyCount, Operator};
+use batch_service::{CopyCount, Operator};
 use jsl_json::read_catalogue;
 use jsl_model::Catalogue;
 use op_log::{Answer, Reply};

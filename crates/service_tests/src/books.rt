@@ -1,6 +1,6 @@
 //! Full logs.
 use crate::copies::{CALLS, catalogue};
-use op_log::Book;
+use batch_service::Book;
 use script_text::{Command, answer_text, read_command, reply_text};
 use std::alloc::Global;
 use std::test::Fail;

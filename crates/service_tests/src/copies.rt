@@ -1,8 +1,8 @@
 //! Clones are equal to their originals if memory is ample.
 use batch_history::Call;
+use batch_service::Book;
 use jsl_json::read_catalogue;
 use jsl_model::Catalogue;
-use op_log::Book;
 use script_text::{Command, read_command};
 use std::alloc::Global;
 use std::test::Fail;

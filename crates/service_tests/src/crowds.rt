@@ -7,7 +7,7 @@ ghost use Rattle.std.specs.Prelude.{◌≡◌};
 
 use crate::copies::catalogue;
 use batch_ids::Refusal;
-use batch_operator::{CopyCount, Operator};
+use batch_service::{CopyCount, Operator};
 use jsl_model::Catalogue;
 use op_log::Reply;
 use seat_rules::{BookSeat, SeatTable, Site};

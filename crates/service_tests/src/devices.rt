@@ -1,6 +1,7 @@
 //! Readers and writers that fail at any call.
 use crate::flaky::{FlakyReader, FlakyWriter};
-use script_engine::{Counted, EngineFault, Summary, answer_script, run_script};
+use batch_service::{answer_script, run_script};
+use script_engine::{Counted, EngineFault, Summary};
 use std::alloc::{AllocError, Global};
 use std::test::Fail;
 

@@ -2,6 +2,7 @@
 use crate::copies::catalogue;
 use batch_history::{Call, Query};
 use batch_ids::{OutOfMemory, Parameters, T256};
+use batch_service::Repository;
 use event_core::{Event, Outcome, run};
 use script_text::{answer_text, reply_text};
 use std::alloc::Global;
@@ -75,7 +76,7 @@ fn lines(alloc: Global, outcomes: &[Outcome]) -> Result<Vec<u8>, Fail> {
 fn outcomes(alloc: Global) -> Result<Vec<Outcome>, Fail> {
     let events = events(alloc)?;
     let catalogue = catalogue(alloc)?;
-    Ok(run(alloc, catalogue, 2, 1, &events)?)
+    Ok(run::<Repository<1_000_000>>(alloc, catalogue, 2, 1, &events)?)
 }
 
 #[test]

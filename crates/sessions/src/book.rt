@@ -2,13 +2,13 @@ ghost use Rattle.std.specs.Prelude.{◌≡◌, ◌≤◌, [], ◌∷◌, ◌++�
 ghost use Rattle.seat_rules.specs.Places.{IsLegalLog, known};
 ghost use Rattle.seat_rules.specs.Views.{with_entry};
 
-use op_log::Book;
+use op_log::{Book, JobRepository};
 use seat_rules::{DeskSeat, SeatTable, Site};
 
 /// Appends the book's last entry to the seat's log. Allocates nothing.
-pub fn append_last<N: Site, const LIMIT: u64>(
+pub fn append_last<N: Site, J: JobRepository>(
     seat: &mut DeskSeat<N>,
-    book: &Book<LIMIT>,
+    book: &Book<J>,
     table: &SeatTable,
 )
     requires table { table.now ≡ N.place }
@@ -23,8 +23,8 @@ pub fn append_last<N: Site, const LIMIT: u64>(
 }
 
 /// Returns the number of operations that the book has accepted. Allocates nothing.
-pub fn length_of<const LIMIT: u64>(book: &Book<LIMIT>) -> u64
-    requires { LIMIT ≤ 1000000 }
+pub fn length_of<J: JobRepository>(book: &Book<J>) -> u64
+    requires { J.limit ≤ 1000000 }
     ensures length { result ≡ length book.now.log }
     ensures legal { IsLegalLog book.now.catalogue book.now.log }
 {

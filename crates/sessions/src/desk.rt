@@ -15,37 +15,38 @@ use crate::book::{append_last, length_of};
 use crate::session::Session;
 use batch_ids::{ExecutionId, Moment, OutOfMemory, Refusal};
 use jsl_model::Catalogue;
-use op_log::{Answer, Book, Call, Entry, Query, Reply};
+use op_log::{Answer, Book, Call, Entry, JobRepository, Query, Reply};
 use seat_rules::{BookSeat, CopySeat, DeskSeat, SeatTable, Site};
 use std::alloc::Global;
 use std::marker::Model;
 
-/// The book of at most `LIMIT` operations, with the seat of its log. A lock guards it, and each
-/// call is made on it.
+/// The book of a job repository, with the seat of its log. A lock guards it, and each call is made
+/// on it.
 ///
 /// Contracts see the log, the number of the session that was opened last, and the read copy that
 /// the desk hosts, if any. The book's log is the log of the table's rule.
 #[derive(Drop)]
-pub struct Desk<N: Site, const LIMIT: u64> {
-    book: Book<LIMIT>,
+pub struct Desk<N: Site, J: JobRepository> {
+    book: Book<J>,
     seat: DeskSeat<N>,
     last: u64,
 }
 
-impl<N: Site, const LIMIT: u64> Model for Desk<N, LIMIT> {
+impl<N: Site, J: JobRepository> Model for Desk<N, J> {
     ghost use Rattle.sessions.specs.Sessions.{DeskState, IsDesk};
 
     ghost Value = { DeskState };
 
     ghost view = { λ d. record { log = d.book.log; last = d.last; hosted = d.seat.copies } };
 
-    ghost invariant = { λ d. IsDesk LIMIT N.place.catalogue d.book d.seat d.last };
+    ghost invariant = { λ d. IsDesk J.limit N.place.catalogue d.book d.seat d.last };
 }
 
-impl<N: Site, const LIMIT: u64> Desk<N, LIMIT> {
+impl<N: Site, J: JobRepository> Desk<N, J> {
     /// Returns a desk with an empty log, over the first seat of the table that `N` names.
     ///
-    /// `LIMIT` is at most 1,000,000. The desk allocates all later memory from `alloc`.
+    /// The repository's limit is at most 1,000,000. The desk allocates all later memory from
+    /// `alloc`.
     ///
     /// # Errors
     ///
@@ -54,8 +55,8 @@ impl<N: Site, const LIMIT: u64> Desk<N, LIMIT> {
         alloc: Global,
         seat: BookSeat,
         catalogue: Catalogue,
-    ) -> Result<Desk<N, LIMIT>, OutOfMemory>
-        requires limit { LIMIT ≤ 1000000 }
+    ) -> Result<Desk<N, J>, OutOfMemory>
+        requires limit { J.limit ≤ 1000000 }
         requires seat { seat ≡ N.place.table }
         requires catalogue { catalogue ≡ N.place.catalogue }
         ensures { IfOk result (λ desk. desk ≡ desk_state [] 0 []) }
@@ -117,9 +118,9 @@ impl<N: Site, const LIMIT: u64> Desk<N, LIMIT> {
     ///
     /// # Errors
     ///
-    /// Returns the call's first refusal that applies, then `RepositoryFull` if the log has `LIMIT`
-    /// entries. Returns `OutOfMemory` instead of any reply if memory is refused. A refused call
-    /// enters nothing.
+    /// Returns the call's first refusal that applies, then `RepositoryFull` if the log has as many
+    /// entries as the repository's limit says. Returns `OutOfMemory` instead of any reply if memory
+    /// is refused. A refused call enters nothing.
     pub fn act(
         &mut self,
         session: &mut Session<N>,
@@ -129,7 +130,7 @@ impl<N: Site, const LIMIT: u64> Desk<N, LIMIT> {
     ) -> Result<Reply, Refusal>
         requires table { table.now ≡ N.place }
         requires alone { self.old.hosted ≡ [] }
-        ensures reply { IsDue result (reply LIMIT (history N.place.catalogue self.old.log) session.old.number call) }
+        ensures reply { IsDue result (reply J.limit (history N.place.catalogue self.old.log) session.old.number call) }
         ensures log { self.new.log ≡ entered self.old.log session.old.number call at result }
         ensures session { session.new ≡ moved_on session.old self.new.log (entered session.old.mine session.old.number call at result) }
         ensures grows { IsPrefix session.old.seen self.old.log }
@@ -203,7 +204,7 @@ impl<N: Site, const LIMIT: u64> Desk<N, LIMIT> {
     }
 }
 
-impl<N: Site, const LIMIT: u64> Desk<N, LIMIT> {
+impl<N: Site, J: JobRepository> Desk<N, J> {
     /// Returns the seat of a read copy that has absorbed nothing. Allocates nothing.
     pub fn copy_seat(&mut self, table: &SeatTable) -> CopySeat<N>
         requires table { table.now ≡ N.place }

@@ -12,7 +12,7 @@ ghost use Rattle.seat_rules.specs.Views.{Each, HasStop};
 ghost use Rattle.sessions.specs.Answered.{entered, moved_on};
 
 use batch_ids::{ExecutionId, Moment, Refusal};
-use op_log::{Call, Reply};
+use op_log::{Call, JobRepository, Reply};
 use seat_rules::{SeatTable, Site};
 use sessions::{Desk, Session};
 
@@ -21,11 +21,11 @@ use sessions::{Desk, Session};
 ///
 /// # Errors
 ///
-/// Returns the stop's first refusal that applies, then `RepositoryFull` if the log has `LIMIT`
-/// entries. Returns `OutOfMemory` instead of any reply if memory is refused. A refused stop enters
-/// nothing and signals nothing.
-pub fn stop<N: Site, const LIMIT: u64>(
-    desk: &mut Desk<N, LIMIT>,
+/// Returns the stop's first refusal that applies, then `RepositoryFull` if the log has as many
+/// entries as the repository's limit says. Returns `OutOfMemory` instead of any reply if memory is
+/// refused. A refused stop enters nothing and signals nothing.
+pub fn stop<N: Site, J: JobRepository>(
+    desk: &mut Desk<N, J>,
     session: &mut Session<N>,
     execution: ExecutionId,
     at: Moment,
@@ -33,7 +33,7 @@ pub fn stop<N: Site, const LIMIT: u64>(
 ) -> Result<Reply, Refusal>
     requires table { table.now ≡ N.place }
     requires alone { desk.old.hosted ≡ [] }
-    ensures reply { IsDue result (reply LIMIT (history N.place.catalogue desk.old.log) session.old.number (Call.Stop execution)) }
+    ensures reply { IsDue result (reply J.limit (history N.place.catalogue desk.old.log) session.old.number (Call.Stop execution)) }
     ensures log { desk.new.log ≡ entered desk.old.log session.old.number (Call.Stop execution) at result }
     ensures session { session.new ≡ moved_on session.old desk.new.log
         (entered session.old.mine session.old.number (Call.Stop execution) at result) }
@@ -52,8 +52,8 @@ pub fn stop<N: Site, const LIMIT: u64>(
 /// Signals to all sessions that a job execution was asked to stop. The log must have an accepted
 /// stop of it. All job executions share 64 words, so a later stop may overwrite this one. Allocates
 /// nothing.
-pub fn raise<N: Site, const LIMIT: u64>(
-    desk: &mut Desk<N, LIMIT>,
+pub fn raise<N: Site, J: JobRepository>(
+    desk: &mut Desk<N, J>,
     execution: ExecutionId,
     table: &SeatTable,
 )

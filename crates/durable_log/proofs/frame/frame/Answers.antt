@@ -16,8 +16,8 @@ returns c =
     let r = c.args.added in
     let link = c.args.link in
     let n = length r.line.now in
-    let e0 : c.in_ok-bytes.bytes.items ≡ 32 ∷ r.mark ∷ 32 ∷ [] = search rules in
-    let e7 = c.in_ok-extend_from_slice-2.ensures.items in
+    let e0 = c.in_ok-extend_from_slice.ensures.items ∙ ap (λ (l : List ℕ). l ++ (32 ∷ r.mark ∷ 32 ∷ [])) c.in_ok-bytes.ensures.items in
+    let e7 = c.in_ok-extend_from_slice-3.ensures.items in
     pieces r.mark n link.number c.args.next.check r.reply_check r.line.now _ _ _ _ _ _ _ _ e0 c.in_ok-push_column.ensures c.in_ok-push_column-2.ensures c.in_ok-push_column-3.ensures
-    c.in_ok-push_column-4.ensures c.in_ok-push_column-5.ensures c.in_ok-extend_from_slice.ensures.items e7
+    c.in_ok-push_column-4.ensures c.in_ok-push_column-5.ensures c.in_ok-extend_from_slice-2.ensures.items e7
     ∙ ap (λ (l : Link). columns r.mark n link.number l.check r.reply_check ((r.line.now ++ 10 ∷ []) ++ shut)) c.requires.next

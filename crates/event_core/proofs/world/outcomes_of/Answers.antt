@@ -11,5 +11,5 @@ told-all told s events i all past is =
     sym (append-nil told) ∙ (ap (λ (l : List Event). told ++ outcomes s l) (sym (drop_all i events past)) ∙ is)
 
 pub returns : goal.returns
-returns c =
+returns g c =
     told-all c.loop-event.told.items c.loop-event.world c.args.events.now c.loop-event.event-index _ c.loop-event-test.false c.loop-event.invariant

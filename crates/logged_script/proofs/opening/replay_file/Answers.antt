@@ -12,17 +12,17 @@ use Rattle.logged_script.proofs.Opened.{not-grown, not-replayed}
 use Rattle.logged_script.proofs.opening.replay_file.Goals as goal
 
 pub returns-in-Err-has_grown-clause-fault : goal.returns-in-Err-has_grown-clause-fault
-returns-in-Err-has_grown-clause-fault c =
+returns-in-Err-has_grown-clause-fault g c =
     let file = c.args.file.now in
     let fault = c.in-Err-has_grown.fault in
     let records = map record_shown c.in-Ok.contents.records.items in
     let at = records-stand records file c.in-Ok.ensures.records in
     let same = ap (map record_shown) c.deref.ensures.value ∙ sym at in
-    not-grown file c.args.line.now c.args.catalogue fault (subst (λ (rs : List LogRecord). StandsFor rs file) (sym at) c.in-Ok.ensures.records) c.requires
+    not-grown file c.args.line.now c.args.catalogue fault (subst (λ (rs : List LogRecord). StandsFor rs file) (sym at) c.in-Ok.ensures.records) c.requires.catalogue
     (subst (λ (rs : List LogRecord). IsGrowthFault rs c.args.catalogue fault) same c.in-Err-has_grown.ensures.fault)
 
 pub returns-clause-fault : goal.returns-clause-fault
-returns-clause-fault c =
+returns-clause-fault g c =
     let file = c.args.file.now in
     let line = c.args.line.now in
     let records = map record_shown c.in-Ok.contents.records.items in
@@ -35,7 +35,7 @@ returns-clause-fault c =
       kept = grown.0;
       given = c.args.catalogue;
       has = subst (λ (rs : List LogRecord). HasCatalogue rs grown.0) same grown.1;
-      is_given = c.requires;
+      is_given = c.requires.catalogue;
       has_grown = grown.2;
     } in
     let why = c.in-Err-replay_records.ensures.fault in

@@ -8,17 +8,17 @@ use Rattle.logged_script.proofs.Widening.{goes-on-keeps}
 use Rattle.logged_script.proofs.opening.restore.Goals as goal
 
 pub returns-in-Ok-new_file-clause-answers : goal.returns-in-Ok-new_file-clause-answers
-returns-in-Ok-new_file-clause-answers c =
+returns-in-Ok-new_file-clause-answers g c =
     let line = c.args.line.now in
     let ran = c.in-Ok.ran in
     let is = c.deref.ensures.value in
-    answers-begun ran.engine (records_of c.args.file.items) (records_of c.in-Ok-new_file.made.file.bytes.items) line ran.grown
+    answers-begun g.J.JobRepository.limit g.J.JobRepository.stands ran.engine (records_of c.args.file.items) (records_of c.in-Ok-new_file.made.file.bytes.items) line ran.grown
     (subst (λ (file : List ℕ). GoesOnFrom (records_of file) line ran.grown) is c.in-Ok.ensures.goes_on) c.in-Ok-new_file.ensures.records
-    (subst (λ (file : List ℕ). Answers ran.engine (replayed line (records_of file))) is c.in-Ok.ensures.answers)
+    (subst (λ (file : List ℕ). Answers g.J.JobRepository.limit g.J.JobRepository.stands ran.engine (replayed line (records_of file))) is c.in-Ok.ensures.answers)
 
 pub returns-in-Ok-new_file-clause-histories : goal.returns-in-Ok-new_file-clause-histories
-returns-in-Ok-new_file-clause-histories c kept has =
+returns-in-Ok-new_file-clause-histories g c kept has =
     let line = c.args.line.now in
     let ran = c.in-Ok.ran in
     goes-on-keeps (records_of c.args.file.items) line ran.grown c.args.catalogue kept
-    (subst (λ (file : List ℕ). GoesOnFrom (records_of file) line ran.grown) c.deref.ensures.value c.in-Ok.ensures.goes_on) c.requires has
+    (subst (λ (file : List ℕ). GoesOnFrom (records_of file) line ran.grown) c.deref.ensures.value c.in-Ok.ensures.goes_on) c.requires.catalogue has

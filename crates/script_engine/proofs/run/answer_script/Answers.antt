@@ -5,7 +5,7 @@ use Rattle.script_engine.proofs.InMemory.{ran_in_memory, is_long}
 use Rattle.script_engine.proofs.run.answer_script.Goals as goal
 
 pub returns-clause-ran : goal.returns-clause-ran
-returns-clause-ran c =
+returns-clause-ran g c =
     let p = c.new-reader.result.tape.past in
     let p' = c.run_script-outcome.new.reader.tape.past in
     let q = c.new-writer.result.tape.past in
@@ -20,7 +20,7 @@ returns-clause-ran c =
     subst (λ b. RanInMemory c.args.script.now b c.run_script-outcome.result) (sym whole) (ran_in_memory p p' q q' c.args.script.now rest text c.run_script-outcome.result R')
 
 pub returns-clause-long : goal.returns-clause-long
-returns-clause-long c fault =
+returns-clause-long g c fault =
     let p = c.new-reader.result.tape.past in
     let p' = c.run_script-outcome.new.reader.tape.past in
     let q = c.new-writer.result.tape.past in

@@ -5,7 +5,7 @@ use Rattle.script_lines.specs.Lines.{LineRead}
 use Rattle.script_lines.proofs.Cutting.{cut_bounded}
 use Rattle.script_engine.proofs.Running.{asks_first, asks_next, begins, goes_on, ends, no_memory, line_failed, put_failed}
 use Rattle.script_engine.specs.Script.{begin}
-use Rattle.script_engine.proofs.Applying.{begun, counted_all}
+use Rattle.script_engine.proofs.Applying.{begun}
 use Rattle.script_engine.proofs.Tallying.{nothing-counted}
 use Rattle.script_engine.proofs.Opening.{nothing_done, nothing_asked, first_line, first_failed, refused}
 use Rattle.script_engine.proofs.run.run.Goals as goal
@@ -41,7 +41,7 @@ pub loop-commands-init : goal.loop-commands-init
 loop-commands-init g c =
     let line = c.in_ok-first.ensures in
     let first = first_line _ _ _ _ _ _ _ _ _ c.in_ok-input.ensures c.requires.empty line.line line.passed_on line.grown in
-    let stands = begun _ _ c.in_ok-boxed.ensures in
+    let stands = begun _ _ _ c.requires.limit c.in_ok-boxed.ensures in
     rw c.deref_mut-repository.ensures.value record {
       history = begin c.in-Ok.catalogue;
       stands = stands;
@@ -92,4 +92,4 @@ pub returns : goal.returns
 returns g c =
     let line = c.in_ok-line.ensures in
     let read = subst (λ (o : Option Line). LineRead (g.R.SourceInTurn.tape c.loop-commands.reader) (g.R.SourceInTurn.tape c.next_line-in-loop-commands.new.source) c.loop-commands.input c.next_line-in-loop-commands.new.self (Ok o)) c.in_default.is line.line in
-    ends _ _ _ _ _ _ _ _ _ _ _ _ _ c.loop-commands.invariant.running read line.passed_on line.grown line.prompt (c.len.ensures ∙ counted_all _ _ c.loop-commands.invariant.stands)
+    ends _ _ _ _ _ _ _ _ _ _ _ _ _ c.loop-commands.invariant.running read line.passed_on line.grown line.prompt (c.len.ensures _ c.loop-commands.invariant.stands.stood)

@@ -8,7 +8,7 @@ use Rattle.event_core.proofs.Stepping.{asked}
 use Rattle.event_core.proofs.world.World.ask.Goals as goal
 
 pub returns-clause-step : goal.returns-clause-step
-returns-clause-step c =
+returns-clause-step g c =
     let s : State = state_of c.self.inside.book c.self.inside.sessions c.self.inside.copies.items in
     let put = c.set.ensures ∙ ap (λ (n : ℕ). with_seen c.self.inside.sessions c.args.who record { front = n; least = c.in-Some.seen.least }) c.len-front.ensures.length in
     let told = c.in_ok-answered.ensures.due (answer s.history c.args.query.now) c.ask.ensures in

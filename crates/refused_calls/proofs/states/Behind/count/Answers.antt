@@ -16,4 +16,4 @@ invariant_of-self c =
     let n : ℕ = c.self.inside.counted in
     let next = c.in_ok-entry.ensures in
     let stands = c.in-Ok.ensures.absorbed h.catalogue (take n h.log) c.self.invariant.tallied (legal-next h n c.in_ok-entry.entry.now next.legal next.there) in
-    counts-follow h c.self.inside.copy c.self.inside.counts c.absorb-absorbed.new.self n c.in_ok-entry.entry.now c.self.invariant next.there stands
+    counts-follow h c.self.inside.copy.repository c.self.inside.counts c.absorb-absorbed.new.self n c.in_ok-entry.entry.now c.self.invariant next.there stands

@@ -1,21 +1,24 @@
 use Rattle.std.proofs.Common.{◌≡◌, ◌∙◌, Some, ap, sym, lit<}
 use Rattle.std.specs.Prelude.{slice_get}
 use Rattle.batch_history.specs.Rows.{History}
-use Rattle.event_core.proofs.Copying.{legal-first, next-taken}
 use Rattle.event_core.specs.Worlds.{first}
 use Rattle.seq_repository.specs.Kept.{Kept}
-use Rattle.refused_calls.proofs.Following.{copy-follows}
+use Rattle.event_core.proofs.Copying.{legal-first}
+use Rattle.refused_calls.proofs.Following.{copy-follows, copy-next}
 use Rattle.refused_calls.proofs.states.Behind.enter.Goals as goal
 
 pub enter-entered-requires : goal.enter-entered-requires
 enter-entered-requires c =
+    let h : History = c.self.inside.book in
+    let old : Kept = c.self.inside.copy.repository in
     let next = c.in_ok-entry.ensures in
-    (lit< tt, next-taken c.self.inside.book c.self.inside.copy c.len.result c.in_ok-entry.entry.now next.legal c.self.invariant.copied (sym c.len.ensures) next.there)
+    let there : slice_get h.log old.count ≡ Some c.in_ok-entry.entry.now = ap (slice_get h.log) (sym c.len.ensures) ∙ next.there in
+    (lit< tt, copy-next h old c.in_ok-entry.entry.now next.legal c.self.invariant.copied there)
 
 pub invariant_of-self : goal.invariant_of-self
 invariant_of-self c =
     let h : History = c.self.inside.book in
-    let old : Kept = c.self.inside.copy in
+    let old : Kept = c.self.inside.copy.repository in
     let next = c.in_ok-entry.ensures in
     let copied = c.self.invariant.copied in
     let there : slice_get h.log old.count ≡ Some c.in_ok-entry.entry.now = ap (slice_get h.log) (sym c.len.ensures) ∙ next.there in

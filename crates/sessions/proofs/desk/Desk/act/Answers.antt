@@ -1,4 +1,4 @@
-use Rattle.std.proofs.Common.{refl, ◌≡◌, ◌≤◌, false, [], ◌∷◌, ◌++◌, ℕ, List, length, length-append, ap, sym, subst, ◌∙◌, arith, lit<}
+use Rattle.std.proofs.Common.{refl, ◌≡◌, ◌≤◌, false, [], ◌∷◌, ◌++◌, ℕ, List, length, length-append, ap, sym, subst, ◌∙◌, arith}
 use Rattle.batch_history.specs.Due.{IsDue}
 use Rattle.batch_history.specs.Replies.{is_nothing, reply}
 use Rattle.batch_history.specs.Rows.{History, history}
@@ -22,16 +22,12 @@ append_last-requires g c =
     let n : is_nothing c.in-Ok.reply ≡ false = sym c.is_nothing.ensures ∙ c.if-is_nothing.false in
     let new = book_after c.self.inside.book c.act-result.new.self _ _ _ _ _ c.act-result.ensures.after c.in-Ok.is n in
     let log = log_after c.self.inside.book c.act-result.new.self c.self.inside.seat c.host.new.self _ _ e new c.self.invariant.seat_is c.host.ensures.book in
-    let over = ap (λ (h : History). h.catalogue) new ∙ c.self.invariant.catalogue_is in (
-      lit< tt,
-      (
-        c.requires.table,
-        (
-          (e, one_of c.session.inside.seat, log, ap (λ (k : Known). k.sessions) c.host.ensures.book ∙ s.one, sym s.number_is),
-          subst (λ (x : List JobTree). IsLegalLog x c.act-result.new.self.log) over c.length_of-front.ensures.legal,
-        ),
-      ),
-    )
+    let over = ap (λ (h : History). h.catalogue) new ∙ c.self.invariant.catalogue_is in
+    record {
+      table = c.requires.table;
+      last = (e, one_of c.session.inside.seat, log, ap (λ (k : Known). k.sessions) c.host.ensures.book ∙ s.one, sym s.number_is);
+      legal = subst (λ (x : List JobTree). IsLegalLog x c.act-result.new.self.log) over c.length_of-front.ensures.legal;
+    }
 
 pub overflow_add-session : goal.overflow_add-session
 overflow_add-session g c =
@@ -88,19 +84,19 @@ pub returns-in-Err-clause-reply : goal.returns-in-Err-clause-reply
 returns-in-Err-clause-reply g c =
     let number = c.session.invariant.number_is ∙ ap (λ (s : SessionView). s.number) c.session.view_is in
     let log = ap (λ (d : DeskState). d.log) c.self.view_is in
-    subst (λ (x : History × ℕ). IsDue c.act-result.result (reply g.row.LIMIT x.0 x.1 c.args.call))
+    subst (λ (x : History × ℕ). IsDue c.act-result.result (reply g.J.JobRepository.limit x.0 x.1 c.args.call))
     (λ i. (history (c.self.invariant.catalogue_is i) (log i), number i)) c.act-result.ensures.reply
 
 pub returns-then-is_nothing-clause-reply : goal.returns-then-is_nothing-clause-reply
 returns-then-is_nothing-clause-reply g c =
     let number = c.session.invariant.number_is ∙ ap (λ (s : SessionView). s.number) c.session.view_is in
     let log = ap (λ (d : DeskState). d.log) c.self.view_is in
-    subst (λ (x : History × ℕ). IsDue c.act-result.result (reply g.row.LIMIT x.0 x.1 c.args.call))
+    subst (λ (x : History × ℕ). IsDue c.act-result.result (reply g.J.JobRepository.limit x.0 x.1 c.args.call))
     (λ i. (history (c.self.invariant.catalogue_is i) (log i), number i)) c.act-result.ensures.reply
 
 pub returns-else-is_nothing-clause-reply : goal.returns-else-is_nothing-clause-reply
 returns-else-is_nothing-clause-reply g c =
     let number = c.session.invariant.number_is ∙ ap (λ (s : SessionView). s.number) c.session.view_is in
     let log = ap (λ (d : DeskState). d.log) c.self.view_is in
-    subst (λ (x : History × ℕ). IsDue c.act-result.result (reply g.row.LIMIT x.0 x.1 c.args.call))
+    subst (λ (x : History × ℕ). IsDue c.act-result.result (reply g.J.JobRepository.limit x.0 x.1 c.args.call))
     (λ i. (history (c.self.invariant.catalogue_is i) (log i), number i)) c.act-result.ensures.reply

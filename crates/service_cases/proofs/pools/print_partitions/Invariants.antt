@@ -1,4 +1,0 @@
-use Rattle.service_cases.proofs.pools.print_partitions.Given as goal
-
-abbrev pub ghosts-run_by_two : goal.ghosts-run_by_two
-ghosts-run_by_two g a = record { place = a.table }

@@ -1,0 +1,1 @@
+"""Catalogues: reading, checking, comparing and drawing them, and making them of JSL."""

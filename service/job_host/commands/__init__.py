@@ -1,0 +1,1 @@
+"""The command line: the words of `jobhost`, and what it prints."""

@@ -1,0 +1,122 @@
+"""The command `jobhost`."""
+
+from __future__ import annotations
+
+import argparse
+import asyncio
+import sys
+from collections.abc import Sequence
+from pathlib import Path
+
+from job_host.commands import catalogue, options
+from job_host.commands.jobs import address_of
+from job_host.commands.options import Subcommands
+from job_host.commands.program import find_batchctl
+from job_host.commands.versions import ShowVersion
+from job_host.protocol.addresses import DEFAULT_PORT
+from job_host.protocol.bounds import REQUESTS_AT_ONCE
+from job_host.protocol.printable import begin_log
+from job_host.service.settings import ServeSettings
+
+# Each busy slot may have a heartbeat and a report in hand.
+MOST_SLOTS = REQUESTS_AT_ONCE // 2
+
+
+def add_serve(subcommands: Subcommands[argparse.ArgumentParser]) -> None:
+    told = "serves a catalogue's jobs over HTTP"
+    parser = subcommands.add_parser("serve", help=told, description=told)
+    add = parser.add_argument
+    jobs = "the jobs, as docs/CATALOGUE.md has them"
+    add("--catalogue", type=Path, required=True, metavar="FILE", help=jobs)
+    data = "the folder of the history, if it isn't in PostgreSQL (default: %(default)s)"
+    add("--data", type=Path, default=Path("jobhost-data"), metavar="DIR", help=data)
+    restored = "go on though the log and the store beside it are of different copies: request keys may not be known any more"
+    add("--restored", action="store_true", help=restored)
+    postgres = "a PostgreSQL server that may be the primary; the option may come several times (default: none, and --data)"
+    add("--postgres", action="append", default=[], metavar="DSN", help=postgres)
+    batchctl = "the program batchctl (default: JOBHOST_BATCHCTL, else the path's, else this clone's)"
+    add("--batchctl", metavar="PROGRAM", help=batchctl)
+    add_listening(parser)
+    lease = "a work item is lost after so long without a sign of its worker (default: %(default)g)"
+    add("--lease", type=float, default=30.0, metavar="SECONDS", help=lease)
+    takeover = "over PostgreSQL, this instance takes over after so long without a sign of the leader (default: %(default)g)"
+    add("--takeover-after", type=float, default=5.0, metavar="SECONDS", help=takeover)
+    parser.set_defaults(run=run_serve)
+
+
+def add_listening(parser: argparse.ArgumentParser) -> None:
+    """Where the service listens, and who may ask."""
+    add = parser.add_argument
+    host = "the address to listen on; one that isn't loopback needs tokens and a certificate (default: %(default)s)"
+    add("--host", default="127.0.0.1", help=host)
+    add("--port", type=int, default=DEFAULT_PORT, help="the port to listen on; 0 means a free one (default: %(default)s)")
+    advertise = "the URL at which clients of other instances find this one (default: that of --host and --port)"
+    add("--advertise", default="", metavar="URL", help=advertise)
+    tokens = "a file with lines of role, name and token (default: none, and everybody on this machine may do everything)"
+    add("--tokens", type=Path, metavar="FILE", help=tokens)
+    add("--certificate", type=Path, metavar="FILE", help="the certificate for TLS (default: none, and HTTP without TLS)")
+    add("--certificate-key", type=Path, metavar="FILE", help="the private key of the certificate (default: none)")
+
+
+def run_serve(given: argparse.Namespace) -> int:
+    from job_host.service.http.access import SettingsRefused
+    from job_host.service.server import serve
+
+    scheme = "https" if given.certificate else "http"
+    settings = ServeSettings(
+        catalogue=given.catalogue,
+        batchctl=find_batchctl(given.batchctl),
+        data=given.data,
+        restored=given.restored,
+        postgres=tuple(given.postgres),
+        host=given.host,
+        port=given.port,
+        advertise=given.advertise or f"{scheme}://{given.host}:{given.port}",
+        tokens=given.tokens,
+        certificate=given.certificate,
+        certificate_key=given.certificate_key,
+        lease=given.lease,
+        takeover_after=given.takeover_after,
+    )
+    try:
+        return serve(settings)
+    except (SettingsRefused, OSError) as fault:
+        print(f"jobhost serve: {fault}", file=sys.stderr)
+        return 2
+
+
+def add_worker(subcommands: Subcommands[argparse.ArgumentParser]) -> None:
+    told = "runs work items by the executables of a folder"
+    parser = subcommands.add_parser("worker", help=told, description=told)
+    options.add_address(parser, f"{options.OWN_NAME}, and a mark of this start")
+    parser.add_argument("--artifacts", type=Path, required=True, metavar="DIR", help="the folder of executables")
+    slots = f"how many work items run at a time, 1 to {MOST_SLOTS} (default: %(default)s)"
+    parser.add_argument("--slots", type=int, default=1, metavar="N", help=slots)
+    parser.set_defaults(run=run_worker)
+
+
+def run_worker(given: argparse.Namespace) -> int:
+    from job_host.worker.worker import work, worker_address
+
+    begin_log("jobhost worker")
+    if not given.artifacts.is_dir() or not 1 <= given.slots <= MOST_SLOTS:
+        print(f"jobhost worker: --artifacts is a folder, and --slots 1 to {MOST_SLOTS}", file=sys.stderr)
+        return 2
+    asyncio.run(work(worker_address(address_of(given), given.client), given.artifacts.resolve(), given.slots))
+    return 0
+
+
+def make_parser() -> argparse.ArgumentParser:
+    parser = argparse.ArgumentParser(prog="jobhost", description="Serves, runs and watches batch jobs over batchctl script.")
+    parser.add_argument("--version", action=ShowVersion, help="prints the versions of jobhost and of batchctl")
+    subcommands = parser.add_subparsers(required=True, metavar="COMMAND")
+    add_serve(subcommands)
+    add_worker(subcommands)
+    options.add_commands(subcommands)
+    catalogue.add_catalogue(subcommands)
+    return parser
+
+
+def main(arguments: Sequence[str] | None = None) -> int:
+    given = make_parser().parse_args(arguments)
+    return int(given.run(given))

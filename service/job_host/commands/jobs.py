@@ -1,0 +1,239 @@
+"""The client's commands: start, restart, stop, abandon, purge, lose; and status, list, failed, work, log, watch, which show."""
+
+from __future__ import annotations
+
+import argparse
+import asyncio
+import getpass
+import os
+import re
+import socket
+import sys
+from collections.abc import AsyncIterator, Awaitable, Callable
+from typing import Any
+from urllib.parse import urlencode
+
+from rich.console import Console
+from rich.live import Live
+
+from job_host.commands.terminal import execution_table, instance_table, parameter_words, plain, plain_lines, work_table
+from job_host.protocol.batch_statuses import UNFINISHED
+from job_host.protocol.bounds import PAGE_OF_LARGE_ROWS, PAGE_SIZE
+from job_host.protocol.client import Address, Client, Refused, Unreachable, read_token, urls_of
+from job_host.protocol.lines import fingerprint
+from job_host.protocol.printable import printable, printable_lines
+
+# Exit statuses of `--wait`.
+STATUS = {"COMPLETED": 0, "FAILED": 3, "STOPPED": 4, "ABANDONED": 5}
+POLL = 0.5
+LOG_LINES = 10
+
+Command = Callable[[Client, argparse.Namespace], Awaitable[int]]
+
+
+def address_of(given: argparse.Namespace) -> Address:
+    """Where the service is, by options or by the environment."""
+    client = given.client or own_name()
+    return Address(urls_of(given.url), client, read_token(given.token), given.authority, given.patience)
+
+
+def own_name() -> str:
+    """The user's name and the machine's. A user id without a name, as containers have, stands for itself."""
+    try:
+        user = getpass.getuser()
+    except (KeyError, OSError):
+        user = str(os.getuid())
+    return re.sub(r"[^A-Za-z0-9._-]", "-", f"{user}-{socket.gethostname()}").lstrip("._-") or "somebody"
+
+
+def parameters_of(words: list[str]) -> dict[str, str]:
+    """Parameters that are written NAME=VALUE."""
+    for word in words:
+        if "=" not in word:
+            raise ValueError(f"{word}: a parameter is written NAME=VALUE")
+    return dict(word.split("=", 1) for word in words)
+
+
+async def rows_of(client: Client, path: str, size: int, **words: str) -> AsyncIterator[dict[str, Any]]:
+    """The rows of a list, page by page: one that isn't full is the last."""
+    page, is_full = 0, True
+    while is_full:
+        told = await client.read(f"{path}?{urlencode({**words, 'page': page, 'pageSize': size})}")
+        page, is_full = page + 1, len(told) == size
+        for row in told:
+            yield row
+
+
+def logs_of(client: Client, execution: int, **words: str) -> AsyncIterator[dict[str, Any]]:
+    return rows_of(client, f"/batch/jobexecutions/{execution}/joblogs", PAGE_OF_LARGE_ROWS, **words)
+
+
+async def execution_of(client: Client, execution: int) -> dict[str, Any]:
+    return dict(await client.read(f"/batch/jobexecutions/{execution}"))
+
+
+async def wait_for_end(client: Client, execution: int) -> int:
+    """Waits until a job execution is finished, and returns the exit status that stands for its batch status."""
+    while (told := await execution_of(client, execution))["batchStatus"] in UNFINISHED:
+        await asyncio.sleep(POLL)
+    print(printable(f"job execution {execution} is {told['batchStatus']}, exit status {told['exitStatus']}"))
+    return STATUS[told["batchStatus"]]
+
+
+def tell_begun(begun: dict[str, Any]) -> None:
+    print(f"job execution {begun['executionId']} of job instance {begun.get('instanceId', '?')} was made")
+
+
+async def start(client: Client, given: argparse.Namespace) -> int:
+    """Starts a job. If it was started by this key before, nothing is started, and that job execution is told."""
+    parameters = parameters_of(given.parameter)
+    key = f"once:{fingerprint(given.job, parameters).hex()}" if given.once else given.key
+    path = "/batch/jobinstances" if key is None else "/batch/jobinstances?once=true"
+    begun = await client.operate("POST", path, {"jobName": given.job, "jobParameters": parameters}, key=key)
+    tell_begun(begun)
+    return await wait_for_end(client, begun["executionId"]) if given.wait else 0
+
+
+async def restart(client: Client, given: argparse.Namespace) -> int:
+    """Restarts with the parameters of the earlier job execution and those that are given, and shows them."""
+    added = parameters_of(given.parameter)
+    earlier = {} if given.no_parameters else (await execution_of(client, given.execution))["jobParameters"]
+    parameters = {**earlier, **added}
+    path = f"/batch/jobexecutions/{given.execution}?action=restart"
+    begun = await client.operate("PUT", path, {"jobParameters": parameters})
+    tell_begun(begun)
+    print(f"parameters: {parameter_words(parameters)}")
+    return await wait_for_end(client, begun["executionId"]) if given.wait else 0
+
+
+async def stop(client: Client, given: argparse.Namespace) -> int:
+    await client.operate("PUT", f"/batch/jobexecutions/{given.execution}?action=stop")
+    print(f"job execution {given.execution} is asked to stop")
+    return await wait_for_end(client, given.execution) and 0 if given.wait else 0
+
+
+async def abandon(client: Client, given: argparse.Namespace) -> int:
+    await client.operate("PUT", f"/batch/jobexecutions/{given.execution}?action=abandon")
+    print(f"job execution {given.execution} is abandoned")
+    return 0
+
+
+async def purge(client: Client, given: argparse.Namespace) -> int:
+    await client.operate("DELETE", f"/batch/jobinstances/{given.instance}")
+    print(f"job instance {given.instance} is purged")
+    return 0
+
+
+async def lose(client: Client, given: argparse.Namespace) -> int:
+    await client.operate("PUT", f"/batch/work/{given.work}?action=lose")
+    print(f"work item {given.work} is lost: it is FAILED")
+    return 0
+
+
+async def status(client: Client, given: argparse.Namespace) -> int:
+    Console().print(execution_table(await execution_of(client, given.execution), given.utc))
+    return 0
+
+
+async def instances(client: Client, job: str | None, count: int) -> list[dict[str, Any]]:
+    given = {"page": "0", "pageSize": str(count), **({"jobName": job} if job else {})}
+    return list(await client.read(f"/batch/jobinstances?{urlencode(given)}"))
+
+
+async def list_instances(client: Client, given: argparse.Namespace) -> int:
+    Console().print(instance_table(await instances(client, given.job, given.count), given.utc))
+    return 0
+
+
+async def show_work(client: Client, given: argparse.Namespace) -> int:
+    told = [one async for one in rows_of(client, "/batch/work", PAGE_SIZE, withJobs="true")]
+    Console().print(work_table(told, given.utc) if told else "no work item is under way")
+    return 0
+
+
+async def failed(client: Client, given: argparse.Namespace) -> int:
+    """Says of each job instance that is FAILED which step it was, what its log ends with, and how it is restarted."""
+    console = Console(highlight=False)
+    if given.job is not None:
+        await instances(client, given.job, 1)  # refused if there is no such job
+    told, more = await failed_executions(client, given.job, given.count)
+    for one in told:
+        await show_failed(client, console, one)
+    if not told:
+        console.print("no job instance is FAILED")
+    if more:
+        console.print(f"more job instances are FAILED: these are the newest {len(told)} (--count)")
+    return 0
+
+
+async def failed_executions(client: Client, job: str | None, count: int) -> tuple[list[dict[str, Any]], bool]:
+    """The newest job executions by which a job instance is FAILED, so many at most, and whether there are more."""
+    asked = {"status": "FAILED", "mostRecent": "true", "pageSize": min(count, PAGE_SIZE), **({"jobName": job} if job else {})}
+    found: list[dict[str, Any]] = []
+    more, page = True, 0
+    while more and len(found) < count:
+        told = await client.read(f"/batch/jobexecutions?{urlencode({**asked, 'page': page})}")
+        found, more, page = found + told["jobExecutions"], told["more"], page + 1
+    return found[:count], more or len(found) > count
+
+
+async def show_failed(client: Client, console: Console, one: dict[str, Any]) -> None:
+    number = one["executionId"]
+    execution = await execution_of(client, number)
+    console.print(plain(f"{one['jobName']}: job execution {number} is FAILED, exit status {one['exitStatus']}"))
+    steps = {step["stepName"]: step["exitStatus"] for step in execution["stepExecutions"] if step["batchStatus"] == "FAILED"}
+    if not steps:  # a decision has no step execution
+        steps = {name: "FAILED" for name in [log["stepName"] async for log in logs_of(client, number)][-1:]}
+    for name, exit_status in steps.items():
+        console.print(plain(f"  step {name}: exit status {exit_status}"))
+        console.print(plain_lines("".join([f"    {line}\n" async for line in last_lines(client, number, name)])), end="")
+    console.print(plain(f"  jobhost restart {number}"))
+
+
+async def last_lines(client: Client, execution: int, step: str) -> AsyncIterator[str]:
+    """The last lines of the logs of a step's work items."""
+    async for log in logs_of(client, execution, stepName=step):
+        for line in log["log"].splitlines()[-LOG_LINES:]:
+            yield line
+
+
+async def show_log(client: Client, given: argparse.Namespace) -> int:
+    async for log in logs_of(client, given.execution):
+        sys.stdout.write(printable_lines(f"# work item {log['work']}, {log['stepName']}\n{log['log']}\n"))
+    return 0
+
+
+async def watch(client: Client, given: argparse.Namespace) -> int:
+    """Shows a job execution until its end; without one, the newest job instances, until it is interrupted."""
+    if given.execution is None:
+        return await watch_all(client, given.utc)
+    with Live(console=Console(), refresh_per_second=4) as live:
+        while True:
+            told = await execution_of(client, given.execution)
+            live.update(execution_table(told, given.utc))
+            if told["batchStatus"] not in UNFINISHED:
+                return STATUS[told["batchStatus"]]
+            await asyncio.sleep(POLL)
+
+
+async def watch_all(client: Client, in_utc: bool) -> int:
+    with Live(console=Console(), refresh_per_second=4) as live:
+        while True:
+            live.update(instance_table(await instances(client, None, 20), in_utc))
+            await asyncio.sleep(POLL)
+
+
+def run(command: Command, given: argparse.Namespace) -> int:
+    """Runs a command, and says in one line why it failed."""
+
+    async def call() -> int:
+        async with Client(address_of(given)) as client:
+            return await command(client, given)
+
+    try:
+        return asyncio.run(call())
+    except (Refused, Unreachable, ValueError, OSError) as fault:
+        print(printable(f"jobhost: {fault}"), file=sys.stderr)
+        return 1
+    except KeyboardInterrupt:
+        return 130

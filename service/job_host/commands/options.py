@@ -1,0 +1,118 @@
+"""The words of the commands for people, with their help."""
+
+from __future__ import annotations
+
+import argparse
+import os
+from pathlib import Path
+
+from job_host.commands import jobs
+from job_host.commands.jobs import Command
+from job_host.protocol.addresses import DEFAULT_URL
+
+Subcommands = argparse._SubParsersAction  # argparse has no public name for it
+
+OWN_NAME = "the user's name, or the number of a user without one, and the machine's name"
+WAITS = "waits for the end: the exit status is 0 COMPLETED, 3 FAILED, 4 STOPPED, 5 ABANDONED"
+
+
+def positive(text: str) -> int:
+    """A whole number from 1 on."""
+    if not text.isascii() or not text.isdigit() or int(text) < 1:
+        raise argparse.ArgumentTypeError(f"{text!r} is no whole number from 1 on")
+    return int(text)
+
+
+def add_address(parser: argparse.ArgumentParser, own_name: str = OWN_NAME) -> None:
+    """Where the service is, and as whom it is called."""
+    url = f"the service, or its instances with commas between them (default: JOBHOST_URL, else {DEFAULT_URL})"
+    parser.add_argument("--url", default=os.environ.get("JOBHOST_URL", DEFAULT_URL), metavar="URL[,URL..]", help=url)
+    token = "a file with the token (default: JOBHOST_TOKEN_FILE, else none)"
+    parser.add_argument("--token", type=Path, default=os.environ.get("JOBHOST_TOKEN_FILE"), metavar="FILE", help=token)
+    authority = "the certificate that signed the service's (default: those that this machine trusts)"
+    parser.add_argument("--authority", type=Path, metavar="FILE", help=authority)
+    parser.add_argument("--client", metavar="NAME", help=f"the client's name (default: {own_name})")
+    patience = "for how long the service is tried (default: %(default)g)"
+    parser.add_argument("--patience", type=float, default=30.0, metavar="SECONDS", help=patience)
+
+
+def add_command(
+    subcommands: Subcommands[argparse.ArgumentParser], name: str, command: Command, told: str
+) -> argparse.ArgumentParser:
+    parser = subcommands.add_parser(name, help=told, description=told)
+    add_address(parser)
+    parser.set_defaults(run=lambda given: jobs.run(command, given))
+    return parser
+
+
+def add_execution(parser: argparse.ArgumentParser) -> None:
+    parser.add_argument("execution", type=int, metavar="EXECUTION", help="the job execution's number")
+
+
+def add_parameters(parser: argparse.ArgumentParser, told: str) -> None:
+    parser.add_argument("--parameter", "-p", action="append", default=[], metavar="NAME=VALUE", help=told)
+
+
+def add_utc(parser: argparse.ArgumentParser) -> None:
+    parser.add_argument("--utc", action="store_true", help="shows times in UTC (default: in this machine's zone)")
+
+
+def add_start(subcommands: Subcommands[argparse.ArgumentParser]) -> None:
+    parser = add_command(subcommands, "start", jobs.start, "starts a job")
+    parser.add_argument("job", metavar="JOB", help="the job's name in the catalogue")
+    add_parameters(parser, "a parameter; the option may come several times (default: none)")
+    keys = parser.add_mutually_exclusive_group()
+    second = "a second start tells of the first one's job execution"
+    keys.add_argument("--once", action="store_true", help=f"starts the job with these parameters once: {second}")
+    keys.add_argument("--key", help=f"starts once by this key: {second} (default: none)")
+    parser.add_argument("--wait", action="store_true", help=WAITS)
+
+
+def add_restart(subcommands: Subcommands[argparse.ArgumentParser]) -> None:
+    told = "restarts a job execution that is FAILED or STOPPED, with its parameters"
+    parser = add_command(subcommands, "restart", jobs.restart, told)
+    add_execution(parser)
+    add_parameters(parser, "a parameter to add or to replace; the option may come several times (default: none)")
+    parser.add_argument("--no-parameters", action="store_true", help="without the earlier job execution's parameters")
+    parser.add_argument("--wait", action="store_true", help=WAITS)
+
+
+def add_changes(subcommands: Subcommands[argparse.ArgumentParser]) -> None:
+    add_start(subcommands)
+    add_restart(subcommands)
+    parser = add_command(subcommands, "stop", jobs.stop, "asks a job execution to stop")
+    add_execution(parser)
+    parser.add_argument("--wait", action="store_true", help="waits for the end")
+    parser = add_command(subcommands, "abandon", jobs.abandon, "abandons a job execution that is finished")
+    add_execution(parser)
+    parser = add_command(subcommands, "purge", jobs.purge, "removes a job instance")
+    parser.add_argument("instance", type=int, metavar="INSTANCE", help="the job instance's number")
+    parser = add_command(subcommands, "lose", jobs.lose, "gives up a work item whose worker is gone: it is FAILED")
+    parser.add_argument("work", type=int, metavar="WORK", help="the work item's number")
+
+
+def add_lists(subcommands: Subcommands[argparse.ArgumentParser]) -> None:
+    """Commands that show, and change nothing."""
+    parser = add_command(subcommands, "status", jobs.status, "shows a job execution")
+    add_execution(parser)
+    add_utc(parser)
+    parser = add_command(subcommands, "list", jobs.list_instances, "shows the newest job instances")
+    add_count(parser)
+    add_utc(parser)
+    add_count(add_command(subcommands, "failed", jobs.failed, "says what failed, why, and how it is restarted"))
+    add_utc(add_command(subcommands, "work", jobs.show_work, "shows which worker holds which work item since when"))
+    add_execution(add_command(subcommands, "log", jobs.show_log, "shows the logs of a job execution's work items"))
+    parser = add_command(subcommands, "watch", jobs.watch, "shows a job execution until its end, or the newest job instances")
+    execution = "the job execution's number (default: none, and the newest job instances are shown)"
+    parser.add_argument("execution", type=int, nargs="?", metavar="EXECUTION", help=execution)
+    add_utc(parser)
+
+
+def add_count(parser: argparse.ArgumentParser) -> None:
+    parser.add_argument("--job", metavar="JOB", help="shows job instances of this job alone (default: of all jobs)")
+    parser.add_argument("--count", type=positive, default=50, help="how many are shown at most (default: %(default)s)")
+
+
+def add_commands(subcommands: Subcommands[argparse.ArgumentParser]) -> None:
+    add_changes(subcommands)
+    add_lists(subcommands)

@@ -1,0 +1,86 @@
+"""What is written to a terminal: texts, moments and tables."""
+
+from __future__ import annotations
+
+import shlex
+from collections.abc import Mapping, Sequence
+from datetime import datetime, timezone
+from typing import Any
+
+from rich.table import Column, Table
+from rich.text import Text
+
+from job_host.protocol.moments import MOMENT
+from job_host.protocol.printable import printable, printable_lines
+
+COLOURS = {"COMPLETED": "green", "FAILED": "red", "STOPPED": "yellow", "ABANDONED": "magenta"}
+
+Told = Mapping[str, Any]
+
+
+def parameter_words(parameters: Mapping[str, str]) -> str:
+    """Parameters as a shell would read them, NAME=VALUE each."""
+    return printable(shlex.join(f"{name}={value}" for name, value in parameters.items())) or "none"
+
+
+def plain(text: Any) -> Text:
+    """A text of the service in one line, as it is, whatever brackets it has. Control characters are written out."""
+    return Text("" if text is None else printable(str(text)))
+
+
+def plain_lines(text: str) -> Text:
+    """A text of several lines, as a log."""
+    return Text(printable_lines(text))
+
+
+def status_text(status: str) -> Text:
+    return Text(printable(status), style=COLOURS.get(status, "cyan"))
+
+
+def clock(moment: str | None, in_utc: bool) -> Text:
+    """A moment to the second, in this machine's zone or in UTC, with the offset. One that no calendar has is a number."""
+    try:
+        when = datetime.strptime(moment or "", MOMENT).astimezone(timezone.utc if in_utc else None)
+    except (ValueError, OverflowError):
+        return plain(moment)
+    return plain(f"{when:%Y/%m/%d %H:%M:%S %z}")
+
+
+def metrics_text(metrics: Mapping[str, int]) -> str:
+    return " ".join(f"{name.removesuffix('_COUNT').lower()}={count}" for name, count in metrics.items())
+
+
+def folded(*names: str, title: Text | None = None) -> Table:
+    """A table whose long words go on in the next line: none is cut."""
+    return Table(*(Column(name, overflow="fold") for name in names), title=title)
+
+
+def execution_table(told: Told, in_utc: bool) -> Table:
+    """A job execution with its step executions."""
+    title = f"{told['jobName']}: job execution {told['executionId']} of job instance {told['instanceId']}"
+    table = folded("step", "status", "exit status", "start", "end", "counts", title=plain(title))
+    for step in told["stepExecutions"]:
+        shown = [plain(step["stepName"]), status_text(step["batchStatus"]), plain(step["exitStatus"])]
+        times = [clock(step[name], in_utc) for name in ("startTime", "endTime")]
+        table.add_row(*shown, *times, plain(metrics_text(step["metrics"])))
+    whole = [Text("(job)"), status_text(told["batchStatus"]), plain(told["exitStatus"])]
+    table.add_row(*whole, clock(told["startTime"], in_utc), clock(told["endTime"], in_utc), "")
+    return table
+
+
+def instance_table(told: Sequence[Told], in_utc: bool) -> Table:
+    """Job instances, each with its most recent job execution."""
+    table = folded("job instance", "job", "job execution", "status", "exit status", "last updated")
+    for one in told:
+        shown = [plain(one["instanceId"]), plain(one["jobName"]), plain(one["executionId"]), status_text(one["batchStatus"])]
+        table.add_row(*shown, plain(one["exitStatus"]), clock(one["lastUpdatedTime"], in_utc))
+    return table
+
+
+def work_table(told: Sequence[Told], in_utc: bool) -> Table:
+    """Work items that are under way, and which worker holds each."""
+    table = folded("work item", "job", "job execution", "step", "partition", "worker", "since")
+    for one in told:
+        shown = [one[name] for name in ("work", "jobName", "executionId", "stepName", "partition", "client")]
+        table.add_row(*map(plain, shown), clock(one["since"], in_utc))
+    return table

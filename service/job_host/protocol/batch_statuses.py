@@ -1,0 +1,6 @@
+"""Batch statuses, as Jakarta Batch names them."""
+
+from __future__ import annotations
+
+UNFINISHED = ("STARTING", "STARTED", "STOPPING")
+STATUSES = (*UNFINISHED, "STOPPED", "FAILED", "COMPLETED", "ABANDONED")

@@ -1,0 +1,1 @@
+"""What `jobhost serve` runs."""

@@ -1,0 +1,216 @@
+"""One co-process over one history: how many operations it has entered, which work items are busy, and its queries."""
+
+from __future__ import annotations
+
+import asyncio
+import json
+from collections import deque
+from collections.abc import Callable, Iterator, Sequence
+from typing import Any, NamedTuple
+
+from job_host.protocol.lines import LinesDigest, is_accepted, query
+from job_host.service.history.answers import Answers
+from job_host.service.history.coprocess import CoProcess, CoProcessEnded
+from job_host.service.history.execution_index import ExecutionIndex
+from job_host.service.history.work_items import LOST, Ended, EndedWork, Held
+
+# Commands whose replies tell what the operation is on.
+TELLING = frozenset({"start", "restart", "claim"})
+# Commands after which no claim finds more than before.
+GIVES_NO_WORK = frozenset({"claim", "checkpoint"})
+# By their answers two programs are compared, whether they have the same history.
+STATE = (query("status_counts"), query("job_names"))
+# A co-process that doesn't answer for so long isn't used further.
+ANSWER_SECONDS = 10.0
+
+
+class Record(NamedTuple):
+    """An operation."""
+
+    number: int
+    line: bytes
+    reply: bytes
+
+
+class ReplayDiffers(Exception):
+    """A replay was answered otherwise than the operation was when it was kept."""
+
+    def __init__(self, record: Record, got: bytes) -> None:
+        what = f"operation {record.number}, {record.line.decode()}"
+        super().__init__(f"{what}, was kept with the reply {record.reply.decode()}, and is replayed with {got.decode()}")
+
+
+# Heard are a reply, the number of the operation if it was entered, and how many operations had been entered then.
+Heard = Callable[[bytes | None, int | None, int], None]
+
+
+class Engine:
+    """Counts what the co-process enters. `turn` is held by reads of several steps, so that no command comes between them.
+
+    `recent` has the last operation that is known to be kept, and all behind it. `is_whole` says that each operation which the
+    co-process was handed by a replay is noted here.
+    """
+
+    def __init__(self, process: CoProcess) -> None:
+        self.process = process
+        self.entered = 0
+        self.last_moment = 0
+        self.last_session = 0
+        self.held: dict[int, Held] = {}
+        self.ended_work = EndedWork()
+        self.executions = ExecutionIndex(self)
+        self.recent: deque[Record] = deque()
+        self.digest = LinesDigest()
+        self.is_whole = True
+        self.looked: Answers | None = None
+        self.turn = asyncio.Lock()
+        self.may_give_work: Callable[[], None] = lambda: None
+
+    def holding(self) -> set[int]:
+        """The sessions that hold work items."""
+        return {held.session for held in self.held.values()}
+
+    def command(self, line: bytes, heard: Heard) -> None:
+        """Hands on a command. Whoever calls it holds `turn`."""
+
+        def hear(reply: bytes | None) -> None:
+            if reply is None:
+                heard(None, None, self.entered)
+            elif is_accepted(reply):
+                self.enter([line], [reply])
+                self.recent.append(Record(self.entered, line, reply))
+                heard(reply, self.entered, self.entered)
+            else:
+                heard(reply, None, self.entered)
+
+        self.process.send(line, hear)
+
+    def enter(self, lines: Sequence[bytes], replies: Sequence[bytes]) -> None:
+        """Notes what operations are on: work items, and job executions. Many at once cost less than one by one."""
+        self.is_whole = False
+        self.digest.add(lines)
+        operations = json.loads(b"[%b]" % b",".join(lines))
+        telling = [reply for told, reply in zip(operations, replies, strict=True) if told["do"] in TELLING]
+        answers = iter(json.loads(b"[%b]" % b",".join(telling)))
+        for told in operations:
+            self._enter(told, answers)
+        self.last_moment = max(self.last_moment, *(told["at"] for told in operations))
+        self.last_session = max(self.last_session, *(told["by"] for told in operations))
+        self.is_whole = True
+        if any(told["do"] not in GIVES_NO_WORK for told in operations):
+            self.may_give_work()
+
+    def _enter(self, told: dict[str, Any], answers: Iterator[dict[str, Any]]) -> None:
+        self.entered += 1
+        do = told["do"]
+        if do == "purge":
+            self.executions.note_purged(told["instance"], self.entered)
+        else:
+            execution = self._execution_of(do, told, answers)
+            self.executions.note_changed(execution, self.entered)
+            if do in ("start", "restart"):
+                self.executions.note_made(execution, told.get("execution"), self.entered)
+
+    def _execution_of(self, do: str, told: dict[str, Any], answers: Iterator[dict[str, Any]]) -> int:
+        """The job execution that an operation is on. Notes who claimed a work item, and which is over."""
+        if do in ("start", "restart"):
+            return int(next(answers)["execution"])
+        if do == "claim":
+            return self._note_claim(told, next(answers))
+        if do in ("stop", "abandon"):
+            return int(told["execution"])
+        if do == "checkpoint":
+            return self.held[told["work"]].execution
+        held = self.held.pop(told["work"])
+        outcome = LOST if do == "lose" else told["outcome"]
+        self.ended_work.note(Ended(held, told["at"], outcome, told.get("exit")))
+        return held.execution
+
+    def _note_claim(self, told: dict[str, Any], reply: dict[str, Any]) -> int:
+        work = reply.get("work")
+        if work is None:
+            return int(reply["closed"])
+        place = (work["work"], work["execution"], work["element"], work.get("partition"))
+        self.held[work["work"]] = Held(*place, told["by"], told["at"])
+        return int(work["execution"])
+
+    def note_kept(self, number: int) -> None:
+        """Operations up to this one are kept. The last of them stays in `recent`: by it the history is known again."""
+        while len(self.recent) > 1 and self.recent[1].number <= number:
+            self.recent.popleft()
+
+    async def replay(self, records: Sequence[Record]) -> None:
+        """Hands on kept operations, and compares the replies. Raises ReplayDiffers at the first that differs.
+
+        They are entered as the last reply is heard, so that no later query is said to have seen less.
+        """
+        replayed: asyncio.Future[None] = asyncio.get_running_loop().create_future()
+        replies: list[bytes] = []
+
+        def hear(reply: bytes | None) -> None:
+            if replayed.done():
+                return
+            if reply is None:
+                replayed.set_exception(CoProcessEnded("batchctl has ended"))
+                return
+            replies.append(reply)
+            if len(replies) == len(records):
+                try:
+                    self._enter_kept(records, replies)
+                    replayed.set_result(None)
+                except Exception as fault:
+                    replayed.set_exception(fault)
+
+        if records:
+            self.is_whole = False
+            self.process.send_all([record.line for record in records], hear)
+            await replayed
+
+    def _enter_kept(self, records: Sequence[Record], replies: Sequence[bytes]) -> None:
+        for number, (record, reply) in enumerate(zip(records, replies, strict=True), self.entered + 1):
+            if reply != record.reply or record.number != number:
+                raise ReplayDiffers(record, reply)
+        self.enter([record.line for record in records], replies)
+        self.recent = deque(records[-1:])
+
+    async def has_noted_all(self) -> bool:
+        """Whether the co-process lives, and all that it was handed is answered and noted here."""
+        if not self.is_whole or self.process.has_ended:
+            return False
+        try:
+            await asyncio.wait_for(self.ask(STATE), ANSWER_SECONDS)
+        except (CoProcessEnded, asyncio.TimeoutError):
+            return False
+        return self.is_whole
+
+    @property
+    def state(self) -> list[bytes] | None:
+        """The answers to STATE after the last operation, if they were asked then."""
+        return self.looked.replies if self.looked is not None and self.looked.seen == self.entered else None
+
+    def look(self) -> None:
+        """Asks how things are, and remembers it for `state`."""
+
+        def note(asked: asyncio.Future[Answers]) -> None:
+            if asked.exception() is None:
+                self.looked = asked.result()
+
+        self.ask(STATE).add_done_callback(note)
+
+    def ask(self, queries: Sequence[bytes]) -> asyncio.Future[Answers]:
+        """Asks queries of one state. There is at least one."""
+        answered: asyncio.Future[Answers] = asyncio.get_running_loop().create_future()
+        replies: list[bytes] = []
+
+        def hear(reply: bytes | None) -> None:
+            if answered.done():
+                return
+            if reply is None:
+                answered.set_exception(CoProcessEnded("batchctl has ended"))
+                return
+            replies.append(reply)
+            if len(replies) == len(queries):
+                answered.set_result(Answers(replies, self.entered))
+
+        self.process.send_all(queries, hear)
+        return answered

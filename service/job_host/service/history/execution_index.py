@@ -1,0 +1,174 @@
+"""Job executions by batch status, job and search, the newest first.
+
+batchctl is asked for a job execution once, and again after an operation on it. What an operation is on stands in docs/LINES.md.
+"""
+
+from __future__ import annotations
+
+import asyncio
+from array import array
+from collections.abc import Sequence
+from dataclasses import dataclass
+from typing import NamedTuple
+
+from job_host.protocol.lines import read
+from job_host.service.history.answers import Answering
+from job_host.service.pages import Page
+
+BLOCK = 1_000
+PARAMETER_CHARACTERS = 1_000
+# Lines of thousands at once: written without an encoder each.
+ASK_EXECUTION = b'{"ask":"job_execution","execution":%d}'
+ASK_PARAMETERS = b'{"ask":"parameters","execution":%d}'
+
+
+class Row(NamedTuple):
+    """What is searched of a job execution, and how many operations it saw. A purged one has no status."""
+
+    seen: int
+    instance: int = 0
+    job: str = ""
+    status: str = ""
+    exit: str = ""
+
+
+@dataclass(frozen=True)
+class Wanted:
+    """A list's filter. Without statuses all of them are meant; `search` is in lower case.
+
+    With `most_recent` only the most recent job execution of each job instance is meant.
+    """
+
+    statuses: frozenset[str] = frozenset()
+    job: str | None = None
+    search: str = ""
+    most_recent: bool = False
+
+    @property
+    def is_by_status_alone(self) -> bool:
+        return self.job is None and not self.search and not self.most_recent
+
+    def has_status(self, row: Row) -> bool:
+        return bool(row.status) and (not self.statuses or row.status in self.statuses)
+
+    def takes(self, execution: int, row: Row, parameters: str) -> bool:
+        """Whether a job execution with such a status is meant."""
+        if self.job is not None and row.job != self.job:
+            return False
+        if not self.search or self.search in (str(execution), str(row.instance)):
+            return True
+        return any(self.search in text.lower() for text in (row.job, row.exit, parameters))
+
+
+def parameter_text(parameters: dict[str, str], most: int) -> str:
+    """Parameters as one text of at most so many characters."""
+    text = ", ".join(f"{name}={value}" for name, value in parameters.items())
+    return text if len(text) <= most else text[: most - 1] + "\u2026"
+
+
+def row_of(seen: int, reply: bytes) -> Row:
+    one = read(reply).get("job_execution")
+    return Row(seen) if one is None else Row(seen, one["instance"], one["job"], one["status"], one["exit"] or "")
+
+
+class ExecutionIndex:
+    """Rows of one history. It is told of each operation, and asks for what a list needs and isn't known."""
+
+    def __init__(self, engine: Answering) -> None:
+        self._engine = engine
+        self._rows: dict[int, Row] = {}
+        # As texts, of those that were searched. They never change.
+        self._parameters: dict[int, str] = {}
+        # The last operation on each job execution, by its number, and on each purged job instance.
+        self._changed = array("Q", [0])
+        self._purged: dict[int, int] = {}
+        # The operation that restarted a job execution: since then another one is its job instance's most recent one.
+        self._restarted: dict[int, int] = {}
+        # The most recent job execution of each job instance; of each job execution its job instance, and the one it restarted.
+        self._newest = array("Q", [0])
+        self._instances = array("Q", [0])
+        self._earlier = array("Q", [0])
+        self._turn = asyncio.Lock()
+
+    @property
+    def last(self) -> int:
+        """The greatest number of a job execution."""
+        return len(self._changed) - 1
+
+    def note_changed(self, execution: int, operation: int) -> None:
+        missing = execution + 1 - len(self._changed)
+        if missing > 0:
+            self._changed.extend([0] * missing)
+        self._changed[execution] = operation
+
+    def note_purged(self, instance: int, operation: int) -> None:
+        self._purged[instance] = operation
+
+    def note_made(self, execution: int, restarted: int | None, operation: int) -> None:
+        """A start makes the next job instance, and a restart the next job execution of one."""
+        if restarted is None:
+            instance = len(self._newest)
+            self._newest.append(execution)
+        else:
+            instance = self._instances[restarted]
+            self._newest[instance] = execution
+            self._restarted[restarted] = operation
+        self._instances.append(instance)
+        self._earlier.append(restarted or 0)
+
+    def has_instance(self, instance: int) -> bool:
+        return 0 < instance < len(self._newest) and instance not in self._purged
+
+    def of_instance(self, instance: int, page: Page) -> list[int]:
+        """The job executions of a job instance, the newest first."""
+        found: list[int] = []
+        execution = self._newest[instance]
+        while execution and len(found) < page.start + page.size:
+            found.append(execution)
+            execution = self._earlier[execution]
+        return found[page.start :]
+
+    def is_most_recent(self, execution: int, seen: int) -> bool:
+        """Whether it is the most recent job execution of its job instance after so many operations."""
+        return self._restarted.get(execution, seen + 1) > seen
+
+    def _is_known(self, execution: int) -> bool:
+        row = self._rows.get(execution)
+        return row is not None and row.seen >= max(self._changed[execution], self._purged.get(row.instance, 0))
+
+    async def _know(self, block: Sequence[int], with_parameters: bool) -> None:
+        """Asks for those of a block that aren't known. An operation that comes meanwhile makes them unknown again."""
+        async with self._turn:
+            unknown = [one for one in block if not self._is_known(one)]
+            seen = self._engine.entered
+            told = await self._ask(ASK_EXECUTION, unknown)
+            self._rows.update((one, row_of(seen, reply)) for one, reply in zip(unknown, told))
+            if with_parameters:
+                missing = [one for one in block if one not in self._parameters]
+                texts = [read(reply).get("parameters", {}) for reply in await self._ask(ASK_PARAMETERS, missing)]
+                self._parameters.update((one, parameter_text(text, PARAMETER_CHARACTERS)) for one, text in zip(missing, texts))
+
+    async def _ask(self, line: bytes, executions: Sequence[int]) -> list[bytes]:
+        return (await self._engine.ask([line % one for one in executions])).replies if executions else []
+
+    async def find(self, wanted: Wanted, start: int, count: int, most: int | None) -> tuple[list[int], bool]:
+        """The numbers of a page, and whether there are more behind it.
+
+        `most` is how many have one of the statuses, if that is known: behind the last of these there are no more.
+        """
+        found: list[int] = []
+        high, passed = self.last, 0
+        while high > 0 and len(found) <= start + count and (most is None or passed < most):
+            block = range(high, max(0, high - BLOCK), -1)
+            await self._know(block, bool(wanted.search))
+            with_status = [one for one in block if wanted.has_status(self._rows[one])]
+            found += [one for one in with_status if self._is_wanted(wanted, one)]
+            passed += len(with_status)
+            high -= BLOCK
+            await asyncio.sleep(0)
+        return found[start : start + count], len(found) > start + count
+
+    def _is_wanted(self, wanted: Wanted, execution: int) -> bool:
+        if wanted.most_recent and execution in self._restarted:
+            return False
+        return wanted.takes(execution, self._rows[execution], self._parameters.get(execution, ""))

@@ -1,0 +1,1 @@
+"""Connections and requests: who may have room and ask, and what every request has."""

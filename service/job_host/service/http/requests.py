@@ -1,0 +1,245 @@
+"""What every request has: its caller, its client's name, its key, its query, its body, and what it wants to see at least."""
+
+from __future__ import annotations
+
+import asyncio
+import json
+import re
+from collections import Counter
+from collections.abc import Awaitable, Callable, Iterable, Iterator
+from contextlib import contextmanager
+from dataclasses import dataclass
+from typing import Any, NamedTuple
+
+from aiohttp import web
+
+from job_host.protocol.bounds import MOST_NUMBER
+from job_host.protocol.headers import AT_LEAST, CLIENT, OPERATIONS, REQUEST_KEY
+from job_host.protocol.peers import is_unheard, notice_gone
+from job_host.service.http.access import NAME, Access, Caller
+from job_host.service.keepers.keeper import Keeper
+from job_host.service.pages import USUAL_SIZE, Page
+from job_host.service.problems import Problem, bad_request
+from job_host.service.settings import MOST_OPERATIONS, Bounds, ServeSettings
+
+KEY = re.compile(r"[\x21-\x7e]+")
+NUMBER = re.compile(r"[0-9]{1,20}")
+ANYBODY = "anybody"
+
+# Words of a query that say which page of a list is meant.
+PAGE_WORDS = ("page", "pageSize")
+# Words of a query that may come several times.
+SEVERAL = frozenset({"status", "instanceState"})
+# Words of Open Liberty that say in which application a job is.
+APPLICATION_WORDS = frozenset({"applicationName", "appName", "moduleName", "componentName"})
+
+
+def number(text: str, what: str) -> int:
+    """A number as a client writes it, within the numbers of a line."""
+    if not NUMBER.fullmatch(text) or int(text) > MOST_NUMBER:
+        raise bad_request(f"{what} is a whole number from 0 to {MOST_NUMBER}")
+    return int(text)
+
+
+def refuse_constant(text: str) -> Any:
+    raise ValueError(f"{text} is no JSON")
+
+
+class Gate:
+    """How many requests of one client are in hand."""
+
+    def __init__(self, bounds: Bounds) -> None:
+        self._bounds = bounds
+        self._in_hand: Counter[str] = Counter()
+
+    @contextmanager
+    def enter(self, client: str) -> Iterator[None]:
+        if self._in_hand[client] >= self._bounds.requests_at_once:
+            raise Problem("TooManyRequests", 429, f"{self._bounds.requests_at_once} requests of this client are in hand")
+        self._in_hand[client] += 1
+        try:
+            yield
+        finally:
+            self._in_hand[client] -= 1
+            if not self._in_hand[client]:
+                del self._in_hand[client]
+
+
+class Places:
+    """How many requests of one kind are in hand, which last."""
+
+    def __init__(self, most: int, told: str) -> None:
+        self._most = most
+        self._told = told
+        self.count = 0
+
+    @contextmanager
+    def enter(self) -> Iterator[None]:
+        if self.count >= self._most:
+            raise Problem("TooManyRequests", 429, f"{self._most} {self._told}")
+        self.count += 1
+        try:
+            yield
+        finally:
+            self.count -= 1
+
+
+@dataclass(frozen=True)
+class Host:
+    """The service, as routes see it."""
+
+    settings: ServeSettings
+    keeper: Keeper
+    access: Access
+    gate: Gate
+    waits: Places
+    ending: asyncio.Event
+
+
+class Asked:
+    """One request."""
+
+    def __init__(self, request: web.Request, host: Host, caller: Caller) -> None:
+        self.request = request
+        self.host = host
+        self.keeper = host.keeper
+        self.caller = caller
+        self.client = caller.prefix + self._client_name()
+
+    def _client_name(self) -> str:
+        name = self.request.headers.get(CLIENT, ANYBODY)
+        if len(name) > self.host.settings.bounds.name_bytes or not NAME.fullmatch(name):
+            raise bad_request(
+                f"{CLIENT} has letters, digits and ._:@- and at most {self.host.settings.bounds.name_bytes} of them"
+            )
+        return name
+
+    def named_client(self) -> str:
+        """The client of a worker's request, which has to have a name of its own."""
+        if CLIENT not in self.request.headers:
+            raise bad_request(f"the header {CLIENT} is needed: it says whose the work item is")
+        return self.client
+
+    @property
+    def key(self) -> str | None:
+        key = self.request.headers.get(REQUEST_KEY)
+        if key is not None and (len(key) > self.host.settings.bounds.key_bytes or not KEY.fullmatch(key)):
+            most = self.host.settings.bounds.key_bytes
+            raise bad_request(f"{REQUEST_KEY} has 1 to {most} printable characters without spaces")
+        return key
+
+    @property
+    def at_least(self) -> int:
+        given = self.request.headers.get(AT_LEAST, self.request.query.get("atLeast", "0"))
+        return number(given, AT_LEAST)
+
+    def expect_words(self, known: Iterable[str]) -> None:
+        """Refuses a query with other words, or with one that comes twice: part of it would be left out otherwise."""
+        refuse_others("the query has words", self.request.query, known)
+        counts = Counter(self.request.query.keys())
+        twice = sorted(word for word, count in counts.items() if count > 1 and word not in SEVERAL)
+        if twice:
+            raise bad_request(f"{twice[0]} comes more than once")
+
+    def path_number(self) -> int:
+        return number(self.request.match_info["id"], "the number in the path")
+
+    def query_number(self, name: str, default: int) -> int:
+        return number(self.request.query.get(name, str(default)), name)
+
+    def page(self, most: int) -> Page:
+        """The page of a list that is meant, with so many rows at most. It begins within as many as there can be."""
+        page, size = self.query_number("page", 0), self.query_number("pageSize", USUAL_SIZE)
+        if not 0 < size <= most or page * size > MOST_OPERATIONS:
+            raise bad_request(f"a page has 1 to {most} rows, and begins within the first {MOST_OPERATIONS}")
+        return Page(page * size, size)
+
+    def page_of_large_rows(self) -> Page:
+        """A page of a list whose rows hold lists or long texts."""
+        return self.page(self.host.settings.bounds.page_of_large_rows)
+
+    def query_flag(self, name: str) -> bool:
+        given = self.request.query.get(name, "false")
+        if given not in ("true", "false"):
+            raise bad_request(f"{name} is true or false")
+        return given == "true"
+
+    async def body(self) -> dict[str, Any]:
+        """The body, an object of JSON. Without a body it is the empty object."""
+        text = await self._bytes()
+        if not text:
+            return {}
+        if self.request.content_type != "application/json":
+            raise Problem("UnsupportedMediaType", 415, "the body is application/json")
+        try:
+            value = json.loads(text, parse_constant=refuse_constant)
+        except (ValueError, RecursionError) as fault:
+            raise bad_request("the body is no JSON") from fault
+        if not isinstance(value, dict):
+            raise bad_request("the body is no object")
+        return value
+
+    async def _bytes(self) -> bytes:
+        try:
+            return await asyncio.wait_for(self.request.read(), self.host.settings.bounds.slow_after)
+        except asyncio.TimeoutError as fault:
+            raise Problem("TooSlow", 408, "the body didn't come in time") from fault
+
+    def is_gone(self) -> bool:
+        """Whether nobody waits for the answer any more, or nobody who may have it."""
+        transport = self.request.transport
+        return transport is None or transport.is_closing() or not self.host.access.knows(self.request, self.caller)
+
+    def is_unheard(self) -> bool:
+        """Whether the client's machine was asked for a sign, and hasn't given one yet."""
+        transport = self.request.transport
+        return transport is not None and is_unheard(transport.get_extra_info("socket"))
+
+    @contextmanager
+    def waiting(self) -> Iterator[None]:
+        """While a claim waits, its client is soon noticed to be gone. Raises a problem if too many claims wait."""
+        bounds = self.host.settings.bounds
+        with self.host.waits.enter():
+            self._notice_gone(bounds.gone_after)
+            try:
+                yield
+            finally:
+                self._notice_gone(bounds.slow_after)
+
+    def _notice_gone(self, seconds: float) -> None:
+        transport = self.request.transport
+        if transport is not None and not transport.is_closing():
+            notice_gone(transport.get_extra_info("socket"), seconds)
+
+    def answer(self, told: Any, seen: int, status: int = 200) -> web.Response:
+        """An answer that says how many operations it saw."""
+        return web.json_response(told, status=status, headers={OPERATIONS: str(seen)})
+
+
+Handler = Callable[[Asked], Awaitable[web.StreamResponse]]
+
+
+class Route(NamedTuple):
+    """A route for callers with a right, and the words that its query may have."""
+
+    method: str
+    path: str
+    right: str
+    handler: Handler
+    words: tuple[str, ...] = ()
+
+
+def expect_members(body: dict[str, Any], *names: str) -> None:
+    """Refuses a body with other members: a word that is misspelt would be left out otherwise."""
+    refuse_others("the body has members", body, names)
+
+
+def refuse_others(what: str, given: Iterable[str], known: Iterable[str]) -> None:
+    """Raises a problem that names the words that aren't known."""
+    others = sorted(set(given) - set(known))
+    if not others:
+        return
+    told = f"{what} that aren't known here: {json.dumps(others)[:200]}"
+    if not APPLICATION_WORDS.isdisjoint(others):
+        told += "; there are no applications here, and jobName alone names a job"
+    raise bad_request(told)

@@ -1,0 +1,288 @@
+"""Keeping in PostgreSQL: one instance leads, the others follow the table, answer reads, and take over."""
+
+from __future__ import annotations
+
+import asyncio
+import logging
+import os
+import socket
+import time
+import uuid
+from collections.abc import Sequence
+from contextlib import suppress
+
+from job_host.catalogue import growth, jobs
+from job_host.catalogue.check import NoVerdict
+from job_host.service.history.coprocess import CoProcess, CoProcessEnded
+from job_host.service.history.engine import Engine, ReplayDiffers
+from job_host.service.keepers.keeper import Fatal, Keeper, check_catalogue, first_of
+from job_host.service.keepers.postgres_term import PostgresTerm, beating
+from job_host.service.problems import Problem, unavailable
+from job_host.service.settings import ServeSettings
+from job_host.service.stores.postgres import LOST, Leader, NoPrimary, NotDurable, PostgresStore
+from job_host.service.stores.versions import LaterVersion
+from job_host.service.terms.calls import LogPage, WorkLog
+from job_host.service.terms.leases import Leases
+from job_host.service.terms.sessions import Sessions
+from job_host.service.terms.term import Observers, TermSettings, not_yet
+
+log = logging.getLogger(__name__)
+
+POLL = 0.1
+CHUNK = 2_000
+RETRY = 0.25
+# So many beats a leader has before another instance takes it for gone.
+BEATS = 5
+PRUNE_SECONDS = 3_600.0
+RESIGN_SECONDS = 1.0
+# How many keys are dropped at a time, so that calls needn't wait for all.
+PRUNED = 5_000
+
+
+class CatalogueGrew(Exception):
+    """The leader brought a catalogue that this instance hasn't."""
+
+
+class PostgresKeeper(Keeper):
+    def __init__(self, settings: ServeSettings, leases: Leases, observers: Observers) -> None:
+        super().__init__(leases)
+        self._settings = settings
+        self._observers = observers
+        self._holder = f"{socket.gethostname()}:{os.getpid()}:{uuid.uuid4().hex[:8]}"
+        self._file = jobs.read_file(settings.catalogue)
+        self._catalogue = b""
+        self._bring: bytes | None = None
+        self._has_begun = False
+        self._store: PostgresStore | None = None
+        # It outlives a connection that is lost, and a term. It has entered nothing of a later epoch.
+        self._kept: Engine | None = None
+        self._entered_epoch = 0
+        self._sessions = Sessions({}, settings.bounds.clients)
+        self._poke = asyncio.Event()
+        self._followed = asyncio.Condition()
+        self._closing = asyncio.Event()
+
+    async def run(self) -> None:
+        await check_catalogue(self._settings.batchctl, self._file)
+        try:
+            await self._serve()
+        finally:
+            await self._throw_away()
+
+    async def _serve(self) -> None:
+        while not self._closing.is_set():
+            try:
+                await self._serve_once()
+            except (NoPrimary, CoProcessEnded, CatalogueGrew, NoVerdict, Problem, *LOST) as fault:
+                log.warning("begins again: %s %s", type(fault).__name__, fault)
+            except (ReplayDiffers, NotDurable, LaterVersion, growth.CatalogueChanged) as fault:
+                raise Fatal(f"{type(fault).__name__}: {fault}") from fault
+            except Exception:
+                log.exception("begins again")
+            with suppress(asyncio.TimeoutError):
+                await asyncio.wait_for(self._closing.wait(), RETRY)
+
+    async def _serve_once(self) -> None:
+        """Follows, then leads, until something fails. What fails throws the connections away."""
+        self.role = "starting"
+        store = await PostgresStore.open(self._settings.postgres, self._settings.commit_timeout)
+        self._store = store
+        watching: asyncio.Future[None] | None = None
+        try:
+            engine = self.engine = await self._engine_over(store)
+            watching = asyncio.ensure_future(self.watch(engine))
+            epoch = await self._follow(store, engine)
+            if epoch is not None:
+                await self._lead(store, engine, epoch)
+        finally:
+            self.role, self.term, self.engine, self._store = "starting", None, None, None
+            if watching is not None:
+                watching.cancel()
+            store.close()
+
+    async def _engine_over(self, store: PostgresStore) -> Engine:
+        """The engine from before, if it knows what the table has and no more; else a new one, which replays the table."""
+        self._catalogue, self._bring = await self._choose(await store.catalogue())
+        self._has_begun = True
+        if self._kept is not None and not await self._may_go_on(store, self._kept):
+            log.warning("batchctl is begun again: it has ended, or knows what isn't in the table")
+            await self._throw_away()
+            # Another instance may lead before this one has replayed the table.
+            leader = await store.leader()
+            if leader.holder == self._holder:
+                await self._resign(store, leader.epoch)
+        if self._kept is None:
+            self._kept = await self._start_engine()
+        return self._kept
+
+    async def _may_go_on(self, store: PostgresStore, engine: Engine) -> bool:
+        """Whether all that the engine has entered is in the table, from the last operation that was known to be there on.
+
+        A commit whose answer was lost may be there or not, and another leader may have written others, in a later epoch. Each
+        leader began with all operations before its own. So what comes before that last one is the same, too.
+        """
+        if engine.process.catalogue != self._catalogue or not await engine.has_noted_all():
+            return False
+        recent = list(engine.recent)
+        first = recent[0].number if recent else 1
+        return await store.operations_after(first - 1, self._entered_epoch, len(recent)) == recent
+
+    async def _start_engine(self) -> Engine:
+        return Engine(await CoProcess.start([*self._settings.batchctl, "script"], self._catalogue))
+
+    async def _throw_away(self) -> None:
+        engine, self._kept = self._kept, None
+        if engine is not None:
+            await engine.process.close()
+
+    async def _choose(self, kept: bytes | None) -> tuple[bytes, bytes | None]:
+        """The catalogue to go by; and again, if it is to be kept.
+
+        At its start an instance has a file with each kept job. Later another instance may bring more jobs, which it takes over.
+        """
+        if kept is None:
+            return self._file, self._file
+        batchctl = self._settings.batchctl
+        if self._has_begun and not await asyncio.to_thread(growth.changed_jobs, batchctl, self._file, kept):
+            return kept, None
+        grown = await asyncio.to_thread(growth.grown, batchctl, kept, self._file)
+        has_grown = len(jobs.jobs_of(grown)) > len(jobs.jobs_of(kept))
+        return (grown, grown) if has_grown else (kept, None)
+
+    async def _follow(self, store: PostgresStore, engine: Engine) -> int | None:
+        """Follows the table until it may lead. Returns the epoch, or none if the service is to end."""
+        last: Leader | None = None
+        since = time.monotonic()
+        while not self._closing.is_set():
+            if engine.process.has_ended:
+                raise CoProcessEnded(f"batchctl ended with status {engine.process.status}: {engine.process.errors}")
+            leader = await store.leader()
+            if last is None or leader.epoch != last.epoch:
+                await self._look_at_epoch(store, leader)
+            await self._catch_up(store, engine, leader.epoch)
+            if leader != last:
+                last, since = leader, time.monotonic()
+            self.leader_url, self.epoch, self.history = leader.url, leader.epoch, leader.history
+            self.role = "follower"
+            is_free = leader.holder in ("", self._holder)
+            if is_free or time.monotonic() - since >= self._settings.takeover_after:
+                epoch = await store.take_over(leader, self._holder, self._settings.advertise, self._bring)
+                if epoch is not None:
+                    return epoch
+            self._poke.clear()
+            with suppress(asyncio.TimeoutError):
+                await asyncio.wait_for(self._poke.wait(), POLL)
+        return None
+
+    async def _look_at_epoch(self, store: PostgresStore, leader: Leader) -> None:
+        """A new leader may have brought a catalogue with more jobs."""
+        chosen, _ = await self._choose(await store.catalogue())
+        if chosen != self._catalogue:
+            raise CatalogueGrew(f"by epoch {leader.epoch}")
+
+    async def _catch_up(self, store: PostgresStore, engine: Engine, epoch: int) -> None:
+        """Replays what the table has more than the co-process, up to this epoch, whose catalogue the co-process has.
+
+        The next operations are read while those before them are replayed.
+        """
+        self._entered_epoch = epoch
+        records = await store.operations_after(engine.entered, epoch, CHUNK)
+        while records:
+            coming = asyncio.ensure_future(store.operations_after(records[-1].number, epoch, CHUNK))
+            coming.add_done_callback(lambda done: done.cancelled() or done.exception())
+            async with engine.turn:
+                await engine.replay(records)
+            async with self._followed:
+                self._followed.notify_all()
+            records = await coming
+
+    async def _lead(self, store: PostgresStore, engine: Engine, epoch: int) -> None:
+        """Leads until the epoch is another's, a part fails, or the service is to end."""
+        begun = time.monotonic()
+        beat = min(1.0, self._settings.takeover_after / BEATS)
+        async with beating(store, epoch, beat):
+            await self._catch_up(store, engine, epoch)
+            most = self._settings.bounds.clients
+            self._sessions = Sessions(await store.clients(most), most, engine.last_session, engine.holding)
+        self.history = (await store.leader()).history
+        settings = TermSettings(self._settings.refuse_from, beat)
+        term = PostgresTerm(store, epoch, engine, self._sessions, settings, self._observers)
+        self.term, self.role, self.epoch, self._bring = term, "leader", epoch, None
+        self.leader_url = self._settings.advertise
+        self.last_takeover = time.monotonic() - begun
+        log.warning("leads by epoch %d, after %d operations", epoch, engine.entered)
+        async with self._followed:
+            self._followed.notify_all()
+        rounds = [term.commit_rounds(), term.desk.serve(), term.desk.watch(), self.leases.watch(term), self._prune(store, term)]
+        try:
+            await first_of([*rounds, engine.process.wait(), self._closing.wait()])
+        finally:
+            # Its co-process may know more than the table: nobody reads it before that is known.
+            engine.process.log_end()
+            self.role, self.term, self.engine = "starting", None, None
+            if engine.process.has_ended or (self._closing.is_set() and term.failure is None):
+                await self._resign(store, epoch)
+            term.fail(unavailable("NotLeader", "this instance leads no more"))
+
+    @staticmethod
+    async def _resign(store: PostgresStore, epoch: int) -> None:
+        """Lets another instance lead at once. A server that waits for its standby isn't waited for."""
+        with suppress(*LOST):
+            await asyncio.wait_for(store.resign(epoch), RESIGN_SECONDS)
+
+    async def _forget_names(self, store: PostgresStore, term: PostgresTerm) -> None:
+        """Forgets client names that hold no work item and weren't heard for long."""
+        await store.note_heard(term.sessions.take_heard())
+        silent = await store.silent_clients(self._settings.bounds.name_seconds)
+        with term.sessions.forgetting(silent, term.engine.holding()) as dropped:
+            if dropped:
+                await store.drop_clients(term.epoch, dropped)
+
+    async def _prune(self, store: PostgresStore, term: PostgresTerm) -> None:
+        """Drops what is old, now and then. If that fails, the term goes on, and it is tried again."""
+        while True:
+            try:
+                await self._prune_once(store, term)
+            except (Problem, *LOST) as fault:
+                log.warning("what is old is dropped later: %s %s", type(fault).__name__, fault)
+            await asyncio.sleep(PRUNE_SECONDS)
+
+    async def _prune_once(self, store: PostgresStore, term: PostgresTerm) -> None:
+        days = self._settings.bounds.days_of_keys
+        while await store.drop_old_keys(days, PRUNED):
+            pass
+        await store.drop_once(await self.of_purged(await store.old_once(days)))
+        await store.drop_logs(await self.purged(await store.logged_executions()))
+        await self._forget_names(store, term)
+
+    async def reach(self, at_least: int) -> None:
+        """A follower looks at the table at once, and waits for what is missing."""
+        deadline = time.monotonic() + self._settings.bounds.at_least_seconds
+        while self.operations < at_least or self.role == "starting":
+            self._poke.set()
+            remaining = deadline - time.monotonic()
+            if remaining <= 0 or (self.term is not None and self.term.failure is not None):
+                self.reading()
+                raise not_yet(at_least, self.committed)
+            async with self._followed:
+                with suppress(asyncio.TimeoutError):
+                    await asyncio.wait_for(self._followed.wait(), min(remaining, 0.05))
+
+    async def logs(self, wanted: LogPage) -> list[WorkLog]:
+        if self._store is None:
+            raise unavailable("Starting", "the history isn't here yet")
+        try:
+            return await self._store.logs(wanted)
+        except LOST as fault:
+            raise unavailable("StoreLost", f"{type(fault).__name__}: {fault}") from fault
+
+    async def client_names(self, sessions: Sequence[int]) -> dict[int, str]:
+        names = {one: name for one in sessions if (name := self._sessions.name(one)) is not None}
+        unknown = [one for one in sessions if one not in names]
+        if unknown and self._store is not None:
+            with suppress(*LOST):
+                names |= await self._store.names_of(unknown)
+        return names
+
+    async def close(self) -> None:
+        self._closing.set()

@@ -1,0 +1,84 @@
+"""A term over PostgreSQL: it commits its rounds under its epoch, as long as no other instance has taken over."""
+
+from __future__ import annotations
+
+import asyncio
+import logging
+from collections.abc import AsyncIterator, Sequence
+from contextlib import asynccontextmanager, suppress
+from typing import Any
+
+from job_host.service.problems import Problem, unavailable
+from job_host.service.stores.postgres import LOST, PostgresStore
+from job_host.service.terms.calls import Item, Kept, KeptRequest
+from job_host.service.terms.term import Term
+
+log = logging.getLogger(__name__)
+
+
+class PostgresTerm(Term):
+    """The rounds of one epoch."""
+
+    def __init__(self, store: PostgresStore, epoch: int, *others: Any) -> None:
+        super().__init__(*others)
+        self._store = store
+        self._kept_sessions = set(self.sessions.numbers())
+        self.epoch = epoch
+
+    async def find(self, session: int, key: str) -> KeptRequest | None:
+        try:
+            return await self._store.request(session, key)
+        except LOST as fault:
+            raise self._lost(fault) from fault
+
+    async def session_of(self, name: str) -> int | None:
+        try:
+            return await self._store.session_of(name)
+        except LOST as fault:
+            raise self._lost(fault) from fault
+
+    async def forget(self, key: str, kept: Kept) -> None:
+        try:
+            await self._store.drop_once({key: kept.reply})
+        except LOST as fault:
+            raise self._lost(fault) from fault
+
+    def _lost(self, fault: Exception) -> Problem:
+        """What is told of a connection that is lost: why the term has failed, if it has, as its connections end with it."""
+        return self.failure or unavailable("StoreLost", f"{type(fault).__name__}: {fault}")
+
+    async def keep(self, items: Sequence[Item]) -> None:
+        told = [(item, item.call.client) for item in items if item.call is not None]
+        kept = [(item, client) for item, client in told if item.number is not None or item.is_keyed]
+        clients = {client: item.session for item, client in kept if item.session not in self._kept_sessions}
+        try:
+            stands = await self._store.commit(self.epoch, items, clients)
+        except LOST as fault:
+            log.warning("a commit failed: %s %s", type(fault).__name__, fault)
+            raise unavailable("CommitFailed", "the operation may have been kept: ask again by its key") from fault
+        if not stands:
+            raise unavailable("NotLeader", "another instance has taken over")
+        self._kept_sessions.update(clients.values())
+
+
+@asynccontextmanager
+async def beating(store: PostgresStore, epoch: int, seconds: float) -> AsyncIterator[None]:
+    """Gives signs of this leader while it isn't ready yet. Raises NotLeader at the end if another one has taken over."""
+    is_ready = asyncio.Event()
+
+    async def beat() -> bool:
+        while stands := await store.commit(epoch, [], {}):
+            with suppress(asyncio.TimeoutError):
+                await asyncio.wait_for(is_ready.wait(), seconds)
+            if is_ready.is_set():
+                break
+        return stands
+
+    task = asyncio.ensure_future(beat())
+    try:
+        yield
+    finally:
+        is_ready.set()
+        await asyncio.wait([task])
+    if not task.result():
+        raise unavailable("NotLeader", "another instance has taken over")

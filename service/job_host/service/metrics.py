@@ -1,0 +1,65 @@
+"""Metrics in Prometheus' format."""
+
+from __future__ import annotations
+
+from typing import Any
+
+from prometheus_client import CollectorRegistry, Counter, Gauge, Histogram, generate_latest
+
+from job_host.protocol.lines import query, read
+from job_host.service.history.coprocess import CoProcessEnded
+from job_host.service.keepers.keeper import Keeper
+from job_host.service.problems import Problem
+from job_host.service.settings import MOST_OPERATIONS
+from job_host.service.terms.term import Observers
+
+COMMIT_BUCKETS = (0.0005, 0.001, 0.002, 0.005, 0.01, 0.02, 0.05, 0.1, 0.2, 0.5, 1, 2, 5, 10)
+
+
+class Metrics:
+    """One registry for one service."""
+
+    def __init__(self) -> None:
+        self.registry = CollectorRegistry()
+        given: dict[str, Any] = {"registry": self.registry}
+        self.requests = Counter("jobhost_requests", "Requests by route and status", ["method", "route", "status"], **given)
+        self.seconds = Histogram("jobhost_request_seconds", "Seconds of a request", ["route"], **given)
+        self.commits = Histogram("jobhost_commit_seconds", "Seconds of a commit", buckets=COMMIT_BUCKETS, **given)
+        self.replies = Counter("jobhost_committed_replies", "Replies that waited for a commit", **given)
+        self.executions = Gauge("jobhost_job_executions", "Job executions by batch status", ["status"], **given)
+        self.operations = Gauge("jobhost_operations", "Operations of the history", **given)
+        self.full = Gauge("jobhost_history_full_ratio", "How full the history is", **given)
+        self.leads = Gauge("jobhost_leads", "1 if this instance leads", **given)
+        self.epoch = Gauge("jobhost_epoch", "The epoch that this instance knows", **given)
+        self.held = Gauge("jobhost_work_items_held", "Busy work items", **given)
+        self.waiting = Gauge("jobhost_claims_waiting", "Claims that wait for work", **given)
+        self.takeover = Gauge("jobhost_takeover_seconds", "Seconds from the last new epoch to the first call", **given)
+
+    def observers(self) -> Observers:
+        return Observers(self._observe_commit)
+
+    def _observe_commit(self, seconds: float, replies: int) -> None:
+        if replies:
+            self.commits.observe(seconds)
+            self.replies.inc(replies)
+
+    async def text(self, keeper: Keeper) -> bytes:
+        """All metrics. The counts by batch status are asked for."""
+        self.operations.set(keeper.committed)
+        self.full.set(keeper.committed / MOST_OPERATIONS)
+        self.leads.set(1 if keeper.role == "leader" else 0)
+        self.epoch.set(keeper.epoch)
+        self.waiting.set(keeper.term.desk.waiting if keeper.term else 0)
+        self.takeover.set(keeper.last_takeover)
+        self.executions.clear()
+        self.held.set(0)
+        held = len(keeper.engine.held) if keeper.engine else 0
+        try:
+            answers = await keeper.ask([query("status_counts")])
+        except (Problem, CoProcessEnded):
+            return generate_latest(self.registry)
+        # What was seen before this answer is kept.
+        self.held.set(held)
+        for status, count in read(answers.replies[0])["counts"].items():
+            self.executions.labels(status).set(count)
+        return generate_latest(self.registry)

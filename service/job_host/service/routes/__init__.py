@@ -1,0 +1,1 @@
+"""The paths: the line for each request, and how its reply is shown."""

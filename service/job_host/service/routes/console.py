@@ -1,0 +1,101 @@
+"""The console's files, and the stream of events by which it follows."""
+
+from __future__ import annotations
+
+import asyncio
+import hashlib
+import json
+import time
+from importlib import resources
+from typing import Any
+
+from aiohttp import web
+
+from job_host.service.http.browsers import Browsers
+from job_host.service.http.requests import Asked
+from job_host.service.keepers.keeper import Keeper
+from job_host.service.problems import Problem
+
+PAGE = "index.html"
+TOKEN_PLACE = "{forgery-token}"
+KINDS = {".css": "text/css", ".js": "text/javascript", ".svg": "image/svg+xml"}
+EVENTS_PATH = "/batch/events"
+LOOK_SECONDS = 0.2
+QUIET_SECONDS = 10.0
+
+# Nothing comes from elsewhere, no script or style stands in the page, and no text becomes markup.
+CONTENT_POLICY = "; ".join(
+    [
+        "default-src 'none'",
+        "script-src 'self'",
+        "style-src 'self'",
+        "img-src 'self'",
+        "connect-src 'self'",
+        "base-uri 'none'",
+        "form-action 'none'",
+        "frame-ancestors 'none'",
+        "require-trusted-types-for 'script'",
+        "trusted-types 'none'",
+    ]
+)
+HEADERS = {
+    "Content-Security-Policy": CONTENT_POLICY,
+    "Cross-Origin-Opener-Policy": "same-origin",
+    "Cross-Origin-Resource-Policy": "same-origin",
+    "Referrer-Policy": "no-referrer",
+    "X-Content-Type-Options": "nosniff",
+    "X-Frame-Options": "DENY",
+}
+
+
+class ConsoleFiles:
+    """The files of the folder `service/console`. They hold no data, so they need no token."""
+
+    def __init__(self, browsers: Browsers) -> None:
+        self._files: dict[str, tuple[bytes, str]] = {}
+        for file in resources.files("job_host.service").joinpath("console").iterdir():
+            kind = KINDS.get("." + file.name.rpartition(".")[2])
+            if kind is not None:
+                self._files[file.name] = (file.read_bytes(), kind)
+        page = resources.files("job_host.service").joinpath("console", PAGE).read_text("utf-8")
+        self._page = page.replace(TOKEN_PLACE, browsers.token)
+
+    async def show_page(self, request: web.Request) -> web.StreamResponse:
+        return web.Response(text=self._page, content_type="text/html", headers={**HEADERS, "Cache-Control": "no-store"})
+
+    async def show_file(self, request: web.Request) -> web.StreamResponse:
+        found = self._files.get(request.match_info["name"])
+        if found is None:
+            raise Problem("NotFound", 404)
+        content, kind = found
+        tag = f'"{hashlib.sha256(content).hexdigest()[:32]}"'
+        headers = {**HEADERS, "Cache-Control": "no-cache", "ETag": tag}
+        if request.headers.get("If-None-Match") == tag:
+            return web.Response(status=304, headers=headers)
+        return web.Response(body=content, content_type=kind, charset="utf-8", headers=headers)
+
+
+def state_of(keeper: Keeper) -> dict[str, Any]:
+    return {"operations": keeper.committed, "role": keeper.role, "epoch": keeper.epoch}
+
+
+async def show_events(asked: Asked) -> web.StreamResponse:
+    """Says how many operations there are, at once and after each growth (server-sent events). Ends if the client is gone."""
+    response = web.StreamResponse(headers={**HEADERS, "Content-Type": "text/event-stream", "Cache-Control": "no-store"})
+    await response.prepare(asked.request)
+    told: dict[str, Any] = {}
+    last = 0.0
+    try:
+        while not asked.is_gone() and not asked.host.ending.is_set():
+            state, now = state_of(asked.keeper), time.monotonic()
+            if state != told:
+                await response.write(f"data: {json.dumps(state)}\n\n".encode())
+            elif now - last >= QUIET_SECONDS:
+                await response.write(b":\n\n")
+            else:
+                await asyncio.sleep(LOOK_SECONDS)
+                continue
+            told, last = state, now
+    except ConnectionError:
+        return response
+    return response

@@ -1,0 +1,195 @@
+"""Reads for people: the catalogue, job instances and job executions by status, work items, and how full the history is."""
+
+from __future__ import annotations
+
+import json
+from collections.abc import Iterable
+from functools import lru_cache
+from typing import Any
+
+from aiohttp import web
+
+from job_host.catalogue.jobs import jobs_of
+from job_host.protocol.batch_statuses import STATUSES
+from job_host.protocol.lines import query, read
+from job_host.protocol.moments import moment
+from job_host.service.history.execution_index import Wanted, parameter_text
+from job_host.service.history.work_items import Ended
+from job_host.service.http.requests import PAGE_WORDS, Asked, Route
+from job_host.service.keepers.keeper import HeldBy
+from job_host.service.pages import USUAL_SIZE
+from job_host.service.problems import Problem, bad_request
+from job_host.service.routes import views
+from job_host.service.routes.jobs import answer_of, instances_of
+from job_host.service.settings import MOST_OPERATIONS
+
+WORDS_OF_EXECUTIONS = ("status", "jobName", "search", "mostRecent", *PAGE_WORDS)
+SEARCH_CHARACTERS = 256
+PARAMETER_CHARACTERS = 160
+
+
+# A catalogue may have 16 MiB: it is read once.
+catalogue_jobs = lru_cache(maxsize=2)(jobs_of)
+
+
+async def show_catalogue(asked: Asked) -> web.StreamResponse:
+    """The jobs that can be started, each with its newest job instance; or with `jobName` one job, as the catalogue has it."""
+    await asked.keeper.reach(asked.at_least)
+    jobs = catalogue_jobs(asked.keeper.reading().process.catalogue)
+    name = asked.request.query.get("jobName")
+    if name is not None:
+        if name not in jobs:
+            raise Problem("JobStartException", 404, "the catalogue has no such job")
+        return web.json_response(jobs[name])
+    async with asked.keeper.steps(asked.at_least) as steps:
+        counts = await steps.ask([query("job_instance_count", job=job) for job in jobs])
+        lists = await steps.ask([query("job_instances", job=job, start=0, count=1) for job in jobs])
+        newest = [one["instance"] for told in lists for one in read(told).get("instances", ())]
+        instances = await instances_of(steps, newest)
+    by_job = {one["jobName"]: one for one in instances}
+    told = [
+        {"jobName": job, "instances": read(count).get("count", 0), "newest": by_job.get(job)}
+        for job, count in zip(jobs, counts)
+    ]
+    return asked.answer({"jobs": told}, steps.seen)
+
+
+async def list_instances(asked: Asked) -> web.StreamResponse:
+    """The newest job instances of one job, or of all, page by page."""
+    bounds = asked.host.settings.bounds
+    page, size = asked.query_number("page", 0), asked.query_number("pageSize", USUAL_SIZE)
+    if size > bounds.page_size or (page + 1) * size > bounds.listed:
+        raise bad_request(f"a page has at most {bounds.page_size} job instances, and the first {bounds.listed} can be listed")
+    job = asked.request.query.get("jobName")
+    given: list[str] = asked.request.query.getall("instanceState", [])
+    states = statuses_of("instanceState", [state for text in given for state in text.split(",")])
+    if states:
+        return await list_with_state(asked, Wanted(states, job, most_recent=True), page * size, size)
+    async with asked.keeper.steps(asked.at_least) as steps:
+        names = [job] if job is not None else read((await steps.ask([query("job_names")]))[0])["names"]
+        start, count = (page * size, size) if job is not None else (0, (page + 1) * size)
+        lists = await steps.ask([query("job_instances", job=name, start=start, count=count) for name in names])
+        numbers = [one["instance"] for told in lists for one in answer_of(told)["instances"]]
+        if job is None:
+            numbers = sorted(numbers, reverse=True)[page * size : count]
+        instances = await instances_of(steps, numbers)
+    return asked.answer(instances, steps.seen)
+
+
+async def list_with_state(asked: Asked, wanted: Wanted, start: int, count: int) -> web.StreamResponse:
+    """The newest job instances whose state is wanted: that of their most recent job execution. See `list_all_executions`."""
+    counted = await asked.keeper.ask([query("status_counts")], asked.at_least)
+    most = with_status(wanted, answer_of(counted.replies[0])["counts"])
+    numbers, _ = await asked.keeper.reading().executions.find(wanted, start, count, most)
+    async with asked.keeper.steps(counted.seen) as steps:
+        if wanted.job is not None:
+            answer_of((await steps.ask([query("job_instance_count", job=wanted.job)]))[0], steps.seen)
+        told = [read(reply) for reply in await steps.ask([query("job_instance", execution=one) for one in numbers])]
+        instances = await instances_of(steps, [one["instance"] for one in told if "instance" in one])
+    return asked.answer([one for one in instances if one["instanceState"] in wanted.statuses], steps.seen)
+
+
+def statuses_of(word: str, given: Iterable[str]) -> frozenset[str]:
+    """The batch statuses that a word of the query has."""
+    statuses = frozenset(given)
+    unknown = sorted(statuses - set(STATUSES))
+    if unknown:
+        raise bad_request(f"{word} is one of {', '.join(STATUSES)}, and not {json.dumps(unknown[0])[:100]}")
+    return statuses
+
+
+def wanted_of(asked: Asked) -> Wanted:
+    given = asked.request.query
+    statuses = statuses_of("status", given.getall("status", []))
+    search = given.get("search", "").strip().lower()
+    if len(search) > SEARCH_CHARACTERS:
+        raise bad_request(f"search has at most {SEARCH_CHARACTERS} characters")
+    return Wanted(statuses, given.get("jobName"), search, asked.query_flag("mostRecent"))
+
+
+async def list_all_executions(asked: Asked) -> web.StreamResponse:
+    """The newest job executions that a filter takes, page by page. One that changes meanwhile may be left out."""
+    wanted, page = wanted_of(asked), asked.page(asked.host.settings.bounds.page_size)
+    counted = await asked.keeper.ask([query("status_counts")], asked.at_least)
+    executions = asked.keeper.reading().executions
+    most_with_status = with_status(wanted, answer_of(counted.replies[0])["counts"])
+    numbers, more = await executions.find(wanted, *page, most_with_status)
+    asks = ("job_execution", "parameters")
+    lines = [query("status_counts"), *(query(ask, execution=one) for one in numbers for ask in asks)]
+    answers = await asked.keeper.ask(lines, counted.seen)
+    counts, *replies = [read(reply) for reply in answers.replies]
+    pairs = zip(replies[::2], replies[1::2])
+    rows = [brief(told["job_execution"], parameters["parameters"]) for told, parameters in pairs if "job_execution" in told]
+    shown = [row for row in rows if not wanted.statuses or row["batchStatus"] in wanted.statuses]
+    if wanted.most_recent:
+        shown = [row for row in shown if executions.is_most_recent(row["executionId"], answers.seen)]
+    told = {"jobExecutions": shown, "more": more, "statusCounts": counts["counts"], "total": total_of(wanted, counts["counts"])}
+    return asked.answer(told, answers.seen)
+
+
+def total_of(wanted: Wanted, counts: dict[str, int]) -> int | None:
+    """How many job executions there are, if the counts by batch status say so."""
+    return with_status(wanted, counts) if wanted.is_by_status_alone else None
+
+
+def with_status(wanted: Wanted, counts: dict[str, int]) -> int:
+    return sum(count for status, count in counts.items() if not wanted.statuses or status in wanted.statuses)
+
+
+def brief(told: dict[str, Any], parameters: dict[str, str]) -> dict[str, Any]:
+    return {**views.job_execution_row(told), "parameterText": parameter_text(parameters, PARAMETER_CHARACTERS)}
+
+
+async def list_work_items(asked: Asked) -> web.StreamResponse:
+    """The work items of a job execution, page by page: each partition, each decision, and who ran it."""
+    execution, page = asked.path_number(), asked.page(asked.host.settings.bounds.page_size)
+    answers = await asked.keeper.ask([query("job_instance", execution=execution)], asked.at_least)
+    answer_of(answers.replies[0], answers.seen)
+    items, seen = await asked.keeper.work_items(execution, page, answers.seen)
+    return asked.answer([work_item(ended, by) for ended, by in items], seen)
+
+
+def work_item(ended: Ended | None, by: HeldBy) -> dict[str, Any]:
+    return {
+        "work": by.held.work,
+        "stepName": by.held.element,
+        "partition": by.held.partition,
+        "client": by.client,
+        "since": moment(by.held.since),
+        "leaseRemaining": None if by.remaining is None else round(by.remaining, 1),
+        "until": None if ended is None else moment(ended.until),
+        "outcome": None if ended is None else ended.outcome,
+        "exitStatus": None if ended is None else ended.exit,
+    }
+
+
+async def show_history(asked: Asked) -> web.StreamResponse:
+    """How full the history is, and which instance this is."""
+    keeper, settings = asked.keeper, asked.host.settings
+    told = {
+        "history": keeper.history,
+        "operations": keeper.committed,
+        "mostOperations": MOST_OPERATIONS,
+        "warnFrom": settings.warn_from,
+        "refuseFrom": settings.refuse_from,
+        "role": keeper.role,
+        "epoch": keeper.epoch,
+        "leader": keeper.leader_url,
+    }
+    return web.json_response(told)
+
+
+async def show_caller(asked: Asked) -> web.StreamResponse:
+    """Whose token this is, and what it allows."""
+    told = {"name": asked.caller.prefix.rstrip("/"), "rights": sorted(asked.caller.rights)}
+    return web.json_response(told)
+
+
+ROUTES = [
+    Route("GET", "/batch/catalogue", "read", show_catalogue, ("jobName", "atLeast")),
+    Route("GET", "/batch/jobinstances", "read", list_instances, (*PAGE_WORDS, "jobName", "instanceState", "atLeast")),
+    Route("GET", "/batch/jobexecutions", "read", list_all_executions, (*WORDS_OF_EXECUTIONS, "atLeast")),
+    Route("GET", "/batch/jobexecutions/{id}/workitems", "read", list_work_items, (*PAGE_WORDS, "atLeast")),
+    Route("GET", "/batch/history", "read", show_history),
+    Route("GET", "/batch/caller", "read", show_caller),
+]

@@ -1,0 +1,138 @@
+"""Routes for workers: claim, withdraw, checkpoint, finish, heartbeat, lose; and who holds what."""
+
+from __future__ import annotations
+
+from contextlib import nullcontext
+from dataclasses import replace
+from typing import Any
+
+from aiohttp import web
+
+from job_host.protocol.headers import REQUEST_KEY
+from job_host.protocol.lines import Members, fingerprint, query, read
+from job_host.protocol.moments import moment
+from job_host.service.http.requests import PAGE_WORDS, Asked, Route, expect_members
+from job_host.service.keepers.keeper import HeldPage
+from job_host.service.problems import Problem, bad_request
+from job_host.service.routes import views
+from job_host.service.routes.jobs import answer_of
+from job_host.service.terms.calls import Call, Kept
+
+# Words of a query that narrow the list of busy work items.
+HELD_WORDS = ("executionId", "work")
+ACTIONS = {
+    "checkpoint": ("data", "metrics"),
+    "finish": ("outcome", "exit", "metrics"),
+    "lose": (),
+}
+
+
+async def claim(asked: Asked) -> web.StreamResponse:
+    """Claims a work item. With `wait` it takes up to so many seconds until there is one."""
+    body = await asked.body()
+    expect_members(body, "wait")
+    wait = body.get("wait", 0)
+    longest = asked.host.settings.bounds.longest_poll
+    if isinstance(wait, bool) or not isinstance(wait, (int, float)) or not 0 <= wait <= longest:
+        raise bad_request(f"wait is a number of seconds from 0 to {longest:g}")
+    call = Call(asked.named_client(), "claim", {}, asked.key, fingerprint("claim"), wait=float(wait))
+    call = replace(call, is_gone=asked.is_gone, is_unheard=asked.is_unheard)
+    with asked.waiting() if wait > 0 else nullcontext():
+        return claimed(asked, await asked.keeper.submit(call))
+
+
+def claimed(asked: Asked, kept: Kept) -> web.StreamResponse:
+    told = answer_of(kept.reply, kept.seen)
+    if "work" in told:
+        told = views.work_item(told["work"], read(kept.answers[0]), read(kept.answers[1]))
+        told["lease"] = asked.host.settings.lease
+    return asked.answer(told, kept.seen)
+
+
+async def withdraw(asked: Asked) -> web.StreamResponse:
+    """Withdraws the claim of a key, so that it is never made. If it was made before, it is answered as it was then."""
+    if asked.key is None:
+        raise bad_request(f"the header {REQUEST_KEY} is needed: it says which claim is withdrawn")
+    expect_members(await asked.body())
+    term = asked.keeper.leading()
+    kept = await term.withdraw(Call(asked.named_client(), "claim", {}, asked.key, fingerprint("claim")))
+    return asked.answer({"withdrawn": True}, term.committed) if kept is None else claimed(asked, kept)
+
+
+async def list_held(asked: Asked) -> web.StreamResponse:
+    """Which client holds which work item since when, page by page. With `withJobs` each has the job's name."""
+    with_jobs = asked.query_flag("withJobs")
+    held, seen = await asked.keeper.held_work(held_page(asked), asked.at_least)
+    told: list[dict[str, Any]] = [
+        {
+            "work": one.held.work,
+            "executionId": one.held.execution,
+            "stepName": one.held.element,
+            "partition": one.held.partition,
+            "client": one.client,
+            "since": moment(one.held.since),
+            "leaseRemaining": None if one.remaining is None else round(one.remaining, 1),
+        }
+        for one in held
+    ]
+    if told and with_jobs:
+        answers = await asked.keeper.ask([query("job_instance", execution=one["executionId"]) for one in told], seen)
+        told = [{**one, "jobName": read(reply).get("job")} for one, reply in zip(told, answers.replies)]
+        seen = answers.seen
+    return asked.answer(told, seen)
+
+
+def held_page(asked: Asked) -> HeldPage:
+    execution, work = [asked.query_number(name, 0) if name in asked.request.query else None for name in HELD_WORDS]
+    return HeldPage(asked.page(asked.host.settings.bounds.page_size), execution, work)
+
+
+async def change_work(asked: Asked) -> web.StreamResponse:
+    action = asked.request.query.get("action", "")
+    if action == "heartbeat":
+        return await heartbeat(asked)
+    if action not in ACTIONS:
+        raise bad_request("action is checkpoint, finish, heartbeat or lose")
+    right = "operate" if action == "lose" else "work"
+    if right not in asked.caller.rights and not (action == "lose" and "work" in asked.caller.rights):
+        raise Problem("RoleLacksRight", 403, f"{action} isn't for this token's role")
+    body = await asked.body()
+    expect_members(body, "log", *ACTIONS[action])
+    log = log_of(asked, body)
+    members: Members = {"work": asked.path_number(), **{name: body[name] for name in ACTIONS[action] if name in body}}
+    client = asked.client if action == "lose" else asked.named_client()
+    call = Call(client, action, members, asked.key, fingerprint(action, members), log=log)
+    kept = await asked.keeper.submit(call)
+    told = answer_of(kept.reply, kept.seen)
+    if action == "checkpoint":
+        asked.keeper.leases.renew(asked.path_number())
+    return asked.answer(told, kept.seen)
+
+
+def log_of(asked: Asked, body: dict[str, Any]) -> str | None:
+    """The last 64 KiB of the log that a worker hands in."""
+    log = body.get("log")
+    if log is None:
+        return None
+    if not isinstance(log, str):
+        raise bad_request("log is a text")
+    most = asked.host.settings.bounds.log_bytes
+    return log.encode("utf-8", "replace")[-most:].decode("utf-8", "ignore")
+
+
+async def heartbeat(asked: Asked) -> web.StreamResponse:
+    """Renews the lease of a work item, and says whether its job execution is asked to stop."""
+    if "work" not in asked.caller.rights:
+        raise Problem("RoleLacksRight", 403, "heartbeat isn't for this token's role")
+    body = await asked.body()
+    expect_members(body, "log")
+    stop, seen = await asked.keeper.heartbeat(asked.named_client(), asked.path_number(), log_of(asked, body))
+    return asked.answer({"stop": stop, "lease": asked.host.settings.lease}, seen)
+
+
+ROUTES = [
+    Route("GET", "/batch/work", "read", list_held, ("withJobs", *HELD_WORDS, *PAGE_WORDS, "atLeast")),
+    Route("POST", "/batch/work", "work", claim),
+    Route("DELETE", "/batch/work", "work", withdraw),
+    Route("PUT", "/batch/work/{id}", "read", change_work, ("action",)),
+]

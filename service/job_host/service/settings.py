@@ -1,0 +1,63 @@
+"""What a service is told at its start, and the bounds of everything that a client may send."""
+
+from __future__ import annotations
+
+from dataclasses import dataclass, field
+from pathlib import Path
+
+from job_host.protocol.addresses import DEFAULT_PORT
+from job_host.protocol.bounds import LOG_BYTES, PAGE_OF_LARGE_ROWS, PAGE_SIZE, REQUESTS_AT_ONCE
+
+MOST_OPERATIONS = 1_000_000
+
+
+@dataclass(frozen=True)
+class Bounds:
+    """The bounds of a client. Seconds, bytes and counts."""
+
+    body_bytes: int = 1_048_576
+    name_bytes: int = 128
+    key_bytes: int = 128
+    log_bytes: int = LOG_BYTES
+    requests_at_once: int = REQUESTS_AT_ONCE
+    connections: int = 1_024
+    watchers: int = 64
+    clients: int = 100_000
+    name_seconds: float = 86_400.0
+    page_size: int = PAGE_SIZE
+    page_of_large_rows: int = PAGE_OF_LARGE_ROWS
+    listed: int = 10_000
+    longest_poll: float = 60.0
+    slow_after: float = 10.0
+    gone_after: float = 5.0
+    handshake: float = 10.0
+    at_least_seconds: float = 5.0
+    days_of_keys: int = 7
+
+    @property
+    def waits(self) -> int:
+        """How many claims may wait: callers who start, stop and read have room beside them."""
+        return max(1, self.connections * 3 // 4)
+
+
+@dataclass(frozen=True)
+class ServeSettings:
+    """A service. `postgres` holds the DSN of each server that may be the primary; if it is empty, the service is embedded."""
+
+    catalogue: Path
+    batchctl: tuple[str, ...]
+    data: Path = Path("jobhost-data")
+    restored: bool = False
+    postgres: tuple[str, ...] = ()
+    host: str = "127.0.0.1"
+    port: int = DEFAULT_PORT
+    advertise: str = ""
+    tokens: Path | None = None
+    certificate: Path | None = None
+    certificate_key: Path | None = None
+    lease: float = 30.0
+    takeover_after: float = 5.0
+    commit_timeout: float = 30.0
+    warn_from: int = 900_000
+    refuse_from: int = 990_000
+    bounds: Bounds = field(default_factory=Bounds)

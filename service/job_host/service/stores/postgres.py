@@ -1,0 +1,301 @@
+"""What the service keeps in PostgreSQL: operations, the leader's epoch, client names, request keys and workers' logs."""
+
+from __future__ import annotations
+
+import asyncio
+import json
+import logging
+from collections.abc import Coroutine, Mapping, Sequence
+from dataclasses import dataclass
+from typing import Any
+
+import asyncpg
+
+from job_host.protocol.lines import digest
+from job_host.service.history.engine import Record
+from job_host.service.stores.postgres_migrations import migrate
+from job_host.service.stores.postgres_schema import (
+    BEAT,
+    BEGIN_HISTORY,
+    BEGINNING,
+    DROP_CLIENTS,
+    HEARD,
+    LOGS,
+    NOTE_FIRST,
+    RESIGN,
+    ROUND,
+    SILENT,
+    TAKE_OVER,
+)
+from job_host.service.terms.calls import EVERYBODY_SESSION, Item, Kept, KeptRequest, LogPage, WorkLog
+from job_host.service.terms.sessions import Silent
+
+log = logging.getLogger(__name__)
+
+# What a lost or refused connection raises.
+LOST = (OSError, asyncio.TimeoutError, asyncpg.PostgresError, asyncpg.InterfaceError, asyncpg.InternalClientError)
+
+CONNECT_SECONDS = 3.0
+# Without a just-in-time compiler: it takes seconds for statements that take milliseconds.
+SESSION = {"application_name": "jobhost", "jit": "off"}
+
+
+class NoPrimary(Exception):
+    """None of the servers takes writes. The text says what each answered."""
+
+
+class NotDurable(Exception):
+    """The server acknowledges a commit before it is on its disk."""
+
+
+@dataclass(frozen=True)
+class Leader:
+    """The leader's row. An epoch is one term of one instance; beats rise as long as it lives. The history has an identity."""
+
+    epoch: int
+    beats: int
+    holder: str
+    url: str
+    history: str
+
+
+async def connect_primary(dsns: Sequence[str], timeout: float | None) -> asyncpg.Connection:
+    """A connection to the first server that takes writes. One that doesn't answer is left after some seconds."""
+    told = []
+    for place, dsn in enumerate(dsns):
+        try:
+            connection = await asyncpg.connect(dsn, timeout=CONNECT_SECONDS, command_timeout=timeout, server_settings=SESSION)
+            if await _takes_writes(connection):
+                return connection
+            told.append(f"server {place} is a standby")
+        except LOST as fault:
+            told.append(f"server {place}: {type(fault).__name__} {fault}")
+    raise NoPrimary("; ".join(told))
+
+
+async def _takes_writes(connection: asyncpg.Connection) -> bool:
+    """Whether a server is no standby. If it is one, or doesn't answer, the connection is dropped."""
+    takes_writes = False
+    try:
+        takes_writes = not await connection.fetchval("select pg_is_in_recovery()", timeout=CONNECT_SECONDS)
+    finally:
+        if not takes_writes:
+            connection.terminate()
+    return takes_writes
+
+
+class PostgresStore:
+    """Two connections to the primary: one commits rounds, the other reads. A store that failed is closed for good."""
+
+    def __init__(self, commits: asyncpg.Connection, reads: asyncpg.Connection, timeout: float) -> None:
+        self._commits = commits
+        self._reads = reads
+        self._timeout = timeout
+        self._turn = asyncio.Lock()
+
+    @classmethod
+    async def open(cls, dsns: Sequence[str], timeout: float) -> PostgresStore:
+        """Connects, and brings the tables to this version. Raises NoPrimary, NotDurable, LaterVersion or what LOST has."""
+        commits = await connect_primary(dsns, None)
+        try:
+            await cls._check_durable(commits)
+            await migrate(commits)
+            reads = await connect_primary(dsns, timeout)
+        except BaseException:
+            commits.terminate()
+            raise
+        return cls(commits, reads, timeout)
+
+    @staticmethod
+    async def _check_durable(connection: asyncpg.Connection) -> None:
+        for name in ("fsync", "synchronous_commit", "full_page_writes"):
+            if await connection.fetchval("select current_setting($1)", name) == "off":
+                raise NotDurable(f"{name} is off: a commit could be lost after it was acknowledged")
+        if await connection.fetchval("select current_setting('server_encoding')") != "UTF8":
+            raise NotDurable("the database's encoding isn't UTF8")
+
+    def close(self) -> None:
+        """Drops the connections without a word to the server, which may not answer."""
+        self._commits.terminate()
+        self._reads.terminate()
+
+    @property
+    def is_closed(self) -> bool:
+        return bool(self._commits.is_closed() or self._reads.is_closed())
+
+    async def _fetch(self, statement: str, *arguments: Any) -> list[Any]:
+        async with self._turn:
+            return list(await self._reads.fetch(statement, *arguments))
+
+    async def leader(self) -> Leader:
+        row = (await self._fetch("select epoch, beats, holder, url, history::text from job_host_leader"))[0]
+        return Leader(row["epoch"], row["beats"], row["holder"], row["url"], row["history"])
+
+    async def catalogue(self) -> bytes | None:
+        """The catalogue of the last leader that brought one."""
+        rows = await self._fetch("select line from job_host_catalogue order by epoch desc limit 1")
+        return rows[0]["line"].encode() if rows else None
+
+    async def operations_after(self, number: int, epoch: int, most: int) -> list[Record]:
+        """The next operations, no more than so many, of this epoch and those before: a later one may know more jobs."""
+        rows = await self._fetch(
+            "select number, line, reply from job_host_operation where number > $1 and epoch <= $2 order by number limit $3",
+            number,
+            epoch,
+            most,
+        )
+        return [Record(row["number"], row["line"].encode(), row["reply"].encode()) for row in rows]
+
+    async def clients(self, most: int) -> dict[str, int]:
+        """Names with the greatest sessions, no more than so many, by rising session."""
+        rows = await self._fetch("select name, session from job_host_client order by session desc limit $1", most)
+        return {row["name"]: row["session"] for row in reversed(rows)}
+
+    async def session_of(self, name: str) -> int | None:
+        rows = await self._fetch("select session from job_host_client where name = $1", name)
+        return rows[0]["session"] if rows else None
+
+    async def names_of(self, sessions: Sequence[int]) -> dict[int, str]:
+        statement = "select name, session from job_host_client where session = any($1::bigint[])"
+        return {row["session"]: row["name"] for row in await self._fetch(statement, list(sessions))}
+
+    async def note_heard(self, sessions: Sequence[int]) -> None:
+        """Keeps that these clients were heard until now."""
+        async with self._turn:
+            await self._reads.execute(HEARD, list(sessions))
+
+    async def silent_clients(self, seconds: float) -> list[Silent]:
+        """Names that weren't heard for so long."""
+        return [Silent(*row) for row in await self._fetch(SILENT, seconds)]
+
+    async def drop_clients(self, epoch: int, clients: Mapping[str, int]) -> None:
+        """Drops names with these sessions, if the epoch stands."""
+        async with self._turn:
+            await self._reads.execute(DROP_CLIENTS, epoch, list(clients.keys()), list(clients.values()))
+
+    async def request(self, session: int, key: str) -> KeptRequest | None:
+        statement = "select fingerprint, reply, answers, seen from job_host_request where session = $1 and key = $2"
+        rows = await self._fetch(statement, session, key)
+        if not rows:
+            return None
+        answers = tuple(text.encode() for text in json.loads(rows[0]["answers"]))
+        kept = Kept(rows[0]["reply"].encode(), answers, rows[0]["seen"])
+        return KeptRequest(bytes(rows[0]["fingerprint"]), kept)
+
+    async def logs(self, wanted: LogPage) -> list[WorkLog]:
+        element = None if wanted.element is None else without_nul(wanted.element)
+        return [WorkLog(*row) for row in await self._fetch(LOGS, wanted.execution, element, *wanted.page)]
+
+    async def take_over(self, seen: Leader, holder: str, url: str, catalogue: bytes | None) -> int | None:
+        """The next epoch, if the leader's row is still as it was seen. The catalogue is kept with it."""
+        epoch = await self._or_drop(self._take_over(seen, holder, url, catalogue))
+        return int(epoch) if epoch is not None else None
+
+    async def _take_over(self, seen: Leader, holder: str, url: str, catalogue: bytes | None) -> Any:
+        async with self._commits.transaction():
+            epoch = await self._commits.fetchval(TAKE_OVER, holder, url, seen.epoch, seen.beats)
+            if epoch is not None:
+                await self._know_history()
+            if epoch is not None and catalogue is not None:
+                statement = "insert into job_host_catalogue (epoch, line) values ($1, $2)"
+                await self._commits.execute(statement, epoch, catalogue.decode())
+        return epoch
+
+    async def _know_history(self) -> None:
+        """Begins another history if the first operation isn't the one that the leader's row has."""
+        row = await self._commits.fetchrow(BEGINNING)
+        first = None if row["line"] is None else digest(row["line"].encode())
+        if row["first_operation"] not in (None, first):
+            await self._commits.execute(BEGIN_HISTORY, first)
+        elif row["first_operation"] is None:
+            await self._commits.execute(NOTE_FIRST, first)
+
+    async def _or_drop(self, commit: Coroutine[Any, Any, Any]) -> Any:
+        """Awaits a commit. If it takes too long, or isn't waited for any more, the connection is dropped.
+
+        It isn't cancelled: a server that waits for its standby would show what the standby hasn't.
+        """
+        task = asyncio.ensure_future(commit)
+        try:
+            done, _ = await asyncio.wait([task], timeout=self._timeout)
+            if not done:
+                raise asyncio.TimeoutError(f"no commit in {self._timeout:g} seconds")
+            return task.result()
+        finally:
+            if not task.done():
+                task.add_done_callback(lambda ended: ended.cancelled() or ended.exception())
+                self._commits.terminate()
+
+    async def resign(self, epoch: int) -> None:
+        """Lets another instance take over at once."""
+        async with self._turn:
+            await self._reads.execute(RESIGN, epoch)
+
+    async def commit(self, epoch: int, items: Sequence[Item], clients: dict[str, int]) -> bool:
+        """Keeps a round. Returns whether the epoch stands: if it doesn't, nothing was kept."""
+        if not clients and all(item.number is None and not item.is_keyed and item.log is None for item in items):
+            return await self._or_drop(self._commits.fetchval(BEAT, epoch)) is not None
+        return await self._or_drop(self._commits.fetchval(ROUND, epoch, *_columns(items, clients))) is not None
+
+    async def logged_executions(self) -> list[int]:
+        return [row["execution"] for row in await self._fetch("select distinct execution from job_host_work_log")]
+
+    async def drop_logs(self, executions: Sequence[int]) -> None:
+        async with self._turn:
+            await self._reads.execute("delete from job_host_work_log where execution = any($1::bigint[])", list(executions))
+
+    async def drop_old_keys(self, days: int, most: int) -> bool:
+        """Drops some keys that are older, and returns whether there may be more. Those that say once stay."""
+        old = "select ctid from job_host_request where kept_at < now() - make_interval(days => $1) and session <> $2 limit $3"
+        async with self._turn:
+            told = await self._reads.execute(
+                f"delete from job_host_request where ctid in ({old})", days, EVERYBODY_SESSION, most
+            )
+        return str(told) == f"DELETE {most}"
+
+    async def old_once(self, days: int) -> dict[str, bytes]:
+        """The older keys that say once, with their first replies."""
+        statement = "select key, reply from job_host_request where kept_at < now() - make_interval(days => $1) and session = $2"
+        return {row["key"]: row["reply"].encode() for row in await self._fetch(statement, days, EVERYBODY_SESSION)}
+
+    async def drop_once(self, once: Mapping[str, bytes]) -> None:
+        """Drops keys that say once, as far as these are still their first replies."""
+        statement = """
+            delete from job_host_request r using unnest($2::text[], $3::text[]) as o(key, reply)
+            where r.session = $1 and r.key = o.key and r.reply = o.reply
+        """
+        replies = [reply.decode() for reply in once.values()]
+        async with self._turn:
+            await self._reads.execute(statement, EVERYBODY_SESSION, list(once), replies)
+
+
+def without_nul(text: str) -> str:
+    """A text as PostgreSQL keeps it."""
+    return text.replace("\0", "\ufffd")
+
+
+def _columns(items: Sequence[Item], clients: dict[str, int]) -> list[Any]:
+    """The columns of a round's rows, in the order of its statement; and a digest of the history's first operation."""
+    entered = [item for item in items if item.number is not None]
+    keyed = [item for item in items if item.is_keyed]
+    logs = list({item.log.work: item.log for item in items if item.log is not None}.values())
+    return [
+        [item.number for item in entered],
+        [item.line.decode() for item in entered],
+        [item.reply.decode() for item in entered],
+        [item.call.key if item.call else None for item in entered],
+        list(clients.keys()),
+        list(clients.values()),
+        [item.key_session for item in keyed],
+        [item.call.key if item.call else None for item in keyed],
+        [item.call.fingerprint if item.call else b"" for item in keyed],
+        [item.reply.decode() for item in keyed],
+        [json.dumps([answer.decode() for answer in item.answers]) for item in keyed],
+        [item.seen for item in keyed],
+        [log.work for log in logs],
+        [log.execution for log in logs],
+        [without_nul(log.element) for log in logs],
+        [log.partition for log in logs],
+        [without_nul(log.text) for log in logs],
+        next((digest(item.line) for item in entered if item.number == 1), None),
+    ]

@@ -1,0 +1,270 @@
+"""What an embedded service keeps beside its log: client names, request keys with their first replies, and workers' logs."""
+
+from __future__ import annotations
+
+import json
+import os
+import sqlite3
+import stat
+import time
+import uuid
+from collections.abc import Mapping, Sequence
+from contextlib import closing
+from dataclasses import dataclass
+from pathlib import Path
+
+from job_host.protocol.lines import digest
+from job_host.service.history.log_file import Beginning
+from job_host.service.stores.sqlite_schema import migrate, refuse_later
+from job_host.service.terms.calls import EVERYBODY_SESSION, Item, Kept, KeptRequest, LogPage, WorkLog
+from job_host.service.terms.sessions import Silent
+
+INTEND = """
+insert or replace into request (session, key, fingerprint, moment, line, kept_at) values (?, ?, ?, ?, ?, ?)
+"""
+# A client of whose calls nothing is left.
+UNNAME = """
+delete from client where name = ? and session = ? and not exists (select 1 from request where request.session = client.session)
+"""
+UNKEEP = "delete from request where session = ? and key = ? and moment = ? and reply is null"
+# A name that was forgotten may still stand here, if it was heard again at once.
+CLIENT = "insert into client values (?, ?) on conflict (name) do update set session = excluded.session"
+# A client that was never noted is taken as heard now.
+HEARD = """
+insert into client_heard select session, :now from client
+where session = :session or (:session is null and session not in (select session from client_heard))
+on conflict (session) do update set heard_at = excluded.heard_at
+"""
+# The greatest number stays, so that the next one is greater.
+SILENT = """
+select name, session, exists (select 1 from request where request.session = client.session and reply is not null)
+from client join client_heard using (session) where heard_at < ? and session < (select max(session) from client)
+"""
+LOGS = """
+select work, execution, element, partition, log from work_log
+where execution = :execution and (:element is null or element = :element) order by work limit :size offset :start
+"""
+ANSWER = "update request set reply = ?, answers = ?, seen = ? where session = ? and key = ?"
+
+
+@dataclass(frozen=True)
+class OpenRequest:
+    """A request key whose line was handed over, and whose reply isn't kept."""
+
+    session: int
+    key: str
+    moment: int
+    line: bytes
+
+
+@dataclass(frozen=True)
+class History:
+    """The history to which a file belongs: its identity, and how it begins, as far as that was known."""
+
+    identity: str
+    beginning: Beginning
+
+
+def history_in(connection: sqlite3.Connection) -> History | None:
+    if connection.execute("select 1 from sqlite_master where name = 'history'").fetchone() is None:
+        return None
+    row = connection.execute("select identity, catalogue, first from history").fetchone()
+    return None if row is None else History(row[0], Beginning(row[1], row[2]))
+
+
+def refuse_later_file(path: Path) -> None:
+    """Raises LaterVersion if a file's tables are of a later version. Nothing is written."""
+    if path.exists():
+        with closing(sqlite3.connect(path)) as connection:
+            refuse_later(connection, path.name)
+
+
+class SqliteStore:
+    """One connection, for one thread. Each commit is on the disk when its call returns. A new file is its owner's alone.
+
+    Its tables are brought to this version. Raises LaterVersion if they are of a later one.
+    """
+
+    def __init__(self, path: Path) -> None:
+        refuse_later_file(path)
+        os.close(os.open(path, os.O_RDWR | os.O_CREAT, stat.S_IRUSR | stat.S_IWUSR))
+        self._connection = sqlite3.connect(path, isolation_level=None, check_same_thread=False)
+        for pragma in ("journal_mode = wal", "synchronous = full", "busy_timeout = 5000"):
+            self._connection.execute(f"pragma {pragma}")
+        self._check()
+        migrate(self._connection)
+
+    def _check(self) -> None:
+        """Raises a DatabaseError if the file is damaged."""
+        told = [str(row[0]) for row in self._connection.execute("pragma quick_check(1)")]
+        if told != ["ok"]:
+            self._connection.close()
+            raise sqlite3.DatabaseError("; ".join(told))
+
+    def close(self) -> None:
+        self._connection.close()
+
+    def close_whole(self) -> None:
+        """Closes a file that is then moved: nothing of it stands in another one. Raises if another program has it open."""
+        with closing(self._connection):
+            self._connection.execute("pragma journal_mode = delete")
+
+    def history(self) -> History | None:
+        return history_in(self._connection)
+
+    def identity(self) -> str:
+        kept = self.history()
+        return "" if kept is None else kept.identity
+
+    def is_empty(self) -> bool:
+        return self._connection.execute("select 1 from request union all select 1 from client").fetchone() is None
+
+    def begin_history(self, beginning: Beginning) -> None:
+        """Gives the file's history an identity if it has none, and keeps how it begins."""
+        row = (uuid.uuid4().hex, beginning.catalogue)
+        with self._connection:
+            self._connection.execute("begin")
+            self._connection.execute("insert or ignore into history (one, identity, catalogue) values (1, ?, ?)", row)
+            self._note_first(beginning.first)
+
+    def _note_first(self, first: str | None) -> None:
+        self._connection.execute("update history set first = ? where first is null", (first,))
+
+    def clients(self, most: int) -> dict[str, int]:
+        """Names with the greatest sessions, no more than so many, by rising session."""
+        rows = self._connection.execute("select name, session from client order by session desc limit ?", (most,))
+        return dict(reversed(rows.fetchall()))
+
+    def session_of(self, name: str) -> int | None:
+        row = self._connection.execute("select session from client where name = ?", (name,)).fetchone()
+        return None if row is None else int(row[0])
+
+    def name_of(self, session: int) -> str | None:
+        row = self._connection.execute("select name from client where session = ?", (session,)).fetchone()
+        return None if row is None else str(row[0])
+
+    def note_heard(self, sessions: Sequence[int]) -> None:
+        """Keeps that these clients were heard until now."""
+        now = time.time()
+        with self._connection:
+            self._connection.execute("begin")
+            self._connection.executemany(HEARD, [{"now": now, "session": one} for one in [*sessions, None]])
+
+    def silent_clients(self, seconds: float) -> list[Silent]:
+        """Names that weren't heard for so long."""
+        return [
+            Silent(name, session, bool(key))
+            for name, session, key in self._connection.execute(SILENT, (time.time() - seconds,))
+        ]
+
+    def drop_clients(self, clients: Mapping[str, int]) -> None:
+        with self._connection:
+            self._connection.execute("begin")
+            self._connection.executemany("delete from client where name = ? and session = ?", clients.items())
+            self._connection.executemany("delete from client_heard where session = ?", [(one,) for one in clients.values()])
+
+    def intend(
+        self, items: Sequence[Item], clients: Mapping[str, int], dropped: Sequence[Item], refused: Mapping[str, int]
+    ) -> None:
+        """Keeps what is about to be handed over: new clients, and of keyed calls the key, the line and its moment.
+
+        The keys of `dropped` go, if nothing was handed over by them since; and the `refused` clients that hold no key.
+        """
+        now = time.time()
+        gone = [(item.key_session, item.call.key, item.moment) for item in dropped if item.call is not None]
+        rows = [
+            (item.key_session, item.call.key, item.call.fingerprint, item.moment, item.line, now)
+            for item in items
+            if item.call is not None and item.call.key is not None
+        ]
+        with self._connection:
+            self._connection.execute("begin")
+            self._connection.executemany(UNKEEP, gone)
+            self._connection.executemany(UNNAME, refused.items())
+            self._connection.executemany(CLIENT, clients.items())
+            self._connection.executemany(INTEND, rows)
+
+    def answer(self, items: Sequence[Item]) -> None:
+        """Keeps first replies, logs, and the first operation of the history."""
+        first = next((digest(item.line) for item in items if item.number == 1), None)
+        keyed = [(item.key_session, item.call.key, item.kept()) for item in items if item.is_keyed and item.call is not None]
+        logs = [item.log for item in items if item.log is not None]
+        if not keyed and not logs and first is None:
+            return
+        with self._connection:
+            self._connection.execute("begin")
+            self._note_first(first)
+            for session, key, kept in keyed:
+                self._answer(session, str(key), kept)
+            rows = [(log.work, log.execution, log.element, log.partition, log.text) for log in logs]
+            self._connection.executemany("insert or replace into work_log values (?, ?, ?, ?, ?)", rows)
+
+    def _answer(self, session: int, key: str, kept: Kept) -> None:
+        answers = json.dumps([answer.decode() for answer in kept.answers])
+        self._connection.execute(ANSWER, (kept.reply, answers, kept.seen, session, key))
+
+    def open_requests(self) -> list[OpenRequest]:
+        rows = self._connection.execute("select session, key, moment, line from request where reply is null")
+        return [OpenRequest(*row) for row in rows]
+
+    def settle(self, request: OpenRequest, kept: Kept | None) -> None:
+        """Keeps the reply that a replay gave, or forgets the key: its line was never entered, and nobody was told a refusal."""
+        with self._connection:
+            self._connection.execute("begin")
+            if kept is None:
+                self._connection.execute("delete from request where session = ? and key = ?", (request.session, request.key))
+            else:
+                self._answer(request.session, request.key, kept)
+
+    def last_session(self) -> int:
+        return int(self._connection.execute("select coalesce(max(session), 0) from client").fetchone()[0])
+
+    def last_seen(self) -> int:
+        return int(self._connection.execute("select coalesce(max(seen), 0) from request").fetchone()[0])
+
+    def drop_unseen(self, operations: int) -> None:
+        """Drops keys whose replies saw more operations than the log has: an older copy has taken its place."""
+        self._connection.execute("delete from request where seen > ?", (operations,))
+
+    def request(self, session: int, key: str) -> KeptRequest | None:
+        statement = "select fingerprint, reply, answers, seen from request where session = ? and key = ? and reply is not null"
+        row = self._connection.execute(statement, (session, key)).fetchone()
+        if row is None:
+            return None
+        answers = tuple(text.encode() for text in json.loads(row[2]))
+        return KeptRequest(row[0], Kept(row[1], answers, row[3]))
+
+    def logs(self, wanted: LogPage) -> list[WorkLog]:
+        words = {"execution": wanted.execution, "element": wanted.element, **wanted.page._asdict()}
+        return [WorkLog(*row) for row in self._connection.execute(LOGS, words)]
+
+    def logged_executions(self) -> list[int]:
+        return [row[0] for row in self._connection.execute("select distinct execution from work_log")]
+
+    def drop_logs(self, executions: Sequence[int]) -> None:
+        with self._connection:
+            self._connection.execute("begin")
+            self._connection.executemany("delete from work_log where execution = ?", [(one,) for one in executions])
+
+    def drop_old_keys(self, days: int, most: int) -> bool:
+        """Drops some keys that are older, and returns whether there may be more.
+
+        Those that say once stay, if they have a reply: a refusal isn't kept.
+        """
+        old = "select session, key from request where kept_at < ? and (session <> ? or reply is null) limit ?"
+        statement = f"delete from request where (session, key) in ({old})"
+        with self._connection:
+            words = (time.time() - days * 86_400, EVERYBODY_SESSION, most)
+            return self._connection.execute(statement, words).rowcount == most
+
+    def old_once(self, days: int) -> dict[str, bytes]:
+        """The older keys that say once, with their first replies."""
+        statement = "select key, reply from request where kept_at < ? and session = ? and reply is not null"
+        return dict(self._connection.execute(statement, (time.time() - days * 86_400, EVERYBODY_SESSION)))
+
+    def drop_once(self, once: Mapping[str, bytes]) -> None:
+        """Drops keys that say once, as far as these are still their first replies."""
+        rows = [(EVERYBODY_SESSION, key, reply) for key, reply in once.items()]
+        with self._connection:
+            self._connection.execute("begin")
+            self._connection.executemany("delete from request where session = ? and key = ? and reply = ?", rows)

@@ -1,0 +1,74 @@
+"""The tables in the SQLite file, and how those of an earlier version are brought to this one."""
+
+from __future__ import annotations
+
+import sqlite3
+from collections.abc import Iterable
+from itertools import chain
+
+from job_host.service.stores.versions import LaterVersion
+
+# A file without a version may have some of these already.
+FIRST = (
+    """
+create table if not exists history (
+    one integer primary key check (one = 1),
+    identity text not null,
+    catalogue text not null,
+    first text
+)
+""",
+    "create table if not exists client (name text primary key, session integer not null unique)",
+    "create table if not exists client_heard (session integer primary key, heard_at real not null)",
+    """
+create table if not exists request (
+    session integer not null,
+    key text not null,
+    fingerprint blob not null,
+    moment integer not null,
+    line blob not null,
+    reply blob,
+    answers text,
+    seen integer,
+    kept_at real not null,
+    primary key (session, key)
+) without rowid
+""",
+    "create index if not exists request_open on request (moment) where reply is null",
+    "create index if not exists request_kept_at on request (kept_at)",
+    """
+create table if not exists work_log (
+    work integer primary key,
+    execution integer not null,
+    element text not null,
+    partition integer,
+    log text not null
+)
+""",
+    "create index if not exists work_log_execution on work_log (execution)",
+)
+# The statements that bring each version to the next one. They are never changed: a later version has statements of its own.
+MIGRATIONS: list[Iterable[str]] = [FIRST]
+
+
+def version_of(connection: sqlite3.Connection) -> int:
+    return int(connection.execute("pragma user_version").fetchone()[0])
+
+
+def refuse_later(connection: sqlite3.Connection, file: str) -> None:
+    """Raises LaterVersion if this program doesn't know the file's tables."""
+    version = version_of(connection)
+    if version > len(MIGRATIONS):
+        raise LaterVersion(file, version, len(MIGRATIONS))
+
+
+def migrate(connection: sqlite3.Connection) -> None:
+    """Brings the tables to this version, in one transaction."""
+    version = version_of(connection)
+    if version == len(MIGRATIONS):
+        return
+    with connection:
+        connection.execute("begin immediate")
+        for statement in chain.from_iterable(MIGRATIONS[version:]):
+            connection.execute(statement)
+        connection.execute(f"pragma user_version = {len(MIGRATIONS)}")

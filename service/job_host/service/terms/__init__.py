@@ -1,0 +1,1 @@
+"""One leader's time: calls, claims, sessions, leases and moments."""

@@ -1,0 +1,153 @@
+"""What a client asks for, and what became of it."""
+
+from __future__ import annotations
+
+import asyncio
+from collections.abc import Awaitable, Callable
+from dataclasses import dataclass, field
+from typing import Any
+
+from job_host.protocol.lines import Members, is_accepted, read
+from job_host.service.pages import Page
+
+SERVICE = ""
+SERVICE_SESSION = 1
+# No client's session: keys that say once stand under it, as they are for all clients.
+EVERYBODY_SESSION = 0
+
+
+def nobody_left() -> bool:
+    return False
+
+
+def everybody_heard() -> bool:
+    return False
+
+
+@dataclass(frozen=True)
+class Call:
+    """A command of a client.
+
+    `resolve` gives members that a query tells. With `wait`, a claim that is answered Nothing is made again until so many
+    seconds are over, or until the client is gone. While its machine is `is_unheard`, no work is given to it. That answer isn't
+    kept: a claim by the same key is a new one. With `is_once` the key is for all clients, as long as the job instance that the
+    call made is there. A refusal isn't kept then.
+    """
+
+    client: str
+    do: str
+    members: Members
+    key: str | None = None
+    fingerprint: bytes = b""
+    resolve: Callable[[], Awaitable[Members]] | None = None
+    log: str | None = None
+    wait: float = 0.0
+    is_gone: Callable[[], bool] = nobody_left
+    is_unheard: Callable[[], bool] = everybody_heard
+    is_once: bool = False
+
+
+@dataclass(frozen=True)
+class WorkLog:
+    """The last of what a worker handed in as the log of a work item."""
+
+    work: int
+    execution: int
+    element: str
+    partition: int | None
+    text: str
+
+
+@dataclass(frozen=True)
+class LogPage:
+    """A page of the logs of a job execution, or of one element of it."""
+
+    execution: int
+    element: str | None
+    page: Page
+
+
+@dataclass(frozen=True)
+class Kept:
+    """The first reply to a call, the answers that belong to it, and how many operations it saw."""
+
+    reply: bytes
+    answers: tuple[bytes, ...]
+    seen: int
+
+    def told(self) -> dict[str, Any]:
+        return read(self.reply)
+
+
+@dataclass(frozen=True)
+class KeptRequest:
+    """What is kept of a request key: the request's fingerprint, and its first reply."""
+
+    fingerprint: bytes
+    kept: Kept
+
+
+def _fail(future: asyncio.Future[Any], problem: Exception) -> None:
+    """Ends a future, which nobody need await."""
+    if not future.done():
+        future.set_exception(problem)
+        future.exception()
+
+
+@dataclass
+class Item:
+    """A call on its way: handed to the co-process, answered, then kept.
+
+    It has no call if it only asks whether the leader leads.
+    """
+
+    call: Call | None
+    session: int
+    line: bytes = b""
+    moment: int = 0
+    reply: bytes = b""
+    number: int | None = None
+    seen: int = 0
+    answers: tuple[bytes, ...] = ()
+    is_ready: bool = False
+    log: WorkLog | None = None
+    heard: asyncio.Future[bytes] = field(default_factory=lambda: asyncio.get_running_loop().create_future())
+    done: asyncio.Future[Kept] = field(default_factory=lambda: asyncio.get_running_loop().create_future())
+
+    @property
+    def is_keyed(self) -> bool:
+        """Whether the reply is kept beside a request key."""
+        if self.call is None or self.call.key is None:
+            return False
+        if self.call.is_once:
+            return is_accepted(self.reply)
+        return not self.reply.startswith(b'{"nothing":')
+
+    @property
+    def key_session(self) -> int:
+        """The session under which the request key stands."""
+        return EVERYBODY_SESSION if self.call is not None and self.call.is_once else self.session
+
+    def kept(self) -> Kept:
+        return Kept(self.reply, self.answers, self.seen)
+
+    def end(self) -> None:
+        if not self.done.done():
+            self.done.set_result(self.kept())
+
+    def fail(self, problem: Exception) -> None:
+        _fail(self.heard, problem)
+        _fail(self.done, problem)
+
+
+@dataclass(eq=False)
+class Begun:
+    """A call on its way to its hand-over. Once it has its moment it is an item, which is handed over after it is kept."""
+
+    call: Call
+    item: Item | None = None
+    is_kept: bool = False
+    handed: asyncio.Future[Item] = field(default_factory=lambda: asyncio.get_running_loop().create_future())
+
+    def fail(self, problem: Exception) -> None:
+        _fail(self.handed, problem)

@@ -1,0 +1,49 @@
+"""Leases: each busy work item has one while the service leads. Where it runs out, the work item is lost."""
+
+from __future__ import annotations
+
+import asyncio
+import time
+from collections.abc import Iterable
+
+from job_host.service.terms.term import Term
+
+TICK = 0.25
+
+
+class Leases:
+    """The moments at which leases run out, by a clock that only rises. All of them begin anew with a term."""
+
+    def __init__(self, seconds: float) -> None:
+        self.seconds = seconds
+        self._ends: dict[int, float] = {}
+        self._last_look = time.monotonic()
+
+    def renew(self, work: int) -> None:
+        self._ends[work] = time.monotonic() + self.seconds
+
+    def over(self, held: Iterable[int], now: float) -> list[int]:
+        """The busy work items whose lease has run out. One that is seen for the first time has a whole lease.
+
+        If nobody looked for some time, as after a SIGSTOP of the service, nobody could renew a lease. Such time doesn't count.
+        """
+        pause = max(0.0, now - self._last_look - 4 * TICK)
+        self._last_look = now
+        ends = {work: self._ends.get(work, now + self.seconds) + pause for work in held}
+        self._ends = ends
+        return [work for work, end in ends.items() if end <= now]
+
+    def remaining(self, work: int) -> float:
+        return max(0.0, self._ends.get(work, time.monotonic() + self.seconds) - time.monotonic())
+
+    async def watch(self, term: Term) -> None:
+        """Loses what has run out, for ever. Raises the problem by which the term failed."""
+        self._ends.clear()
+        self._last_look = time.monotonic()
+        while True:
+            await asyncio.sleep(TICK)
+            await self._lose_over(term)
+
+    async def _lose_over(self, term: Term) -> None:
+        for work in self.over(list(term.engine.held), time.monotonic()):
+            await term.lose(work)

@@ -1,0 +1,306 @@
+"""`jobhost worker`: claims work items, runs the executables that they name, and reports."""
+
+from __future__ import annotations
+
+import asyncio
+import logging
+import signal
+import uuid
+from collections.abc import Awaitable, Callable
+from contextlib import ExitStack, suppress
+from dataclasses import dataclass, replace
+from pathlib import Path
+from typing import Any, TypeVar
+
+from job_host.protocol import executables
+from job_host.protocol.client import Address, Client, Refused, Unreachable
+from job_host.protocol.seldom import seldom
+from job_host.worker import artifacts
+from job_host.worker.artifacts import Artifact, Ended, Program
+from job_host.worker.chunks import Chunk
+from job_host.worker.environment import ParametersFile, environment
+from job_host.worker.folder import ArtifactFolder
+from job_host.worker.output import ExitFile, FirstLine, Tail, drain
+
+log = logging.getLogger(__name__)
+
+CLAIM_SECONDS = 10.0
+FOREVER = 10.0**9
+DRAIN_SECONDS = 5.0
+HURRY_SECONDS = 5.0
+LOOK_SECONDS = 1.0
+
+T = TypeVar("T")
+
+
+class Lost(Exception):
+    """The work item isn't this worker's any more."""
+
+
+async def until_told(call: Awaitable[T], event: asyncio.Event, seconds: float) -> T:
+    """Makes a call. After the event it has some seconds more. Raises Lost if they don't suffice."""
+    calling, telling = asyncio.ensure_future(call), asyncio.ensure_future(event.wait())
+    try:
+        await asyncio.wait([calling, telling], return_when=asyncio.FIRST_COMPLETED)
+        await asyncio.wait([calling], timeout=seconds)
+        if not calling.done():
+            raise Lost("the service doesn't answer, and the worker was told to end")
+        return calling.result()
+    finally:
+        await cancel(calling, telling)
+
+
+async def cancel(*tasks: asyncio.Future[Any]) -> None:
+    """Cancels tasks, and returns after they have ended."""
+    for task in tasks:
+        task.cancel()
+    await asyncio.gather(*tasks, return_exceptions=True)
+
+
+def still_running(tasks: set[asyncio.Future[Any]]) -> set[asyncio.Future[Any]]:
+    """Those that haven't ended. Raises what one of the others has raised."""
+    for task in tasks:
+        if task.done():
+            task.result()
+    return {task for task in tasks if not task.done()}
+
+
+class Told:
+    """What a worker is told of a work item while it runs it."""
+
+    def __init__(self) -> None:
+        self.stop = asyncio.Event()
+        self.lost = asyncio.Event()
+
+
+@dataclass
+class Batchlet:
+    """One work item of a batchlet or a decision: one process."""
+
+    folder: Path
+    claimed: dict[str, Any]
+    tail: Tail
+    told: Told
+
+    async def run(self) -> Ended:
+        files = ExitStack()
+        try:
+            path = executables.find(self.folder, self.claimed["work"]["ref"])
+            file = ExitFile()
+            files.callback(file.remove)
+            parameters = ParametersFile(self.claimed)
+            files.callback(parameters.remove)
+            return await self._run(path, file, parameters)
+        except (executables.NoArtifact, OSError) as fault:
+            self.tail.say(str(fault))
+            return Ended("FAILED")
+        finally:
+            files.close()
+
+    async def _run(self, path: Path, file: ExitFile, parameters: ParametersFile) -> Ended:
+        """Runs the process. Both of its outputs are the log."""
+        variables = environment(self.claimed, {**file.variables(), **parameters.variables()}, self.tail.say)
+        artifact = await artifacts.spawn(Program(path, self.folder, variables, [file.path, parameters.path]))
+        first = FirstLine()
+        outputs = (drain(artifact.stdout, self.tail.stream(), first), drain(artifact.stderr, self.tail.stream()))
+        heard = asyncio.gather(*outputs)
+        try:
+            was_stopped = await self._wait(artifact)
+        finally:
+            await artifact.kill()
+            with suppress(asyncio.TimeoutError):
+                await asyncio.wait_for(heard, DRAIN_SECONDS)
+        return artifacts.ended_by(await artifact.wait(), file, first, self.tail, was_stopped)
+
+    async def _wait(self, artifact: Artifact) -> bool:
+        """Waits for its end. Returns whether it was told to stop before."""
+        work = self.claimed["work"]
+        may_stop = work["kind"] == "batchlet" and executables.is_stoppable(self.folder, work["ref"])
+        ending = asyncio.ensure_future(artifact.wait())
+        stopping = asyncio.ensure_future(self.told.stop.wait() if may_stop else asyncio.Event().wait())
+        try:
+            await asyncio.wait([ending, stopping], return_when=asyncio.FIRST_COMPLETED)
+            if ending.done():
+                return False
+            artifact.terminate()
+            await ending
+            return True
+        finally:
+            stopping.cancel()
+            ending.cancel()
+
+
+class Worker:
+    """Slots that run one work item each at a time. While a slot is free, one claim waits for all of them.
+
+    `ending` says that nothing new is claimed.
+    """
+
+    def __init__(self, client: Client, folder: Path, slots: int) -> None:
+        self._client = client
+        self._folder = ArtifactFolder(folder)
+        self._slots = slots
+        self.ending = asyncio.Event()
+        self.hurry = asyncio.Event()
+
+    async def run(self) -> None:
+        """Works until it is told to end, and what it runs has ended."""
+        running: set[asyncio.Future[Any]] = set()
+        while not self.ending.is_set():
+            # By a thread: a file system that hangs mustn't hold up heartbeats.
+            if len(running) < self._slots and not await asyncio.to_thread(self._folder.may_claim):
+                await self._look_later()
+            elif len(running) < self._slots:
+                claimed = await self._next()
+                if "work" in claimed:
+                    self._folder.note(claimed["work"])
+                    running.add(asyncio.ensure_future(self._run(claimed)))
+            else:
+                await self._until_free(running)
+            running = still_running(running)
+        await asyncio.gather(*running)
+
+    async def _look_later(self) -> None:
+        """Returns after a second, or after the worker was told to end."""
+        with suppress(asyncio.TimeoutError):
+            await asyncio.wait_for(self.ending.wait(), LOOK_SECONDS)
+
+    async def _until_free(self, running: set[asyncio.Future[Any]]) -> None:
+        """Returns after a slot is free, or the worker was told to end."""
+        telling = asyncio.ensure_future(self.ending.wait())
+        try:
+            await asyncio.wait([telling, *running], return_when=asyncio.FIRST_COMPLETED)
+        finally:
+            await cancel(telling)
+
+    async def _next(self) -> dict[str, Any]:
+        """Claims a work item. Returns no member `work` if there is none."""
+        key = uuid.uuid4().hex
+        try:
+            return await self._claim(key) or await self._withdraw(key)
+        except Refused as refused:
+            log.warning("a claim was refused: %s", refused)
+            await asyncio.sleep(1.0)
+        except (Lost, Unreachable) as fault:
+            log.warning("a claim couldn't be withdrawn: %s", fault)
+        return {}
+
+    async def _claim(self, key: str) -> dict[str, Any] | None:
+        """Claims, until the worker is told to end: then the connection is closed, and there is no answer."""
+        call = self._client.operate("POST", "/batch/work", {"wait": CLAIM_SECONDS}, CLAIM_SECONDS, FOREVER, key)
+        claiming, telling = asyncio.ensure_future(call), asyncio.ensure_future(self.ending.wait())
+        try:
+            await asyncio.wait([claiming, telling], return_when=asyncio.FIRST_COMPLETED)
+            return dict(claiming.result()) if claiming.done() else None
+        finally:
+            await cancel(claiming, telling)
+
+    async def _withdraw(self, key: str) -> dict[str, Any]:
+        """Withdraws a claim. If it was made before, its work item is this worker's, which runs it."""
+        call = self._client.operate("DELETE", "/batch/work", patience=CLAIM_SECONDS, key=key)
+        return dict(await until_told(call, self.ending, CLAIM_SECONDS))
+
+    async def _run(self, claimed: dict[str, Any]) -> None:
+        """Runs a work item under its lease, and reports how it ended, if it is still this worker's."""
+        tail, told = Tail(), Told()
+        beating = asyncio.ensure_future(self._beat(claimed, tail, told))
+        running = asyncio.ensure_future(self._run_artifact(claimed, tail, told))
+        giving_up = [asyncio.ensure_future(told.lost.wait()), asyncio.ensure_future(self.hurry.wait())]
+        try:
+            await asyncio.wait([running, *giving_up], return_when=asyncio.FIRST_COMPLETED)
+            if not running.done():
+                running.cancel()
+                with suppress(asyncio.CancelledError):
+                    await running
+                tail.say("the worker was told to end")
+            if not told.lost.is_set():
+                await self._finish(claimed, await self._ended(running), tail)
+        except Lost as lost:
+            log.warning("work item %d: %s", claimed["work"]["work"], lost)
+        finally:
+            for task in (beating, *giving_up):
+                task.cancel()
+            await asyncio.gather(beating, *giving_up, return_exceptions=True)
+
+    @staticmethod
+    async def _ended(running: asyncio.Future[Ended]) -> Ended:
+        return Ended("FAILED") if running.cancelled() else await running
+
+    async def _run_artifact(self, claimed: dict[str, Any], tail: Tail, told: Told) -> Ended:
+        if claimed["work"]["kind"] != "chunk":
+            return await Batchlet(self._folder.path, claimed, tail, told).run()
+        chunk = Chunk(self._folder.path, claimed, tail, lambda mark, metrics: self._checkpoint(claimed, mark, metrics))
+        watching = asyncio.ensure_future(self._watch_stop(told, lambda: setattr(chunk, "stop_asked", True)))
+        try:
+            return await chunk.run()
+        finally:
+            watching.cancel()
+            await chunk.close()
+
+    @staticmethod
+    async def _watch_stop(told: Told, note: Callable[[], None]) -> None:
+        await told.stop.wait()
+        note()
+
+    async def _checkpoint(self, claimed: dict[str, Any], mark: str, metrics: dict[str, int]) -> bool:
+        """Reports a group. Returns whether a stop was asked for."""
+        body: dict[str, Any] = {"data": mark}
+        if metrics:
+            body["metrics"] = metrics
+        return "stop" in await self._report(claimed, "checkpoint", body)
+
+    async def _finish(self, claimed: dict[str, Any], ended: Ended, tail: Tail) -> None:
+        body = {**ended.members(), "log": tail.text()}
+        await self._report(claimed, "finish", body)
+
+    async def _report(self, claimed: dict[str, Any], action: str, body: dict[str, Any]) -> dict[str, Any]:
+        path = f"/batch/work/{claimed['work']['work']}?action={action}"
+        try:
+            told = await until_told(self._client.operate("PUT", path, body, patience=FOREVER), self.hurry, HURRY_SECONDS)
+        except Refused as refused:
+            raise Lost(f"{action} was refused: {refused}") from refused
+        return dict(told)
+
+    async def _beat(self, claimed: dict[str, Any], tail: Tail, told: Told) -> None:
+        """Renews the lease, hands in the log as it is, and hears of a stop."""
+        lease = float(claimed["lease"])
+        pause = lease / 3
+        path = f"/batch/work/{claimed['work']['work']}?action=heartbeat"
+        handed_in = ""
+        while True:
+            await asyncio.sleep(pause)
+            text = tail.text()
+            body = {"log": text} if text != handed_in else {}
+            try:
+                answer = await self._client.operate("PUT", path, body, patience=pause, attempt=lease / 6)
+            except Unreachable as fault:
+                log.warning("no heartbeat: %s", fault)
+                continue
+            except Refused as refused:
+                log.warning("work item %d is lost: %s", claimed["work"]["work"], refused)
+                told.lost.set()
+                return
+            handed_in = text
+            if answer["stop"]:
+                told.stop.set()
+
+
+def worker_address(address: Address, given: str | None) -> Address:
+    """An address under a name of this worker's life. A worker that is started again has another session."""
+    return replace(address, client=given or f"{address.client}-{uuid.uuid4().hex[:12]}")
+
+
+async def work(address: Address, folder: Path, slots: int) -> None:
+    """Works until a signal; what runs then is run to its end. After a second signal it is killed, and is FAILED."""
+    async with Client(address, seldom(log.warning)) as client:
+        worker = Worker(client, folder, slots)
+
+        def end() -> None:
+            if worker.ending.is_set():
+                worker.hurry.set()
+            worker.ending.set()
+
+        loop = asyncio.get_running_loop()
+        for number in (signal.SIGTERM, signal.SIGINT):
+            loop.add_signal_handler(number, end)
+        await worker.run()
