@@ -8,6 +8,7 @@ SIZE is the number of lines, or for `pool` the number of job executions. Equal s
 - `consoles`: the same, but seven lines in ten are queries.
 - `backlog`: a fifth of the lines are starts, all before the first claim; reports come in any order.
 - `deep`: jobs of about a thousand elements: long lists, flows in flows, wide splits, splits in splits.
+- `restarts`: jobs of twenty steps, one after another. One step of each tenth job fails, and the job is restarted.
 - `pool`: a run of chunks, partitions and splits by two workers with built-in artifacts.
 - `logged`: `nights` over a new log.
 - `opened`: the catalogue of `nights` and one query, over the log that `logged` leaves.
@@ -362,6 +363,28 @@ def deep(dice: Dice, size: int) -> str:
     return script.text()
 
 
+def run_steps(script: Script, count: int) -> None:
+    """Runs as many steps to their ends."""
+    for _ in range(count):
+        script.finish(script.claim())
+
+
+def restarts(dice: Dice, size: int) -> str:
+    """Jobs of twenty steps, one after another. One step of each tenth job fails, and the job is restarted from it."""
+    length, jobs = 20, 10
+    script = Script([{"id": f"long-{job}", "elements": steps("l", job, length)} for job in range(jobs)])
+    while len(script.lines) < size:
+        job = script.instances % jobs
+        execution = script.start(f"long-{job}")
+        done = dice.below(length) if job == 0 else length
+        run_steps(script, done)
+        if done < length:
+            script.finish(script.claim(), "FAILED")
+            script.restart(execution)
+            run_steps(script, length - done)
+    return script.text()
+
+
 def chunk(id_: str, items: int, item_count: int, **others: object) -> Json:
     """A step that counts items and drops them."""
     reader = {"ref": f"count:{items}"}
@@ -541,6 +564,7 @@ WORKLOADS: dict[str, Callable[[Dice, int], str]] = {
     "consoles": consoles,
     "backlog": backlog,
     "deep": deep,
+    "restarts": restarts,
     "pool": pool,
     "logged": nights,
     "opened": opened,
