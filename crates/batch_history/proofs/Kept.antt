@@ -10,12 +10,12 @@ use Rattle.batch_ids.specs.declared.status.WorkOutcome.TheVariants.{Failed}
 use Rattle.jsl_model.specs.Jobs.{JobTree}
 use Rattle.walk_rules.specs.declared.work_key.WorkKey.{WorkKey}
 use Rattle.walk_rules.specs.declared.facts.Fact.{Fact}
-use Rattle.job_walk.specs.Runnables.{all_leaves, runnable_with}
+use Rattle.job_plans.specs.Runnables.{all_leaves, runnable_with}
 use Rattle.walk_rules.specs.Keys.{is_same_key}
 use Rattle.walk_rules.specs.Walk.{is_busy}
 use Rattle.walk_rules.proofs.SameKeys.{same-self}
 use Rattle.walk_rules.specs.declared.facts.Fact.TheVariants.{Nothing as FactNothing, Busy as FactBusy, Over as FactOver, Carried as FactCarried, Barred as FactBarred}
-use Rattle.job_walk.specs.declared.plan.Plan.{Plan}
+use Rattle.job_plans.specs.declared.plan.Plan.{Plan}
 use Rattle.walk_rules.specs.declared.facts.Value.{Value}
 use Rattle.walk_rules.specs.declared.facts.Value.TheVariants.{Open, Done as IsDone, Ended}
 use Rattle.batch_history.specs.NextRows.{reported, over}

@@ -6,7 +6,7 @@ use Rattle.walk_rules.specs.Keys.{is_same_key}
 use Rattle.walk_rules.specs.Walk.{fact_of}
 use Rattle.walk_rules.specs.declared.work_key.WorkKey.{WorkKey}
 use Rattle.walk_rules.specs.declared.facts.Known.{Known}
-use Rattle.job_walk.specs.declared.plan.Plan.{Plan}
+use Rattle.job_plans.specs.declared.plan.Plan.{Plan}
 use Rattle.batch_history.specs.Walks.{fact_of_state, is_work_of, fact_by_work, facts_by_work, known_elements, walk_of, walk_value, job_named}
 use Rattle.batch_history.specs.Works.{work_key}
 use Rattle.batch_history.specs.declared.rows.WorkRow.{WorkRow}

@@ -1,14 +1,14 @@
 -- What is known of the work keys of a job by a plan, after what their work items tell.
 use Rattle.std.proofs.Common.{◌≡◌, ℕ, Bool, true, false, Option, None, Some, is_some, List, refl, ap}
 use Rattle.jsl_model.specs.Names.{is_among}
-use Rattle.job_walk.specs.Plans.{bars_kept, carried_exit, keeps_partition, step_fact, unless_barred}
-use Rattle.job_walk.specs.Runnables.{Leaf, partitions_with, runnable_with}
+use Rattle.job_plans.specs.Plans.{bars_kept, carried_exit, keeps_partition, step_fact, unless_barred}
+use Rattle.job_plans.specs.Runnables.{Leaf, partitions_with, runnable_with}
 use Rattle.walk_rules.specs.Walk.{is_barred}
 use Rattle.walk_rules.specs.declared.facts.Fact.{Fact}
 use Rattle.walk_rules.specs.declared.facts.Fact.TheVariants.{Nothing, Carried, Busy, Over, Barred}
-use Rattle.job_walk.specs.declared.plan.Plan.{Plan}
-use Rattle.job_walk.specs.declared.runnable.Runnable.{Runnable}
-use Rattle.job_walk.specs.declared.runnable.Runnable.TheVariants.{Step as RunsStep, Decision as RunsDecision}
+use Rattle.job_plans.specs.declared.plan.Plan.{Plan}
+use Rattle.job_plans.specs.declared.runnable.Runnable.{Runnable}
+use Rattle.job_plans.specs.declared.runnable.Runnable.TheVariants.{Step as RunsStep, Decision as RunsDecision}
 use Rattle.walk_rules.specs.declared.work_key.WorkKey.{WorkKey}
 use Rattle.batch_history.specs.Walks.{runnable_fact, planned_facts}
 use Rattle.batch_history.proofs.Sights.{DifferAt}

@@ -8,7 +8,7 @@ use Rattle.std.proofs.lemmas.List.{length-append}
 use Rattle.batch_ids.specs.Statuses.{is_unfinished}
 use Rattle.batch_ids.specs.declared.status.BatchStatus.{BatchStatus}
 use Rattle.batch_ids.specs.declared.status.BatchStatus.TheVariants.{Abandoned}
-use Rattle.job_walk.proofs.Following.{find-map}
+use Rattle.job_plans.proofs.Following.{find-map}
 use Rattle.jsl_model.specs.Jobs.{JobTree}
 use Rattle.batch_history.specs.NextRows.{instances_after}
 use Rattle.batch_history.specs.declared.call.Call.{Call}

@@ -4,15 +4,15 @@ use Rattle.std.proofs.Common.{◌≡◌, ℕ, ◌||◌, Bool, true, false, cond,
 use Rattle.std.specs.List.{flat_map}
 use Rattle.std.specs.Option.{option_and_then, option_map}
 use Rattle.jsl_model.specs.Jobs.{JobTree}
-use Rattle.job_walk.specs.Cursors.{fact_at_first, known_at_first, resumed, value_in}
+use Rattle.job_plans.specs.Cursors.{fact_at_first, known_at_first, resumed, value_in}
 use Rattle.walk_rules.specs.Keys.{is_same_key, has_key}
-use Rattle.job_walk.specs.Runnables.{Leaf, all_leaves, keys_of}
+use Rattle.job_plans.specs.Runnables.{Leaf, all_leaves, keys_of}
 use Rattle.walk_rules.specs.Walk.{fact_of, known_of, value_of}
 use Rattle.walk_rules.specs.declared.facts.Fact.{Fact}
 use Rattle.walk_rules.specs.declared.facts.Known.{Known}
-use Rattle.job_walk.specs.declared.plan.Plan.{Plan}
-use Rattle.job_walk.specs.declared.runnable.Runnable.{Runnable}
-use Rattle.job_walk.specs.declared.runnable.Runnable.TheVariants.{Step as RunsStep, Decision as RunsDecision}
+use Rattle.job_plans.specs.declared.plan.Plan.{Plan}
+use Rattle.job_plans.specs.declared.runnable.Runnable.{Runnable}
+use Rattle.job_plans.specs.declared.runnable.Runnable.TheVariants.{Step as RunsStep, Decision as RunsDecision}
 use Rattle.walk_rules.specs.declared.work_key.WorkKey.{WorkKey}
 use Rattle.walk_rules.proofs.SameKeys.{same-one, same-sym}
 use Rattle.batch_history.specs.Walks.{runnable_fact, planned_facts, facts_by_work, walk_of, walk_value, job_named, known_elements}

@@ -6,15 +6,15 @@ use Rattle.jsl_model.specs.Jobs.{JobTree}
 use Rattle.jsl_model.specs.declared.element.Element.{Element}
 use Rattle.walk_rules.specs.Shown.{ready_of, busy_of}
 use Rattle.walk_rules.specs.Keys.{has_key, is_same_key, key_of, keys_of_step, numbers_to}
-use Rattle.job_walk.specs.Runnables.{Leaf, all_leaves, keys_of, all_keys, leaf_with, runnable_with, partitions_with}
+use Rattle.job_plans.specs.Runnables.{Leaf, all_leaves, keys_of, all_keys, leaf_with, runnable_with, partitions_with}
 use Rattle.walk_rules.specs.Walk.{value_of}
 use Rattle.walk_rules.specs.declared.facts.Fact.{Fact}
 use Rattle.walk_rules.specs.declared.facts.Value.{Value}
 use Rattle.walk_rules.specs.declared.facts.Value.TheVariants.{Open, Done, Ended}
-use Rattle.job_walk.specs.declared.plan.Plan.{Plan}
+use Rattle.job_plans.specs.declared.plan.Plan.{Plan}
 use Rattle.walk_rules.specs.declared.work_key.WorkKey.{WorkKey}
 use Rattle.walk_rules.proofs.SameKeys.{same-one}
-use Rattle.job_walk.proofs.Shown.{ready-leaf, busy-leaf}
+use Rattle.job_plans.proofs.Shown.{ready-leaf, busy-leaf}
 use Rattle.batch_history.specs.Replies.{partition_named, partitions_of_job}
 use Rattle.batch_history.specs.Walks.{planned_facts, walk_of}
 use Rattle.batch_history.proofs.Sights.{Sight, seen, own-key}

@@ -28,7 +28,7 @@ use Rattle.batch_ids.specs.declared.status.BatchStatus.TheVariants.{Starting}
 use Rattle.batch_ids.specs.declared.status.WorkOutcome.{WorkOutcome}
 use Rattle.batch_ids.specs.declared.status.WorkOutcome.TheVariants.{Failed}
 use Rattle.walk_rules.specs.declared.facts.Value.{Value}
-use Rattle.job_walk.specs.declared.plan.Plan.{Plan}
+use Rattle.job_plans.specs.declared.plan.Plan.{Plan}
 use Rattle.jsl_model.specs.Jobs.{JobTree}
 
 -- ---- Job instances and work items

@@ -10,8 +10,8 @@ use Rattle.batch_ids.specs.Statuses.{is_unfinished, outcome_status, status_name}
 use Rattle.batch_ids.specs.declared.status.BatchStatus.{BatchStatus}
 use Rattle.batch_ids.specs.declared.status.BatchStatus.TheVariants.{Starting, Started, Stopping, Stopped, Failed, Completed, Abandoned}
 use Rattle.walk_rules.specs.Keys.{key_of, numbers_to}
-use Rattle.job_walk.specs.Plans.{is_kept}
-use Rattle.job_walk.specs.declared.plan.Plan.{Plan}
+use Rattle.job_plans.specs.Plans.{is_kept}
+use Rattle.job_plans.specs.declared.plan.Plan.{Plan}
 use Rattle.batch_ids.specs.declared.status.WorkOutcome.{WorkOutcome}
 use Rattle.batch_ids.specs.declared.status.WorkOutcome.TheVariants.{Completed as CameCompleted, Failed as CameFailed, Stopped as CameStopped}
 use Rattle.jsl_model.specs.Jobs.{JobTree}

@@ -6,9 +6,9 @@ use Rattle.batch_history.specs.declared.rows.WorkRow.{WorkRow}
 use Rattle.batch_history.specs.declared.rows.WorkState.{WorkState}
 use Rattle.batch_history.specs.declared.rows.WorkState.TheVariants.{Busy, Over}
 use Rattle.std.specs.Str.{bytes_eq}
-use Rattle.job_walk.specs.Runnables.{Leaf, all_leaves, partitions_with, runnable_with}
+use Rattle.job_plans.specs.Runnables.{Leaf, all_leaves, partitions_with, runnable_with}
 use Rattle.walk_rules.specs.Keys.{is_same_key}
-use Rattle.job_walk.specs.Plans.{planned_fact}
+use Rattle.job_plans.specs.Plans.{planned_fact}
 use Rattle.walk_rules.specs.Walk.{value_of}
 use Rattle.walk_rules.specs.declared.work_key.WorkKey.{WorkKey}
 use Rattle.batch_history.specs.Works.{work_key}
@@ -17,9 +17,9 @@ use Rattle.walk_rules.specs.declared.facts.Fact.TheVariants.{Nothing as FactNoth
 use Rattle.walk_rules.specs.declared.facts.Known.{Known}
 use Rattle.walk_rules.specs.declared.facts.Value.{Value}
 use Rattle.walk_rules.specs.declared.facts.Value.TheVariants.{Done as IsDone}
-use Rattle.job_walk.specs.declared.plan.Plan.{Plan}
-use Rattle.job_walk.specs.declared.runnable.Runnable.{Runnable}
-use Rattle.job_walk.specs.declared.runnable.Runnable.TheVariants.{Step as RunsStep, Decision as RunsDecision}
+use Rattle.job_plans.specs.declared.plan.Plan.{Plan}
+use Rattle.job_plans.specs.declared.runnable.Runnable.{Runnable}
+use Rattle.job_plans.specs.declared.runnable.Runnable.TheVariants.{Step as RunsStep, Decision as RunsDecision}
 use Rattle.jsl_model.specs.Jobs.{JobTree}
 use Rattle.jsl_model.specs.declared.element.Element.{Element}
 

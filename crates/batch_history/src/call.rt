@@ -6,7 +6,7 @@ use batch_ids::{
     ExecutionId, InstanceId, MetricStep, Moment, OutOfMemory, Parameters, T256, Text, WorkId,
     WorkOutcome, try_clone_option,
 };
-use job_walk::WorkKey;
+use walk_rules::WorkKey;
 
 /// An operation on the job repository (Jakarta Batch 2.1, "JobOperator"). Claim, checkpoint, finish
 /// and lose are this service's own, for its workers. So is purge.

@@ -10,7 +10,8 @@ use batch_ids::{
     BatchStatus, ExecutionId, InstanceId, Metrics, Moment, OutOfMemory, Parameters, Shared, T256,
     Text, WorkId, WorkOutcome, try_clone_option,
 };
-use job_walk::{Plan, WorkKey};
+use job_plans::Plan;
+use walk_rules::WorkKey;
 
 /// A job instance (Jakarta Batch 2.1, "JobInstance").
 #[derive(PartialEq, Eq, Debug, Drop)]

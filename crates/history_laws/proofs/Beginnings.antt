@@ -3,7 +3,7 @@ use Rattle.std.proofs.Common.{◌≡◌, ℕ, Some, Ok, List, [], ◌∷◌, ◌
 use Rattle.std.specs.Option.{option_map}
 use Rattle.std.proofs.lemmas.Bool.{eqb-true}
 use Rattle.jsl_model.specs.Jobs.{JobTree}
-use Rattle.job_walk.proofs.Following.{find-map}
+use Rattle.job_plans.proofs.Following.{find-map}
 use Rattle.batch_history.specs.declared.call.Entry.{Entry}
 use Rattle.batch_history.proofs.Folds.{made, is_made, works_of, folded_rows, execution_row}
 use Rattle.batch_history.specs.Executions.{Made}

@@ -21,14 +21,14 @@ use Rattle.batch_history.proofs.Kept.{IsUnknown}
 use Rattle.jsl_model.specs.Names.{is_among}
 use Rattle.jsl_model.specs.declared.element.Task.{Task}
 use Rattle.jsl_model.specs.declared.element.Task.TheVariants.{Batchlet as BatchletStep, Chunk as ChunkStep}
-use Rattle.job_walk.specs.Runnables.{all_leaves, partitions_with, runnable_with}
-use Rattle.job_walk.specs.Plans.{bars_kept, carried_exit, is_kept, keeps_partition, unless_barred, step_fact}
+use Rattle.job_plans.specs.Runnables.{all_leaves, partitions_with, runnable_with}
+use Rattle.job_plans.specs.Plans.{bars_kept, carried_exit, is_kept, keeps_partition, unless_barred, step_fact}
 use Rattle.walk_rules.specs.declared.work_key.WorkKey.{WorkKey}
 use Rattle.walk_rules.specs.declared.facts.Fact.{Fact}
 use Rattle.walk_rules.specs.declared.facts.Fact.TheVariants.{Nothing as FactNothing, Busy as FactBusy, Over as FactOver, Carried as FactCarried, Barred as FactBarred}
-use Rattle.job_walk.specs.declared.plan.Plan.{Plan}
-use Rattle.job_walk.specs.declared.runnable.Runnable.{Runnable}
-use Rattle.job_walk.specs.declared.runnable.Runnable.TheVariants.{Step as RunsStep, Decision as RunsDecision}
+use Rattle.job_plans.specs.declared.plan.Plan.{Plan}
+use Rattle.job_plans.specs.declared.runnable.Runnable.{Runnable}
+use Rattle.job_plans.specs.declared.runnable.Runnable.TheVariants.{Step as RunsStep, Decision as RunsDecision}
 use Rattle.batch_history.specs.Restarts.{plan_of}
 use Rattle.batch_history.specs.declared.call.WorkTask.TheVariants.{Chunk}
 use Rattle.batch_history.proofs.Plans.{plan-law}

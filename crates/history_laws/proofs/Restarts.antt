@@ -8,7 +8,7 @@ use Rattle.batch_ids.specs.Statuses.{is_unfinished}
 use Rattle.batch_ids.specs.declared.status.BatchStatus.{BatchStatus}
 use Rattle.batch_ids.specs.declared.status.BatchStatus.TheVariants.{Starting, Started, Stopping, Stopped, Failed, Completed, Abandoned}
 use Rattle.jsl_model.specs.Jobs.{JobTree}
-use Rattle.job_walk.proofs.Following.{find-map}
+use Rattle.job_plans.proofs.Following.{find-map}
 use Rattle.batch_history.specs.declared.call.Call.TheVariants.{Restart}
 use Rattle.batch_history.specs.declared.call.Entry.{Entry}
 use Rattle.batch_history.proofs.Folds.{made, is_made, abandoned_of, bare_of, folded_rows, execution_row, plan_kept}

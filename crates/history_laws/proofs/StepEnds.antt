@@ -10,7 +10,7 @@ use Rattle.batch_ids.specs.declared.status.BatchStatus.TheVariants.{Starting, St
 use Rattle.batch_ids.specs.declared.status.WorkOutcome.{WorkOutcome}
 use Rattle.jsl_model.specs.Jobs.{JobTree}
 use Rattle.jsl_model.specs.declared.element.Task.{Task}
-use Rattle.job_walk.specs.declared.plan.Plan.{Plan}
+use Rattle.job_plans.specs.declared.plan.Plan.{Plan}
 use Rattle.batch_history.specs.Executions.{Made}
 use Rattle.batch_history.specs.Lists.{change_first, Each}
 use Rattle.batch_history.specs.Moments.{first_moment}

@@ -15,7 +15,7 @@ use Rattle.batch_ids.specs.declared.status.WorkOutcome.{WorkOutcome}
 use Rattle.batch_ids.specs.declared.status.WorkOutcome.TheVariants.{Failed}
 use Rattle.jsl_model.specs.Jobs.{JobTree}
 use Rattle.jsl_model.specs.declared.element.Task.{Task}
-use Rattle.job_walk.specs.Plans.{is_kept}
+use Rattle.job_plans.specs.Plans.{is_kept}
 use Rattle.walk_rules.specs.Keys.{key_of}
 use Rattle.walk_rules.specs.declared.facts.Value.{Value}
 use Rattle.walk_rules.specs.declared.work_key.WorkKey.{WorkKey}

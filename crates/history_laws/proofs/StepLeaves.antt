@@ -8,12 +8,12 @@ use Rattle.jsl_model.specs.Catalogues.{AreJobs}
 use Rattle.jsl_model.specs.Faults.{IsChecked}
 use Rattle.jsl_model.specs.Jobs.{JobTree}
 use Rattle.jsl_model.specs.declared.element.Task.{Task}
-use Rattle.job_walk.proofs.KeysOnce.{count-append, list-keys}
-use Rattle.job_walk.proofs.Once.{ids-once}
-use Rattle.job_walk.specs.KeptLists.{key_count}
-use Rattle.job_walk.specs.Runnables.{Leaf, all_leaves, keys_of, all_keys, leaf_with}
-use Rattle.job_walk.specs.declared.runnable.Runnable.{Runnable}
-use Rattle.job_walk.specs.declared.runnable.Runnable.TheVariants.{Step as RunsStep}
+use Rattle.job_plans.proofs.KeysOnce.{count-append, list-keys}
+use Rattle.job_plans.proofs.Once.{ids-once}
+use Rattle.job_plans.specs.Lists.{key_count}
+use Rattle.job_plans.specs.Runnables.{Leaf, all_leaves, keys_of, all_keys, leaf_with}
+use Rattle.job_plans.specs.declared.runnable.Runnable.{Runnable}
+use Rattle.job_plans.specs.declared.runnable.Runnable.TheVariants.{Step as RunsStep}
 use Rattle.walk_rules.proofs.SameKeys.{one_of_partitions, same-one, same-self}
 use Rattle.walk_rules.specs.Counts.{one_if}
 use Rattle.walk_rules.specs.Keys.{has_key, is_same_key, key_of, keys_of_step}

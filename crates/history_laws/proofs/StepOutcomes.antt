@@ -22,11 +22,11 @@ use Rattle.walk_rules.specs.declared.facts.Known.{Known}
 use Rattle.walk_rules.specs.declared.facts.Value.TheVariants.{Open, Ended}
 use Rattle.walk_rules.specs.declared.work_key.WorkKey.{WorkKey}
 use Rattle.walk_rules.proofs.SameKeys.{same-one, same-self, differing-keys}
-use Rattle.job_walk.specs.Plans.{bars_kept, carried_exit, is_kept, keeps_each, step_fact, unless_barred}
-use Rattle.job_walk.specs.Runnables.{Leaf, all_leaves, partitions_with, runnable_with}
-use Rattle.job_walk.specs.declared.plan.Plan.{Plan}
-use Rattle.job_walk.specs.declared.runnable.Runnable.{Runnable}
-use Rattle.job_walk.specs.declared.runnable.Runnable.TheVariants.{Step as RunsStep}
+use Rattle.job_plans.specs.Plans.{bars_kept, carried_exit, is_kept, keeps_each, step_fact, unless_barred}
+use Rattle.job_plans.specs.Runnables.{Leaf, all_leaves, partitions_with, runnable_with}
+use Rattle.job_plans.specs.declared.plan.Plan.{Plan}
+use Rattle.job_plans.specs.declared.runnable.Runnable.{Runnable}
+use Rattle.job_plans.specs.declared.runnable.Runnable.TheVariants.{Step as RunsStep}
 use Rattle.batch_history.specs.Executions.{Made}
 use Rattle.batch_history.specs.Legal.{IsLegal}
 use Rattle.batch_history.specs.Lists.{is_at, Each}

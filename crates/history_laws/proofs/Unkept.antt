@@ -8,8 +8,8 @@ use Rattle.std.proofs.lemmas.List.Folds.{list_any-append}
 use Rattle.jsl_model.specs.Jobs.{JobTree}
 use Rattle.walk_rules.specs.Keys.{has_key, is_same_key, key_of, numbers_to}
 use Rattle.walk_rules.specs.declared.work_key.WorkKey.{WorkKey}
-use Rattle.job_walk.specs.Plans.{is_kept, keeps_partition}
-use Rattle.job_walk.specs.declared.plan.Plan.{Plan}
+use Rattle.job_plans.specs.Plans.{is_kept, keeps_partition}
+use Rattle.job_plans.specs.declared.plan.Plan.{Plan}
 use Rattle.batch_history.specs.Executions.{Made}
 use Rattle.batch_history.specs.JobSteps.{JobStep, all_steps}
 use Rattle.batch_history.specs.Lists.{is_at, Each}

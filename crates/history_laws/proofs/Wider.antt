@@ -27,7 +27,7 @@ use Rattle.batch_history.specs.Works.{execution_of_operation}
 use Rattle.batch_history.proofs.Legal.{legal-beginning, legal-nothing, legal_grown}
 use Rattle.batch_history.proofs.Legality.{rows_grown}
 use Rattle.batch_history.proofs.WorkLists.{each-found}
-use Rattle.job_walk.specs.declared.plan.Plan.{Plan}
+use Rattle.job_plans.specs.declared.plan.Plan.{Plan}
 use Rattle.walk_rules.specs.declared.facts.Value.{Value}
 use Rattle.walk_rules.specs.declared.work_key.WorkKey.{WorkKey}
 

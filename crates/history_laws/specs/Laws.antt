@@ -4,11 +4,11 @@ use Rattle.batch_ids.specs.Parameters.{Pair}
 use Rattle.batch_ids.specs.Statuses.{is_unfinished}
 use Rattle.batch_ids.specs.declared.status.BatchStatus.TheVariants.{Stopped, Failed}
 use Rattle.walk_rules.specs.declared.facts.Value.{Value}
-use Rattle.job_walk.specs.declared.plan.Plan.{Plan}
-use Rattle.job_walk.specs.declared.runnable.Runnable.{Runnable}
-use Rattle.job_walk.specs.declared.runnable.Runnable.TheVariants.{Step as RunsStep}
+use Rattle.job_plans.specs.declared.plan.Plan.{Plan}
+use Rattle.job_plans.specs.declared.runnable.Runnable.{Runnable}
+use Rattle.job_plans.specs.declared.runnable.Runnable.TheVariants.{Step as RunsStep}
 use Rattle.walk_rules.specs.declared.work_key.WorkKey.{WorkKey}
-use Rattle.job_walk.specs.Plans.{carried_exit, is_kept}
+use Rattle.job_plans.specs.Plans.{carried_exit, is_kept}
 use Rattle.jsl_model.specs.Names.{distinct, is_among}
 use Rattle.jsl_model.specs.declared.element.Task.{Task}
 use Rattle.batch_history.specs.declared.call.Call.{Call}

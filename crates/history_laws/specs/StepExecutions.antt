@@ -14,10 +14,10 @@ use Rattle.walk_rules.specs.declared.element_result.ElementResult.{ElementResult
 use Rattle.walk_rules.specs.declared.element_result.ElementResult.TheVariants.{Outcome}
 use Rattle.walk_rules.specs.declared.facts.Fact.{Fact}
 use Rattle.walk_rules.specs.declared.work_key.WorkKey.{WorkKey}
-use Rattle.job_walk.specs.Plans.{is_kept}
-use Rattle.job_walk.specs.Runnables.{all_leaves}
-use Rattle.job_walk.specs.declared.plan.Plan.{Plan}
-use Rattle.job_walk.specs.declared.runnable.Runnable.TheVariants.{Step as RunsStep}
+use Rattle.job_plans.specs.Plans.{is_kept}
+use Rattle.job_plans.specs.Runnables.{all_leaves}
+use Rattle.job_plans.specs.declared.plan.Plan.{Plan}
+use Rattle.job_plans.specs.declared.runnable.Runnable.TheVariants.{Step as RunsStep}
 use Rattle.batch_history.specs.Rows.{History, all_rows}
 use Rattle.batch_history.specs.StepExecutions.{is_busy, step_executions}
 use Rattle.batch_history.specs.Walks.{facts_by_work, is_work_of, job_named, planned_facts}

@@ -22,7 +22,7 @@ use Rattle.walk_rules.specs.Standing.{rows_by, stands, progress, row_place}
 use Rattle.walk_rules.specs.Counts.{count_in, count_of}
 use Rattle.walk_rules.specs.Shown.{shows}
 use Rattle.job_walk.proofs.KeptTrees.{kept-row}
-use Rattle.job_walk.proofs.Newest.{put-others}
+use Rattle.job_plans.proofs.Newest.{put-others}
 use Rattle.job_walk.proofs.Putting.{puts-list, puts-length, joined-set, start-at}
 use Rattle.job_walk.proofs.Reporting.{states, owns_in, rows-self, list-reported, Passes, find-passes}
 use Rattle.job_walk.proofs.ShownCounts.{shown-counts, others-none}

@@ -18,7 +18,8 @@ use Rattle.job_walk.specs.KeptLists.{KeptElement, KeptBody, KeptTree, rows_in, k
 use Rattle.walk_rules.specs.Counts.{total, body_count, element_count, flow_count, count_in, count_in_body, count_in_flow, count_of}
 use Rattle.walk_rules.specs.Shown.{shows}
 use Rattle.job_walk.proofs.Descent.{head_in, reached, reached-shows, never-nowhere}
-use Rattle.job_walk.proofs.Following.{walked_element-parts}
+use Rattle.job_plans.proofs.Counted.{flow-once, split-count, flow-count}
+use Rattle.job_plans.proofs.Following.{walked_element-parts}
 use Rattle.job_walk.proofs.KeptAtFirst.{one-more, joined-last, whole-parts}
 use Rattle.job_walk.proofs.KeptTrees.{kept-row, kept-same}
 use Rattle.job_walk.proofs.Reporting.{states}
@@ -88,18 +89,6 @@ kept-flow facts e es is =
       ap (λ (s : KeptElement). s.inside) parts ∙ ap (λ (h : KeptBody). h.inside) body,
     )
 
-count-parts : (id : List ℕ) (e : Element) → count_in_body id e.body ≤ count_in id e
-count-parts id e =
-    let parts : count_in id e ≡ _ = fold_out-Element ℕ ℕ ℕ body_count (element_count id) (flow_count id) e in
-    omega (arith, parts)
-
-pub flow-once : (id : List ℕ) (e : Element) (es : List Element) → e.body ≡ Flow es → count_of id es ≤ count_in id e
-flow-once id e es is =
-    let body : count_in_body id e.body ≡ count_of id es =
-    ap (count_in_body id) is ∙ (ap (count_in_body id) (sym (rolls-Flow es)) ∙ fold-roll-Body ℕ ℕ ℕ body_count (element_count id) (flow_count id) (OpenFlow es)) in
-    let parts = count-parts id e in
-    omega (arith, body, parts)
-
 pub flow-all : (e : Element) (es : List Element) → e.body ≡ Flow es → ((id : List ℕ) → count_in id e ≤ 1) → (id : List ℕ) → count_of id es ≤ 1
 flow-all e es is once id =
     let part = flow-once id e es is in
@@ -126,18 +115,6 @@ flow-shows facts e es key lists is keeps shown =
     ∙ flow-shown key (value_kept (tree_first (states facts es))) (ap (result_shows key) (sym (kept-flow facts e es is).0) ∙ shown)
 
 -- ---- A split
-
-pub split-count : (id : List ℕ) (e : Element) (flows : List SplitFlow) → e.body ≡ Split flows → total (map (count_in_flow id) flows) ≤ count_in id e
-split-count id e flows is =
-    let body : count_in_body id e.body ≡ total (map (count_in_flow id) flows) =
-    ap (count_in_body id) is ∙ (ap (count_in_body id) (sym (rolls-Split flows)) ∙ fold-roll-Body ℕ ℕ ℕ body_count (element_count id) (flow_count id) (OpenSplit flows)) in
-    let parts = count-parts id e in
-    omega (arith, body, parts)
-
-pub flow-count : (id : List ℕ) (f : SplitFlow) → count_of id (out-SplitFlow f).elements ≤ count_in_flow id f
-flow-count id f =
-    let parts : count_in_flow id f ≡ _ = fold_out-SplitFlow ℕ ℕ ℕ body_count (element_count id) (flow_count id) f in
-    omega (arith, parts)
 
 -- the lists of a flow of a split, by what is known
 abbrev pub flow_lists : (WorkKey → Fact) → SplitFlow → List KeptList

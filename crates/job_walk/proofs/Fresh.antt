@@ -10,13 +10,13 @@ use Rattle.walk_rules.specs.declared.facts.Value.{Value}
 use Rattle.walk_rules.specs.declared.work_key.WorkKey.{WorkKey}
 use Rattle.walk_rules.specs.Keys.{has_key}
 use Rattle.walk_rules.specs.Walk.{fact_of, value_of}
-use Rattle.job_walk.specs.declared.plan.Plan.{Plan}
-use Rattle.job_walk.specs.declared.runnable.Runnable.{Runnable}
-use Rattle.job_walk.specs.declared.runnable.Runnable.TheVariants.{Step as RunsStep, Decision as RunsDecision}
-use Rattle.job_walk.specs.Cursors.{fact_at_first, resumed, value_in}
-use Rattle.job_walk.specs.Plans.{carried_exit, keeps_partition}
-use Rattle.job_walk.specs.Runnables.{keys_of, all_leaves}
-use Rattle.job_walk.proofs.Beginning.{resumed-value}
+use Rattle.job_plans.specs.declared.plan.Plan.{Plan}
+use Rattle.job_plans.specs.declared.runnable.Runnable.{Runnable}
+use Rattle.job_plans.specs.declared.runnable.Runnable.TheVariants.{Step as RunsStep, Decision as RunsDecision}
+use Rattle.job_plans.specs.Cursors.{fact_at_first, resumed, value_in}
+use Rattle.job_plans.specs.Plans.{carried_exit, keeps_partition}
+use Rattle.job_plans.specs.Runnables.{keys_of, all_leaves}
+use Rattle.job_plans.proofs.Beginning.{resumed-value}
 
 -- a plan that says nothing of any step
 abbrev pub SaysNothing : Plan → Type 0

@@ -1,41 +1,27 @@
 -- A walk that learns something of a work key that it shows.
-use Rattle.std.proofs.Common.{◌≡◌, ◌||◌, ℕ, Bool, true, false, List, [], ◌++◌, refl, sym, ◌∙◌, ap}
+use Rattle.std.proofs.Common.{◌≡◌, ℕ, true, List, [], ◌++◌, refl, sym, ◌∙◌, ap}
 use Rattle.std.specs.List.{flat_map}
 use Rattle.jsl_model.specs.Jobs.{JobTree}
 use Rattle.jsl_model.specs.declared.element.Element.{Element}
 use Rattle.walk_rules.specs.declared.facts.Fact.{Fact}
 use Rattle.walk_rules.specs.declared.facts.Known.{Known}
-use Rattle.walk_rules.specs.declared.facts.Value.{Value}
 use Rattle.job_walk.specs.declared.kept_list.KeptList.{KeptList}
 use Rattle.job_walk.specs.declared.kept_list.ListChange.{ListChange}
-use Rattle.job_walk.specs.declared.plan.Plan.{Plan}
-use Rattle.job_walk.specs.Cursors.{CursorState, IsCursor, known_keys, known_at_first, value_in, put_fact, with_fact}
-use Rattle.walk_rules.specs.Shown.{ready_of, busy_of, is_shown}
+use Rattle.job_plans.specs.declared.plan.Plan.{Plan}
+use Rattle.job_plans.specs.Cursors.{CursorState, IsCursor, known_keys, known_at_first, value_in, put_fact, with_fact}
+use Rattle.walk_rules.specs.Shown.{is_shown}
 use Rattle.walk_rules.specs.declared.work_key.WorkKey.{WorkKey}
 use Rattle.walk_rules.specs.Keys.{has_key}
-use Rattle.job_walk.specs.Lists.{has_element}
-use Rattle.job_walk.specs.Runnables.{all_leaves, all_keys}
-use Rattle.job_walk.specs.KeptLists.{IsCursorWith, ChangesList, ComesTo, facts_after, first_shows, kept_of, put_all}
-use Rattle.job_walk.specs.Preparing.{kept_in}
-use Rattle.walk_rules.specs.Walk.{fact_of, value_of}
-use Rattle.job_walk.proofs.Beginning.{first-keys}
+use Rattle.job_plans.specs.Lists.{has_element}
+use Rattle.job_plans.specs.Runnables.{all_leaves, all_keys}
+use Rattle.job_walk.specs.KeptLists.{IsCursorWith, ChangesList, facts_after, first_shows, kept_of, put_all}
+use Rattle.job_walk.specs.Changing.{kept_in}
+use Rattle.walk_rules.specs.Walk.{fact_of}
+use Rattle.job_plans.proofs.Beginning.{first-keys}
 use Rattle.job_walk.proofs.Descent.{head_in}
 use Rattle.job_walk.proofs.KeptAtFirst.{no-more}
-use Rattle.job_walk.proofs.Newest.{put-keys}
+use Rattle.job_plans.proofs.Newest.{put-keys}
 use Rattle.job_walk.proofs.Reporting.{value_is_kept}
-use Rattle.job_walk.proofs.Shown.{ready-leaf, busy-leaf}
-
-either : (a b c : Bool) → (a ≡ true → c ≡ true) → (b ≡ true → c ≡ true) → (a || b) ≡ true → c ≡ true
-either true b c f g h = f refl
-either false b c f g h = g h
-
--- something is known of all that is shown
-pub shown-known : (cursor : CursorState) → IsCursor cursor → (key : WorkKey) → is_shown (value_in cursor) key ≡ true
-    → has_key (known_keys cursor.facts) key ≡ true
-shown-known cursor walked key shown =
-    ap (λ keys. has_key keys key) walked.each
-    ∙ either (has_key (ready_of (value_in cursor)) key) (has_key (busy_of (value_in cursor)) key) _
-    (ready-leaf (fact_of cursor.facts) cursor.job.elements cursor.from key) (busy-leaf (fact_of cursor.facts) cursor.job.elements cursor.from key) shown
 
 -- and something is known of it once more is learnt
 pub still-known : (known new : List Known) (key other : WorkKey) (fact : Fact) → new ≡ put_fact known key fact
@@ -69,17 +55,6 @@ learnt-lists cursor old lists key fact others changes elements known kept these 
     ap (put_all changes) (sym kept.same ∙ (sym these ∙ is)) ∙ (puts ∙ (ap (λ xs. put_all xs (later ++ [])) none ∙ (no-more later
     ∙ (ap (λ ks. kept_of (fact_of (put_fact ks key fact)) elements cursor.from) same
     ∙ ap (λ es. kept_of (fact_of (put_fact cursor.facts key fact)) es cursor.from) those))))
-
--- and the job comes to what its own list comes to
-pub learnt-value : (cursor : CursorState) (old lists : List KeptList) (key : WorkKey) (fact : Fact) (elements : List Element) (known : List Known) (value : Value) → IsCursorWith old cursor
-    → lists ≡ old → elements ≡ cursor.job.elements → known ≡ cursor.facts → ComesTo value lists (fact_of known) (facts_after known key fact) elements
-    → value ≡ value_in (with_fact cursor key fact)
-learnt-value cursor old lists key fact elements known value kept these those same comes =
-    let is = at-hand cursor old lists elements known kept these those same in
-    let later = facts_after known key fact in
-    comes cursor.from [] is ∙ ((value_is_kept later elements cursor.from (kept_of later elements cursor.from) (head_in later elements cursor.from) refl).0
-    ∙ (ap (λ ks. value_of (fact_of (put_fact ks key fact)) elements cursor.from) same
-    ∙ ap (λ es. value_of (fact_of (put_fact cursor.facts key fact)) es cursor.from) those))
 
 -- with what is learnt put into what is kept, it is a walk as before
 pub still-kept : (cursor : CursorState) (old new : List KeptList) (key : WorkKey) (fact : Fact) (changes : List ListChange) (now : List Known) → IsCursorWith old cursor

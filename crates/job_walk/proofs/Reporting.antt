@@ -16,7 +16,7 @@ use Rattle.walk_rules.specs.Walk.{WalkedElement, walked_element, value_of, follo
 use Rattle.job_walk.specs.KeptLists.{DifferAt, KeptElement, rows_in, insides, kept_element, kept_of}
 use Rattle.walk_rules.specs.Standing.{rows_by, stands, progress, row_place}
 use Rattle.walk_rules.specs.Counts.{count_in}
-use Rattle.job_walk.proofs.Following.{walked_element-parts}
+use Rattle.job_plans.proofs.Following.{walked_element-parts}
 use Rattle.walk_rules.proofs.Stands.{is_row, list-moves, place-found}
 use Rattle.job_walk.proofs.KeptTrees.{kept-row, kept-same}
 

@@ -22,9 +22,9 @@ use Rattle.walk_rules.specs.Shown.{shows}
 use Rattle.job_walk.specs.KeptLists.{result_shows}
 use Rattle.walk_rules.specs.Counts.{total, one_if, body_count, element_count, flow_count, count_in, count_in_body, count_in_flow}
 use Rattle.walk_rules.proofs.Stands.{shown-stands}
-use Rattle.job_walk.proofs.Passing.{Tests, Passes, ResultPasses, step-passes}
+use Rattle.job_plans.proofs.Passing.{Tests, Passes, ResultPasses, step-passes}
 use Rattle.job_walk.proofs.Reporting.{Passes as FoundPasses, find-passes}
-use Rattle.job_walk.proofs.Shown.{ready-passes, busy-passes}
+use Rattle.job_plans.proofs.Shown.{ready-passes, busy-passes}
 use Rattle.walk_rules.proofs.Places.{within}
 
 turned-round : (one other : List ℕ) → bytes_eq one other ≡ true → bytes_eq other one ≡ true

@@ -13,7 +13,8 @@ use Rattle.walk_rules.specs.Shown.{shows}
 use Rattle.job_walk.specs.declared.kept_list.KeptList.{KeptList}
 use Rattle.job_walk.specs.declared.kept_list.ListChange.{ListChange}
 use Rattle.job_walk.specs.KeptLists.{KeptTree, insides, kept_element, kept_flow, tree_first, lists_in, value_kept, result_shows, Puts, DifferAt, KeepsFirst, KeepsInside, KeepsFlows, ShowsInFlow}
-use Rattle.job_walk.proofs.Flows.{flow_lists, flow-lists-first, flow-count, flow-holds, flows-inside, joined-take, list-same, split-count, split-start}
+use Rattle.job_plans.proofs.Counted.{flow-count, split-count}
+use Rattle.job_walk.proofs.Flows.{flow_lists, flow-lists-first, flow-holds, flows-inside, joined-take, list-same, split-start}
 use Rattle.job_walk.proofs.KeptAtFirst.{kept-split, whole-parts}
 use Rattle.job_walk.proofs.Putting.{puts-first, puts-more, puts-none}
 use Rattle.job_walk.proofs.Reporting.{states}

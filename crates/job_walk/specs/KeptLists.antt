@@ -14,7 +14,7 @@ use Rattle.job_walk.specs.declared.kept_list.KeptList.{KeptList}
 use Rattle.job_walk.specs.declared.kept_list.ListChange.{ListChange}
 use Rattle.walk_rules.specs.declared.work_key.WorkKey.{WorkKey}
 use Rattle.walk_rules.specs.Keys.{is_same_key}
-use Rattle.job_walk.specs.Cursors.{CursorState, IsCursor, put_fact}
+use Rattle.job_plans.specs.Cursors.{CursorState, IsCursor, put_fact}
 use Rattle.walk_rules.specs.Walk.{WalkedElement, BodyResult, IsStep, IsDecision, HasResult, fact_of, element_result, first_id, flow_result, split_result}
 use Rattle.walk_rules.specs.Shown.{shows}
 use Rattle.walk_rules.specs.Standing.{progress}
@@ -102,13 +102,6 @@ tree_of facts elements from = tree_from (map (kept_element facts) elements) from
 -- the stored list of these elements, and then those inside it
 abbrev pub kept_of : (WorkKey → Fact) → List Element → List ℕ → List KeptList
 kept_of facts elements from = lists_in (tree_of facts elements from)
-
--- ---- The count of a work key
-
--- how often a list has a work key
-abbrev pub key_count : WorkKey → List WorkKey → ℕ
-key_count key [] = 0
-key_count key (one ∷ rest) = one_if (is_same_key key one) + key_count key rest
 
 -- ---- The changes by a report
 

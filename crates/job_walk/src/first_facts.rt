@@ -3,14 +3,14 @@ ghost use Rattle.std.specs.Prelude.{◌≡◌, ◌++◌, ◌∷◌, [], map, IfO
 ghost use Rattle.std.specs.List.{flat_map};
 ghost use Rattle.std.specs.Option.{option_copied};
 ghost use Rattle.jsl_model.specs.Names.{is_among};
-ghost use Rattle.job_walk.specs.Cursors.{step_at_first, known_at_first};
+ghost use Rattle.job_plans.specs.Cursors.{step_at_first, known_at_first};
 ghost use Rattle.walk_rules.specs.Keys.{key_of, keys_of_step};
-ghost use Rattle.job_walk.specs.Plans.{bars_kept, carried_exit, keeps_each, keeps_partition, unless_barred};
-ghost use Rattle.job_walk.specs.Runnables.{leaves, all_leaves};
+ghost use Rattle.job_plans.specs.Plans.{bars_kept, carried_exit, keeps_each, keeps_partition, unless_barred};
+ghost use Rattle.job_plans.specs.Runnables.{leaves, all_leaves};
 ghost use Rattle.walk_rules.specs.Walk.{fact_of, known_of};
 
-use crate::plan::Plan;
 use batch_ids::{BatchStatus, OutOfMemory, T256};
+use job_plans::Plan;
 use jsl_model::{Body, Element};
 use std::alloc::Global;
 use walk_rules::{Fact, Known, WorkKey, fact_of, has_key, key_of, name_of};
@@ -69,7 +69,7 @@ fn keeps_partition(plan: &Plan, partitions: Option<u32>, key: &WorkKey) -> bool
 }
 
 /// Checks whether the plan keeps each partition of a step.
-#[tactic(auto, using(crate::proofs::Beginning::numbers_ahead))]
+#[tactic(auto, using(job_plans::proofs::Beginning::numbers_ahead))]
 fn keeps_each(plan: &Plan, id: &T256, partitions: Option<u32>) -> Result<bool, OutOfMemory>
     ensures { IfOk result (λ each. each ≡ keeps_each plan.now id.now partitions) }
 {

@@ -1,11 +1,11 @@
 //! The value of a walk at its beginning.
 ghost use Rattle.std.specs.Prelude.{◌≡◌, [], true, IfOk};
-ghost use Rattle.job_walk.specs.Cursors.{begins_in, resumed, value_in};
+ghost use Rattle.job_plans.specs.Cursors.{begins_in, resumed, value_in};
 
 use crate::cursor::Cursor;
-use crate::plan::Plan;
 use crate::walk::walk_value;
 use batch_ids::OutOfMemory;
+use job_plans::Plan;
 use jsl_model::Job;
 use std::alloc::Global;
 use walk_rules::{Known, Value};

@@ -3,11 +3,12 @@ ghost use Rattle.std.specs.Prelude.{◌≡◌, ◌++◌, ◌≤◌, ℕ, List, [
 ghost use Rattle.jsl_model.specs.Trees.{joined};
 ghost use Rattle.jsl_model.specs.declared.element.Element.{Element};
 ghost use Rattle.walk_rules.specs.declared.work_key.WorkKey.{WorkKey};
-ghost use Rattle.job_walk.specs.Cursors.{known_keys};
+ghost use Rattle.job_plans.specs.Cursors.{known_keys};
 ghost use Rattle.walk_rules.specs.Keys.{key_of};
 ghost use Rattle.walk_rules.specs.Walk.{fact_of, flow_result, runnable_result, step_result};
 ghost use Rattle.walk_rules.specs.Counts.{count_of, count_in};
-ghost use Rattle.job_walk.specs.KeptLists.{kept_of, kept_element, tree_first, value_kept, lists_in, key_count, starts_from};
+ghost use Rattle.job_plans.specs.Lists.{key_count};
+ghost use Rattle.job_walk.specs.KeptLists.{kept_of, kept_element, tree_first, value_kept, lists_in, starts_from};
 ghost use Rattle.walk_rules.specs.Standing.{progress, rows_by};
 
 use crate::kept_list::KeptList;

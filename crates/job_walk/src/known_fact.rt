@@ -2,8 +2,8 @@ ghost use Rattle.std.specs.Prelude.{◌≡◌, ◌≤◌, IfOk};
 ghost use Rattle.walk_rules.specs.declared.work_key.WorkKey.{WorkKey};
 ghost use Rattle.walk_rules.specs.Keys.{key_of};
 ghost use Rattle.walk_rules.specs.Walk.{fact_of};
-ghost use Rattle.job_walk.specs.Cursors.{known_keys};
-ghost use Rattle.job_walk.specs.KeptLists.{key_count};
+ghost use Rattle.job_plans.specs.Cursors.{known_keys};
+ghost use Rattle.job_plans.specs.Lists.{key_count};
 
 use batch_ids::{OutOfMemory, T256};
 use jsl_model::ElementIndex;
@@ -11,7 +11,7 @@ use walk_rules::{Fact, Known, fact_of};
 
 /// Returns the fact of an element's partition. There is no search if it is at the place that the
 /// index has.
-#[tactic(auto, using(crate::proofs::KeysOnce::known_there))]
+#[tactic(auto, using(job_plans::proofs::KeysOnce::known_there))]
 pub(crate) fn known_fact(
     index: &ElementIndex,
     known: &[Known],

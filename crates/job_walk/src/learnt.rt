@@ -4,9 +4,10 @@ ghost use Rattle.std.specs.Prelude.{◌≡◌, ◌+◌, ◌++◌, ◌∷◌, [],
 ghost use Rattle.jsl_model.specs.declared.element.Body.TheVariants.{Split};
 ghost use Rattle.job_walk.specs.declared.kept_list.KeptList.{KeptList};
 ghost use Rattle.walk_rules.specs.declared.work_key.WorkKey.{WorkKey};
-ghost use Rattle.job_walk.specs.Cursors.{known_keys, put_fact};
+ghost use Rattle.job_plans.specs.Cursors.{known_keys, put_fact};
 ghost use Rattle.walk_rules.specs.Keys.{key_of, has_key};
-ghost use Rattle.job_walk.specs.KeptLists.{Keeps, KeepsFirst, KeepsInside, tree_first, lists_in, value_kept, Puts, ChangesList, ComesTo, facts_after, first_shows, result_shows, kept_element, key_count};
+ghost use Rattle.job_plans.specs.Lists.{key_count};
+ghost use Rattle.job_walk.specs.KeptLists.{Keeps, KeepsFirst, KeepsInside, tree_first, lists_in, value_kept, Puts, ChangesList, ComesTo, facts_after, first_shows, result_shows, kept_element};
 ghost use Rattle.walk_rules.specs.Counts.{count_of, count_in};
 ghost use Rattle.walk_rules.specs.Walk.{fact_of, runnable_result, step_result};
 

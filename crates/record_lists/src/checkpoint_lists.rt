@@ -4,10 +4,10 @@ ghost use Rattle.record_lists.specs.Placed.{is_elsewhere, with_mark, without_mar
 
 use batch_history::CheckpointRow;
 use batch_ids::{InstanceId, OutOfMemory, Text};
-use job_walk::WorkKey;
 use std::alloc::Global;
 use std::collections::BTreeMap;
 use std::marker::Model;
+use walk_rules::WorkKey;
 
 /// Checkpoints in one list per job instance, by the number of the job instance. A job instance
 /// without checkpoints has no list. Contracts see all checkpoints in a single list.

@@ -23,10 +23,10 @@ use crate::running::{RunningLists, add_running, change_running, forget_if, runni
 use crate::step_lists::StepLists;
 use batch_history::{CheckpointRow, CountsByStatus, ExecutionRow, JobInstance, WorkRow};
 use batch_ids::{ExecutionId, InstanceId, OutOfMemory, Text, WorkId};
-use job_walk::WorkKey;
 use record_lists::{CheckpointLists, NameLists};
 use std::alloc::Global;
 use std::marker::Model;
+use walk_rules::WorkKey;
 
 /// The rows of a job repository. See Jakarta Batch 2.1, "JobRepository".
 ///

@@ -12,10 +12,11 @@ use crate::standing::Standing;
 use crate::{search, status};
 use batch_history::{Call, ExecutionRow, Reply, WorkItem, WorkKind, WorkState, WorkTask};
 use batch_ids::{ExecutionId, InstanceId, OutOfMemory, Refusal, T256, Text, WorkId, WorkOutcome};
-use job_walk::{Runnable, WorkKey};
+use job_plans::Runnable;
 use jsl_model::Task;
-use restart_rules::may_restart;
+use restart_rules::restart_refusal;
 use std::alloc::Global;
+use walk_rules::WorkKey;
 
 /// Returns the reply to a call that is accepted after `count` operations.
 ///
@@ -177,15 +178,13 @@ impl<const LIMIT: u64> Standing<'_, LIMIT> {
     ///
     /// # Errors
     ///
-    /// The first refusal of `may_restart` that applies, then `RepositoryFull` if `LIMIT` operations
-    /// were accepted. It may return `OutOfMemory` instead of any of these results, if memory is
-    /// refused.
+    /// That of `restart_refusal`, then `RepositoryFull` if `LIMIT` operations were accepted.
     pub fn reply_to_restart(&self, x: ExecutionId) -> Result<Reply, Refusal>
         requires placed { IsPlaced self.now.catalogue.now self.now.records.now.executions x }
         requires room { self.now.last.execution ≤ 1000000 }
-        ensures { IsDue result (reply_by LIMIT (rows_at self.now) 0 (Call.Restart x [])) }
+        ensures { result ≡ reply_by LIMIT (rows_at self.now) 0 (Call.Restart x []) }
     {
-        if let Err(refusal) = may_restart(self.alloc, self.records, self.catalogue, x) {
+        if let Some(refusal) = restart_refusal(self.records, self.catalogue, x) {
             return Err(refusal);
         }
         let next = ExecutionId::new(self.last.execution + 1);
@@ -255,7 +254,7 @@ impl<const LIMIT: u64> Standing<'_, LIMIT> {
         match self.catalogue.job(job.as_str()) {
             None => Ok((task_of(self.alloc, mark, None)?, None)),
             Some(job) => {
-                let (found, partitions) = job_walk::find_task(job, key)?;
+                let (found, partitions) = job_plans::find_task(job, key)?;
                 let task = task_of(self.alloc, mark, found)?;
                 Ok((task, partition_named(key.partition, partitions)))
             }

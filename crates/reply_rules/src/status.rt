@@ -8,8 +8,8 @@ ghost use Rattle.batch_history.specs.Works.{exit_or_name};
 ghost use Rattle.walk_rules.specs.declared.facts.Value.{Value as Walk};
 
 use batch_ids::{BatchStatus, Moment, OutOfMemory, T256, WorkOutcome};
-use job_walk::{Value, WorkKey, WorkKeys};
 use std::alloc::Global;
+use walk_rules::{Value, WorkKey, WorkKeys};
 
 /// Returns the exit status of a work item: the one that was given, or else its outcome's name.
 ///

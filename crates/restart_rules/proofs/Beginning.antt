@@ -5,14 +5,14 @@ use Rattle.std.specs.Str.{bytes_eq}
 use Rattle.jsl_model.specs.Faults.{IsChecked}
 use Rattle.jsl_model.specs.Jobs.{JobTree}
 use Rattle.jsl_model.specs.declared.element.Element.{Element}
-use Rattle.job_walk.proofs.Points.{checked-point}
-use Rattle.job_walk.specs.Cursors.{begins_in}
-use Rattle.job_walk.specs.Lists.{has_element}
-use Rattle.job_walk.specs.Runnables.{all_leaves}
+use Rattle.job_plans.proofs.Points.{checked-point}
+use Rattle.job_plans.specs.Cursors.{begins_in}
+use Rattle.job_plans.specs.Lists.{has_element}
+use Rattle.job_plans.specs.Runnables.{all_leaves}
 use Rattle.walk_rules.specs.declared.facts.Fact.{Fact}
 use Rattle.walk_rules.specs.declared.facts.Value.{Value}
 use Rattle.walk_rules.specs.declared.facts.Value.TheVariants.{Open, Done, Ended}
-use Rattle.job_walk.specs.declared.plan.Plan.{Plan}
+use Rattle.job_plans.specs.declared.plan.Plan.{Plan}
 use Rattle.walk_rules.specs.declared.work_key.WorkKey.{WorkKey}
 use Rattle.batch_history.specs.Restarts.{plan_by, restart_point}
 use Rattle.batch_history.specs.Walks.{planned_facts, walk_of}

@@ -1,5 +1,4 @@
 pub mod Beginning
-pub mod Deciding
 pub mod Histories
 pub mod Keeping
 pub mod Placing

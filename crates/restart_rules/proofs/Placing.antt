@@ -7,7 +7,7 @@ use Rattle.jsl_model.specs.Catalogues.{AreJobs}
 use Rattle.jsl_model.specs.Faults.{IsChecked}
 use Rattle.jsl_model.specs.Jobs.{JobTree}
 use Rattle.jsl_model.specs.declared.element.Element.{Element}
-use Rattle.job_walk.specs.Lists.{has_element}
+use Rattle.job_plans.specs.Lists.{has_element}
 use Rattle.batch_history.specs.Lists.{change_first}
 use Rattle.batch_history.specs.Replies.{is_execution, restart_plan, walk_in_rows, works_of_instance}
 use Rattle.batch_history.specs.Restarts.{first_plan, plan_by, restart_point}

@@ -7,7 +7,7 @@ use Rattle.batch_history.specs.declared.call.Reply.{Reply}
 use Rattle.batch_history.specs.declared.call.Reply.TheVariants.{Execution as IsExecution}
 use Rattle.batch_history.specs.declared.rows.ExecutionRow.{ExecutionRow}
 use Rattle.batch_history.proofs.Legal.{entered-is}
-use Rattle.job_walk.specs.declared.plan.Plan.{Plan}
+use Rattle.job_plans.specs.declared.plan.Plan.{Plan}
 use Rattle.restart_rules.specs.Restarting.{plan_due_for, plan_unless}
 
 unless-planned : (refusal : Option Refusal) (plan given : Plan) (reply : Result Reply Refusal) → plan_unless refusal plan ≡ Ok given → unless refusal reply ≡ reply

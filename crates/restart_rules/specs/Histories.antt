@@ -1,7 +1,7 @@
 -- Restarts in a history.
 use Rattle.std.specs.Prelude.{ℕ, List, reverse}
 use Rattle.batch_ids.specs.Parameters.{Pair}
-use Rattle.job_walk.specs.declared.plan.Plan.{Plan}
+use Rattle.job_plans.specs.declared.plan.Plan.{Plan}
 use Rattle.batch_history.specs.Legal.{grown}
 use Rattle.batch_history.specs.Restarts.{plan_of}
 use Rattle.batch_history.specs.Rows.{History}

@@ -1,8 +1,8 @@
 -- The elements at which the walks of job executions begin.
 use Rattle.std.specs.Prelude.{ℕ, ◌≡◌, Bool, true, false, Option, Some, None, IfSome, List, [], ◌∷◌, find}
 use Rattle.jsl_model.specs.Jobs.{JobTree}
-use Rattle.job_walk.specs.Cursors.{begins_in}
-use Rattle.job_walk.specs.declared.plan.Plan.{Plan}
+use Rattle.job_plans.specs.Cursors.{begins_in}
+use Rattle.job_plans.specs.declared.plan.Plan.{Plan}
 use Rattle.batch_history.specs.Replies.{is_execution}
 use Rattle.batch_history.specs.Walks.{job_named}
 use Rattle.batch_history.specs.declared.rows.ExecutionRow.{ExecutionRow}

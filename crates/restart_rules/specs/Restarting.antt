@@ -3,7 +3,7 @@ use Rattle.std.specs.Prelude.{ℕ, Option, Some, None, Result, Ok, Err, List, fi
 use Rattle.batch_ids.specs.declared.refusal.Refusal.{Refusal}
 use Rattle.batch_ids.specs.declared.refusal.Refusal.TheVariants.{NoSuchJobExecutionException}
 use Rattle.jsl_model.specs.Jobs.{JobTree}
-use Rattle.job_walk.specs.declared.plan.Plan.{Plan}
+use Rattle.job_plans.specs.declared.plan.Plan.{Plan}
 use Rattle.batch_history.specs.JobSteps.{JobStep}
 use Rattle.batch_history.specs.Replies.{is_execution, restart_refusal, restart_plan}
 use Rattle.batch_history.specs.Rows.{Rows}
@@ -28,6 +28,15 @@ rows_over catalogue count last maps =
       works = maps.works;
       checkpoint = mark_at maps.checkpoints;
     }
+
+-- the refusal of a restart of this job execution, if there is one
+abbrev pub refusal_for : Rows → Option ExecutionRow → Option Refusal
+refusal_for r None = Some NoSuchJobExecutionException
+refusal_for r (Some row) = restart_refusal r row
+
+-- the refusal of a restart of job execution x, if there is one
+abbrev pub refusal_due : Rows → ℕ → Option Refusal
+refusal_due r x = refusal_for r (find (is_execution x) r.executions)
 
 -- the refusal if there is one, or else the plan
 abbrev pub plan_unless : Option Refusal → Plan → Result Plan Refusal

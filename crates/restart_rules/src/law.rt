@@ -7,21 +7,20 @@ ghost use Rattle.batch_history.specs.declared.call.Reply.TheVariants.{Execution 
 ghost use Rattle.batch_history.specs.Legal.{IsLegal};
 ghost use Rattle.batch_history.specs.Replies.{accepted, reply};
 ghost use Rattle.batch_history.specs.Rows.{History, rows};
-ghost use Rattle.job_walk.specs.declared.plan.Plan.{Plan as PlanOf};
+ghost use Rattle.job_plans.specs.declared.plan.Plan.{Plan as PlanOf};
 ghost use Rattle.jsl_model.specs.Catalogues.{AreJobs};
 ghost use Rattle.restart_rules.specs.Histories.{plan_in, restarted};
 ghost use Rattle.restart_rules.specs.Placed.{ArePlaced, IsPlaced};
 ghost use Rattle.restart_rules.specs.Restarting.{plan_due};
 
-/// Over the rows of a legal history, `may_restart` agrees with the history (Jakarta Batch 2.1, "Job
-/// Restart Processing").
+/// Over the rows of a legal history, `restart_refusal` and `restart_plan` agree with the history
+/// (Jakarta Batch 2.1, "Job Restart Processing").
 ///
 /// - `placed`, `each`: the job of each job execution is in the catalogue, and its walk begins at an
-///   element of the job's own list. So `may_restart` may be called for every number.
-/// - `refused`: if `may_restart` refuses, the reply to the restart is the same refusal.
-/// - `accepted`: if `may_restart` returns a plan, the restart is accepted, unless the history is
-///   full.
-/// - `plan`: a job execution that a restart made has the plan that `may_restart` returned before
+///   element of the job's own list. So both may be called for every number.
+/// - `refused`: if there is a refusal, it is the reply to the restart.
+/// - `accepted`: if there is none, the restart is accepted, unless the history is full.
+/// - `plan`: a job execution that a restart made has the plan that `restart_plan` returns before
 ///   it.
 ///
 /// The function does nothing. Its contract is the law, which holds of every legal history over a

@@ -11,5 +11,5 @@ mod walks;
 
 pub use law::restarts_are_due_what_the_history_says;
 pub use plan::first_plan;
-pub use restart::{may_restart, restart_plan};
+pub use restart::{restart_plan, restart_refusal};
 pub use walks::{known_of, state_fact, walk_of, walk_value};

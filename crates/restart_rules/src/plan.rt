@@ -4,7 +4,7 @@ ghost use Rattle.std.specs.Prelude.{◌≡◌, ◌++◌, ◌∷◌, [], true, So
 ghost use Rattle.std.specs.List.{filter_map, flat_map};
 ghost use Rattle.std.specs.Option.{option_copied, option_map};
 ghost use Rattle.batch_history.specs.Restarts.{carried_step, exit_carried, exit_if_done, exit_of_newest, first_plan, is_barred, kept_partitions, plan_by, starts_of, works_of_step};
-ghost use Rattle.job_walk.specs.Cursors.{begins_in};
+ghost use Rattle.job_plans.specs.Cursors.{begins_in};
 ghost use Rattle.walk_rules.specs.Keys.{key_of};
 ghost use Rattle.jsl_model.specs.Jobs.{JobTree};
 ghost use Rattle.batch_history.specs.Partitions.{partitions_kept};
@@ -15,10 +15,11 @@ use crate::partitions::{completed_exit, executions_with, is_done, partitions_kep
 use crate::steps::{StepOf, steps_in};
 use batch_history::WorkRow;
 use batch_ids::{BatchStatus, InstanceId, Listed, OutOfMemory, T256};
-use job_walk::{Plan, WorkKey};
+use job_plans::Plan;
 use jsl_model::{Element, Job};
 use records::{NameLists, Records};
 use std::alloc::Global;
+use walk_rules::WorkKey;
 
 /// Returns the plan of a job's first job execution. It begins at the job's first element, with
 /// nothing carried, kept or barred.

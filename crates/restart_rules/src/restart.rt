@@ -1,23 +1,23 @@
 //! The rules for which job executions may be restarted.
-ghost use Rattle.std.specs.Prelude.{ℕ, ◌≡◌, Bool, true, is_some, Some, find, IfOk, IfSome};
+ghost use Rattle.std.specs.Prelude.{ℕ, ◌≡◌, Bool, true, is_some, Some, IfOk};
 ghost use Rattle.std.specs.List.{list_any};
 ghost use Rattle.std.specs.Option.{option_copied};
 ghost use Rattle.batch_history.specs.declared.rows.LastNumbers.{LastNumbers as Last};
-ghost use Rattle.batch_history.specs.Due.{IsDue};
-ghost use Rattle.batch_history.specs.Replies.{is_execution, is_later_than, is_restartable, refusal_by_status, restart_plan, restart_refusal};
+ghost use Rattle.batch_history.specs.Replies.{is_later_than, refusal_by_status, restart_plan};
 ghost use Rattle.batch_history.specs.Restarts.{restart_point};
 ghost use Rattle.batch_history.specs.Walks.{job_named, walk_value};
 ghost use Rattle.restart_rules.specs.Placed.{begins_in_job, is_placed, IsPlaced};
-ghost use Rattle.restart_rules.specs.Restarting.{plan_due, rows_over};
+ghost use Rattle.restart_rules.specs.Restarting.{refusal_due, rows_over};
 
 use crate::plan::plan_after;
 use crate::walks::{job_of, walk_value};
 use batch_history::ExecutionRow;
 use batch_ids::{BatchStatus, ExecutionId, OutOfMemory, Refusal, T256};
-use job_walk::{Plan, Value};
+use job_plans::Plan;
 use jsl_model::Catalogue;
 use records::Records;
 use std::alloc::Global;
+use walk_rules::Value;
 
 /// Checks whether the job instance of a job execution has a later job execution.
 #[tactic(auto, using(crate::proofs::Reading::later_read))]
@@ -101,39 +101,24 @@ pub fn restart_plan(
     plan_after(alloc, records, row.instance, from, job.elements())
 }
 
-/// Returns the plan of the next job execution of a job instance, if this one may be restarted
-/// (Jakarta Batch 2.1, "JobOperator", restart).
+/// Returns why a job execution may not be restarted, or `None` if it may (Jakarta Batch 2.1,
+/// "JobOperator", restart). The first of these applies:
 ///
-/// # Errors
-///
-/// The first of these that applies:
 /// - `NoSuchJobExecutionException`: there is no such job execution;
 /// - `JobExecutionNotMostRecentException`: its job instance has a later job execution;
 /// - `JobExecutionAlreadyCompleteException`: it is COMPLETED;
 /// - `JobRestartException`: it is unfinished or ABANDONED, or its job is not restartable.
-///
-/// It may return `OutOfMemory` instead of any of these results, if memory is refused.
-pub fn may_restart(
-    alloc: Global,
-    records: &Records,
-    catalogue: &Catalogue,
-    x: ExecutionId,
-) -> Result<Plan, Refusal>
+pub fn restart_refusal(records: &Records, catalogue: &Catalogue, x: ExecutionId) -> Option<Refusal>
     requires { IsPlaced catalogue.now records.now.executions x }
-    ensures due { (count : ℕ) (last : Last)
-        → IsDue result (plan_due (rows_over catalogue.now count last records.now) x) }
-    ensures begins { IfOk result (λ plan. IfSome (find (is_execution x) records.now.executions)
-        (λ row. begins_in_job plan (job_named catalogue.now row.job) ≡ true)) }
+    ensures { (count : ℕ) (last : Last)
+        → result ≡ refusal_due (rows_over catalogue.now count last records.now) x }
 {
     let Some(row) = records.execution(x) else {
-        return Err(Refusal::NoSuchJobExecutionException);
+        return Some(Refusal::NoSuchJobExecutionException);
     };
     let job = job_of(catalogue, row);
     if has_later(records, row) {
-        return Err(Refusal::JobExecutionNotMostRecentException);
+        return Some(Refusal::JobExecutionNotMostRecentException);
     }
-    match refusal_by_status(job.restartable(), row.status()) {
-        Some(refusal) => Err(refusal),
-        None => Ok(restart_plan(alloc, records, catalogue, row)?),
-    }
+    refusal_by_status(job.restartable(), row.status())
 }

@@ -3,15 +3,16 @@ ghost use Rattle.std.specs.Prelude.{◌≡◌, ◌++◌, List, true, Some, IfOk,
 ghost use Rattle.batch_history.specs.Walks.{fact_of_state, job_named, walk_value, known_elements};
 ghost use Rattle.batch_history.specs.Works.{work_key};
 ghost use Rattle.batch_history.specs.declared.rows.WorkRow.{WorkRow as Work};
-ghost use Rattle.job_walk.specs.Cursors.{begins_in};
+ghost use Rattle.job_plans.specs.Cursors.{begins_in};
 ghost use Rattle.restart_rules.specs.Placed.{is_placed};
 
 use batch_history::{ExecutionRow, WorkRow, WorkState};
 use batch_ids::{ExecutionId, OutOfMemory};
-use job_walk::{Fact, Known, Value, WorkKey, value_at_first};
+use job_walk::value_at_first;
 use jsl_model::{Catalogue, Job};
 use records::Records;
 use std::alloc::Global;
+use walk_rules::{Fact, Known, Value, WorkKey};
 
 /// Returns the fact about a work key whose work item has this state.
 ///

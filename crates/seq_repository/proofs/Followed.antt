@@ -30,24 +30,24 @@ use Rattle.batch_history.proofs.WorkLists.{apart-append, each-found, each-map, f
 use Rattle.batch_history.specs.declared.rows.WorkState.TheVariants.{Busy as IsBusy, Over as IsOver}
 use Rattle.batch_ids.specs.declared.status.WorkOutcome.{WorkOutcome}
 use Rattle.std.proofs.lemmas.Bool.{eqb-true, eq-eqb, ne_eqb}
-use Rattle.job_walk.proofs.Beginning.{first-keys}
-use Rattle.job_walk.proofs.Shown.{busy-leaf, ready-leaf}
+use Rattle.job_plans.proofs.Beginning.{first-keys}
+use Rattle.job_plans.proofs.Shown.{busy-leaf, ready-leaf}
 use Rattle.walk_rules.specs.declared.facts.Value.{Value}
 use Rattle.walk_rules.specs.declared.facts.Value.TheVariants.{Open, Done as IsDone, Ended}
-use Rattle.job_walk.proofs.Newest.{newest-one, newest-others, put-keys}
+use Rattle.job_plans.proofs.Newest.{newest-one, newest-others, put-keys}
 use Rattle.walk_rules.proofs.SameKeys.{differing-keys, same-one, same-self, same-sym}
-use Rattle.job_walk.specs.Cursors.{CursorState, fact_at_first, known_at_first, known_keys, resumed, value_in, with_fact}
+use Rattle.job_plans.specs.Cursors.{CursorState, fact_at_first, known_at_first, known_keys, resumed, value_in, with_fact}
 use Rattle.walk_rules.specs.Shown.{ready_of, busy_of}
 use Rattle.walk_rules.specs.Keys.{is_same_key, has_key}
-use Rattle.job_walk.specs.Plans.{bars_kept, carried_exit, keeps_partition, step_fact}
-use Rattle.job_walk.specs.Runnables.{Leaf, all_leaves, keys_of, partitions_with, runnable_with}
+use Rattle.job_plans.specs.Plans.{bars_kept, carried_exit, keeps_partition, step_fact}
+use Rattle.job_plans.specs.Runnables.{Leaf, all_leaves, keys_of, partitions_with, runnable_with}
 use Rattle.walk_rules.specs.Walk.{fact_of, known_of, value_of}
 use Rattle.walk_rules.specs.declared.facts.Fact.{Fact}
 use Rattle.walk_rules.specs.declared.facts.Fact.TheVariants.{Nothing, Busy, Over}
 use Rattle.walk_rules.specs.declared.facts.Known.{Known}
-use Rattle.job_walk.specs.declared.plan.Plan.{Plan}
-use Rattle.job_walk.specs.declared.runnable.Runnable.{Runnable}
-use Rattle.job_walk.specs.declared.runnable.Runnable.TheVariants.{Step as RunsStep, Decision as RunsDecision}
+use Rattle.job_plans.specs.declared.plan.Plan.{Plan}
+use Rattle.job_plans.specs.declared.runnable.Runnable.{Runnable}
+use Rattle.job_plans.specs.declared.runnable.Runnable.TheVariants.{Step as RunsStep, Decision as RunsDecision}
 use Rattle.walk_rules.specs.declared.work_key.WorkKey.{WorkKey}
 use Rattle.jsl_model.specs.Jobs.{JobTree}
 use Rattle.jsl_model.specs.Names.{is_among}

@@ -5,7 +5,7 @@ use Rattle.std.specs.BTreeSet.{insert_key}
 use Rattle.std.specs.List.{list_any}
 use Rattle.std.specs.Option.{option_and_then, option_map}
 use Rattle.std.specs.Ordering.{nat_cmp, is_eq}
-use Rattle.job_walk.specs.Cursors.{CursorState}
+use Rattle.job_plans.specs.Cursors.{CursorState}
 use Rattle.batch_history.specs.Works.{is_work, work_key, AllApart}
 use Rattle.seq_repository.specs.Following.{AreFollowed, AreOfUnfinished, IsSlotOf, Walks, kept_at}
 use Rattle.seq_repository.specs.declared.cursors.Slot.{Slot}

@@ -1,7 +1,7 @@
 -- Each operation leaves the walks of job executions where they begin.
 use Rattle.std.proofs.Common.{◌≡◌, ℕ, Bool, true, false, cond, Option, None, Some, IfSome, List, [], ◌∷◌, find, ◌∙◌, ap, subst}
 use Rattle.jsl_model.specs.Jobs.{JobTree}
-use Rattle.job_walk.specs.declared.plan.Plan.{Plan}
+use Rattle.job_plans.specs.declared.plan.Plan.{Plan}
 use Rattle.batch_history.specs.Lists.{change_first}
 use Rattle.batch_history.specs.Replies.{is_execution}
 use Rattle.batch_history.specs.Walks.{job_named}

@@ -12,7 +12,7 @@ use Rattle.batch_history.specs.declared.call.Reply.TheVariants.{Done}
 use Rattle.batch_history.specs.declared.rows.ExecutionRow.{ExecutionRow}
 use Rattle.batch_history.specs.declared.rows.LastNumbers.{LastNumbers}
 use Rattle.batch_history.specs.declared.rows.WorkRow.{WorkRow}
-use Rattle.job_walk.specs.Cursors.{CursorState}
+use Rattle.job_plans.specs.Cursors.{CursorState}
 use Rattle.jsl_model.specs.Jobs.{JobTree}
 use Rattle.records.specs.Maps.{Maps}
 use Rattle.restart_rules.specs.Restarting.{rows_over}

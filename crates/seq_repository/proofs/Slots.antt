@@ -9,7 +9,7 @@ use Rattle.batch_history.proofs.WorkLists.{found-before}
 use Rattle.batch_history.specs.Replies.{is_running_in}
 use Rattle.batch_history.specs.Rows.{executions_there, is_execution}
 use Rattle.batch_history.specs.declared.rows.ExecutionRow.{ExecutionRow}
-use Rattle.job_walk.specs.Cursors.{CursorState}
+use Rattle.job_plans.specs.Cursors.{CursorState}
 use Rattle.reply_rules.specs.Standings.{is_open}
 use Rattle.seq_repository.specs.Changes.{put_row, ReplacesExecution}
 use Rattle.seq_repository.specs.Following.{AreOfUnfinished, IsKeptOf, IsSlotOf}

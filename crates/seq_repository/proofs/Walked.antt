@@ -13,7 +13,7 @@ use Rattle.batch_history.specs.Rows.{is_execution}
 use Rattle.batch_history.specs.Walks.{walk_value}
 use Rattle.batch_history.specs.declared.rows.ExecutionRow.{ExecutionRow}
 use Rattle.batch_history.specs.declared.rows.WorkRow.{WorkRow}
-use Rattle.job_walk.specs.Cursors.{CursorState, value_in, with_fact}
+use Rattle.job_plans.specs.Cursors.{CursorState, value_in, with_fact}
 use Rattle.walk_rules.specs.Shown.{busy_of, ready_of}
 use Rattle.walk_rules.specs.Keys.{has_key}
 use Rattle.walk_rules.specs.declared.facts.Fact.TheVariants.{Busy, Over}

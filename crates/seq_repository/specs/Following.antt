@@ -10,8 +10,8 @@ use Rattle.batch_history.specs.Works.{item_key}
 use Rattle.batch_history.specs.declared.call.WorkItem.{WorkItem}
 use Rattle.batch_history.specs.declared.rows.ExecutionRow.{ExecutionRow}
 use Rattle.batch_history.specs.declared.rows.WorkRow.{WorkRow}
-use Rattle.job_walk.specs.Cursors.{CursorState, known_keys}
-use Rattle.job_walk.specs.Runnables.{all_keys, all_leaves}
+use Rattle.job_plans.specs.Cursors.{CursorState, known_keys}
+use Rattle.job_plans.specs.Runnables.{all_keys, all_leaves}
 use Rattle.walk_rules.specs.Walk.{fact_of}
 use Rattle.walk_rules.specs.declared.work_key.WorkKey.{WorkKey}
 use Rattle.jsl_model.specs.Jobs.{JobTree}

@@ -7,7 +7,7 @@ use Rattle.batch_history.specs.Lists.{change_first}
 use Rattle.batch_history.specs.Replies.{is_execution}
 use Rattle.batch_history.specs.Works.{is_work, work_key}
 use Rattle.batch_history.specs.declared.rows.WorkRow.{WorkRow}
-use Rattle.job_walk.specs.Cursors.{CursorState}
+use Rattle.job_plans.specs.Cursors.{CursorState}
 use Rattle.records.specs.Maps.{MayReplaceWork}
 use Rattle.seq_repository.specs.Agendas.{is_ready_row}
 use Rattle.seq_repository.specs.Changes.{row_after, ReplacesExecution}

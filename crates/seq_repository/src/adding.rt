@@ -9,9 +9,9 @@ ghost use Rattle.seq_repository.specs.Changes.{place_at, SetsMark};
 use crate::{agenda, rows};
 use batch_history::{ExecutionRow, JobInstance, WorkItem};
 use batch_ids::{ExecutionId, Moment, OutOfMemory, Text};
-use job_walk::WorkKey;
 use records::Records;
 use std::collections::BTreeSet;
+use walk_rules::WorkKey;
 
 /// Adds a job instance with its first job execution.
 pub(crate) fn add_instance(

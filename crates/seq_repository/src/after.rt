@@ -14,9 +14,10 @@ use crate::entering::execution_after;
 use crate::rows::Change;
 use batch_history::{ExecutionRow, WorkRow};
 use batch_ids::{Moment, OutOfMemory};
-use job_walk::{Cursor, WorkKey};
+use job_walk::Cursor;
 use records::Records;
 use std::alloc::Global;
+use walk_rules::WorkKey;
 
 /// The state after a report of a work item.
 pub(crate) struct After {

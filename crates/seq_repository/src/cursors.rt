@@ -18,13 +18,14 @@ ghost use Rattle.seq_repository.specs.Following.{Follows, IsFirst, IsFollowed, I
 use crate::search;
 use batch_history::{ExecutionRow, WorkItem, WorkRow};
 use batch_ids::{ExecutionId, OutOfMemory, T256, WorkId, WorkOutcome};
-use job_walk::{Cursor, Known};
+use job_walk::Cursor;
 use jsl_model::Catalogue;
 use records::Records;
 use restart_rules::known_of;
 use std::alloc::Global;
 use std::collections::BTreeMap;
 use std::fmt::{self, Debug, Formatter};
+use walk_rules::Known;
 
 /// The slot for the walk of a job execution. It is empty while an operation has the walk, and after
 /// an operation that was refused memory.

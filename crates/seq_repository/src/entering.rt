@@ -26,10 +26,11 @@ use batch_ids::{
     ExecutionId, InstanceId, MetricStep, Moment, OutOfMemory, Parameters, Refusal, T256, Text,
     WorkId, WorkOutcome,
 };
-use job_walk::{Cursor, WorkKey};
+use job_walk::Cursor;
 use records::Records;
 use restart_rules::{first_plan, restart_plan};
 use std::alloc::Global;
+use walk_rules::WorkKey;
 
 /// Replaces the row of a job execution, if a new one is given.
 fn put_row(records: &mut Records, x: ExecutionId, new: Option<ExecutionRow>)

@@ -11,9 +11,10 @@ use batch_ids::{
     BatchStatus, ExecutionId, InstanceId, MetricStep, Metrics, Moment, OutOfMemory, Parameters,
     Shared, T256, WorkOutcome,
 };
-use job_walk::{Plan, Value};
+use job_plans::Plan;
 use reply_rules::{batch_status, earliest, exit_status, is_finished};
 use std::alloc::Global;
+use walk_rules::Value;
 
 /// The change that an operation makes to its job execution.
 #[derive(Clone, Copy, PartialEq, Eq, Debug)]

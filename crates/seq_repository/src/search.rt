@@ -15,13 +15,13 @@ ghost use Rattle.seq_repository.specs.Searches.{has_ready};
 use crate::cursors::{self, Slot};
 use batch_history::ExecutionRow;
 use batch_ids::{ExecutionId, OutOfMemory, T256, WorkId, WorkOutcome};
-use job_walk::{Fact, Known, Value, WorkKey};
 use jsl_model::Catalogue;
 use records::Records;
 use reply_rules::first_ready;
 use restart_rules::{state_fact, walk_value};
 use std::alloc::Global;
 use std::collections::{BTreeMap, BTreeSet};
+use walk_rules::{Fact, Known, Value, WorkKey};
 
 /// Returns the facts about the work keys of a job execution after a work item of it is over.
 pub(crate) fn known_once_finished(

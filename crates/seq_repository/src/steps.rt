@@ -4,7 +4,7 @@ ghost use Rattle.std.specs.List.{list_any, list_all};
 ghost use Rattle.std.specs.Option.{option_and_then, option_copied};
 ghost use Rattle.batch_ids.specs.Metrics.{most_after, sum_of_metrics};
 ghost use Rattle.batch_ids.specs.declared.status.BatchStatus.TheVariants.{Stopped, Failed, Completed};
-ghost use Rattle.job_walk.specs.Plans.{is_kept};
+ghost use Rattle.job_plans.specs.Plans.{is_kept};
 ghost use Rattle.walk_rules.specs.Keys.{key_of};
 ghost use Rattle.batch_history.specs.Lists.{is_at};
 ghost use Rattle.batch_history.specs.Replies.{partitions_of_job, row_status};
@@ -19,10 +19,10 @@ use batch_history::{ExecutionRow, StepExecution, WorkKind, WorkRow, WorkState};
 use batch_ids::{
     BatchStatus, ExecutionId, Listed, Metrics, Moment, OutOfMemory, T256, WorkOutcome,
 };
-use job_walk::WorkKey;
 use jsl_model::Catalogue;
 use records::Records;
 use std::alloc::Global;
+use walk_rules::WorkKey;
 
 /// Checks whether this partition of a step is kept: earlier job executions completed it.
 fn is_kept(owner: &ExecutionRow, step: &T256, partition: u32) -> bool
@@ -286,7 +286,7 @@ fn partitions_of(catalogue: &Catalogue, owner: &ExecutionRow, key: &WorkKey) -> 
 {
     match catalogue.job(owner.job.as_str()) {
         None => None,
-        Some(job) => job_walk::find_partitions(job, key),
+        Some(job) => job_plans::find_partitions(job, key),
     }
 }
 

@@ -10,13 +10,15 @@ use crate::walks::{key_of, report, take};
 use batch_history::Call;
 use batch_ids::{Listed, OutOfMemory, T256, WorkOutcome};
 use batch_service::Book;
-use job_walk::{Cursor, Plan, WorkKey};
+use job_plans::Plan;
+use job_walk::Cursor;
 use jsl_json::read_catalogue;
 use jsl_model::{Catalogue, Job};
 use std::alloc::{AllocError, Global};
 use std::collections::BTreeMap;
 use std::fmt::{self, Debug, Formatter};
 use std::test::Fail;
+use walk_rules::WorkKey;
 
 /// The numbers of job executions, which were in the `Items` of a vector.
 #[derive(Debug, Drop)]

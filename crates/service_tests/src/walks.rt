@@ -1,9 +1,11 @@
 use batch_ids::{BatchStatus, Listed, OutOfMemory, T256, WorkOutcome};
-use job_walk::{Cursor, Plan, Value, WorkKey, find_partitions};
+use job_plans::{Plan, find_partitions};
+use job_walk::Cursor;
 use jsl_json::read_catalogue;
 use jsl_model::Catalogue;
 use std::alloc::Global;
 use std::test::Fail;
+use walk_rules::{Value, WorkKey};
 
 /// A step `a`, and then a split of a flow with `s` and a flow with `t`.
 const CATALOGUE: &[u8] = br#"{"jobs":[{"id":"j","elements":[

@@ -6,12 +6,13 @@ ghost use Rattle.restart_rules.specs.Placed.{is_placed, IsPlaced};
 use crate::rows::{add_works, execution, records_of};
 use anyhow::{Result, bail};
 use batch_history::ExecutionRow;
-use batch_ids::{BatchStatus, ExecutionId};
+use batch_ids::{BatchStatus, ExecutionId, Refusal};
 use call_lines::{Line, told};
+use job_plans::Plan;
 use jsl_json::read_catalogue;
 use jsl_model::Catalogue;
 use records::Records;
-use restart_rules::{first_plan, may_restart};
+use restart_rules::{first_plan, restart_plan, restart_refusal};
 use std::alloc::Global;
 
 /// A step `s`, a step `t` of two partitions, and a step `u` with a start limit of 1. The job `once`
@@ -76,6 +77,24 @@ fn is_placed(records: &Records, catalogue: &Catalogue, x: ExecutionId) -> bool
     }
 }
 
+/// Returns the plan of the restart of a job execution, or its refusal.
+fn plan_of(
+    alloc: Global,
+    records: &Records,
+    catalogue: &Catalogue,
+    x: ExecutionId,
+) -> Result<Plan, Refusal>
+    requires { IsPlaced catalogue.now records.now.executions x }
+{
+    if let Some(refusal) = restart_refusal(records, catalogue, x) {
+        return Err(refusal);
+    }
+    match records.execution(x) {
+        None => Err(Refusal::NoSuchJobExecutionException),
+        Some(row) => Ok(restart_plan(alloc, records, catalogue, row)?),
+    }
+}
+
 fn tell_plan<R: Print + AllocGlobal>(
     rt: &R,
     line: Line<'_>,
@@ -84,7 +103,7 @@ fn tell_plan<R: Print + AllocGlobal>(
     x: ExecutionId,
 ) -> Result<()> {
     if is_placed(records, catalogue, x) {
-        return told!(rt, line, may_restart(rt.alloc(), records, catalogue, x));
+        return told!(rt, line, plan_of(rt.alloc(), records, catalogue, x));
     }
     bail!("its walk begins in no job")
 }

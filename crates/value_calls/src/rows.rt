@@ -9,7 +9,7 @@ use batch_ids::{
     WorkOutcome,
 };
 use call_lines::{Line, tell, told};
-use job_walk::Plan;
+use job_plans::Plan;
 use records::Records;
 use std::alloc::Global;
 use walk_rules::WorkKey;

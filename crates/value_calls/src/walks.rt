@@ -2,7 +2,8 @@
 use anyhow::{Result, bail};
 use batch_ids::{Listed, T256, WorkOutcome};
 use call_lines::{Line, Script, echoed, tell, told};
-use job_walk::{Cursor, Plan, value_at_first};
+use job_plans::Plan;
+use job_walk::{Cursor, value_at_first};
 use jsl_json::read_catalogue;
 use jsl_model::Job;
 use std::alloc::Global;

@@ -1,8 +1,8 @@
 use Rattle.std.proofs.Common.{◌≡◌, ◌<◌, ◌∙◌, true, length, refl, sym, ap, rules}
 use Rattle.walk_rules.specs.Keys.{is_same_key}
 use Rattle.walk_rules.specs.declared.facts.Known.{Known}
-use Rattle.job_walk.proofs.KeysOnce.{others-before}
-use Rattle.job_walk.proofs.Newest.{put-read}
+use Rattle.job_plans.proofs.KeysOnce.{others-before}
+use Rattle.job_plans.proofs.Newest.{put-read}
 use Rattle.job_walk.proofs.cursor.put_fact.Goals as goal
 
 pub returns-then-is_of : goal.returns-then-is_of

@@ -1,7 +1,7 @@
 use Rattle.std.proofs.Common.{◌≡◌, ◌∙◌, ◌<◌, ◌≤◌, length, true, false, refl, sym, ap, arith, Vec, Global}
 use Rattle.walk_rules.specs.Keys.{is_same_key}
 use Rattle.walk_rules.specs.declared.facts.Known.{Known}
-use Rattle.job_walk.proofs.Newest.{has-later, has-nowhere, other-more, put-read}
+use Rattle.job_plans.proofs.Newest.{has-later, has-nowhere, other-more, put-read}
 use Rattle.job_walk.proofs.cursor.search_fact.Goals as goal
 
 pub returns-then-is_of : goal.returns-then-is_of

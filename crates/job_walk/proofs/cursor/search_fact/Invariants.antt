@@ -1,7 +1,7 @@
 use Rattle.std.proofs.Common.{◌≡◌, true, drop}
-use Rattle.job_walk.specs.Cursors.{known_keys}
+use Rattle.job_plans.specs.Cursors.{known_keys}
 use Rattle.walk_rules.specs.Keys.{has_key}
-use Rattle.job_walk.proofs.Newest.{AreOther}
+use Rattle.job_plans.proofs.Newest.{AreOther}
 use Rattle.job_walk.proofs.cursor.search_fact.Given as goal
 
 abbrev pub invariant-loop-place : goal.invariant-loop-place

@@ -1,12 +1,12 @@
 use Rattle.std.proofs.Common.{◌≡◌, ◌++◌, refl, sym, ◌∙◌, ap, arith, subst, OnOk}
 use Rattle.std.specs.List.{flat_map}
 use Rattle.jsl_model.specs.declared.element.Body.TheVariants.{Flow, Split}
-use Rattle.job_walk.specs.Cursors.{known_at_first}
-use Rattle.job_walk.specs.Runnables.{leaves, leaves_of_flow, all_leaves}
-use Rattle.job_walk.proofs.Beginning.{added-next, added-all, step-known, decision-known}
-use Rattle.job_walk.proofs.Leaves.{leaves_of_flow-parts}
-use Rattle.job_walk.proofs.Near.{flow-leaves, split-leaves}
-use Rattle.job_walk.proofs.Sizes.{nodes-at, nodes-flow, nodes-split}
+use Rattle.job_plans.specs.Cursors.{known_at_first}
+use Rattle.job_plans.specs.Runnables.{leaves, leaves_of_flow, all_leaves}
+use Rattle.job_plans.proofs.Beginning.{added-next, added-all, step-known, decision-known}
+use Rattle.job_plans.proofs.Leaves.{leaves_of_flow-parts}
+use Rattle.job_plans.proofs.Near.{flow-leaves, split-leaves}
+use Rattle.job_plans.proofs.Sizes.{nodes-at, nodes-flow, nodes-split}
 use Rattle.job_walk.proofs.first_facts.+knowing.Goals as goal
 
 pub add_all-loop-element-preserved : goal.add_all-loop-element-preserved

@@ -1,8 +1,8 @@
 use Rattle.std.proofs.Common.{◌≡◌, ◌++◌, ◌+◌, ◌*◌, length, map, drop}
 use Rattle.std.specs.List.{flat_map}
 use Rattle.jsl_model.specs.Trees.{joined, nodes, nodes_of}
-use Rattle.job_walk.specs.Cursors.{known_at_first}
-use Rattle.job_walk.specs.Runnables.{leaves, leaves_of_flow, all_leaves}
+use Rattle.job_plans.specs.Cursors.{known_at_first}
+use Rattle.job_plans.specs.Runnables.{leaves, leaves_of_flow, all_leaves}
 use Rattle.job_walk.proofs.first_facts.+knowing.Given as goal
 
 abbrev pub invariant-add_inside-loop-flow : goal.invariant-add_inside-loop-flow

@@ -1,6 +1,6 @@
 use Rattle.std.proofs.Common.{Some}
-use Rattle.job_walk.specs.Cursors.{step_at_first}
-use Rattle.job_walk.proofs.Beginning.{partition-next}
+use Rattle.job_plans.specs.Cursors.{step_at_first}
+use Rattle.job_plans.proofs.Beginning.{partition-next}
 use Rattle.job_walk.proofs.first_facts.add_step.Goals as goal
 
 pub loop-partition-preserved : goal.loop-partition-preserved

@@ -1,5 +1,5 @@
 use Rattle.std.proofs.Common.{◌≡◌, ◌++◌, Some, map}
-use Rattle.job_walk.specs.Cursors.{step_at_first}
+use Rattle.job_plans.specs.Cursors.{step_at_first}
 use Rattle.walk_rules.specs.Keys.{key_of, numbers_to}
 use Rattle.walk_rules.specs.Walk.{known_of}
 use Rattle.job_walk.proofs.first_facts.add_step.Given as goal

@@ -1,5 +1,5 @@
 use Rattle.std.proofs.Common.{◌≡◌, drop}
-use Rattle.job_walk.specs.Plans.{carried_exit}
+use Rattle.job_plans.specs.Plans.{carried_exit}
 use Rattle.job_walk.proofs.first_facts.find_carried.Given as goal
 
 abbrev pub invariant-loop-step : goal.invariant-loop-step

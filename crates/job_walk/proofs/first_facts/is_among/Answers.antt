@@ -1,6 +1,6 @@
 use Rattle.std.proofs.Common.{sym, ◌∙◌}
 use Rattle.std.specs.Str.{bytes_eq}
-use Rattle.job_walk.proofs.Alls.{any-here, any-later, any-nowhere}
+use Rattle.job_plans.proofs.Alls.{any-here, any-later, any-nowhere}
 use Rattle.job_walk.proofs.first_facts.is_among.Goals as goal
 
 pub loop-step-preserved : goal.loop-step-preserved

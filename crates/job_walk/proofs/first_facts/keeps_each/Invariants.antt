@@ -1,7 +1,7 @@
 use Rattle.std.proofs.Common.{◌≡◌, ◌-◌, ◌≤◌, Some, map}
 use Rattle.std.specs.List.{list_all, range_with_len}
 use Rattle.walk_rules.specs.Keys.{key_of}
-use Rattle.job_walk.specs.Plans.{keeps_partition}
+use Rattle.job_plans.specs.Plans.{keeps_partition}
 use Rattle.job_walk.proofs.first_facts.keeps_each.Given as goal
 
 abbrev pub invariant-loop-partition : goal.invariant-loop-partition

@@ -12,7 +12,7 @@ use Rattle.job_walk.proofs.Reporting.{states}
 use Rattle.job_walk.proofs.KeptAtFirst.{lists-more, values-more, starts-more, whole-parts, kept-step, kept-decision, kept-split, list-kept, added-count, added-length, list-there, no-more, on-ok}
 use Rattle.job_walk.proofs.Flows.{flow-all, split-once, kept-flow, no-first, its-first, from-first}
 use Rattle.walk_rules.proofs.Places.{at-once}
-use Rattle.job_walk.proofs.Sizes.{nodes-at, nodes-flow, nodes-split}
+use Rattle.job_plans.proofs.Sizes.{nodes-at, nodes-flow, nodes-split}
 use Rattle.job_walk.proofs.keeping.+keeping.Goals as goal
 use Rattle.job_walk.proofs.keeping.+keeping.Goals.{keep_first-in-None+in_ok-keep_list-in-None+in-Some-1, keep_first-in-None+in_ok-keep_list-in-None+in-None-1, keep_first-in-Some+in_ok-keep_list-in-Some}
 

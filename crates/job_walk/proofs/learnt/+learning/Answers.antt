@@ -15,7 +15,7 @@ use Rattle.job_walk.proofs.Putting.{puts-same}
 use Rattle.job_walk.proofs.SplitFlows.{split-keeps, split-shows, flow-there, at-flow, stands-alone, flows-values, flows-put}
 use Rattle.walk_rules.proofs.Places.{at-once}
 use Rattle.job_walk.proofs.Reporting.{states}
-use Rattle.job_walk.proofs.Sizes.{nodes-at, nodes-flow, nodes-split}
+use Rattle.job_plans.proofs.Sizes.{nodes-at, nodes-flow, nodes-split}
 use Rattle.job_walk.proofs.learnt.+learning.Goals as goal
 
 come-ok : {E : Type 0} (result : Result Progress E) (come same : Progress) → result ≡ Ok come → IfOk result (λ made. made ≡ same) → come ≡ same

@@ -1,7 +1,7 @@
 use Rattle.std.proofs.Common.{◌≡◌, ◌≢◌, ◌∙◌, true, false, sym, ap}
 use Rattle.walk_rules.specs.Keys.{key_of, is_same_key}
 use Rattle.job_walk.specs.KeptLists.{facts_after}
-use Rattle.job_walk.proofs.Newest.{put-one, put-others}
+use Rattle.job_plans.proofs.Newest.{put-one, put-others}
 use Rattle.walk_rules.proofs.SameKeys.{same-one, same-self}
 use Rattle.job_walk.proofs.learnt.fact_after.Goals as goal
 

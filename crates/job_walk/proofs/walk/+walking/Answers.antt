@@ -4,9 +4,9 @@ use Rattle.jsl_model.specs.declared.element.Body.TheVariants.{Flow, Split}
 use Rattle.walk_rules.specs.declared.facts.Value.TheVariants.{Done}
 use Rattle.walk_rules.specs.declared.element_result.ElementResult.TheVariants.{ListValue, Outcome}
 use Rattle.walk_rules.specs.Walk.{fact_of, walked_element, value_of_continuation, value_of_flow, follow, whole_value, flow_result, split_result}
-use Rattle.job_walk.proofs.Following.{follow-begins, follow-ends, follow-none, follow-to_value, follow-on, rows, walked-step, walked-decision, walked-flow, walked-split, flow-parts, whole-none, whole-some, first-among}
+use Rattle.job_plans.proofs.Following.{follow-begins, follow-ends, follow-none, follow-to_value, follow-on, rows, walked-step, walked-decision, walked-flow, walked-split, flow-parts, whole-none, whole-some, first-among}
 use Rattle.job_walk.proofs.KeptAtFirst.{values-more}
-use Rattle.job_walk.proofs.Sizes.{nodes-at, nodes-flow, nodes-split}
+use Rattle.job_plans.proofs.Sizes.{nodes-at, nodes-flow, nodes-split}
 use Rattle.job_walk.proofs.walk.+walking.Goals as goal
 
 pub walk_value-returns-in_default : goal.walk_value-returns-in_default

@@ -1,6 +1,6 @@
 use Rattle.std.proofs.Common.{◌∙◌, ap}
-use Rattle.job_walk.specs.declared.plan.Plan.{Plan}
-use Rattle.job_walk.specs.Cursors.{resumed, value_in}
+use Rattle.job_plans.specs.declared.plan.Plan.{Plan}
+use Rattle.job_plans.specs.Cursors.{resumed, value_in}
 use Rattle.batch_history.proofs.Resuming.{resumed_value}
 use Rattle.restart_rules.proofs.walks.walk_of.Goals as goal
 

@@ -1,5 +1,5 @@
 use Rattle.std.proofs.Common.{Option, IfSome, subst}
-use Rattle.job_walk.specs.Cursors.{CursorState}
+use Rattle.job_plans.specs.Cursors.{CursorState}
 use Rattle.seq_repository.specs.Following.{Follows}
 use Rattle.seq_repository.proofs.cursors.finished_of.Goals as goal
 

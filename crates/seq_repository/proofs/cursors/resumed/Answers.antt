@@ -1,8 +1,8 @@
 use Rattle.std.proofs.Common.{◌≡◌, true, Some, sym, ◌∙◌, ap, subst}
 use Rattle.std.specs.Option.{option_copied}
 use Rattle.batch_history.specs.Walks.{job_named}
-use Rattle.job_walk.specs.declared.plan.Plan.{Plan}
-use Rattle.job_walk.specs.Cursors.{begins_in, resumed}
+use Rattle.job_plans.specs.declared.plan.Plan.{Plan}
+use Rattle.job_plans.specs.Cursors.{begins_in, resumed}
 use Rattle.restart_rules.proofs.Beginning.{if_ok_then, placed_begins}
 use Rattle.seq_repository.proofs.Followed.{follows_resumed}
 use Rattle.seq_repository.specs.Following.{Follows}

@@ -1,6 +1,6 @@
 use Rattle.std.proofs.Common.{Option, find, sym, subst}
 use Rattle.batch_history.specs.Replies.{is_execution}
-use Rattle.job_walk.specs.Cursors.{CursorState}
+use Rattle.job_plans.specs.Cursors.{CursorState}
 use Rattle.seq_repository.proofs.Walked.{ready_walked, row_walked}
 use Rattle.seq_repository.specs.Following.{Walks}
 use Rattle.seq_repository.proofs.entering.execution_after.Goals as goal

@@ -1,10 +1,10 @@
 use Rattle.std.proofs.Common.{◌≤◌, sym, subst}
-use Rattle.job_walk.specs.Cursors.{known_keys}
+use Rattle.job_plans.specs.Cursors.{known_keys}
 use Rattle.walk_rules.specs.Counts.{count_of}
-use Rattle.job_walk.specs.KeptLists.{key_count}
-use Rattle.job_walk.proofs.KeysOnce.{keys-once}
+use Rattle.job_plans.specs.Lists.{key_count}
+use Rattle.job_plans.proofs.KeysOnce.{keys-once}
 use Rattle.job_walk.proofs.Learning.{kept-first}
-use Rattle.job_walk.proofs.Once.{ids-once}
+use Rattle.job_plans.proofs.Once.{ids-once}
 use Rattle.job_walk.proofs.cursor.Cursor.of_known.Goals as goal
 
 pub invariant_of-result : goal.invariant_of-result

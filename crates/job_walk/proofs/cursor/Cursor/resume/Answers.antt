@@ -1,6 +1,6 @@
 use Rattle.std.proofs.Common.{◌≡◌, ◌∙◌, true, sym, ap}
 use Rattle.jsl_model.specs.Jobs.{JobTree}
-use Rattle.job_walk.specs.Lists.{has_element}
+use Rattle.job_plans.specs.Lists.{has_element}
 use Rattle.job_walk.proofs.Learning.{begins-walk}
 use Rattle.job_walk.proofs.cursor.Cursor.resume.Goals as goal
 

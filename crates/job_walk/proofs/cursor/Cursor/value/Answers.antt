@@ -1,6 +1,6 @@
 use Rattle.std.proofs.Common.{◌∙◌, ap, subst}
 use Rattle.job_walk.specs.declared.kept_list.KeptList.{KeptList}
-use Rattle.job_walk.specs.Cursors.{IsCursor, value_in}
+use Rattle.job_plans.specs.Cursors.{IsCursor, value_in}
 use Rattle.walk_rules.specs.Walk.{fact_of}
 use Rattle.job_walk.proofs.Reporting.{value_is_kept}
 use Rattle.job_walk.proofs.cursor.Cursor.value.Goals as goal

@@ -1,6 +1,6 @@
 use Rattle.std.proofs.Common.{Option, find, List, not, refl, sym, ap, subst, arith}
 use Rattle.batch_history.specs.Replies.{is_execution}
-use Rattle.job_walk.specs.Cursors.{CursorState}
+use Rattle.job_plans.specs.Cursors.{CursorState}
 use Rattle.seq_repository.specs.Kept.{Kept}
 use Rattle.seq_repository.specs.Changes.{row_after}
 use Rattle.seq_repository.proofs.Entries.{change-entered}

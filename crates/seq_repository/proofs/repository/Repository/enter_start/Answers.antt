@@ -3,7 +3,7 @@ use Rattle.batch_history.specs.NextRows.{fresh_row}
 use Rattle.batch_history.specs.Replies.{row_status}
 use Rattle.batch_history.specs.Restarts.{first_plan}
 use Rattle.batch_history.specs.Walks.{job_named}
-use Rattle.job_walk.specs.declared.plan.Plan.{Plan}
+use Rattle.job_plans.specs.declared.plan.Plan.{Plan}
 use Rattle.jsl_model.specs.Jobs.{JobTree}
 use Rattle.restart_rules.specs.Placed.{begins_in_job, is_placed}
 use Rattle.batch_history.specs.declared.rows.ExecutionRow.{ExecutionRow}

@@ -2,7 +2,7 @@ use Rattle.std.proofs.Common.{◌≡◌, ℕ, Option, Some, IfSome, find, not, r
 use Rattle.batch_history.specs.NextRows.{reported}
 use Rattle.batch_history.specs.Works.{is_work}
 use Rattle.batch_history.specs.declared.rows.WorkRow.{WorkRow}
-use Rattle.job_walk.specs.Cursors.{CursorState}
+use Rattle.job_plans.specs.Cursors.{CursorState}
 use Rattle.seq_repository.specs.Changes.{place_at}
 use Rattle.seq_repository.specs.Kept.{Kept}
 use Rattle.seq_repository.specs.Reports.{IsReport}

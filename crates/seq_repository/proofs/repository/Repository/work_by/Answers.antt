@@ -1,6 +1,6 @@
 use Rattle.std.proofs.Common.{◌≡◌, ℕ, Ok, ◌∙◌, ◌++◌, ◌∷◌, [], Option, List, not, refl, sym, ap, find, subst, arith}
 use Rattle.batch_history.specs.Replies.{has_something, is_execution, reply_by}
-use Rattle.job_walk.specs.Cursors.{CursorState}
+use Rattle.job_plans.specs.Cursors.{CursorState}
 use Rattle.seq_repository.specs.Kept.{Kept, rows_in}
 use Rattle.batch_history.specs.Works.{busy_work}
 use Rattle.batch_history.specs.declared.rows.WorkRow.{WorkRow}

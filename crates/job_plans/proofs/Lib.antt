@@ -1,0 +1,16 @@
+pub mod Agreeing
+pub mod Alls
+pub mod Beginning
+pub mod Counted
+pub mod Following
+pub mod KeysOnce
+pub mod Leaves
+pub mod Near
+pub mod Newest
+pub mod Once
+pub mod Ordered
+pub mod Passing
+pub mod Points
+pub mod Ranks
+pub mod Shown
+pub mod Sizes

@@ -1,5 +1,0 @@
-use Rattle.job_walk.proofs.Points.{checked-point}
-use Rattle.job_walk.proofs.law.a_restart_begins_at_a_job_level_element.Goals as goal
-
-pub returns : goal.returns
-returns c = checked-point

@@ -1,5 +1,0 @@
-use Rattle.job_walk.proofs.Agreeing.{value-same, element-same}
-use Rattle.job_walk.proofs.law.steps_and_decisions_decide_a_walk.Goals as goal
-
-pub returns : goal.returns
-returns c = record { value = value-same; element = element-same }

@@ -1,5 +1,0 @@
-use Rattle.job_walk.proofs.Shown.{ready-leaf, busy-leaf}
-use Rattle.job_walk.proofs.law.what_is_shown_is_a_step_or_decision.Goals as goal
-
-pub returns : goal.returns
-returns c = record { ready = ready-leaf; busy = busy-leaf }
