@@ -43,7 +43,7 @@ SCRIPT = "crates/batchctl/stdin"
 INSTEAD = {
     # These prove or build for minutes or hours.
     "(cd crates/batchctl && rt try -- script < stdin)": f"{BUILT} script < {SCRIPT}",
-    "(cd crates/service_tests && rt try --test)": ":",
+    "(cd crates/value_tests && rt try --test)": ":",
     "(cd crates/batchctl && rt run -- script < stdin)": f"install -D {BUILT} crates/batchctl/out/batchctl",
     ".ci/run": ":",
     # These measure for minutes or hours. The first one's shell is in the folder of the page's night.

@@ -314,7 +314,7 @@ def test_two_plants_of_one_name_are_told() -> None:
     "test",
     [
         *("cases/scripts/nightly_chain", "cases/operator/stop_seen", "cases/commands.toml", "tools/tests/test_log.py"),
-        "crates/service_tests: a_ring_is_a_cycle",
+        "crates/value_tests: a_ring_is_a_cycle",
     ],
 )
 def test_a_test_is_there(test: str) -> None:
@@ -326,7 +326,7 @@ def test_a_test_is_there(test: str) -> None:
     [
         *("cases/scripts/stop_seen", "cases/scripts", "crates/service_cases", "README.md"),
         *("tools/repository.py", "tools/tests/test_none.py", "tools/tests/program.py"),
-        *("crates/service_tests: spot_of", "crates/no_tests: a_ring_is_a_cycle"),
+        *("crates/value_tests: spot_of", "crates/no_tests: a_ring_is_a_cycle"),
     ],
 )
 def test_a_test_is_not_there(test: str) -> None:

@@ -1,9 +1,7 @@
-//! Tests of properties that no script in a file can show.
-//!
-//! Below the repository: identifiers, jobs, graphs, members of JSON objects, transition elements,
-//! indexes of elements and walks. Of the service: clones, printed forms of a book, full logs,
-//! readers and writers that fail, a list of events, built-in artifacts, threads that wait for one
-//! another, and a command line that is not UTF-8.
+//! Tests of the service and its walks, of properties that no script in a file can show: indexes of
+//! elements, walks, clones, printed forms, full logs, readers and writers that fail, a list of
+//! events, built-in artifacts, threads that wait for one another, and a command line that is not
+//! UTF-8.
 #![tactic(auto)]
 
 #[cfg(test)]
@@ -23,19 +21,9 @@ mod element_indexes;
 #[cfg(test)]
 mod flaky;
 #[cfg(test)]
-mod identifiers;
-#[cfg(test)]
-mod jobs;
-#[cfg(test)]
 mod line_readers;
 #[cfg(test)]
-mod object_members;
-#[cfg(test)]
-mod patterns;
-#[cfg(test)]
 mod printed;
-#[cfg(test)]
-mod target_graphs;
 #[cfg(test)]
 mod walks;
 #[cfg(test)]
