@@ -44,8 +44,15 @@ class PostgresTerm(Term):
             raise self._lost(fault) from fault
 
     def _lost(self, fault: Exception) -> Problem:
-        """What is told of a connection that is lost: why the term has failed, if it has, as its connections end with it."""
-        return self.failure or unavailable("StoreLost", f"{type(fault).__name__}: {fault}")
+        """What is told of a read that failed: why the term has failed, if it has, as its connections end with it.
+
+        Without its connection the term can't find request keys, though it could commit. So it ends, and begins anew.
+        """
+        problem = self.failure or unavailable("StoreLost", f"{type(fault).__name__}: {fault}")
+        if self._store.is_closed and self.failure is None:
+            log.warning("a connection is lost: %s %s", type(fault).__name__, fault)
+            self.fail(problem)
+        return problem
 
     async def keep(self, items: Sequence[Item]) -> None:
         told = [(item, item.call.client) for item in items if item.call is not None]

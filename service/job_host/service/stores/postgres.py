@@ -5,7 +5,8 @@ from __future__ import annotations
 import asyncio
 import json
 import logging
-from collections.abc import Coroutine, Mapping, Sequence
+from collections.abc import AsyncIterator, Coroutine, Mapping, Sequence
+from contextlib import asynccontextmanager
 from dataclasses import dataclass
 from typing import Any
 
@@ -121,11 +122,25 @@ class PostgresStore:
 
     @property
     def is_closed(self) -> bool:
+        """Whether a connection is lost. A store doesn't make it again."""
         return bool(self._commits.is_closed() or self._reads.is_closed())
 
-    async def _fetch(self, statement: str, *arguments: Any) -> list[Any]:
+    @asynccontextmanager
+    async def _reading(self) -> AsyncIterator[asyncpg.Connection]:
+        """The connection that reads, for one read. It is dropped if nobody waits for the answer any more, as after a timeout.
+
+        Else the next read would wait without limit until the server has ended this one, and for ever if it never does.
+        """
         async with self._turn:
-            return list(await self._reads.fetch(statement, *arguments))
+            try:
+                yield self._reads
+            except (asyncio.TimeoutError, asyncio.CancelledError):
+                self._reads.terminate()
+                raise
+
+    async def _fetch(self, statement: str, *arguments: Any) -> list[Any]:
+        async with self._reading() as reads:
+            return list(await reads.fetch(statement, *arguments))
 
     async def leader(self) -> Leader:
         row = (await self._fetch("select epoch, beats, holder, url, history::text from job_host_leader"))[0]
@@ -161,8 +176,8 @@ class PostgresStore:
 
     async def note_heard(self, sessions: Sequence[int]) -> None:
         """Keeps that these clients were heard until now."""
-        async with self._turn:
-            await self._reads.execute(HEARD, list(sessions))
+        async with self._reading() as reads:
+            await reads.execute(HEARD, list(sessions))
 
     async def silent_clients(self, seconds: float) -> list[Silent]:
         """Names that weren't heard for so long."""
@@ -170,8 +185,8 @@ class PostgresStore:
 
     async def drop_clients(self, epoch: int, clients: Mapping[str, int]) -> None:
         """Drops names with these sessions, if the epoch stands."""
-        async with self._turn:
-            await self._reads.execute(DROP_CLIENTS, epoch, list(clients.keys()), list(clients.values()))
+        async with self._reading() as reads:
+            await reads.execute(DROP_CLIENTS, epoch, list(clients.keys()), list(clients.values()))
 
     async def request(self, session: int, key: str) -> KeptRequest | None:
         statement = "select fingerprint, reply, answers, seen from job_host_request where session = $1 and key = $2"
@@ -228,8 +243,8 @@ class PostgresStore:
 
     async def resign(self, epoch: int) -> None:
         """Lets another instance take over at once."""
-        async with self._turn:
-            await self._reads.execute(RESIGN, epoch)
+        async with self._reading() as reads:
+            await reads.execute(RESIGN, epoch)
 
     async def commit(self, epoch: int, items: Sequence[Item], clients: dict[str, int]) -> bool:
         """Keeps a round. Returns whether the epoch stands: if it doesn't, nothing was kept."""
@@ -241,16 +256,14 @@ class PostgresStore:
         return [row["execution"] for row in await self._fetch("select distinct execution from job_host_work_log")]
 
     async def drop_logs(self, executions: Sequence[int]) -> None:
-        async with self._turn:
-            await self._reads.execute("delete from job_host_work_log where execution = any($1::bigint[])", list(executions))
+        async with self._reading() as reads:
+            await reads.execute("delete from job_host_work_log where execution = any($1::bigint[])", list(executions))
 
     async def drop_old_keys(self, days: int, most: int) -> bool:
         """Drops some keys that are older, and returns whether there may be more. Those that say once stay."""
         old = "select ctid from job_host_request where kept_at < now() - make_interval(days => $1) and session <> $2 limit $3"
-        async with self._turn:
-            told = await self._reads.execute(
-                f"delete from job_host_request where ctid in ({old})", days, EVERYBODY_SESSION, most
-            )
+        async with self._reading() as reads:
+            told = await reads.execute(f"delete from job_host_request where ctid in ({old})", days, EVERYBODY_SESSION, most)
         return str(told) == f"DELETE {most}"
 
     async def old_once(self, days: int) -> dict[str, bytes]:
@@ -265,8 +278,8 @@ class PostgresStore:
             where r.session = $1 and r.key = o.key and r.reply = o.reply
         """
         replies = [reply.decode() for reply in once.values()]
-        async with self._turn:
-            await self._reads.execute(statement, EVERYBODY_SESSION, list(once), replies)
+        async with self._reading() as reads:
+            await reads.execute(statement, EVERYBODY_SESSION, list(once), replies)
 
 
 def without_nul(text: str) -> str:
