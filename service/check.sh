@@ -18,5 +18,5 @@ $python -m black --config pyproject.toml --check -q . $figures
 MYPYPATH=tests:. $python -m mypy check_catalogues.py
 $python -m mypy
 # shellcheck disable=SC2086
-MYPYPATH=tests:.:../benches $python -m mypy tests soak.py soak_check.py screenshots.py $figures
+MYPYPATH=tests:.:../benches $python -m mypy tests soak*.py screenshots.py $figures
 $python -m pytest -q "$@"

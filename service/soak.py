@@ -1,11 +1,12 @@
 #!/usr/bin/python3
-"""Kills parts of the service at random while clients and workers work, and compares everything with a replay of the log.
+"""Harms parts of the service at random while clients and workers work, and compares everything with a replay of the log.
 
     service/soak.py postgres --kills 200      two instances over one PostgreSQL server
-    service/soak.py standby --kills 20        the same over a primary with a standby: each kill is of the primary, and promotes
+    service/soak.py standby --kills 20        the same over a primary and a standby, which is promoted if the primary is killed
     service/soak.py embedded --kills 200      one instance over batchctl's log
+    service/soak.py embedded --only store     a kind of fault alone (soak_faults.py has them)
 
-It prints what it killed and what it compared, and ends with status 1 if anything is otherwise than it has to be. The program is
+It prints what it harmed and what it compared, and ends with status 1 if anything is otherwise than it has to be. The program is
 JOBHOST_BATCHCTL, or the one that this clone has built.
 """
 
@@ -14,16 +15,17 @@ from __future__ import annotations
 import argparse
 import asyncio
 import json
-import os
 import random
 import shutil
-import signal
 import sys
 import tempfile
 import time
 import uuid
 from collections import Counter
-from collections.abc import Awaitable, Callable
+from collections.abc import Awaitable, Callable, Iterable, Sequence
+from contextlib import closing
+from dataclasses import dataclass
+from itertools import islice
 from pathlib import Path
 from typing import Any
 
@@ -32,9 +34,12 @@ import aiohttp
 sys.path.insert(0, str(Path(__file__).resolve().parent))
 sys.path.insert(0, str(Path(__file__).resolve().parent / "tests"))
 
-from instances import Answer, Caller, Process  # noqa: E402
-from postgres_server import PostgresServer, children_of  # noqa: E402
-from soak_check import Acknowledged, Operation, Read, Seen, Wrong, check  # noqa: E402
+from instances import ANSWER_SECONDS, READY_SECONDS, Answer, Caller, Process  # noqa: E402
+from postgres_server import PostgresServer  # noqa: E402
+from soak_check import Acknowledged, Lost, Operation, Read, Seen, Wrong, check  # noqa: E402
+from soak_faults import KINDS, Faults  # noqa: E402
+from soak_proxy import Proxy  # noqa: E402
+from soak_scene import SLOW_SECONDS, write_scene  # noqa: E402
 from workers import WorkerProcess  # noqa: E402
 
 from job_host.catalogue.jobs import read_file  # noqa: E402
@@ -48,8 +53,15 @@ MOST_OPEN = 8
 # So long nothing may end before job executions count as hanging.
 QUIET_SECONDS = 120.0
 UNFINISHED = {"STARTING", "STARTED", "STOPPING"}
+SERVICE = Path(__file__).resolve().with_name("soak_service.py")
 COUNTED = """#!/bin/sh
+cd FOLDER || exit 9
 echo "$BATCH_WORK" >> begun
+if [ -e leaves ]; then
+    echo "$BATCH_WORK" >> left
+    (sleep 8; echo "$BATCH_WORK" >> late) &
+    setsid sh -c 'sleep 8; echo "$BATCH_WORK" >> late' &
+fi
 sleep "0.$((BATCH_WORK % 4))"
 [ $((BATCH_WORK % 7)) = 0 ] && exit 1
 echo "$BATCH_WORK" >> ended
@@ -69,24 +81,46 @@ JOBS = [
 
 
 class Parts:
-    """All processes of a soak."""
+    """All processes of a soak. Each worker has a folder of its own, and what artifacts note is in one folder.
 
-    def __init__(self, mode: str, folder: Path) -> None:
+    With a slowness of 2 everything may take twice as long.
+    """
+
+    def __init__(self, mode: str, folder: Path, slowness: float = 1.0, worker_count: int = WORKERS) -> None:
         self.mode = mode
         self.folder = folder
+        self.slowness = slowness
+        self.worker_count = worker_count
+        self.takeover = TAKEOVER
         self.artifacts = folder / "artifacts"
         self.batchctl = find_batchctl(None)
         self.catalogue = folder / "catalogue.json"
         self.servers: list[PostgresServer] = []
         self.services: list[Process] = []
+        self.dead: list[Process] = []
+        # The ways to the instances, and all ways: also those from each instance to each server.
+        self.proxies: list[Proxy] = []
+        self.ways: list[Proxy] = []
         self.workers: list[WorkerProcess] = []
+        # How many operations there were at each loss of the SQLite file, and how often a folder of artifacts was lost.
+        self.stores_lost: list[int] = []
+        self.folders_lost = 0
+        # When which faults began and ended.
+        self.faults: list[str] = []
+
+    @property
+    def living(self) -> list[Process]:
+        return [service for service in self.services if service not in self.dead]
 
     def prepare(self) -> None:
         self.artifacts.mkdir()
-        (self.artifacts / "counted").write_text(COUNTED)
-        (self.artifacts / "counted").chmod(0o755)
-        for name in ("begun", "ended"):
+        for name in ("begun", "ended", "left", "late"):
             (self.artifacts / name).touch()
+        for place in range(self.worker_count):
+            artifact = self.folder_of(place) / "counted"
+            artifact.parent.mkdir()
+            artifact.write_text(COUNTED.replace("FOLDER", str(self.artifacts)))
+            artifact.chmod(0o755)
         self.catalogue.write_text(json.dumps({"jobs": JOBS}))
         if self.mode != "embedded":
             self.servers.append(PostgresServer.make())
@@ -97,21 +131,62 @@ class Parts:
         count = 1 if self.mode == "embedded" else 2
         self.services = [Process(self.folder / f"service-{number}.log", *self._words()) for number in range(count)]
         for service in self.services:
+            self.proxies.append(Proxy(service.port))
+            service.words[1:2] = [str(SERVICE)]
+            service.words += ["--advertise", self.proxies[-1].url]
             service.start()
-        self.workers = [self.new_worker() for _ in range(WORKERS)]
+        self.ways += self.proxies
+        self.workers = [self.new_worker(place) for place in range(self.worker_count)]
 
     def _words(self) -> list[str]:
         words = ["--catalogue", str(self.catalogue), "--batchctl", self.batchctl[0]]
         words += ["--takeover-after", str(TAKEOVER), "--lease", str(LEASE)]
         if self.mode == "embedded":
             return [*words, "--data", str(self.folder / "data")]
-        return [*words, *(word for server in self.servers for word in ("--postgres", server.dsn))]
+        for server in self.servers:
+            self.ways.append(Proxy(server.port))
+            words += ["--postgres", server.dsn.replace(f":{server.port}/", f":{self.ways[-1].port}/")]
+        return words
 
-    def new_worker(self) -> WorkerProcess:
-        return WorkerProcess(",".join(service.url for service in self.services), self.artifacts, SLOTS)
+    def folder_of(self, place: int) -> Path:
+        """The folder of a worker's artifacts."""
+        return self.folder / f"worker-{place}"
+
+    def new_worker(self, place: int) -> WorkerProcess:
+        return WorkerProcess(",".join(proxy.url for proxy in self.proxies), self.folder_of(place), SLOTS)
+
+    def take_store_away(self) -> None:
+        """Takes the SQLite file from a service that is dead. What it holds is needed for the comparison."""
+        away = self.folder / f"store-{len(self.stores_lost)}"
+        away.mkdir()
+        for path in (self.folder / "data").glob("beside.sqlite*"):
+            path.rename(away / path.name)
+
+    def note_store_lost(self) -> None:
+        """Notes how many operations there are. No batchctl has the log open."""
+        self.stores_lost.append(len(lines_of_log(self)))
+
+    def stores(self) -> list[Path]:
+        """The SQLite files that were lost, and the one in use."""
+        folders = [self.folder / f"store-{number}" for number in range(len(self.stores_lost))]
+        return [folder / "beside.sqlite" for folder in [*folders, self.folder / "data"]]
 
     async def until_ready(self) -> None:
-        await asyncio.gather(*(service.until_role("leader", "follower") for service in self.services))
+        try:
+            await asyncio.gather(*(self.until_role(service, "leader", "follower") for service in self.services))
+        except TimeoutError as fault:
+            raise Wrong("an instance neither leads nor follows") from fault
+
+    @property
+    def answer_seconds(self) -> float:
+        return ANSWER_SECONDS * self.slowness
+
+    @property
+    def unanswered(self) -> str:
+        return f"was neither answered nor ended for {self.answer_seconds:g} seconds"
+
+    async def until_role(self, service: Process, *roles: str) -> None:
+        await service.until_role(*roles, seconds=READY_SECONDS * self.slowness)
 
     def stop(self) -> None:
         for worker in self.workers:
@@ -138,7 +213,7 @@ class SoakClient:
         self._least = 0
         self._known: list[int] = []
         self._open: list[int] = []
-        self._calls: list[tuple[str, str, Any, str, Answer]] = []
+        self._calls: list[tuple[str, str, Any, str, Answer, int]] = []
 
     async def run(self) -> None:
         while not self._ending.is_set():
@@ -150,8 +225,10 @@ class SoakClient:
         return self._chance.choices(acts, [4, 4, 2, 1, 1])[0]
 
     async def _start(self) -> None:
-        if not await self._has_room():
-            return
+        if await self._has_room():
+            await self.start()
+
+    async def start(self) -> None:
         job = self._chance.choice(["one", "three", "wide"])
         body = {"jobName": job, "jobParameters": {"night": str(self._chance.randrange(9))}}
         answer = await self._call(
@@ -188,18 +265,23 @@ class SoakClient:
             await self._call("stop", "PUT", f"/batch/jobexecutions/{execution}?action=stop", None, {"execution": execution})
 
     async def _call(self, do: str, method: str, path: str, body: Any, members: dict[str, Any]) -> Answer:
-        key = uuid.uuid4().hex
+        key, stores_lost = uuid.uuid4().hex, len(self._parts.stores_lost)
         answer = await self._until_answered(method, path, body, key)
         self._seen.calls.append(Acknowledged(self._name, key, do, members, answer.status, answer.told, answer.operations or 0))
-        self._calls.append((method, path, body, key, answer))
+        self._calls.append((method, path, body, key, answer, stores_lost))
         self._least = max(self._least, answer.operations or 0)
         return answer
 
     async def _ask_again(self) -> None:
-        """Asks once more by a key that was answered: it has to be the first reply."""
+        """Asks once more by a key that was answered: it has to be the first reply.
+
+        After a loss of the SQLite file the keys in it are unknown, so that this may be a new operation.
+        """
         if self._calls:
-            method, path, body, key, before = self._chance.choice(self._calls)
+            method, path, body, key, before, stores_lost = self._chance.choice(self._calls)
             answer = await self._until_answered(method, path, body, key)
+            if len(self._parts.stores_lost) > stores_lost:
+                return
             if (answer.status, answer.told, answer.operations) != (before.status, before.told, before.operations):
                 raise Wrong(f"{self._name}, {key}: first {before}, then {answer}")
 
@@ -215,75 +297,32 @@ class SoakClient:
 
     async def _until_answered(self, method: str, path: str, body: Any, key: str | None) -> Answer:
         while True:
-            caller = Caller(self._chance.choice(self._parts.services).url, self._name)
             try:
-                answer = await caller.ask(method, path, body, key)
+                answer = await self._ask(method, path, body, key)
                 if answer.status not in (408, 429, 503):
                     if answer.status in (400, 401, 403, 500):
                         raise Wrong(f"{method} {path} is answered {answer}")
                     return answer
-            except (aiohttp.ClientError, asyncio.TimeoutError, OSError):
-                pass
+            except (aiohttp.ClientError, OSError) as fault:
+                # The caller gave up. No fault holds a call that long.
+                if type(fault) is TimeoutError and fault.errno is None:
+                    raise Wrong(f"{method} {path} with the key {key} {self._parts.unanswered}") from fault
             await asyncio.sleep(0.1)
 
+    async def _ask(self, method: str, path: str, body: Any, key: str | None) -> Answer:
+        """Asks once. Long before the caller gives up, what there is to see is written."""
+        url = self._chance.choice(self._parts.proxies).url
+        caller = Caller(url, self._name, seconds=self._parts.answer_seconds)
+        watching = asyncio.create_task(self._watch(f"{self._name}: {method} {url}{path} with the key {key}"))
+        try:
+            return await caller.ask(method, path, body, key)
+        finally:
+            watching.cancel()
 
-class Killer:
-    """Kills a part at random, and brings it back."""
-
-    def __init__(self, parts: Parts, chance: random.Random) -> None:
-        self._parts = parts
-        self._chance = chance
-        self.kills: Counter[str] = Counter()
-
-    async def kill_one(self) -> None:
-        if self._parts.mode == "standby":
-            what = "promote"
-        else:
-            whats = ["service", "batchctl", "worker", *(["postgres", "pause"] if self._parts.servers else [])]
-            what = self._chance.choices(whats, [3, 2, 3, 2, 1][: len(whats)])[0]
-        await getattr(self, f"_{what}")()
-        self.kills[what] += 1
-
-    async def _service(self) -> None:
-        service = self._chance.choice(self._parts.services)
-        service.kill()
-        await asyncio.sleep(self._chance.random() * 2)
-        service.start()
-        await service.until_role("leader", "follower")
-
-    async def _batchctl(self) -> None:
-        service = self._chance.choice(self._parts.services)
-        for child in children_of(service.number):
-            os.kill(child, signal.SIGKILL)
-
-    async def _worker(self) -> None:
-        place = self._chance.randrange(len(self._parts.workers))
-        self._parts.workers[place].stop()
-        await asyncio.sleep(self._chance.random())
-        self._parts.workers[place] = self._parts.new_worker()
-
-    async def _postgres(self) -> None:
-        server = self._parts.servers[0]
-        await asyncio.to_thread(server.kill)
-        await asyncio.sleep(self._chance.random())
-        await asyncio.to_thread(server.start)
-
-    async def _pause(self) -> None:
-        """Stops an instance for longer than it takes another one to take over."""
-        service = self._chance.choice(self._parts.services)
-        service.signal(signal.SIGSTOP)
-        await asyncio.sleep(TAKEOVER + self._chance.random() * 2)
-        service.signal(signal.SIGCONT)
-
-    async def _promote(self) -> None:
-        """Kills the primary, promotes its standby, and makes a new standby at the place of the old primary."""
-        primary, standby = self._parts.servers
-        await asyncio.to_thread(primary.kill)
-        await asyncio.to_thread(standby.promote)
-        await asyncio.to_thread(primary.remove)
-        fresh = await asyncio.to_thread(standby.make_standby, primary.port)
-        await asyncio.to_thread(standby.replicate_by_one)
-        self._parts.servers = [standby, fresh]
+    async def _watch(self, called: str) -> None:
+        seconds = SLOW_SECONDS * self._parts.slowness
+        await asyncio.sleep(seconds)
+        await write_scene(self._parts, f"{called} isn't answered for {seconds:g} seconds")
 
 
 async def operations_of(parts: Parts) -> list[Operation]:
@@ -298,17 +337,21 @@ async def operations_of(parts: Parts) -> list[Operation]:
     return operations_of_log(parts)
 
 
+def lines_of_log(parts: Parts) -> list[bytes]:
+    return [record.line for record in log_file.records(parts.folder / "data" / "history.log") if not record.is_catalogue]
+
+
 def operations_of_log(parts: Parts) -> list[Operation]:
-    """The log's lines with the replies of a replay, and the keys of the SQLite file by the lines."""
+    """The log's lines with the replies of a replay, and the keys of all SQLite files by the lines."""
     import sqlite3
     import subprocess
 
-    data = parts.folder / "data"
-    lines = [record.line for record in log_file.records(data / "history.log") if not record.is_catalogue]
+    lines, keys = lines_of_log(parts), dict[bytes, str]()
     script = b"\n".join([read_file(parts.catalogue), *lines]) + b"\n"
     replies = subprocess.run([*parts.batchctl, "script"], input=script, capture_output=True, check=True).stdout.splitlines()
-    with sqlite3.connect(data / "beside.sqlite") as beside:
-        keys = dict(beside.execute("select line, key from request"))
+    for path in parts.stores():
+        with closing(sqlite3.connect(path)) as beside:
+            keys |= dict(beside.execute("select line, key from request"))
     return [Operation(number, line, reply, keys.get(line)) for number, (line, reply) in enumerate(zip(lines, replies), 1)]
 
 
@@ -316,7 +359,7 @@ async def until_quiet(parts: Parts) -> None:
     """Waits until no job execution is unfinished, as long as their number changes."""
     before: dict[str, int] = {}
     changed = time.monotonic()
-    while time.monotonic() < changed + QUIET_SECONDS:
+    while time.monotonic() < changed + QUIET_SECONDS * parts.slowness:
         for service in parts.services:
             try:
                 counts = (await Caller(service.url).ask("GET", "/batch/jobs")).told["statusCounts"]
@@ -327,33 +370,84 @@ async def until_quiet(parts: Parts) -> None:
             if counts != before:
                 before, changed = counts, time.monotonic()
         await asyncio.sleep(0.5)
-    raise Wrong(f"no job execution ended for {QUIET_SECONDS:g} seconds, and some are unfinished: {before}")
+    told = f"no job execution ended for {QUIET_SECONDS * parts.slowness:g} seconds"
+    raise Wrong(f"{told}, and some are unfinished: {before}")
 
 
-async def soak(parts: Parts, kills: int, seed: int, most_seconds: float) -> None:
-    chance, seen, ending = random.Random(seed), Seen(), asyncio.Event()
+@dataclass(frozen=True)
+class Plan:
+    """How many faults there are, of which kinds, and for how long at most. By one seed the same ones are chosen."""
+
+    kills: int
+    seed: int
+    only: Sequence[str] = ()
+    most_seconds: float = 3_600.0
+    clients: int = CLIENTS
+
+
+async def soak(parts: Parts, plan: Plan, names: Iterable[str] | None = None) -> tuple[Seen, Counter[str]]:
+    """Lets clients and workers work under faults. Returns all that clients were answered, and the number of faults by kind."""
+    try:
+        return await work_under_faults(parts, plan, names)
+    except Wrong as wrong:
+        await write_scene(parts, str(wrong))
+        raise
+
+
+async def work_under_faults(parts: Parts, plan: Plan, names: Iterable[str] | None) -> tuple[Seen, Counter[str]]:
+    chance, seen, ending = random.Random(plan.seed), Seen(), asyncio.Event()
+    passing = [asyncio.create_task(proxy.run()) for proxy in parts.ways]
     await parts.until_ready()
-    clients = [SoakClient(f"client-{number}", parts, seen, random.Random(chance.random()), ending) for number in range(CLIENTS)]
+    clients = [
+        SoakClient(f"client-{number}", parts, seen, random.Random(chance.random()), ending) for number in range(plan.clients)
+    ]
+    desk = SoakClient("desk", parts, seen, random.Random(chance.random()), ending)
+    await desk.start()
     running = [asyncio.create_task(client.run()) for client in clients]
-    killer, deadline = Killer(parts, chance), time.monotonic() + most_seconds
-    while sum(killer.kills.values()) < kills and time.monotonic() < deadline:
+    faults, deadline = Faults(parts, chance, desk.start), time.monotonic() + plan.most_seconds
+    for name in islice(names or faults.names(plan.only), plan.kills):
         await asyncio.sleep(0.2 + chance.random() * 0.8)
-        await killer.kill_one()
-        for task in running:
+        await faults.make(name)
+        for task in [*running, *passing]:
             if task.done():
                 task.result()
+        if time.monotonic() > deadline:
+            break
+    await faults.end()
     await parts.until_ready()
     await asyncio.sleep(1.0)
     ending.set()
-    await asyncio.wait_for(asyncio.gather(*running), QUIET_SECONDS)
+    await until_answered(parts, running)
     await until_quiet(parts)
     parts.stop()
-    operations = await operations_of(parts)
-    told = check(parts.batchctl, read_file(parts.catalogue), operations, seen, parts.artifacts)
-    print(f"killed: {dict(killer.kills)}; seed {seed}")
+    return seen, faults.made
+
+
+async def until_answered(parts: Parts, running: Sequence[asyncio.Task[None]]) -> None:
+    """Waits until each client has the answer to its last call."""
+    _, waiting = await asyncio.wait(running, timeout=QUIET_SECONDS * parts.slowness)
+    for task in running:
+        if task.done():
+            task.result()
+    if waiting:
+        raise Wrong(f"{len(waiting)} clients weren't answered for {QUIET_SECONDS * parts.slowness:g} seconds")
+
+
+def compare(parts: Parts, operations: Sequence[Operation], seen: Seen) -> dict[str, int]:
+    """Raises Wrong if something is otherwise than it has to be. Returns how much was compared."""
+    # A worker whose folder is gone may have claimed for each of its slots before it looked.
+    lost = Lost(parts.stores_lost, parts.folders_lost * SLOTS)
+    return check(parts.batchctl, read_file(parts.catalogue), operations, seen, parts.artifacts, lost)
+
+
+def run(parts: Parts, plan: Plan) -> None:
+    parts.prepare()
+    seen, made = asyncio.run(soak(parts, plan))
+    told = compare(parts, asyncio.run(operations_of(parts)), seen)
+    print(f"killed: {dict(made)}; seed {plan.seed}")
     print("compared: " + ", ".join(f"{count} {what}" for what, count in told.items()))
-    if sum(killer.kills.values()) < kills:
-        print(f"the time was over after {sum(killer.kills.values())} of {kills} kills")
+    if made.total() < plan.kills:
+        print(f"the time was over after {made.total()} of {plan.kills} kills")
 
 
 def main() -> int:
@@ -361,13 +455,22 @@ def main() -> int:
     parser.add_argument("mode", choices=["postgres", "standby", "embedded"])
     parser.add_argument("--kills", type=int, default=20)
     parser.add_argument("--seed", type=int, default=int(time.time()))
+    kinds = f"a kind of fault; the option may come several times (default: all of the mode): {', '.join(KINDS)}"
+    parser.add_argument("--only", action="append", default=[], choices=KINDS, metavar="KIND", help=kinds)
     parser.add_argument("--most-seconds", type=float, default=3_600.0)
+    parser.add_argument("--clients", type=int, default=CLIENTS)
+    parser.add_argument("--workers", type=int, default=WORKERS)
+    slowness = "how many times as long everything may take, on a machine with other work (default: %(default)g)"
+    parser.add_argument("--slowness", type=float, default=1.0, metavar="FACTOR", help=slowness)
     parser.add_argument("--keep", action="store_true", help="leaves the folder with all logs")
     given = parser.parse_args()
-    parts = Parts(given.mode, Path(tempfile.mkdtemp(prefix="jobhost-soak-")))
+    for name in given.only:
+        if given.mode not in KINDS[name].modes:
+            parser.error(f"{name} is no kind of fault for {given.mode}")
+    plan = Plan(given.kills, given.seed, given.only, given.most_seconds, given.clients)
+    parts = Parts(given.mode, Path(tempfile.mkdtemp(prefix="jobhost-soak-")), given.slowness, given.workers)
     try:
-        parts.prepare()
-        asyncio.run(soak(parts, given.kills, given.seed, given.most_seconds))
+        run(parts, plan)
     except Wrong as wrong:
         print(f"soak: seed {given.seed}: {wrong}", file=sys.stderr)
         return 1

@@ -5,6 +5,7 @@ from __future__ import annotations
 import json
 import subprocess
 import sys
+from bisect import bisect_left, bisect_right
 from collections import Counter, defaultdict
 from collections.abc import Iterator, Sequence
 from dataclasses import dataclass, field
@@ -54,6 +55,25 @@ class Read:
     told: dict[str, Any]
     operations: int
     least: int
+
+
+@dataclass(frozen=True)
+class Lost:
+    """What faults took away. `stores` are how many operations there were at each loss of the SQLite file with its request keys.
+
+    `starts` is how many artifacts may not have been started, because their folder was gone.
+    """
+
+    stores: Sequence[int] = ()
+    starts: int = 0
+
+    def stores_at(self, operations: int) -> set[int]:
+        """The stores by which an answer can have come that saw so many operations, by their places."""
+        return {bisect_left(self.stores, operations), bisect_right(self.stores, operations)}
+
+    def store_of(self, number: int) -> int:
+        """The store by which an operation was made."""
+        return bisect_left(self.stores, number)
 
 
 @dataclass
@@ -127,25 +147,36 @@ def check_moments(operations: Sequence[Operation]) -> None:
             raise Wrong(f"operation {number} has the moment {moment}, and the one before it {before}")
 
 
-def check_calls(operations: Sequence[Operation], seen: Seen) -> None:
-    """Each acknowledged operation stands in the history once, with its reply; each client's in its order."""
-    by_key: dict[str, list[Operation]] = defaultdict(list)
+def by_key(operations: Sequence[Operation], lost: Lost) -> dict[tuple[str, int], Operation]:
+    """The operation of each key in each store: after the loss of a store its keys are unknown, and may make new operations."""
+    found: dict[tuple[str, int], Operation] = {}
     for operation in operations:
         if operation.key is not None:
-            by_key[operation.key].append(operation)
+            place = operation.key, lost.store_of(operation.number)
+            if place in found:
+                raise Wrong(
+                    f"operations {found[place].number} and {operation.number} were both made by the key {operation.key}"
+                )
+            found[place] = operation
+    return found
+
+
+def check_calls(operations: Sequence[Operation], seen: Seen, lost: Lost) -> None:
+    """Each acknowledged operation stands in the history once, with its reply; each client's in its order."""
+    found = by_key(operations, lost)
     last: dict[str, int] = defaultdict(int)
     for call in seen.calls:
-        found = by_key.get(call.key, [])
         if call.status >= 400:
-            if found:
+            if all((call.key, store) in found for store in lost.stores_at(call.operations)):
                 raise Wrong(f"{call} was refused, and is in the history")
             continue
-        if len(found) != 1:
-            raise Wrong(f"{call} was acknowledged, and is in the history {len(found)} times")
-        check_call(call, found[0])
-        if found[0].number <= last[call.client]:
+        operation = found.get((call.key, lost.store_of(call.operations)))
+        if operation is None:
+            raise Wrong(f"{call} was acknowledged, and isn't in the history")
+        check_call(call, operation)
+        if operation.number <= last[call.client]:
             raise Wrong(f"{call} is before an earlier one of its client")
-        last[call.client] = found[0].number
+        last[call.client] = operation.number
 
 
 def check_call(call: Acknowledged, operation: Operation) -> None:
@@ -176,32 +207,56 @@ def check_beside(replayed: Replayed) -> None:
             raise Wrong(f"{item}: the replay answers {replies[0]}")
 
 
-def check_artifacts(operations: Sequence[Operation], folder: Path) -> None:
-    """An artifact ran at most once for each work item, and to its end for each that its worker finished COMPLETED."""
+def finishes(operations: Sequence[Operation]) -> Iterator[dict[str, Any]]:
+    for operation in operations:
+        line = json.loads(operation.line)
+        if line["do"] == "finish":
+            yield line
+
+
+def unstarted(operations: Sequence[Operation]) -> list[int]:
+    """The work items whose artifact couldn't be started: they are FAILED without an exit status."""
+    return [line["work"] for line in finishes(operations) if line["outcome"] == "FAILED" and line.get("exit") is None]
+
+
+def check_artifacts(operations: Sequence[Operation], folder: Path, lost: Lost) -> None:
+    """An artifact ran at most once for each work item, and to its end for each that its worker finished COMPLETED.
+
+    What an artifact left behind ended with it. No more work items are FAILED without an exit status than folders were lost for.
+    """
     begun, ended = [Counter((folder / name).read_text().split()) for name in ("begun", "ended")]
     twice = [work for work, times in begun.items() if times > 1]
     if twice:
         raise Wrong(f"artifacts ran twice for the work items {twice}")
+    late = (folder / "late").read_text().split()
+    if late:
+        raise Wrong(f"processes that the artifacts of the work items {late} had left behind went on")
+    missing = unstarted(operations)
+    if len(missing) > lost.starts:
+        raise Wrong(f"the artifacts of the work items {missing} weren't started, and only {lost.starts} may not have been")
     chunks = {json.loads(one.reply)["work"]["work"] for one in operations if b'"kind":"chunk"' in one.reply}
-    for operation in operations:
-        line = json.loads(operation.line)
-        if line["do"] == "finish" and line["outcome"] == "COMPLETED" and line["work"] not in chunks:
-            if ended[str(line["work"])] != 1:
-                raise Wrong(
-                    f"work item {line['work']} is COMPLETED, and its artifact ran to its end {ended[str(line['work'])]} times"
-                )
+    for line in finishes(operations):
+        if line["outcome"] == "COMPLETED" and line["work"] not in chunks and ended[str(line["work"])] != 1:
+            raise Wrong(
+                f"work item {line['work']} is COMPLETED, and its artifact ran to its end {ended[str(line['work'])]} times"
+            )
 
 
 def check(
-    batchctl: Sequence[str], catalogue: bytes, operations: Sequence[Operation], seen: Seen, artifacts: Path
+    batchctl: Sequence[str],
+    catalogue: bytes,
+    operations: Sequence[Operation],
+    seen: Seen,
+    artifacts: Path,
+    lost: Lost = Lost(),
 ) -> dict[str, int]:
     """Compares everything, and returns how much that was."""
     replayed = Replayed(batchctl, catalogue, operations, seen)
     check_replies(operations, replayed)
     check_moments(operations)
-    check_calls(operations, seen)
+    check_calls(operations, seen, lost)
     check_beside(replayed)
-    check_artifacts(operations, artifacts)
+    check_artifacts(operations, artifacts, lost)
     refused = sum(call.status >= 400 for call in seen.calls)
     return {
         "operations": len(operations),
@@ -209,4 +264,6 @@ def check(
         "refused": refused,
         "reads": len(seen.reads),
         "artifact runs": len((artifacts / "begun").read_text().split()),
+        "of them with processes left behind": len((artifacts / "left").read_text().split()),
+        "artifacts that weren't started": len(unstarted(operations)),
     }

@@ -23,6 +23,7 @@ from job_host.service.server import Service
 from job_host.service.settings import ServeSettings
 
 READY_SECONDS = 30.0
+ANSWER_SECONDS = 60.0
 COMMAND = Path(__file__).resolve().parents[1] / "jobhost"
 
 
@@ -41,15 +42,16 @@ class Answer:
 class Caller:
     """Calls a service as one client, and keeps no connection between its calls."""
 
-    def __init__(self, url: str, client: str = "tester", token: str | None = None) -> None:
+    def __init__(self, url: str, client: str = "tester", token: str | None = None, seconds: float = ANSWER_SECONDS) -> None:
         self.url = url
+        self.seconds = seconds
         self.headers = {"Batch-Client": client}
         if token is not None:
             self.headers["Authorization"] = f"Bearer {token}"
 
     async def ask(self, method: str, path: str, body: Any = None, key: str | None = None, **headers: str) -> Answer:
         given = {**self.headers, **({"Idempotency-Key": key} if key else {}), **headers}
-        timeout = aiohttp.ClientTimeout(total=60)
+        timeout = aiohttp.ClientTimeout(total=self.seconds)
         async with aiohttp.ClientSession(timeout=timeout) as session:
             async with session.request(method, self.url + path, json=body, headers=given) as response:
                 text = await response.text()
@@ -177,14 +179,14 @@ class Process:
         assert self._process is not None
         return self._process.pid
 
-    async def until_role(self, *roles: str) -> None:
+    async def until_role(self, *roles: str, seconds: float = READY_SECONDS) -> None:
         async def has_role() -> bool:
             try:
                 return (await Caller(self.url).ask("GET", "/health/live")).told["role"] in roles
             except (aiohttp.ClientError, asyncio.TimeoutError, OSError):
                 return False
 
-        await until(has_role)
+        await until(has_role, seconds)
 
     def signal(self, number: int) -> None:
         os.kill(self.number, number)

@@ -5,8 +5,8 @@ from __future__ import annotations
 import asyncio
 import os
 import signal
-from collections.abc import Callable, Iterator
-from contextlib import contextmanager, suppress
+from collections.abc import AsyncIterator, Callable
+from contextlib import asynccontextmanager, suppress
 from typing import Any
 
 import pytest
@@ -17,12 +17,17 @@ from job_host.service.settings import ServeSettings
 Make = Callable[..., ServeSettings]
 
 
-@contextmanager
-def harmed(instance: Instance, number: int) -> Iterator[None]:
-    """Sends a signal to the server's process of the connection for reads. One that was stopped goes on at the end."""
+@asynccontextmanager
+async def harmed(instance: Instance, number: int) -> AsyncIterator[None]:
+    """Sends a signal to the server's process of the connection for reads. One that was stopped goes on at the end.
+
+    It reads nothing then. Within a statement it could hold a lock, and commits would wait for it.
+    """
     store: Any = instance.service.keeper._store  # type: ignore[attr-defined]
     backend = store._reads.get_server_pid()
-    os.kill(backend, number)
+    async with store._turn:
+        await asyncio.sleep(0.1)
+        os.kill(backend, number)
     try:
         yield
     finally:
@@ -36,7 +41,7 @@ async def test_calls_are_answered_without_the_connection_for_reads(settings: Mak
     async with running(settings(commit_timeout=1.0)) as instance:
         caller = Caller(instance.url)
         assert (await caller.start("short", key="k0")).operations == 1
-        with harmed(instance, number):
+        async with harmed(instance, number):
             calls = [asyncio.create_task(caller.start("short", key=f"k{place}")) for place in range(5)]
             first = await asyncio.wait_for(asyncio.gather(*calls), 5.0)
             assert {answer.status for answer in first} <= {201, 503}

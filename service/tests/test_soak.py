@@ -1,0 +1,155 @@
+"""The soak itself: some faults of each mode, and histories that were falsified, which it has to refuse."""
+
+from __future__ import annotations
+
+import asyncio
+import json
+from collections.abc import Callable, Iterator, Sequence
+from dataclasses import dataclass, replace
+from pathlib import Path
+
+import pytest
+from soak import Parts, Plan, compare, operations_of, soak
+from soak_check import Lost, Operation, Seen, Wrong, check, replay
+
+from job_host.catalogue.jobs import read_file
+
+EMBEDDED = ["worker", "black-hole", "store", "grandchild", "silent", "folder", "hung-batchctl", "late"]
+POSTGRES = ["absent", "connections", "pipelining", "hung-postgres", "batchctl", "cut-off", "postgres", "worker"]
+
+
+@dataclass(frozen=True)
+class Soaked:
+    """What a soak leaves: the history, and what clients were answered."""
+
+    parts: Parts
+    operations: Sequence[Operation]
+    seen: Seen
+
+    def compare(self, operations: Sequence[Operation], seen: Seen | None = None) -> None:
+        compare(self.parts, operations, self.seen if seen is None else seen)
+
+    def replayed(self, operations: Sequence[Operation]) -> list[Operation]:
+        """These operations with their numbers and with the replies of a replay, as a service would have kept them."""
+        catalogue = read_file(self.parts.catalogue)
+        numbered = [replace(one, number=number) for number, one in enumerate(operations, 1)]
+        replies = replay(self.parts.batchctl, catalogue, numbered, {})
+        return [replace(one, reply=reply) for one, reply in zip(numbered, replies, strict=True)]
+
+    def acknowledged(self) -> Operation:
+        """The last start of a client."""
+        numbers = [call.operations for call in self.seen.calls if call.do == "start" and call.status == 201]
+        return self.operations[max(numbers) - 1]
+
+
+def soaked(mode: str, folder: Path, names: Sequence[str]) -> Soaked:
+    folder.mkdir(exist_ok=True)
+    parts = Parts(mode, folder)
+    try:
+        parts.prepare()
+        seen, made = asyncio.run(soak(parts, Plan(len(names), 1), names))
+        assert sorted(made.elements()) == sorted(names)
+        return Soaked(parts, asyncio.run(operations_of(parts)), seen)
+    finally:
+        parts.stop()
+        for server in parts.servers:
+            server.remove()
+
+
+@pytest.fixture(scope="module")
+def embedded_soak(tmp_path_factory: pytest.TempPathFactory, has_log: None) -> Soaked:
+    return soaked("embedded", tmp_path_factory.mktemp("soak"), EMBEDDED)
+
+
+def test_faults_of_one_instance_lose_nothing(embedded_soak: Soaked) -> None:
+    embedded_soak.compare(embedded_soak.operations)
+    assert embedded_soak.parts.stores_lost and (embedded_soak.parts.artifacts / "left").read_text()
+
+
+@pytest.mark.postgres
+def test_faults_of_two_instances_lose_nothing(tmp_path: Path) -> None:
+    done = soaked("postgres", tmp_path / "soak", POSTGRES)
+    done.compare(done.operations)
+
+
+def other_reply(done: Soaked) -> Sequence[Operation]:
+    """The reply of an operation names another job execution."""
+    place = done.acknowledged().number - 1
+    reply = json.loads(done.operations[place].reply)
+    other = replace(done.operations[place], reply=json.dumps({**reply, "execution": 1}, separators=(",", ":")).encode())
+    return [*done.operations[:place], other, *done.operations[place + 1 :]]
+
+
+def one_dropped(done: Soaked) -> Sequence[Operation]:
+    """An acknowledged operation isn't there. Everything behind it is as if it had never been."""
+    return done.replayed([one for one in done.operations if one is not done.acknowledged()])
+
+
+def last_dropped(done: Soaked) -> Sequence[Operation]:
+    """All from an acknowledged operation on are lost."""
+    return done.operations[: done.acknowledged().number - 1]
+
+
+def one_doubled(done: Soaked) -> Sequence[Operation]:
+    """An operation was made again by the same key, at the end, with all that belongs to it."""
+    found, last = done.acknowledged(), json.loads(done.operations[-1].line)
+    line = json.dumps({**json.loads(found.line), "at": last["at"] + 1}, separators=(",", ":")).encode()
+    return done.replayed([*done.operations, replace(found, line=line)])
+
+
+def two_exchanged(done: Soaked) -> Sequence[Operation]:
+    """Two operations have each other's places."""
+    place = done.acknowledged().number - 1
+    before, found = done.operations[place - 1 : place + 1]
+    return done.replayed([*done.operations[: place - 1], found, before, *done.operations[place + 1 :]])
+
+
+FALSIFIED = [
+    (other_reply, "and its replay"),
+    (one_dropped, "was acknowledged, and isn't in the history|is in the history as"),
+    (last_dropped, "and the history has fewer|was acknowledged, and isn't in the history"),
+    (one_doubled, "were both made by the key"),
+    (two_exchanged, "has the moment"),
+]
+
+
+@pytest.mark.parametrize("falsify,told", FALSIFIED)
+def test_a_falsified_history_is_refused(
+    embedded_soak: Soaked, falsify: Callable[[Soaked], Sequence[Operation]], told: str
+) -> None:
+    operations = falsify(embedded_soak)
+    with pytest.raises(Wrong, match=told):
+        embedded_soak.compare(operations)
+
+
+def test_a_read_that_goes_back_is_refused(embedded_soak: Soaked) -> None:
+    seen = embedded_soak.seen
+    place = next(place for place, read in enumerate(seen.reads) if read.status == 200)
+    read = replace(seen.reads[place], least=seen.reads[place].operations + 1)
+    with pytest.raises(Wrong, match="goes back"):
+        embedded_soak.compare(embedded_soak.operations, Seen(seen.calls, [*seen.reads[:place], read]))
+
+
+@pytest.fixture
+def notes(embedded_soak: Soaked) -> Iterator[Path]:
+    """The folder where artifacts note their runs, whose files are put back."""
+    folder = embedded_soak.parts.artifacts
+    kept = {name: (folder / name).read_text() for name in ("begun", "ended", "late")}
+    yield folder
+    for name, text in kept.items():
+        (folder / name).write_text(text)
+
+
+@pytest.mark.parametrize("name,told", [("begun", "ran twice"), ("ended", "to its end 2 times"), ("late", "left behind")])
+def test_a_run_that_may_not_be_is_refused(embedded_soak: Soaked, notes: Path, name: str, told: str) -> None:
+    (notes / name).write_text((notes / name).read_text() + (notes / "ended").read_text().split()[-1] + "\n")
+    with pytest.raises(Wrong, match=told):
+        embedded_soak.compare(embedded_soak.operations)
+
+
+def test_a_key_makes_a_second_operation_only_after_its_store_was_lost(embedded_soak: Soaked) -> None:
+    operations, parts = one_doubled(embedded_soak), embedded_soak.parts
+    words = (parts.batchctl, read_file(parts.catalogue), operations, embedded_soak.seen, parts.artifacts)
+    check(*words, Lost([*parts.stores_lost, len(operations) - 1], 8))
+    with pytest.raises(Wrong, match="were both made by the key"):
+        check(*words, Lost([*parts.stores_lost, len(operations)], 8))
