@@ -220,8 +220,10 @@ class Term(ABC):
     async def commit_rounds(self) -> None:
         """Keeps what is answered, round by round. Each beat has a round, with or without replies, and a look at the clock."""
         while self.failure is None:
+            # Not by wait_for: it loses a cancellation that comes as the event is set, and the rounds would go on without end.
             with suppress(asyncio.TimeoutError):
-                await asyncio.wait_for(self._wake.wait(), self.settings.beat)
+                async with asyncio.timeout(self.settings.beat):
+                    await self._wake.wait()
             self._wake.clear()
             self.moments.look()
             items = self._take_ready()
