@@ -14,7 +14,7 @@ import asyncpg
 
 from job_host.protocol.lines import digest
 from job_host.service.history.engine import Record
-from job_host.service.stores.postgres_migrations import migrate
+from job_host.service.stores.postgres_migrations import are_current, migrate
 from job_host.service.stores.postgres_schema import (
     BEAT,
     BEGIN_HISTORY,
@@ -85,6 +85,23 @@ async def _takes_writes(connection: asyncpg.Connection) -> bool:
     return takes_writes
 
 
+async def or_drop(connection: asyncpg.Connection, seconds: float, asked: Coroutine[Any, Any, Any]) -> Any:
+    """Awaits what a connection was asked. If it takes too long, or isn't waited for any more, the connection is dropped.
+
+    It isn't cancelled: a server that waits for its standby would show what the standby hasn't.
+    """
+    task = asyncio.ensure_future(asked)
+    try:
+        done, _ = await asyncio.wait([task], timeout=seconds)
+        if not done:
+            raise asyncio.TimeoutError(f"no answer in {seconds:g} seconds")
+        return task.result()
+    finally:
+        if not task.done():
+            task.add_done_callback(lambda ended: ended.cancelled() or ended.exception())
+            connection.terminate()
+
+
 class PostgresStore:
     """Two connections to the primary: one commits rounds, the other reads. A store that failed is closed for good."""
 
@@ -99,8 +116,10 @@ class PostgresStore:
         """Connects, and brings the tables to this version. Raises NoPrimary, NotDurable, LaterVersion or what LOST has."""
         commits = await connect_primary(dsns, None)
         try:
-            await cls._check_durable(commits)
-            await migrate(commits)
+            await or_drop(commits, timeout, cls._check_durable(commits))
+            if not await or_drop(commits, timeout, are_current(commits)):
+                # It has no limit: large tables take their time.
+                await migrate(commits)
             reads = await connect_primary(dsns, timeout)
         except BaseException:
             commits.terminate()
@@ -226,20 +245,7 @@ class PostgresStore:
             await self._commits.execute(NOTE_FIRST, first)
 
     async def _or_drop(self, commit: Coroutine[Any, Any, Any]) -> Any:
-        """Awaits a commit. If it takes too long, or isn't waited for any more, the connection is dropped.
-
-        It isn't cancelled: a server that waits for its standby would show what the standby hasn't.
-        """
-        task = asyncio.ensure_future(commit)
-        try:
-            done, _ = await asyncio.wait([task], timeout=self._timeout)
-            if not done:
-                raise asyncio.TimeoutError(f"no commit in {self._timeout:g} seconds")
-            return task.result()
-        finally:
-            if not task.done():
-                task.add_done_callback(lambda ended: ended.cancelled() or ended.exception())
-                self._commits.terminate()
+        return await or_drop(self._commits, self._timeout, commit)
 
     async def resign(self, epoch: int) -> None:
         """Lets another instance take over at once."""

@@ -43,13 +43,13 @@ async def version_of(connection: asyncpg.Connection) -> int:
     return version
 
 
-async def migrate(connection: asyncpg.Connection) -> None:
-    """Brings the tables to this version in one transaction, which one instance at a time has.
+async def are_current(connection: asyncpg.Connection) -> bool:
+    """Whether the tables are of this version. No commit under way is waited for."""
+    return await version_of(connection) == len(MIGRATIONS)
 
-    If they are of this version, no commit under way is waited for.
-    """
-    if await version_of(connection) == len(MIGRATIONS):
-        return
+
+async def migrate(connection: asyncpg.Connection) -> None:
+    """Brings the tables to this version in one transaction, which one instance at a time has."""
     async with connection.transaction():
         await connection.execute("select pg_advisory_xact_lock($1)", SCHEMA_LOCK)
         for migration in MIGRATIONS[await version_of(connection) :]:
