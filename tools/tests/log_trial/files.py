@@ -193,7 +193,7 @@ def check_permissions(program: Program, folder: Path) -> None:
     log.write_bytes(GOOD)
     for mode in (0o000, 0o200, 0o400):
         with permission(log, mode):
-            want(f"a log of mode {mode:o}", program.over(log, SCRIPT), FAILED)
+            want(f"a log of mode {mode:o}", program.run(over(log), SCRIPT), FAILED)
         want_log(f"a log of mode {mode:o}", log, GOOD)
     with permission(folder, 0o500):
         want("a folder that is closed", program.over(folder / "other", SCRIPT), FAILED)
