@@ -140,7 +140,7 @@ def take_all(browser: Browser, url: str, folder: Path) -> None:
     browser.driver.execute_cdp_cmd("Emulation.setScrollbarsHidden", {"hidden": True})
     browser.size(1200, 900)
     camera.open("#/execution/9", "2026-11", "send, partition 2, work item")
-    camera.open("#/", "statements", "Failed last", "History")
+    camera.open("#/", "statements", "Jobs of the catalogue", "History")
     camera.take("jobs")
     camera.open("#/executions", "1 to 10 of 10")
     camera.take("executions")

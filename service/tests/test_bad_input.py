@@ -15,7 +15,7 @@ from typing import Any
 import pytest
 from instances import Caller, Instance, running
 
-from job_host.service.routes import jobs, lists, work
+from job_host.service.routes.table import ROUTES
 from job_host.service.settings import Bounds, ServeSettings
 
 REQUESTS = int(os.environ.get("JOBHOST_RANDOM_REQUESTS", "5000"))
@@ -30,6 +30,8 @@ PATHS = [
     "/batch/jobexecutions/{id}",
     "/batch/jobexecutions/{id}/stepexecutions",
     "/batch/jobexecutions/{id}/joblogs",
+    "/batch/jobexecutions/{id}/operations",
+    "/batch/open",
     "/batch/work",
     "/batch/work/{id}",
     "/metrics",
@@ -140,7 +142,7 @@ HEADERS = [
     "Sec-Fetch-Site: same-origin",
     "Batch-Forgery-Token: \xff",
 ]
-KNOWN = [(route.method, route.path) for route in [*jobs.ROUTES, *lists.ROUTES, *work.ROUTES]]
+KNOWN = [(route.method, route.path) for route in ROUTES]
 
 
 @dataclass(frozen=True)

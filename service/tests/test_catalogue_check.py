@@ -2,9 +2,11 @@
 
 from __future__ import annotations
 
+import itertools
 import json
 import os
 import random
+import re
 from collections import Counter
 from pathlib import Path
 from typing import Any
@@ -17,6 +19,7 @@ from job_host.catalogue.check import NoVerdict, Verdict, ask, check, found_fault
 from job_host.catalogue.file import CatalogueFile, read_json
 from job_host.catalogue.jobs import read_file
 from job_host.catalogue.text import MOST_LINE_BYTES, Source, one_line
+from job_host.catalogue.warnings import covers
 
 RANDOM = int(os.environ.get("JOBHOST_RANDOM_CATALOGUES", "400"))
 SEED = int(os.environ.get("JOBHOST_SEED", "11"))
@@ -213,6 +216,14 @@ def test_batchctls_verdict_stands_whatever_was_found() -> None:
 
 D = '{"kind": "decision", "id": "d", "ref": "r", "transitions": [{"kind": "next", "on": "S", "to": "s"}'
 ENDS = 'its list ends here, although step "t" stands behind it: no "next" or "to" leads on'
+
+
+def ending(pattern: str) -> str:
+    return json.dumps({"kind": "end", "on": pattern})
+
+
+UNKNOWN = 'after an exit status that no transition element matches its list ends: there is none for "*"'
+NO_REGULAR = ' is no regular expression: only "*" and "?" stand for other characters'
 UNREACHED = 'nothing leads here: no "next" or "to" of its list names it'
 WARNINGS = [
     (job_of(S + ', "next": "t"}, ' + T + "}"), []),
@@ -226,16 +237,18 @@ WARNINGS = [
     # A branch ends its list, and the one behind it is led to.
     (job_of(D + ', {"kind": "next", "on": "*", "to": "t"}]}, ' + S + "}, " + T + "}"), []),
     (
-        job_of(D + "]}, ▸" + S + "}, ▸" + T + "}"),
+        job_of("▸" + D + "]}, ▸" + S + "}, ▸" + T + "}"),
         [
+            f'warning in job "a", decision "d" (number 0): {UNKNOWN}',
             f'warning in job "a", step "s" (number 1): {ENDS}',
             f'warning in job "a", step "t" (number 2): {UNREACHED}',
         ],
     ),
     (
-        job_of('▸{"kind": "decision", "id": "d", "ref": "r", "transitions": [{"kind": "end", "on": "S"}]}, ▸' + T + "}"),
+        job_of('▸▸{"kind": "decision", "id": "d", "ref": "r", "transitions": [{"kind": "end", "on": "S"}]}, ▸' + T + "}"),
         [
             f'warning in job "a", decision "d" (number 0): {ENDS}',
+            f'warning in job "a", decision "d" (number 0): {UNKNOWN}',
             f'warning in job "a", step "t" (number 1): {UNREACHED}',
         ],
     ),
@@ -248,6 +261,32 @@ WARNINGS = [
     (
         job_of(S + ', "transitions": [{"kind": "end", "on": "A?"}, ▸{"kind": "fail", "on": "A?"}]}'),
         [f'warning {IN_S}: the transition element for "A?" never counts: the one for "A?" stands before it'],
+    ),
+    (
+        job_of(
+            S + ', "transitions": [{"kind": "end", "on": "A*"}, ▸{"kind": "fail", "on": "AB?*"}, {"kind": "fail", "on": "?B"}]}'
+        ),
+        [f'warning {IN_S}: the transition element for "AB?*" never counts: the one for "A*" stands before it'],
+    ),
+    (
+        job_of(S + ', ▸"next": "t", "transitions": [{"kind": "end", "on": "*"}]}, ' + T + "}"),
+        [f'warning {IN_S}: "next" never counts: the transition element for "*" matches any exit status'],
+    ),
+    (
+        job_of(S + f', "transitions": [▸{ending("BAD|WORSE")}, ▸{ending("A.*")}, {ending("C.D")}]' + "}"),
+        [f"warning {IN_S}: {shown}{NO_REGULAR}" for shown in ('"BAD|WORSE"', '"A.*"')],
+    ),
+    (
+        job_of(S + ', "transitions": [▸{"kind": "end", "on": "Completed"}, {"kind": "end", "on": "done"}]}'),
+        [f'warning {IN_S}: "Completed" doesn\'t match the exit status "COMPLETED"; did you mean `COMPLETED`?'],
+    ),
+    (
+        job_of(S + ', "next": "S"}, ▸' + T.replace('"t"', '"S"') + "}"),
+        ['warning in job "a", step "S" (number 1): its id and that of step "s" differ in case alone'],
+    ),
+    (
+        job_of(S + "}")[:-2] + ", ▸" + job_of(S + "}").replace('"a"', '"A"').removeprefix('{"jobs": ['),
+        ['warning in job "A": its id and that of job "a" differ in case alone'],
     ),
     ('{▸"jobs": 7, "jobs": []}', ['warning: "jobs" comes again (1:13), and this one counts for nothing']),
 ]
@@ -262,6 +301,23 @@ def test_what_is_legal_and_seldom_meant(tmp_path: Path, text: str, warnings: lis
     found = checked(tmp_path, text)
     assert found.is_accepted
     assert told(found) == [f"{place}: {warning}" for place, warning in zip(places, warnings, strict=True)]
+
+
+PATTERNS = ["", "A", "B", "?", "*", "A*", "*A", "A?", "??", "*?", "?*", "A*B", "*A*", "AB", "**", "*B*A"]
+STATUSES = ["".join(letters) for size in range(5) for letters in itertools.product("ABC", repeat=size)]
+
+
+def matches(pattern: str, text: str) -> bool:
+    return re.fullmatch(pattern.replace("*", ".*").replace("?", "."), text) is not None
+
+
+@pytest.mark.parametrize("earlier", PATTERNS)
+def test_a_pattern_is_covered_by_one_that_matches_all_of_its_statuses(earlier: str) -> None:
+    for later in PATTERNS:
+        is_covered = all(matches(earlier, text) for text in STATUSES if matches(later, text))
+        assert not covers(earlier, later) or is_covered
+        # What these two cover isn't found, but for themselves.
+        assert covers(earlier, later) or not is_covered or earlier in ("*?", "?*")
 
 
 def test_a_ref_that_no_worker_has(tmp_path: Path) -> None:

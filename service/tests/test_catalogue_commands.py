@@ -11,6 +11,7 @@ from pathlib import Path
 import pytest
 from catalogue_samples import BATCHCTL, ROOT, one_job, step
 
+from job_host.catalogue.schema import schema_of_catalogues
 from job_host.commands.command_line import main
 
 GOOD = one_job(step("s"))
@@ -62,6 +63,8 @@ def status(*words: str) -> int:
         ("from-jsl next.xml next.xml", 1),
         ("from-jsl good.json", 1),
         ("from-jsl none", 2),
+        ("check --format yaml good.json", 2),
+        ("schema", 0),
         ("diagram good.json", 0),
         ("diagram --job a good.json", 0),
         ("diagram --job b good.json", 2),
@@ -77,6 +80,38 @@ def status(*words: str) -> int:
 )
 def test_exit_status(words: str, expected: int) -> None:
     assert status(*words.split()) == expected
+
+
+def test_a_check_is_told_in_json(capsys: pytest.CaptureFixture[str]) -> None:
+    assert status("check", "--format", "json", "bad.json", "weekly.xml", "good.json") == 1
+    told = [json.loads(line) for line in capsys.readouterr().out.splitlines()]
+    assert told == [
+        {
+            "file": "bad.json",
+            "line": 2,
+            "column": 36,
+            "fault": "BadElement",
+            "in": 'job "a\\u001b[31m", element (number 0)',
+            "expected": "an object, an element",
+            "found": "`7`",
+        },
+        {"file": "bad.json", "accepted": False},
+        {
+            "file": "weekly.xml",
+            "line": 1,
+            "column": 18,
+            "note": "JSL",
+            "in": 'job "weekly"',
+            "told": "<listeners> has no place in a catalogue: no listener is called (--allow listeners leaves it out)",
+        },
+        {"file": "weekly.xml", "accepted": False},
+        {"file": "good.json", "accepted": True},
+    ]
+
+
+def test_the_schema_is_printed(capsys: pytest.CaptureFixture[str]) -> None:
+    assert status("schema") == 0
+    assert json.loads(capsys.readouterr().out) == schema_of_catalogues()
 
 
 def test_a_check_is_told_on_standard_output(capsys: pytest.CaptureFixture[str]) -> None:

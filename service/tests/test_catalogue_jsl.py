@@ -5,6 +5,7 @@ from __future__ import annotations
 import json
 import random
 import re
+import time
 from collections.abc import Collection
 from pathlib import Path
 from typing import Any
@@ -306,6 +307,8 @@ NO_XML = [
     (b"<!DOCTYPE job [<!ENTITY a 'aaaa'><!ENTITY b '&a;&a;'>]><job id='&b;'/>", "declared, which JSL has none of"),
     (b"<job id='\xff'/>", "1:10: JSL: the byte 0xff is not utf-8"),
     (b"<?xml version='1.0' encoding='klingon'?><job/>", "1:1: JSL: there is no encoding 'klingon'"),
+    (b"<?xml version='1.0' encoding='undefined'?><job/>", "1:1: JSL: the encoding 'undefined' is none of text"),
+    (b"<?xml version='1.0' encoding='unicode_escape'?><job id='\\ud800'/>", "1:1: JSL: the encoding 'unicode_escape' is none"),
     (b"<flow>" * 61 + b"</flow>" * 61, "1:361: JSL: elements are nested deeper than 60"),
 ]
 
@@ -317,12 +320,41 @@ def test_what_is_no_xml_is_refused(tmp_path: Path, data: bytes, fault: str) -> N
     assert len(told(found)) == 1 and fault in told(found)[0]
 
 
-@pytest.mark.parametrize("encoding", ["utf-8", "utf-8-sig", "utf-16", "iso-8859-1"])
+@pytest.mark.parametrize("encoding", ["utf-8", "utf-8-sig", "utf-16", "iso-8859-1", "gb18030"])
 def test_places_are_characters_in_each_encoding(tmp_path: Path, encoding: str) -> None:
     declared = encoding.removesuffix("-sig")
     text = f'<?xml version="1.0" encoding="{declared}"?>\r\n<job id="é">\r\n<step id="é" next="é">{BATCHLET}</step></job>'
     found = checked(tmp_path, text.encode(encoding))
     assert [note.split(" in ")[0] for note in told(found)] == ["3:19: Loop"]
+
+
+@pytest.mark.parametrize("encoding", ["utf-8", "utf-8-sig", "utf-16", "shift_jis"])
+def test_a_job_in_one_line_keeps_its_attributes(encoding: str) -> None:
+    declared = encoding.removesuffix("-sig")
+    text = f'<?xml version="1.0" encoding="{declared}"?><job id="表"><step id="s" next="t">{BATCHLET}</step></job>'
+    made = read_data("job.xml", text.encode(encoding))
+    assert made.root is not None
+    assert plain(made.root) == {"jobs": [{"id": "表", "elements": [step("s", "ok", next="t")]}]}
+
+
+LOST = """<job id="a"><properties><property name="rate" value="3"/><property name="table" value="T"/></properties>
+<listeners><listener ref="audit"/></listeners>
+<step id="s"><chunk skip-limit="1"><reader ref="r"/><writer ref="w"/><checkpoint-algorithm ref="often"/>
+<skippable-exception-classes><include class="java.io.IOException"/></skippable-exception-classes></chunk></step></job>"""
+
+
+def test_what_is_left_out_is_named_whole() -> None:
+    made = read_data("job.xml", LOST.encode(), [*jsl.REFUSED])
+    told = [note.told.split(":")[0] for note in made.told]
+    assert told == [
+        '<properties> of "rate", "table"',
+        '<listeners> of "audit"',
+        'skip-limit="1"',
+        '<checkpoint-algorithm> of "often"',
+        '<skippable-exception-classes> of "java.io.IOException"',
+    ]
+    refused = [note.told.split(" has no place")[0] for note in read_data("job.xml", LOST.encode()).refused]
+    assert refused == told
 
 
 @pytest.mark.parametrize(
@@ -336,11 +368,27 @@ def test_places_are_characters_in_each_encoding(tmp_path: Path, encoding: str) -
         ("#{jobProperties['from']}", "dflt", {"jobParameters"}, ()),
         ("#{systemProperties['x']}#{partitionPlan['y']}", "", {"systemProperties", "partitionPlan"}, ()),
         ("a # {b} ?: c;", "a # {b} ?: c;", set(), ()),
+        ("#{jobProperties['a']}?:x#{jobProperties['a']}?:y", "A?:xA?:y", set(), ()),
+        ("#{jobParameters['x']}?:#{jobParameters['y']}?:d;", "?:d", {"jobParameters"}, ()),
     ],
 )
 def test_substitution(text: str, expected: str, later: Collection[str], unknown: tuple[str, ...]) -> None:
     scope = {"a": Resolved("A"), "from": resolve("#{jobParameters['x']}?:dflt;", {})}
     assert resolve(text, scope) == Resolved(expected, frozenset(later), unknown)
+
+
+@pytest.mark.parametrize(
+    "text", ["#{" * 40_000, "#{a}?:" * 10_000, "#{a}?:" * 10_000 + "#{;", "#{jobParameters['a']}?:" + "#{a}" * 9_999 + ";"]
+)
+def test_a_text_of_many_expressions_is_soon_read(text: str) -> None:
+    begun = time.process_time()
+    assert resolve(text, {}).wrong
+    assert time.process_time() - begun < 2
+
+
+@pytest.mark.parametrize(("text", "wrong"), [("#{a#{b}", ("#{a", "#{b}")), ("#{a", ("#{a",)), ("x#{}", ("#{}",))])
+def test_what_is_no_expression_is_named(text: str, wrong: tuple[str, ...]) -> None:
+    assert resolve(text, {}).wrong == wrong
 
 
 def written(members: dict[str, Any]) -> str:

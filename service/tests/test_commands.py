@@ -18,7 +18,7 @@ import pytest
 from conftest import Say
 from instances import Caller, running
 
-from job_host.commands import jobs
+from job_host.commands import jobs, open_items
 from job_host.commands.command_line import main, make_parser
 from job_host.commands.terminal import clock
 from job_host.service.settings import ServeSettings
@@ -202,7 +202,7 @@ async def test_of_what_failed_the_newest_are_told_and_that_there_are_more(
         assert await heads() == await heads("--count", "2") == [third, first]
         more = "more job instances are FAILED: these are the newest 1 (--count)"
         assert await heads("--count", "1") == [third, more]
-        monkeypatch.setattr(jobs, "PAGE_SIZE", 1)
+        monkeypatch.setattr(open_items, "PAGE_OF_LARGE_ROWS", 1)
         assert await heads() == [third, first]
         for count in ("0", "-1", "x"):
             with pytest.raises(SystemExit):

@@ -83,6 +83,10 @@ async def test_an_operation_is_told_after_it_is_kept(
                 break
             await asyncio.sleep(0.01)
         assert (await caller.ask("GET", "/batch/history")).told["operations"] == 0
+        paths = ("open", "jobexecutions/1/operations", "jobexecutions/1/causes")
+        reading = [asyncio.create_task(caller.ask("GET", f"/batch/{path}")) for path in paths]
+        assert not (await asyncio.wait(reading, timeout=0.3))[0]
         go_on.set()
+        assert [(await one).operations for one in reading] == [1, 1, 1]
         assert (await starting).operations == 1
         assert (await caller.ask("GET", "/batch/history")).told["operations"] == 1

@@ -175,8 +175,9 @@ def test_a_night_is_started_fails_is_read_mended_restarted_and_completed_by_clic
     assert states(browser) == {"extract": "\u2713 COMPLETED: 120 ROWS", "load": "\u2715 FAILED: 3", "report": "\u00b7 not run"}
     assert len(set(colours(browser).values())) == 3
     browser.click_text("Jobs", "header")
-    browser.see("FAILED", "section[data-key='Failed last']")
-    browser.click("section[data-key='Failed last'] tbody th a")
+    browser.see("load: 3 no space left on the ledger", "section[data-key=Open]")
+    browser.see("1 FAILED, open", ".tiles")
+    browser.click("section[data-key=Open] tbody th a")
     browser.see("Why it failed")
     (artifacts / "mended").touch()
     browser.click("[data-action=restart]")
@@ -190,26 +191,47 @@ def test_a_night_is_started_fails_is_read_mended_restarted_and_completed_by_clic
     assert "2 (this one)" in others and "extract COMPLETED" in others
     told = ask(service.url, "GET", "/batch/jobexecutions/2").told
     assert (told["batchStatus"], told["jobParameters"]) == ("COMPLETED", {"date": "2026-11-27"})
+    browser.click_text("Executions", "header")
+    browser.see("1 nightly \u2715 FAILED restarted", "tbody")
+    browser.click_text("Jobs", "header")
+    browser.see("No job instance is FAILED or STOPPED.", "section[data-key=Open]")
+    browser.see("0 FAILED, open", ".tiles")
+    browser.click("[data-action=start][data-job=nightly]")
+    browser.see("those of its last job execution, 2, which is COMPLETED.", "dialog")
+    assert browser.find("dialog textarea").get_property("value") == "2026-11-27"
+    browser.click("dialog [data-cancel]")
 
 
-def test_what_failed_last_was_not_restarted_since(browser: Browser, service: Process) -> None:
+def test_what_is_open_was_not_restarted_since(browser: Browser, service: Process) -> None:
+    """Its jobs come first, and a filter finds the others."""
+
     async def fail_both() -> None:
         caller = Caller(service.url)
         for work in (1, 2):
-            await caller.start("nightly")
+            await caller.start("branching")
             await caller.claim()
             await caller.finish(work, "FAILED")
 
-    def failed_last() -> list[str]:
-        return [row.text for row in browser.all("section[data-key='Failed last'] tbody th")]
+    def rows(section: str) -> list[str]:
+        return [row.text for row in browser.all(f"section[data-key='{section}'] tbody th")]
 
     asyncio.run(fail_both())
     browser.open(service.url)
-    browser.until(lambda: failed_last() == ["2", "1"])
+    browser.until(lambda: rows("Open") == ["2", "1"])
+    assert rows("Jobs of the catalogue")[:2] == ["branching", "nightly"]
+    browser.click(".tile.status-STOPPED")
+    browser.until(lambda: rows("Open") == [])
+    browser.click(".tile.status-STOPPED")
     for number, rest in ((2, ["1"]), (1, [])):
         asyncio.run(Caller(service.url).change(number, "restart"))
-        browser.until(lambda rest=rest: failed_last() == rest, 10)  # type: ignore[misc]
-    browser.see("No job instance is FAILED.")
+        browser.until(lambda rest=rest: rows("Open") == rest, 10)  # type: ignore[misc]
+    browser.see("No job instance is FAILED or STOPPED.")
+    browser.until(lambda: rows("Running") == ["4", "3"])
+    browser.find("#filter").send_keys("PAT")
+    browser.until(lambda: rows("Jobs of the catalogue") == ["patient"])
+    asyncio.run(Caller(service.url).start("nightly"))
+    browser.until(lambda: rows("Running") == ["5", "4", "3"])
+    assert rows("Jobs of the catalogue") == ["patient"]
 
 
 # Whether the page's own words behind a text of the service still run from left to right.
@@ -294,6 +316,8 @@ def test_stop_lose_abandon_and_purge_by_clicks(
     browser.see("It is FAILED now, and ABANDONED then.", "dialog")
     browser.click("dialog [data-confirm=Abandon]")
     browser.see("Job execution 1 of patient \u2298 ABANDONED")
+    done = [" ".join(row.text.split()[1:-2]) for row in browser.all("section[data-key='Who did what'] tbody tr")]
+    assert done == ["abandon console", "stop console", "lose, work item 1 console", "start tester"]
     browser.click("[data-action=purge]")
     browser.see("Purge job instance 1 of patient?", "dialog")
     browser.see("Its job execution 1, with all its steps, checkpoints and logs, is removed for good.", "dialog")
@@ -461,16 +485,23 @@ def test_logs_of_many_partitions_are_paged_and_what_failed_is_told(browser: Brow
             await caller.claim()
         for number in range(1, 65):
             await caller.finish(number, "FAILED" if number == 64 else "COMPLETED", log=f"log {number}.")
-        await caller.change(1, "restart")
-        await caller.claim()
 
     def logs() -> int:
         return len(browser.all("section[data-key=Logs] details"))
 
+    async def restart() -> None:
+        caller = Caller(service.url)
+        await caller.change(1, "restart")
+        await caller.claim()
+
     asyncio.run(finish_many())
+    browser.open(service.url)
+    browser.see("print, partition 63: FAILED log 64.", "section[data-key=Open]")
+    assert "log 1." not in browser.text("section[data-key=Open]")
+    asyncio.run(restart())
     browser.open(service.url + "/#/execution/1")
-    browser.see("print is FAILED", ".reason")
-    browser.see("log 64.", ".reason pre")
+    browser.see("print, partition 63 is FAILED", ".reason")
+    assert [one.text for one in browser.all(".reason pre")] == ["log 64."]
     browser.see("64: 63 COMPLETED, 1 FAILED", "section[data-key=Steps]")
     browser.until(lambda: logs() == 50)
     browser.click_text("Later", "section[data-key=Logs]")
@@ -647,6 +678,7 @@ def test_a_reader_sees_no_button_and_is_refused(browser: Browser, guarded: Proce
     browser.see("ops, operator", ".caller")
     browser.click_text("Jobs", "header")
     browser.click("[data-action=start][data-job=nightly]")
+    browser.see("It runs already: job execution 1 is STARTING.", "dialog")
     browser.click("dialog [data-confirm=Start]")
     browser.see("Job execution 2 of nightly")
 
@@ -736,11 +768,11 @@ def test_by_keys_alone(browser: Browser, service: Process) -> None:
     press(browser, Keys.ENTER)
     browser.see("Start nightly?", "dialog")
     press(browser, Keys.ESCAPE)
-    browser.until(lambda: not browser.run("return document.getElementById('question').open"))
+    browser.until(lambda: not browser.run("return document.getElementById('question').childElementCount"))
     assert focused(browser) == "start"
     press(browser, Keys.ENTER)
     browser.see("Start nightly?", "dialog")
-    press(browser, "d", "a", "y", Keys.TAB, "7", Keys.TAB, Keys.TAB, Keys.TAB)
+    press(browser, "d", "a", "y", Keys.ENTER, "7", Keys.TAB, Keys.TAB, Keys.TAB)
     assert focused(browser) == "Cancel"
     press(browser, Keys.TAB, Keys.ENTER)
     browser.see("Job execution 1 of nightly")

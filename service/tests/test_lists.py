@@ -107,6 +107,8 @@ async def test_the_most_recent_job_execution_of_each_job_instance(settings: Make
         assert await numbers(caller, "?status=FAILED") == [4, 3, 2, 1]
         assert await numbers(caller, "?status=FAILED&mostRecent=true") == [4, 2]
         assert await numbers(caller, "?mostRecent=true") == [5, 4, 2]
+        told = (await caller.ask("GET", "/batch/jobexecutions")).told["jobExecutions"]
+        assert [one["executionId"] for one in told if one["mostRecent"]] == [5, 4, 2]
         told = (await caller.ask("GET", "/batch/jobexecutions?status=FAILED&mostRecent=true&pageSize=1")).told
         assert ([one["executionId"] for one in told["jobExecutions"]], told["more"], told["total"]) == ([4], True, None)
         await caller.ask("DELETE", "/batch/jobinstances/2")

@@ -40,9 +40,11 @@ async def test_a_name_that_holds_nothing_is_forgotten(either: Make) -> None:
     """Its number isn't given again, also if it was the greatest one."""
     async with running(either()) as instance:
         one, two, three = [Caller(instance.url, name) for name in ("one", "two", "three")]
-        await one.start("short", key="a")
+        for key in "abc":
+            await one.start("short", key=key)
         await one.claim()
-        await two.start("short", key="b")
+        await two.claim(key="b")
+        await two.finish(2)
         await three.start("short")
     async with running(either(bounds=NO_TIME)) as instance:
         await until_sessions(instance, 2, 4)
@@ -50,7 +52,7 @@ async def test_a_name_that_holds_nothing_is_forgotten(either: Make) -> None:
         assert (await Caller(instance.url, "one").finish(1)).status == 200
     async with running(either(bounds=NO_TIME)) as instance:
         await until_sessions(instance, 5)
-        assert (await Caller(instance.url, "two").start("short", key="b")).told["executionId"] == 5
+        assert (await Caller(instance.url, "two").claim(key="b")).told["work"]["work"] == 3
         assert sessions_of(instance).numbers()[1:] == [5, 6]
 
 

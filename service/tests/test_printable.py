@@ -9,7 +9,7 @@ from typing import Any, cast
 
 import pytest
 
-from job_host.commands import jobs
+from job_host.commands import jobs, open_items
 from job_host.commands.command_line import main
 from job_host.protocol.client import Client, Refused
 from job_host.protocol.printable import PrintableFormatter, printable, printable_lines
@@ -33,6 +33,15 @@ EXECUTION: dict[str, Any] = {
     "stepExecutions": [STEP],
     "jobParameters": {EVIL: EVIL},
 }
+CAUSE = {"work": 1, "stepName": EVIL, "partition": 0, "outcome": "FAILED", "exitStatus": EVIL, "logEnd": LOG}
+OPEN: dict[str, Any] = {
+    "jobInstances": [{**INSTANCE, "causes": [CAUSE], "moreCauses": 3}],
+    "long": [{**INSTANCE, "seconds": 7, "longestBefore": 2}],
+    "late": [{**INSTANCE, "work": 1, "stepName": EVIL, "partition": 0, "client": EVIL, "leaseRemaining": 1.5}],
+    "waiting": [{**INSTANCE, "lastUpdatedTime": EVIL}],
+    "counts": {"FAILED": 9, "STOPPED": 0, "long": 1, "late": 1, "waiting": 1},
+    "more": False,
+}
 HELD = {"work": 1, "jobName": EVIL, "executionId": 1, "stepName": EVIL, "partition": 0, "client": EVIL, "since": EVIL}
 
 
@@ -42,10 +51,12 @@ class Answers:
     async def read(self, path: str) -> Any:
         if path.startswith("/batch/jobinstances"):
             return [{**INSTANCE, "lastUpdatedTime": EVIL}]
-        if path.startswith("/batch/jobexecutions?"):
-            return {"jobExecutions": [INSTANCE], "more": False}
         if path.startswith("/batch/work"):
             return [HELD]
+        if path.startswith("/batch/open"):
+            return OPEN
+        if "/operations" in path:
+            return [{"operation": 1, "action": EVIL, "client": EVIL, "time": EVIL, "made": None, "work": 7}]
         if "/joblogs" in path:
             return [{"work": 1, "stepName": EVIL, "log": LOG}]
         return EXECUTION
@@ -58,7 +69,8 @@ class Answers:
     ("command", "words"),
     [
         (jobs.show_log, {}),
-        (jobs.failed, {"job": None, "count": 5}),
+        (open_items.failed, {"job": None, "count": 5}),
+        (open_items.open_items, {"job": None, "count": 5}),
         (jobs.status, {}),
         (jobs.watch, {}),
         (jobs.list_instances, {"job": None, "count": 5}),

@@ -6,12 +6,11 @@ from collections.abc import Callable
 
 from instances import Answer, Caller, running
 
-from job_host.service.routes import jobs, lists, work
+from job_host.service.routes.table import ROUTES
 from job_host.service.settings import ServeSettings
 
 Make = Callable[..., ServeSettings]
 OTHERS = ["/metrics", "/health/live", "/health/ready", "/health/leader", "/batch/events", "/", "/console/console.js"]
-ROUTES = [*jobs.ROUTES, *lists.ROUTES, *work.ROUTES]
 RESOURCES = [(method, path.replace("{id}", "1")) for method, path, *_ in ROUTES] + [("GET", path) for path in OTHERS]
 
 

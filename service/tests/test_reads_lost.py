@@ -9,10 +9,12 @@ from collections.abc import AsyncIterator, Callable
 from contextlib import asynccontextmanager, suppress
 from typing import Any
 
+import asyncpg
 import pytest
 from instances import Answer, Caller, Instance, running, until
 
 from job_host.service.settings import ServeSettings
+from job_host.service.stores.postgres import LOST
 
 Make = Callable[..., ServeSettings]
 
@@ -48,6 +50,23 @@ async def test_calls_are_answered_without_the_connection_for_reads(settings: Mak
             again = [await started(caller, f"k{place}") for place in range(5)]
         assert sorted(answer.told["executionId"] for answer in again) == [1, 2, 3, 4, 5]
         assert (instance.service.keeper.epoch, instance.service.keeper.operations) == (2, 5)
+
+
+async def test_a_connection_that_is_closed_within_a_statement_is_lost(settings: Make, monkeypatch: pytest.MonkeyPatch) -> None:
+    """As when another instance has taken over, and the term ends while it looks for a request key."""
+    async with running(settings()) as instance:
+        store: Any = instance.service.keeper._store  # type: ignore[attr-defined]
+        prepared = asyncpg.Connection._get_statement
+
+        async def closing(connection: Any, *given: Any, **named: Any) -> Any:
+            statement = await prepared(connection, *given, **named)
+            if connection is store._reads:
+                connection.terminate()
+            return statement
+
+        monkeypatch.setattr(asyncpg.Connection, "_get_statement", closing)
+        with pytest.raises(LOST):
+            await store.request(1, "a")
 
 
 async def started(caller: Caller, key: str) -> Answer:

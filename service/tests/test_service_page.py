@@ -11,7 +11,8 @@ from catalogue_samples import ROOT
 from job_host.protocol.problem_statuses import STATUS_OF_PROBLEM, STATUS_OF_REFUSAL
 from job_host.service.metrics import Metrics
 from job_host.service.pages import USUAL_SIZE
-from job_host.service.routes import jobs, lists, work
+from job_host.service.routes import work
+from job_host.service.routes.table import ROUTES
 from job_host.service.settings import Bounds
 
 PAGE = ROOT / "docs" / "SERVICE.md"
@@ -76,7 +77,7 @@ def test_the_page_has_each_metric() -> None:
 
 def test_the_page_has_each_path_and_each_word_of_a_query() -> None:
     text = "\n".join(cells[0] for cells in rows())
-    for method, path, _, _, words in [*jobs.ROUTES, *lists.ROUTES, *work.ROUTES]:
+    for method, path, _, _, words in ROUTES:
         row = re.search(rf"^`{method} {re.escape(path)}(?![/\w]).*$", text, re.M)
         assert row is not None, path
         assert [word for word in words if word != "atLeast" and f"{word}=" not in row[0]] == [], path
@@ -85,7 +86,7 @@ def test_the_page_has_each_path_and_each_word_of_a_query() -> None:
 def test_the_page_has_an_example_of_each_path() -> None:
     asked = re.findall(r"^(?:ask|until curl -sf) .*$", PAGE.read_text(), re.M)
     others = [("GET", path) for path in ("/batch/events", "/metrics", "/health/leader", "/readyz")]
-    routes = [(route[0], route[1]) for route in [*jobs.ROUTES, *lists.ROUTES, *work.ROUTES]]
+    routes = [(route[0], route[1]) for route in ROUTES]
     for method, path in [*routes, *others]:
         pattern = re.escape(path).replace(r"\{id\}", "[0-9]+") + r"(?![/\w])"
         assert any(re.search(pattern, line) and (method in line or path == "/readyz") for line in asked), (method, path)

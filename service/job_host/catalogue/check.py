@@ -15,7 +15,7 @@ from job_host.catalogue.members import MemberFinder
 from job_host.catalogue.structure import StructureFinder, faults_of_catalogue
 from job_host.catalogue.text import Source, Value
 from job_host.catalogue.tree import Job, read_job
-from job_host.catalogue.warnings import Artifacts, Warner, repeated
+from job_host.catalogue.warnings import Artifacts, Warner, jobs_alike, repeated
 
 CATALOGUE_REFUSED = 3
 
@@ -118,7 +118,9 @@ def warn(file: CatalogueFile, folder: Path | None, faults: list[Fault]) -> Itera
     yield from repeated(file.root, file.source)
     known = Artifacts(folder) if folder is not None else None
     at_fault = {fault.owner.job for fault in faults}
-    for job in jobs_in(file.root):
+    jobs = jobs_in(file.root)
+    yield from jobs_alike(jobs)
+    for job in jobs:
         yield from Warner(job, known).warnings(job.number in at_fault)
 
 

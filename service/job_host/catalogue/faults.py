@@ -43,6 +43,18 @@ class Fault:
             return {"element": self.owner.element, "fault": self.name, "job": self.owner.job}
         return {"fault": self.name, "job": self.owner.job}
 
+    @property
+    def members(self) -> dict[str, str]:
+        """The fault as an object, but for its place."""
+        told = {
+            "fault": self.name,
+            "in": self.owner.told,
+            "expected": self.expected,
+            "found": self.found,
+            "likely": self.likely,
+        }
+        return {name: text for name, text in told.items() if text}
+
     def __str__(self) -> str:
         owner = f" in {self.owner.told}" if self.owner.told else ""
         told = f"{self.name}{owner}: expected {self.expected}, found {self.found}"
@@ -58,6 +70,12 @@ class Note:
     owner: Owner
     told: str
     likely: str = ""
+
+    @property
+    def members(self) -> dict[str, str]:
+        """The note as an object, but for its place."""
+        told = {"note": self.word, "in": self.owner.told, "told": self.told, "likely": self.likely}
+        return {name: text for name, text in told.items() if text}
 
     def __str__(self) -> str:
         owner = f" in {self.owner.told}" if self.owner.told else ""

@@ -82,6 +82,7 @@ FORMS: dict[str, Forms] = {
     "fail": {"kind": TEXT, "on": TEXT, "exit-status": TEXT_OR_NONE},
     "stop": {"kind": TEXT, "on": TEXT, "exit-status": TEXT_OR_NONE, "restart": TEXT_OR_NONE},
 }
+TASKS = ("batchlet", "chunk")
 # The kinds that an item of a list may have.
 KINDS = {
     "element": ("step", "flow", "split", "decision"),

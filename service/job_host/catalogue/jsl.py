@@ -117,6 +117,13 @@ def tag_of(element: XmlElement) -> str:
     return f"<{element.name}>" if element.is_jsl else f"<{element.name}> of the namespace {element.namespace}"
 
 
+def block(element: XmlElement) -> str:
+    """An element with what is lost if it is left out."""
+    own = element.attributes.get("ref")
+    said = [str(own.value.held)] if own is not None else list(element.said())
+    return f"<{element.name}> of {', '.join(map(shown, said))}" if said else f"<{element.name}>"
+
+
 def meant(element: XmlElement, names: list[str]) -> str:
     """The element that was probably meant, or nothing."""
     return likely(element.name, [name for name in names if name != element.name])
@@ -244,11 +251,11 @@ class Translator:
     def all_without(self, owner: XmlElement, *names: str) -> None:
         """Children that have no place here, each by its name."""
         for child in owner.named(*names):
-            self.without(child.name, child.at, f"<{child.name}>")
+            self.without(child.name, child.at, block(child))
 
     def properties(self, properties: XmlElement, scope: Scope) -> Scope:
         self.look(properties, "properties")
-        self.without("properties", properties.at, "<properties>")
+        self.without("properties", properties.at, block(properties))
         known = dict(scope)
         for item in properties.named("property"):
             self.look(item, "property")

@@ -7,14 +7,17 @@ the expression's default. Whoever asks is told which operators these were.
 from __future__ import annotations
 
 import re
-from collections.abc import Mapping
+from collections.abc import Mapping, Sequence
 from dataclasses import dataclass
 
 JOB_PROPERTIES = "jobProperties"
 LATER = ("jobParameters", "systemProperties", "partitionPlan")
 OPERATORS = (JOB_PROPERTIES, *LATER)
 
-EXPRESSION = re.compile(r"#\{([^}]*)\}(?:\?:((?:#\{[^}]*\}|[^;#]|#(?!\{))*);)?")
+# An expression in which another one begins is none. So nothing is looked for behind the next beginning.
+EXPRESSION = re.compile(r"#\{((?:[^}#]|#(?!\{))*)\}")
+BEFORE_DEFAULT, BEHIND_DEFAULT = "?:", ";"
+DEFAULT = re.compile(r"(?:#\{(?:[^}#]|#(?!\{))*\}|[^;#]|#(?!\{))*")
 OPERATION = re.compile(r"""\s*(\w+)\s*\[\s*(?:'([^']*)'|"([^"]*)")\s*\]\s*""")
 
 
@@ -27,11 +30,6 @@ class Resolved:
     unknown: tuple[str, ...] = ()
     wrong: tuple[str, ...] = ()
 
-    def then(self, other: Resolved) -> Resolved:
-        """Both texts in turn, with what is told of them."""
-        later, unknown = self.later | other.later, self.unknown + other.unknown
-        return Resolved(self.text + other.text, later, unknown, self.wrong + other.wrong)
-
 
 Scope = Mapping[str, Resolved]
 
@@ -42,13 +40,32 @@ def has_expression(text: str) -> bool:
 
 def resolve(text: str, scope: Scope) -> Resolved:
     """The text with each of its expressions replaced."""
-    result = Resolved("")
-    end = 0
-    for found in EXPRESSION.finditer(text):
-        result = result.then(Resolved(text[end : found.start()])).then(expression(found[1], found[2], scope))
-        end = found.end()
-    rest = text[end:]
-    return result.then(Resolved(rest, wrong=(rest,) if has_expression(rest) else ()))
+    parts = list[Resolved]()
+    end = without = 0
+    while found := EXPRESSION.search(text, end):
+        parts.append(plain(text[end : found.start()]))
+        end, default = found.end(), None
+        # If a default lacks its end, those inside it lack it too, and aren't looked at again.
+        if text.startswith(BEFORE_DEFAULT, end) and end >= without:
+            begin = end + len(BEFORE_DEFAULT)
+            without = next(DEFAULT.finditer(text, begin)).end()
+            if text.startswith(BEHIND_DEFAULT, without):
+                end, default = without + 1, text[begin:without]
+        parts.append(expression(found[1], default, scope))
+    return joined([*parts, plain(text[end:])])
+
+
+def plain(text: str) -> Resolved:
+    """A text between expressions. The beginning of one is wrong there."""
+    return Resolved(text, wrong=(text,) if has_expression(text) else ())
+
+
+def joined(parts: Sequence[Resolved]) -> Resolved:
+    """All texts in turn, with what is told of them."""
+    text = "".join(part.text for part in parts)
+    later = frozenset(name for part in parts for name in part.later)
+    unknown = tuple(name for part in parts for name in part.unknown)
+    return Resolved(text, later, unknown, tuple(name for part in parts for name in part.wrong))
 
 
 def expression(operation: str, default: str | None, scope: Scope) -> Resolved:
@@ -56,7 +73,7 @@ def expression(operation: str, default: str | None, scope: Scope) -> Resolved:
     principal = operand(operation, scope)
     if principal.text or default is None:
         return principal
-    return principal.then(resolve(default, scope))
+    return joined([principal, resolve(default, scope)])
 
 
 def operand(operation: str, scope: Scope) -> Resolved:

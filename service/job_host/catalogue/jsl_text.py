@@ -9,6 +9,7 @@ from dataclasses import dataclass, field
 from io import BytesIO
 from xml.sax import SAXParseException
 from xml.sax.handler import ContentHandler, feature_namespaces
+from xml.sax.xmlreader import InputSource
 
 from defusedxml.common import DefusedXmlException
 from defusedxml.expatreader import DefusedExpatParser
@@ -58,6 +59,12 @@ class XmlElement:
         """The children of JSL with one of these names."""
         return (child for child in self.children if child.is_jsl and child.name in names)
 
+    def said(self) -> Iterator[str]:
+        """What it names at any depth: properties, artifacts and classes."""
+        for child in self.children:
+            yield from (str(child.attributes[name].value.held) for name in ("name", "ref", "class") if name in child.attributes)
+            yield from child.said()
+
 
 def is_xml(data: bytes) -> bool:
     """Whether a file begins as XML does."""
@@ -78,13 +85,17 @@ def decoded(name: str, data: bytes) -> str:
     """The text of a file. Raises NotXml."""
     rest, encoding = encoding_of(data)
     try:
-        return str(rest, encoding)
+        text = str(rest, encoding)
+        text.encode("utf-8")
+        return text
     except LookupError as fault:
         raise NotXml(Source(name, ""), 0, f"there is no encoding {encoding!r}") from fault
     except UnicodeDecodeError as fault:
         before = rest[: fault.start].decode(encoding, "replace")
         told = f"the byte 0x{rest[fault.start]:02x} is not {encoding}"
         raise NotXml(Source(name, before), len(before), told) from fault
+    except UnicodeError as fault:
+        raise NotXml(Source(name, ""), 0, f"the encoding {encoding!r} is none of text") from fault
 
 
 class Handler(ContentHandler):
@@ -144,8 +155,12 @@ def read_xml(name: str, data: bytes) -> tuple[Source, XmlElement]:
     handler = Handler(source)
     parser.setFeature(feature_namespaces, True)
     parser.setContentHandler(handler)
+    # The parser is handed the text alone, so that its places are those of the text, whatever the mark and the declaration say.
+    text = InputSource()
+    text.setByteStream(BytesIO(source.text.encode("utf-8")))  # type: ignore[no-untyped-call]
+    text.setEncoding("utf-8")  # type: ignore[no-untyped-call]
     try:
-        parser.parse(BytesIO(data))
+        parser.parse(text)
     except SAXParseException as fault:
         at = source.offset(fault.getLineNumber() or 1, fault.getColumnNumber() or 0)
         raise NotXml(source, at, str(fault.getMessage())) from fault

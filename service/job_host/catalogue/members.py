@@ -6,7 +6,7 @@ from collections.abc import Iterator
 from dataclasses import dataclass
 
 from job_host.catalogue.faults import BAD_ELEMENT, NOBODY, NOT_A_CATALOGUE, Fault, Owner
-from job_host.catalogue.forms import FORMS, KINDS, Form, Kind, is_of, likely, meant_by, quoted
+from job_host.catalogue.forms import FORMS, KINDS, TASKS, Form, Kind, is_of, likely, meant_by, quoted
 from job_host.catalogue.text import Member, Members, Source, Value
 from job_host.catalogue.tree import ELEMENT, FLOW_OF_A_SPLIT, TRANSITION, Job
 
@@ -46,7 +46,7 @@ class MemberFinder:
                 yield from self.member(value.members[name], name, of)
             elif not of.is_optional and name not in meant:
                 yield Wrong(value.at, f'"{name}" in the {form}', "none")
-        if form == "step" and not meant & {"batchlet", "chunk"}:
+        if form == "step" and not meant & set(TASKS):
             yield from self.task(value)
 
     def unlisted(self, value: Value, form: str) -> Iterator[Wrong]:
@@ -68,7 +68,7 @@ class MemberFinder:
 
     def task(self, step: Value) -> Iterator[Wrong]:
         """A step has one of its two tasks."""
-        has = [name for name in ("batchlet", "chunk") if name in step.members]
+        has = [name for name in TASKS if name in step.members]
         if not has:
             yield Wrong(step.at, '"batchlet" or "chunk" in the step', "none of both")
         elif len(has) == 2:

@@ -2,7 +2,8 @@
 
 from __future__ import annotations
 
-from collections.abc import Iterator
+import re
+from collections.abc import Iterable, Iterator
 from pathlib import Path
 
 from job_host.catalogue.faults import NOBODY, WARNING, Note
@@ -11,8 +12,11 @@ from job_host.catalogue.text import Member, Members, Source, Value
 from job_host.catalogue.tree import ELEMENT, Element, Job, Listing, listings_of, shown
 from job_host.protocol import executables
 
-ANYTHING = "*"
+ANYTHING, ANY_CHARACTER = "*", "?"
 MOST_SEARCHES = 100
+# What stands in regular expressions, and seldom in an exit status.
+REGULAR = re.compile(r"\.[*+?]|[|\[\]^$\\]|\(.*\)")
+STATUSES = ("COMPLETED", "FAILED", "STOPPED")
 
 
 def repeated(value: Value, source: Source) -> Iterator[Note]:
@@ -48,6 +52,43 @@ class Artifacts:
         return self._told[name]
 
 
+def covers(earlier: str, later: str) -> bool:
+    """Whether each exit status that the later pattern matches is matched by the earlier one; false if that isn't known.
+
+    The later one's characters are taken as they stand: its `*` is matched by a `*` alone, and its `?` by a `?` too.
+    """
+    reached = {0}
+    for character in [*later, ""]:
+        for at in sorted(reached):
+            while at < len(earlier) and earlier[at] == ANYTHING:
+                at += 1
+                reached.add(at)
+        if not character:
+            return len(earlier) in reached
+        stays = {at for at in reached if at < len(earlier) and earlier[at] == ANYTHING}
+        taken = {at + 1 for at in reached if at < len(earlier) and takes(earlier[at], character)}
+        reached = stays | taken
+    return False
+
+
+def takes(pattern: str, character: str) -> bool:
+    """Whether a character of the earlier pattern, other than `*`, matches one of the later."""
+    return pattern != ANYTHING and (pattern == character or pattern == ANY_CHARACTER and character != ANYTHING)
+
+
+def jobs_alike(jobs: Iterable[Job]) -> Iterator[Note]:
+    """Jobs whose ids differ in case alone."""
+    known = dict[str, Job]()
+    for job in jobs:
+        if job.id is None:
+            continue
+        other = known.setdefault(job.id.casefold(), job)
+        if other.id != job.id:
+            yield Note(
+                WARNING, job.value.at, job.owner(), f"its id and that of job {shown(other.id or '')} differ in case alone"
+            )
+
+
 class Warner:
     """Warns of one job. `known` has the workers' artifacts, if they are known."""
 
@@ -64,7 +105,10 @@ class Warner:
         yield from (note for listing in listings for note in self.unreached(listing))
         for element in self.job.elements:
             yield from self.never_matched(element)
+            yield from self.never_left(element)
+            yield from self.odd_patterns(element)
             yield from self.unknown_artifacts(element)
+        yield from self.alike(self.job.elements)
 
     def led_to(self, listing: Listing) -> set[str]:
         """The ids to which something leads: a `next` or `to` of the list, or a `restart`."""
@@ -87,14 +131,45 @@ class Warner:
 
     def never_matched(self, element: Element) -> Iterator[Note]:
         """Transition elements that never count, since the first one that matches does."""
-        earlier = set[str]()
+        earlier = list[str]()
         for transition in element.transitions:
             pattern = transition.text("on") or ""
-            before = next((known for known in (ANYTHING, pattern) if known in earlier), None)
+            before = next((known for known in earlier[:MOST_SEARCHES] if covers(known, pattern)), None)
             if before is not None:
                 told = f"the transition element for {shown(pattern)} never counts: the one for {shown(before)} stands before it"
                 yield self.warn(transition.at, element, told)
-            earlier.add(pattern)
+            earlier.append(pattern)
+
+    def never_left(self, element: Element) -> Iterator[Note]:
+        """A `next` that never counts, and a decision that ends its list at an exit status that it doesn't know."""
+        patterns = [transition.text("on") for transition in element.transitions]
+        if ANYTHING in patterns and "next" in element.value.members:
+            told = f'"next" never counts: the transition element for {shown(ANYTHING)} matches any exit status'
+            yield self.warn(element.value.members["next"].at, element, told)
+        if element.form == "decision" and patterns and ANYTHING not in patterns:
+            told = f"after an exit status that no transition element matches its list ends: there is none for {shown(ANYTHING)}"
+            yield self.warn(element.value.at, element, told)
+
+    def odd_patterns(self, element: Element) -> Iterator[Note]:
+        """Patterns that are meant otherwise: a regular expression, or a batch status in small letters."""
+        for transition in element.transitions:
+            pattern = transition.text("on") or ""
+            if REGULAR.search(pattern):
+                told = f'{shown(pattern)} is no regular expression: only "*" and "?" stand for other characters'
+                yield self.warn(transition.at, element, told)
+            elif pattern not in STATUSES and pattern.upper() in STATUSES:
+                told = f"{shown(pattern)} doesn't match the exit status {shown(pattern.upper())}"
+                yield self.warn(transition.at, element, told, pattern.upper())
+
+    def alike(self, elements: Iterable[Element]) -> Iterator[Note]:
+        """Ids that differ in case alone."""
+        known = dict[str, Element]()
+        for element in elements:
+            if element.id is None:
+                continue
+            other = known.setdefault(element.id.casefold(), element)
+            if other.id != element.id:
+                yield self.warn(element.value.at, element, f"its id and that of {other.told} differ in case alone")
 
     def unknown_artifacts(self, element: Element) -> Iterator[Note]:
         """Artifacts that no worker has."""

@@ -18,6 +18,7 @@ from job_host.catalogue.diff import compare
 from job_host.catalogue.faults import Fault, Note
 from job_host.catalogue.file import CatalogueFile, read_data, read_jsl
 from job_host.catalogue.growth import changed_jobs, is_begun_by
+from job_host.catalogue.schema import schema_of_catalogues
 from job_host.catalogue.text import laid_out, one_line, plain
 from job_host.catalogue.tree import count_elements
 from job_host.commands.program import find_batchctl
@@ -50,6 +51,17 @@ def verdict_of(checked: Checked) -> str:
     return f"{name}: refused, as its JSL is no catalogue"
 
 
+def report_json(checked: Checked, to: TextIO) -> None:
+    """The same as objects, a line each: faults and notes with their places, and the verdict at the end."""
+    source = checked.file.source
+    notes: list[Fault | Note] = [*checked.faults, *checked.file.refused, *checked.file.told, *checked.warnings]
+    for note in notes:
+        place = source.place(note.at)
+        told = {"file": source.name, "line": place.line, "column": place.column, **note.members}
+        print(json.dumps(told), file=to)
+    print(json.dumps({"file": source.name, "accepted": checked.is_accepted}), file=to)
+
+
 def report(checked: Checked, to: TextIO) -> None:
     tell(checked.file, [*checked.faults, *checked.file.refused], to)
     tell(checked.file, [*checked.file.told, *checked.warnings], to)
@@ -76,6 +88,9 @@ def accepted(name: str, given: argparse.Namespace) -> CatalogueFile | None:
     return None
 
 
+FORMATS = {"text": report, "json": report_json}
+
+
 def check_files(given: argparse.Namespace) -> int:
     if given.artifacts is not None and not given.artifacts.is_dir():
         raise WrongWords(f"--artifacts {given.artifacts} is no folder")
@@ -83,9 +98,14 @@ def check_files(given: argparse.Namespace) -> int:
     status = ACCEPTED
     for file in [read(name, given) for name in given.files]:
         checked = check(file, batchctl, given.artifacts)
-        report(checked, sys.stdout)
+        FORMATS[given.format](checked, sys.stdout)
         status = status if checked.is_accepted else REFUSED
     return status
+
+
+def schema(given: argparse.Namespace) -> int:
+    print(laid_out(schema_of_catalogues()))
+    return ACCEPTED
 
 
 def line(given: argparse.Namespace) -> int:
@@ -183,7 +203,7 @@ def add_command(
         metavar="NAME",
         help="a form of JSL to leave out (default: none): " + ", ".join(sorted(jsl.REFUSED)),
     )
-    if command is not line:
+    if command not in (line, schema):
         batchctl = "the program batchctl (default: JOBHOST_BATCHCTL, else the path's, else this clone's)"
         parser.add_argument("--batchctl", metavar="PROGRAM", help=batchctl)
     parser.set_defaults(run=run(command))
@@ -200,6 +220,8 @@ def add_catalogue(subcommands: Subcommands[argparse.ArgumentParser]) -> None:
     )
     checking.add_argument("files", nargs="+", metavar="FILE", help=a_file)
     checking.add_argument("--artifacts", type=Path, metavar="DIR", help="the workers' folder of executables (default: none)")
+    checking.add_argument("--format", choices=FORMATS, default="text", help="how it is told (default: text)")
+    add_command(commands, "schema", schema, "writes a JSON Schema of catalogues, for an editor")
     add_command(commands, "line", line, "writes a catalogue as one line, for a pipe").add_argument(
         "file", metavar="FILE", help=a_file
     )

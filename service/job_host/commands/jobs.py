@@ -1,4 +1,4 @@
-"""The client's commands: start, restart, stop, abandon, purge, lose; and status, list, failed, work, log, watch, which show."""
+"""The client's commands: start, restart, stop, abandon, purge, lose; and status, list, work, log, watch, which show."""
 
 from __future__ import annotations
 
@@ -16,7 +16,7 @@ from urllib.parse import urlencode
 from rich.console import Console
 from rich.live import Live
 
-from job_host.commands.terminal import execution_table, instance_table, parameter_words, plain, plain_lines, work_table
+from job_host.commands.terminal import execution_table, instance_table, operation_table, parameter_words, work_table
 from job_host.protocol.batch_statuses import UNFINISHED
 from job_host.protocol.bounds import PAGE_OF_LARGE_ROWS, PAGE_SIZE
 from job_host.protocol.client import Address, Client, Refused, Unreachable, read_token, urls_of
@@ -26,7 +26,6 @@ from job_host.protocol.printable import printable, printable_lines
 # Exit statuses of `--wait`.
 STATUS = {"COMPLETED": 0, "FAILED": 3, "STOPPED": 4, "ABANDONED": 5}
 POLL = 0.5
-LOG_LINES = 10
 
 Command = Callable[[Client, argparse.Namespace], Awaitable[int]]
 
@@ -131,7 +130,13 @@ async def lose(client: Client, given: argparse.Namespace) -> int:
 
 
 async def status(client: Client, given: argparse.Namespace) -> int:
-    Console().print(execution_table(await execution_of(client, given.execution), given.utc))
+    """Shows a job execution, and who did what to it. Of one that was purged the latter is left."""
+    path = f"/batch/jobexecutions/{given.execution}/operations"
+    operations = [one async for one in rows_of(client, path, PAGE_SIZE)]
+    try:
+        Console().print(execution_table(await execution_of(client, given.execution), given.utc))
+    finally:
+        Console().print(operation_table(operations, given.execution, given.utc))
     return 0
 
 
@@ -149,52 +154,6 @@ async def show_work(client: Client, given: argparse.Namespace) -> int:
     told = [one async for one in rows_of(client, "/batch/work", PAGE_SIZE, withJobs="true")]
     Console().print(work_table(told, given.utc) if told else "no work item is under way")
     return 0
-
-
-async def failed(client: Client, given: argparse.Namespace) -> int:
-    """Says of each job instance that is FAILED which step it was, what its log ends with, and how it is restarted."""
-    console = Console(highlight=False)
-    if given.job is not None:
-        await instances(client, given.job, 1)  # refused if there is no such job
-    told, more = await failed_executions(client, given.job, given.count)
-    for one in told:
-        await show_failed(client, console, one)
-    if not told:
-        console.print("no job instance is FAILED")
-    if more:
-        console.print(f"more job instances are FAILED: these are the newest {len(told)} (--count)")
-    return 0
-
-
-async def failed_executions(client: Client, job: str | None, count: int) -> tuple[list[dict[str, Any]], bool]:
-    """The newest job executions by which a job instance is FAILED, so many at most, and whether there are more."""
-    asked = {"status": "FAILED", "mostRecent": "true", "pageSize": min(count, PAGE_SIZE), **({"jobName": job} if job else {})}
-    found: list[dict[str, Any]] = []
-    more, page = True, 0
-    while more and len(found) < count:
-        told = await client.read(f"/batch/jobexecutions?{urlencode({**asked, 'page': page})}")
-        found, more, page = found + told["jobExecutions"], told["more"], page + 1
-    return found[:count], more or len(found) > count
-
-
-async def show_failed(client: Client, console: Console, one: dict[str, Any]) -> None:
-    number = one["executionId"]
-    execution = await execution_of(client, number)
-    console.print(plain(f"{one['jobName']}: job execution {number} is FAILED, exit status {one['exitStatus']}"))
-    steps = {step["stepName"]: step["exitStatus"] for step in execution["stepExecutions"] if step["batchStatus"] == "FAILED"}
-    if not steps:  # a decision has no step execution
-        steps = {name: "FAILED" for name in [log["stepName"] async for log in logs_of(client, number)][-1:]}
-    for name, exit_status in steps.items():
-        console.print(plain(f"  step {name}: exit status {exit_status}"))
-        console.print(plain_lines("".join([f"    {line}\n" async for line in last_lines(client, number, name)])), end="")
-    console.print(plain(f"  jobhost restart {number}"))
-
-
-async def last_lines(client: Client, execution: int, step: str) -> AsyncIterator[str]:
-    """The last lines of the logs of a step's work items."""
-    async for log in logs_of(client, execution, stepName=step):
-        for line in log["log"].splitlines()[-LOG_LINES:]:
-            yield line
 
 
 async def show_log(client: Client, given: argparse.Namespace) -> int:

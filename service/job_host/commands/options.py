@@ -6,7 +6,7 @@ import argparse
 import os
 from pathlib import Path
 
-from job_host.commands import jobs
+from job_host.commands import jobs, open_items
 from job_host.commands.jobs import Command
 from job_host.protocol.addresses import DEFAULT_URL
 
@@ -99,7 +99,11 @@ def add_lists(subcommands: Subcommands[argparse.ArgumentParser]) -> None:
     parser = add_command(subcommands, "list", jobs.list_instances, "shows the newest job instances")
     add_count(parser)
     add_utc(parser)
-    add_count(add_command(subcommands, "failed", jobs.failed, "says what failed, why, and how it is restarted"))
+    add_count(add_command(subcommands, "failed", open_items.failed, "says what failed, why, and how it is restarted"))
+    told = "says what failed or was stopped, runs long, has a late lease, or waits for a worker"
+    parser = add_command(subcommands, "open", open_items.open_items, told)
+    add_count(parser)
+    add_utc(parser)
     add_utc(add_command(subcommands, "work", jobs.show_work, "shows which worker holds which work item since when"))
     add_execution(add_command(subcommands, "log", jobs.show_log, "shows the logs of a job execution's work items"))
     parser = add_command(subcommands, "watch", jobs.watch, "shows a job execution until its end, or the newest job instances")

@@ -46,6 +46,14 @@ def clock(moment: str | None, in_utc: bool) -> Text:
     return plain(f"{when:%Y/%m/%d %H:%M:%S %z}")
 
 
+def span(seconds: float | None) -> str:
+    """How long something lasts, for people."""
+    whole = int(seconds or 0)
+    if whole < 60:
+        return f"{whole} s"
+    return f"{whole // 60} min {whole % 60} s" if whole < 3600 else f"{whole // 3600} h {whole // 60 % 60} min"
+
+
 def metrics_text(metrics: Mapping[str, int]) -> str:
     return " ".join(f"{name.removesuffix('_COUNT').lower()}={count}" for name, count in metrics.items())
 
@@ -65,6 +73,17 @@ def execution_table(told: Told, in_utc: bool) -> Table:
         table.add_row(*shown, *times, plain(metrics_text(step["metrics"])))
     whole = [Text("(job)"), status_text(told["batchStatus"]), plain(told["exitStatus"])]
     table.add_row(*whole, clock(told["startTime"], in_utc), clock(told["endTime"], in_utc), "")
+    return table
+
+
+def operation_table(told: Sequence[Told], execution: int, in_utc: bool) -> Table:
+    """Who did what to a job execution."""
+    table = folded("operation", "action", "by", "at")
+    for one in told:
+        made = f", job execution {one['made']}" if one["made"] not in (None, execution) else ""
+        of = f", work item {one['work']}" if one["work"] else made
+        by = {None: "unknown", "": "the service"}.get(one["client"], one["client"])
+        table.add_row(plain(one["operation"]), plain(one["action"] + of), plain(by), clock(one["time"], in_utc))
     return table
 
 

@@ -2,17 +2,23 @@
 
 from __future__ import annotations
 
+from collections.abc import Mapping
+from contextlib import suppress
 from typing import Any
 
 from prometheus_client import CollectorRegistry, Counter, Gauge, Histogram, generate_latest
 
 from job_host.protocol.lines import query, read
 from job_host.service.history.coprocess import CoProcessEnded
+from job_host.service.history.open_index import RESTARTABLE, WAITING
 from job_host.service.keepers.keeper import Keeper
+from job_host.service.keepers.open_items import OpenWanted, open_items
+from job_host.service.pages import Page
 from job_host.service.problems import Problem
 from job_host.service.settings import MOST_OPERATIONS
 from job_host.service.terms.term import Observers
 
+NO_ROWS = Page(0, 0)
 COMMIT_BUCKETS = (0.0005, 0.001, 0.002, 0.005, 0.01, 0.02, 0.05, 0.1, 0.2, 0.5, 1, 2, 5, 10)
 
 
@@ -33,6 +39,10 @@ class Metrics:
         self.epoch = Gauge("jobhost_epoch", "The epoch that this instance knows", **given)
         self.held = Gauge("jobhost_work_items_held", "Busy work items", **given)
         self.waiting = Gauge("jobhost_claims_waiting", "Claims that wait for work", **given)
+        self.open = Gauge("jobhost_open_job_instances", "Job instances to restart, by batch status", ["status"], **given)
+        self.long = Gauge("jobhost_long_job_executions", "Job executions that run much longer than before", **given)
+        self.late = Gauge("jobhost_late_work_items", "Work items whose lease is late", **given)
+        self.vain = Gauge("jobhost_waiting_job_executions", "Job executions that wait though no worker asks", **given)
         self.takeover = Gauge("jobhost_takeover_seconds", "Seconds from the last new epoch to the first call", **given)
 
     def observers(self) -> Observers:
@@ -62,4 +72,12 @@ class Metrics:
         self.held.set(held)
         for status, count in read(answers.replies[0])["counts"].items():
             self.executions.labels(status).set(count)
+        with suppress(Problem, CoProcessEnded):
+            self._set_open((await open_items(keeper, OpenWanted(NO_ROWS))).counts)
         return generate_latest(self.registry)
+
+    def _set_open(self, counts: Mapping[str, int | None]) -> None:
+        for status in RESTARTABLE:
+            self.open.labels(status).set(counts[status] or 0)
+        for name, gauge in (("long", self.long), ("late", self.late), (WAITING, self.vain)):
+            gauge.set(counts[name] or 0)

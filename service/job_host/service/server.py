@@ -25,8 +25,8 @@ from job_host.service.keepers.embedded import EmbeddedKeeper
 from job_host.service.keepers.keeper import Fatal, Keeper
 from job_host.service.metrics import Metrics
 from job_host.service.problems import Problem, unavailable
-from job_host.service.routes import jobs, lists, work
 from job_host.service.routes.console import EVENTS_PATH, ConsoleFiles, show_events
+from job_host.service.routes.table import ROUTES
 from job_host.service.settings import MOST_OPERATIONS, ServeSettings
 from job_host.service.terms.leases import Leases
 
@@ -80,7 +80,7 @@ class Service:
     def application(self) -> web.Application:
         application = web.Application(middlewares=[self._answer], client_max_size=self.settings.bounds.body_bytes)
         for root in ROOTS:
-            for route in [*jobs.ROUTES, *lists.ROUTES, *work.ROUTES]:
+            for route in ROUTES:
                 application.router.add_route(route.method, root + route.path, self._serve(route))
             application.router.add_get(root + EVENTS_PATH, self._follow, allow_head=False)
         for route in self._routes():

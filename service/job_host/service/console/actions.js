@@ -3,6 +3,8 @@
 import { element, told, UNFINISHED } from "./dom.js";
 import { operate, passes, read, Refused, requestKey, TokenNeeded, USUAL_SIZE } from "./service.js";
 
+// Of what runs already, so many are named.
+const MOST_NAMED = 3;
 const MEANINGS = {
   JobExecutionNotRunningException: "It has ended meanwhile, so there is nothing to stop.",
   JobExecutionIsRunningException: "A job execution of its job instance still runs.",
@@ -26,10 +28,15 @@ function paragraph(...children) {
 
 const QUESTIONS = {
   async start({ job }) {
+    const [last, running] = await Promise.all([lastOf(job), runningOf(job)]);
     return {
       title: ["Start ", told(job), "?"],
-      body: [paragraph("A new job instance of ", told(job), " is made, with its first job execution. Workers run its steps from then on.")],
-      parameters: {},
+      body: [
+        running.length ? paragraph(element("strong", {}, "It runs already"), `: ${running.map((one) => `job execution ${one.executionId} is ${one.batchStatus}`).join(", ")}.`) : null,
+        paragraph("A new job instance of ", told(job), " is made, with its first job execution. Workers run its steps from then on."),
+        last ? paragraph(`The parameters below are those of its last job execution, ${last.executionId}, which is ${last.batchStatus}.`) : null,
+      ],
+      parameters: last ? last.jobParameters : {},
       confirm: "Start",
       make: (parameters, key) => operate("POST", "/batch/jobinstances", { jobName: job, jobParameters: parameters }, key),
       said: (answer) => [`Job execution ${answer.executionId} of `, told(job), " was made."],
@@ -114,6 +121,17 @@ const QUESTIONS = {
   },
 };
 
+// The newest job execution of a job, if there is one that isn't purged meanwhile.
+async function lastOf(jobName) {
+  const [last] = (await read("/batch/jobexecutions", { jobName, pageSize: 1 })).jobExecutions;
+  return last ? read(`/batch/jobexecutions/${last.executionId}`).catch(() => null) : null;
+}
+
+async function runningOf(jobName) {
+  const words = [["jobName", jobName], ["pageSize", MOST_NAMED], ...UNFINISHED.map((status) => ["status", status])];
+  return (await read("/batch/jobexecutions", words)).jobExecutions;
+}
+
 function place(one) {
   return element("span", {}, told(one.stepName), one.partition === null ? "" : `, partition ${one.partition}`, ", held by ", told(one.client));
 }
@@ -151,6 +169,12 @@ class ParameterEditor {
     const row = { name: new ParameterField("Name of the parameter", "input", name), value: new ParameterField("Value of the parameter", "textarea", value) };
     const remove = element("button", { type: "button", class: "small quiet", "aria-label": "Remove this parameter" }, "\u2715");
     row.node = element("div", { class: "editor-row" }, row.name.node, element("span", { "aria-hidden": "true" }, "="), row.value.node, remove);
+    // It would start the job.
+    row.name.node.addEventListener("keydown", (event) => {
+      if (event.key !== "Enter") return;
+      event.preventDefault();
+      row.value.node.focus();
+    });
     remove.addEventListener("click", () => {
       this.rows.splice(this.rows.indexOf(row), 1);
       row.node.remove();
@@ -158,6 +182,12 @@ class ParameterEditor {
     this.rows.push(row);
     this.list.append(row.node);
     return row.name;
+  }
+
+  // The first value, if its name is there.
+  focus() {
+    const { name, value } = this.rows[0];
+    (name.text ? value : name).node.focus();
   }
 
   // The parameters. Throws if a name comes twice.
@@ -181,6 +211,9 @@ function explained(fault) {
 }
 
 const dialog = document.getElementById("question");
+dialog.addEventListener("close", () => {
+  if (!dialog.open) dialog.replaceChildren();
+});
 
 function show(question, after) {
   let key = requestKey();
@@ -211,7 +244,7 @@ function show(question, after) {
   dialog.replaceChildren(form);
   dialog.showModal();
   if (question.isDanger) cancel.focus();
-  else if (editor) editor.rows[0].name.node.focus();
+  else if (editor) editor.focus();
   else confirm.focus();
 }
 

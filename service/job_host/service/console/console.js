@@ -190,6 +190,10 @@ main.addEventListener("click", (event) => {
   if (pressed) act(pressed);
 });
 
+main.addEventListener("input", (event) => {
+  if (event.target.id === "filter" && data) draw();
+});
+
 main.addEventListener("submit", (event) => {
   const form = event.target.closest("form[data-form=search]");
   if (!form) return;

@@ -131,7 +131,10 @@ export function span(from, until) {
   const begun = date(from);
   const ended = until ? date(until) : new Date();
   if (!begun || !ended) return "";
-  const seconds = Math.max(0, (ended - begun) / 1000);
+  return lasting(Math.max(0, (ended - begun) / 1000));
+}
+
+export function lasting(seconds) {
   if (seconds < 10) return `${seconds.toFixed(1)} s`;
   if (seconds < 60) return `${Math.round(seconds)} s`;
   const [hours, minutes, rest] = [Math.floor(seconds / 3600), Math.floor(seconds / 60) % 60, Math.floor(seconds) % 60];

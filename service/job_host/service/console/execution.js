@@ -3,38 +3,27 @@
 import {
   badge, button, element, executionLink, facts, framed, heading, isNarrow, jobLink, MOST_ROWS, pageOf, pager, room, section, span, table, told, UNFINISHED, when,
 } from "./dom.js";
+import { causesSection } from "./open.js";
 import { picture, runnables } from "./picture.js";
 import { read, shapeOf, USUAL_SIZE } from "./service.js";
 
-const LOG_LINES = 12;
-const MOST_REASONS = 8;
-const MOST_PARTITIONS = 64;
+// The titles above the causes of these batch statuses.
+const CAUSES = { FAILED: "Why it failed", STOPPED: "Where it stopped" };
 // The lists of the page, each with its rows at once, and the words of the address that say which of its pages is shown.
-const LISTS = { others: USUAL_SIZE, items: MOST_ROWS, logs: USUAL_SIZE };
+const LISTS = { others: USUAL_SIZE, items: MOST_ROWS, logs: USUAL_SIZE, operations: USUAL_SIZE };
 
 async function load({ number, query }) {
   const path = `/batch/jobexecutions/${number}`;
   const one = await read(path);
   const instance = `/batch/jobinstances/${one.instanceId}`;
   const page = (name) => ({ ...(LISTS[name] === USUAL_SIZE ? {} : { pageSize: LISTS[name] }), ...(pageOf(query, name) ? { page: pageOf(query, name) } : {}) });
-  const [newest, others, items, logs, shape] = await Promise.all([
+  const [newest, others, items, logs, operations, shape, causes] = await Promise.all([
     read(instance), read(`${instance}/jobexecutions`, page("others")), read(`${path}/workitems`, page("items")), read(`${path}/joblogs`, page("logs")),
-    shapeOf(one.jobName),
+    read(`${path}/operations`, page("operations")), shapeOf(one.jobName), CAUSES[one.batchStatus] ? read(`${path}/causes`) : null,
   ]);
-  const lists = { others, items, logs };
+  const lists = { others, items, logs, operations };
   const isWhole = Object.fromEntries(Object.entries(lists).map(([name, rows]) => [name, !pageOf(query, name) && rows.length < LISTS[name]]));
-  return { one, newest, ...lists, isWhole, shape, reasons: await reasonsOf(path, one, items, isWhole.logs ? logs : null) };
-}
-
-// What failed: the name of each step and decision, its exit status, and its logs. They are read if they may stand on another page.
-async function reasonsOf(path, one, items, logs) {
-  if (one.batchStatus !== "FAILED") return [];
-  const steps = one.stepExecutions.filter((step) => step.batchStatus === "FAILED").map((step) => [step.stepName, step.exitStatus]);
-  const isStep = (item) => one.stepExecutions.some((step) => step.stepName === item.stepName);
-  const decisions = items.filter((item) => ["FAILED", "LOST"].includes(item.outcome) && !isStep(item))
-    .map((item) => [item.stepName, item.exitStatus || item.outcome]);
-  return Promise.all([...steps, ...decisions].slice(0, logs ? undefined : MOST_REASONS).map(async ([name, exit]) =>
-    ({ name, exit, logs: logs ? logs.filter((log) => log.stepName === name) : await read(`${path}/joblogs`, { stepName: name, pageSize: MOST_PARTITIONS }) })));
+  return { one, newest, ...lists, isWhole, shape, causes };
 }
 
 // What stands in the box of a step or decision: what this job execution made of it, or an earlier one.
@@ -72,21 +61,6 @@ function parameterList(parameters) {
   if (!pairs.length) return element("p", { class: "empty" }, "It has no parameters.");
   return element("dl", { class: "parameters" }, pairs.map(([name, value]) =>
     element("div", {}, element("dt", {}, told(name)), element("dd", { tabindex: "0", role: "group", "aria-label": `Value of ${name}` }, told(value)))));
-}
-
-function lastLines(text) {
-  return text.split("\n").filter((line) => line.trim()).slice(-LOG_LINES).join("\n");
-}
-
-// Which step failed, with what exit status, and what its log ends with.
-function reason({ reasons }) {
-  const shown = reasons.map(({ name, exit, logs }) => {
-    const log = logs.map((each) => lastLines(each.log)).filter(Boolean).join("\n");
-    return element("div", { "data-key": `why ${name}` },
-      element("p", {}, element("strong", {}, told(name)), " is FAILED, exit status ", told(exit)),
-      log ? element("pre", { tabindex: "0", role: "group", "aria-label": `End of the log of ${name}`, dir: "auto" }, log) : null);
-  });
-  return shown.length ? element("section", { class: "reason", "data-key": "reason", "aria-label": "Why it failed" }, element("h2", {}, "Why it failed"), shown) : null;
 }
 
 function metrics(counts) {
@@ -147,6 +121,16 @@ function logList({ one, logs }) {
     element("pre", { tabindex: "0", role: "group", "aria-label": `Log of work item ${log.work}`, dir: "auto" }, log.log)));
 }
 
+function operationsTable({ one, operations }) {
+  const columns = [{ name: "Operation", kind: "number" }, { name: "What" }, { name: "By" }, { name: "At" }];
+  const of = (each) => (each.work ? `, work item ${each.work}` : !each.made || each.made === one.executionId ? "" : [", job execution ", executionLink(each.made)]);
+  const by = (client) => (client === "" ? "the service, as its lease ran out" : client === null ? "a client whose name isn't known any more" : told(client));
+  return table("Who did what to this job execution, the newest first", columns, operations.map((each) => ({
+    key: each.operation,
+    cells: [String(each.operation), [each.action, of(each)], by(each.client), when(each.time)],
+  })), "Nothing was done.");
+}
+
 function attempts({ one, others }) {
   const columns = [{ name: "Job execution", kind: "number" }, { name: "Status" }, { name: "Exit status" }, { name: "Steps", kind: "wide" }, { name: "Created" }, { name: "Ended" }];
   const steps = (each) => element("ul", { class: "metrics" }, each.stepExecutions.map((step) =>
@@ -179,7 +163,7 @@ export const execution = {
     return [
       heading("Job execution ", String(one.executionId), " of ", jobLink(one.jobName), " ", badge(one.batchStatus)),
       actions(data, may),
-      reason(data),
+      data.causes ? causesSection(CAUSES[one.batchStatus], data.causes) : null,
       section("Picture", framed(picture(shape, states, isNarrow(), room()))),
       section("Facts", facts([
         ["Job instance", String(one.instanceId)], ["Exit status", one.exitStatus === null ? "" : told(one.exitStatus)], ["Created", when(one.createTime)], ["Started", when(one.startTime)],
@@ -189,6 +173,7 @@ export const execution = {
       section("Steps", stepsTable(data)),
       section("Work items", workTable(data, may), turn("items", "Pages of the work items", data, route, ["Earlier", "Later"])),
       section("Logs", logList(data), turn("logs", "Pages of the logs", data, route, ["Earlier", "Later"])),
+      section("Who did what", operationsTable(data), turn("operations", "Pages of the operations", data, route)),
       section("Earlier and later job executions", attempts(data), turn("others", "Pages of the job executions", data, route)),
     ];
   },

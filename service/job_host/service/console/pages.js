@@ -4,10 +4,12 @@ import {
   badge, button, count, element, executionLink, facts, framed, heading, isNarrow, jobLink, link, MOST_ROWS, pageOf, pager, room, section, span, STATUSES,
   table, told, UNFINISHED, when,
 } from "./dom.js";
+import { lookSection, openSection } from "./open.js";
 import { picture } from "./picture.js";
 import { read, shapeOf, USUAL_SIZE } from "./service.js";
 
 const NEWEST = 8;
+const RESTARTABLE = ["FAILED", "STOPPED"];
 
 function fill(history) {
   const share = (100 * history.operations) / history.mostOperations;
@@ -31,55 +33,92 @@ function executionsTable(caption, rows, empty) {
   return table(caption, columns, rows.map((row) => ({
     key: row.executionId,
     cells: [
-      executionLink(row.executionId), jobLink(row.jobName), badge(row.batchStatus), exit(row), told(row.parameterText || ""),
+      executionLink(row.executionId), jobLink(row.jobName), [badge(row.batchStatus), isSettled(row) ? " restarted" : ""], exit(row), told(row.parameterText || ""),
       when(row.createTime), when(row.endTime), row.startTime ? span(row.startTime, row.endTime) : "",
     ],
   })), empty);
 }
 
-function counts(statusCounts, query, current) {
-  const total = Object.values(statusCounts).reduce((sum, number) => sum + number, 0);
-  const tile = (status, number) => {
-    const parameters = new URLSearchParams({ ...query, ...(status ? { status } : {}) });
-    const isCurrent = status === current;
-    return element("li", {}, element("a",
-      { href: `#/executions?${parameters}`, class: `tile ${status ? `status-${status}` : ""}`, "aria-current": isCurrent ? "true" : null },
-      element("strong", {}, number.toLocaleString("en")), " ", status || "all"));
-  };
-  return element("ul", { class: "tiles", "aria-label": "Job executions by batch status" },
-    tile("", total), STATUSES.map((status) => tile(status, statusCounts[status] || 0)));
+// It failed or was stopped, and its job instance has gone on since then.
+function isSettled(row) {
+  return RESTARTABLE.includes(row.batchStatus) && !row.mostRecent;
 }
 
-// Jobs: what may be started, how its last night ended, and how full the history is.
+function tile(href, status, number, isCurrent, name = status) {
+  return element("li", {}, element("a", { href, class: `tile ${status ? `status-${status}` : ""}`, "aria-current": isCurrent ? "true" : null },
+    element("strong", {}, number.toLocaleString("en")), " ", name || "all"));
+}
+
+function counts(statusCounts, query, current) {
+  const total = Object.values(statusCounts).reduce((sum, number) => sum + number, 0);
+  const of = (status, number) => tile(`#/executions?${new URLSearchParams({ ...query, ...(status ? { status } : {}) })}`, status, number, status === current);
+  return element("ul", { class: "tiles", "aria-label": "Job executions by batch status" },
+    of("", total), STATUSES.map((status) => of(status, statusCounts[status] || 0)));
+}
+
+// How much is open, and how much isn't finished.
+function openCounts(open, statusCounts, current) {
+  const of = (status) => tile(status === current ? "#/" : `#/?status=${status}`, status, open[status], status === current, `${status}, open`);
+  return element("ul", { class: "tiles", "aria-label": "What is open, and what isn't finished" }, RESTARTABLE.map(of),
+    UNFINISHED.map((status) => tile(`#/executions?status=${status}`, status, statusCounts[status] || 0, false)));
+}
+
+// Failing jobs come first, then those that were stopped, then those that run.
+function rank({ jobName, newest }, open) {
+  const statuses = [newest ? newest.batchStatus : "", ...open.filter((one) => one.jobName === jobName).map((one) => one.batchStatus)];
+  const place = ["FAILED", "STOPPED"].findIndex((status) => statuses.includes(status));
+  if (place >= 0) return place;
+  return UNFINISHED.includes(statuses[0]) ? 2 : 3;
+}
+
+function filterForm() {
+  return element("div", { class: "search" }, element("label", { for: "filter" }, "Part of a job's name"),
+    element("input", { id: "filter", type: "search", maxlength: "256", autocomplete: "off", dir: "auto" }));
+}
+
+function jobsTable(catalogue, open, may) {
+  const columns = [
+    { name: "Job" }, { name: "Job instances", kind: "number" }, { name: "Last job execution", kind: "number" }, { name: "Status" }, { name: "Updated" },
+    ...(may("operate") ? [{ name: "Action", kind: "action" }] : []),
+  ];
+  const wanted = (document.getElementById("filter")?.value || "").trim().toLowerCase();
+  const ranks = new Map(catalogue.jobs.map((job) => [job, rank(job, open)]));
+  const shown = catalogue.jobs.filter((job) => job.jobName.toLowerCase().includes(wanted)).sort((one, other) => ranks.get(one) - ranks.get(other));
+  const rows = shown.map((job) => ({
+    key: job.jobName,
+    cells: [
+      jobLink(job.jobName), job.instances.toLocaleString("en"), job.newest ? executionLink(job.newest.executionId) : "",
+      job.newest ? badge(job.newest.batchStatus) : "never started", job.newest ? when(job.newest.lastUpdatedTime) : "",
+      ...(may("operate") ? [button("start", "Start", { job: job.jobName }, "small")] : []),
+    ],
+  }));
+  return table("Jobs of the catalogue, failing ones first, each with its newest job instance", columns, rows, wanted ? "No job has this in its name." : "The catalogue has no job.");
+}
+
+// Jobs: what is open, what runs, what may be started, and how full the history is.
 export const jobs = {
   page: "jobs",
-  async load() {
-    const [catalogue, all, failed, history] = await Promise.all([
-      read("/batch/catalogue"), read("/batch/jobs"), read("/batch/jobexecutions", { status: "FAILED", mostRecent: "true", pageSize: NEWEST }),
-      read("/batch/history"),
+  async load({ query }) {
+    const status = query.get("status");
+    const of = { ...(RESTARTABLE.includes(status) ? { status } : {}), ...(pageOf(query) ? { page: pageOf(query) } : {}) };
+    const running = [...UNFINISHED.map((one) => ["status", one]), ["pageSize", NEWEST]];
+    const [open, runs, catalogue, history] = await Promise.all([
+      read("/batch/open", of), read("/batch/jobexecutions", running), read("/batch/catalogue"), read("/batch/history"),
     ]);
-    return { catalogue, statusCounts: all.statusCounts, failed, history };
+    return { open, runs, catalogue, history };
   },
   title: () => "Jobs",
-  isLive: () => false,
-  draw({ catalogue, statusCounts, failed, history }, route, may) {
-    const columns = [
-      { name: "Job" }, { name: "Job instances", kind: "number" }, { name: "Last job execution", kind: "number" }, { name: "Status" }, { name: "Updated" },
-      ...(may("operate") ? [{ name: "Action", kind: "action" }] : []),
-    ];
-    const rows = catalogue.jobs.map((job) => ({
-      key: job.jobName,
-      cells: [
-        jobLink(job.jobName), job.instances.toLocaleString("en"), job.newest ? executionLink(job.newest.executionId) : "",
-        job.newest ? badge(job.newest.batchStatus) : "never started", job.newest ? when(job.newest.lastUpdatedTime) : "",
-        ...(may("operate") ? [button("start", "Start", { job: job.jobName }, "small")] : []),
-      ],
-    }));
+  isLive: ({ open, runs }) => runs.jobExecutions.length > 0 || open.late?.length > 0,
+  draw({ open, runs, catalogue, history }, { query }, may) {
+    const kept = query.get("status") ? { status: query.get("status") } : {};
     return [
       heading("Jobs"),
-      counts(statusCounts, {}, null),
-      section("Jobs of the catalogue", table("Jobs of the catalogue, each with its newest job instance", columns, rows, "The catalogue has no job.")),
-      section("Failed last", executionsTable("Job instances that are FAILED, the newest first", failed.jobExecutions, "No job instance is FAILED.")),
+      openCounts(open.counts, runs.statusCounts, query.get("status")),
+      openSection(open, query, may, (page) => `#/?${new URLSearchParams({ ...kept, page })}`),
+      lookSection(open),
+      section("Running", executionsTable("Job executions that aren't finished, the newest first", runs.jobExecutions, "Nothing runs."),
+        runs.more ? element("p", {}, "More run: ", link("#/executions?status=STARTED", "all that are STARTED")) : null),
+      section("Jobs of the catalogue", filterForm(), jobsTable(catalogue, open.jobInstances, may)),
       section("History", fullness(history)),
     ];
   },

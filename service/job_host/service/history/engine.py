@@ -6,12 +6,17 @@ import asyncio
 import json
 from collections import deque
 from collections.abc import Callable, Iterator, Sequence
+from functools import lru_cache
 from typing import Any, NamedTuple
 
+from job_host.catalogue.jobs import jobs_of
 from job_host.protocol.lines import LinesDigest, is_accepted, query
+from job_host.service.history.actions import ACTIONS, Action, Actions
 from job_host.service.history.answers import Answers
+from job_host.service.history.causes import FAILED
 from job_host.service.history.coprocess import CoProcess, CoProcessEnded
 from job_host.service.history.execution_index import ExecutionIndex
+from job_host.service.history.open_index import OpenIndex
 from job_host.service.history.work_items import LOST, Ended, EndedWork, Held
 
 # Commands whose replies tell what the operation is on.
@@ -22,6 +27,12 @@ GIVES_NO_WORK = frozenset({"claim", "checkpoint"})
 STATE = (query("status_counts"), query("job_names"))
 # A co-process that doesn't answer for so long isn't used further.
 ANSWER_SECONDS = 10.0
+
+
+@lru_cache(maxsize=2)
+def not_restartable(catalogue: bytes) -> frozenset[str]:
+    """The jobs that say that they may not be restarted."""
+    return frozenset(name for name, job in jobs_of(catalogue).items() if job.get("restartable") is False)
 
 
 class Record(NamedTuple):
@@ -57,8 +68,14 @@ class Engine:
         self.last_moment = 0
         self.last_session = 0
         self.held: dict[int, Held] = {}
+        # How many work items of each job execution are busy.
+        self.busy: dict[int, int] = {}
         self.ended_work = EndedWork()
+        # Also those that failed long ago.
+        self.failed_work = EndedWork()
+        self.actions = Actions()
         self.executions = ExecutionIndex(self)
+        self.open = OpenIndex(self, self.executions, self.busy, lambda job: job not in not_restartable(self.process.catalogue))
         self.recent: deque[Record] = deque()
         self.digest = LinesDigest()
         self.is_whole = True
@@ -104,12 +121,32 @@ class Engine:
         self.entered += 1
         do = told["do"]
         if do == "purge":
-            self.executions.note_purged(told["instance"], self.entered)
-        else:
-            execution = self._execution_of(do, told, answers)
-            self.executions.note_changed(execution, self.entered)
-            if do in ("start", "restart"):
-                self.executions.note_made(execution, told.get("execution"), self.entered)
+            self._note_purge(told)
+            return
+        execution = self._execution_of(do, told, answers)
+        self.executions.note_changed(execution, self.entered)
+        self.open.note_changed(execution)
+        if do in ACTIONS:
+            self._note_action(do, told, execution)
+
+    def _note_purge(self, told: dict[str, Any]) -> None:
+        instance = told["instance"]
+        self.executions.note_purged(instance, self.entered)
+        self.open.note_changed(self.executions.newest_of(instance))
+        self.actions.note_purge(instance, Action(self.entered, "purge", told["by"], told["at"], 0))
+
+    def _note_action(self, do: str, told: dict[str, Any], execution: int) -> None:
+        """Notes what somebody did to a job execution. A restart is noted of both, the earlier one and the one that it made."""
+        made = execution if do in ("start", "restart") else 0
+        action = Action(self.entered, do, told["by"], told["at"], made or told.get("work", 0))
+        self.actions.note(execution, action)
+        if not made:
+            return
+        earlier = told.get("execution")
+        self.executions.note_made(execution, earlier, self.entered)
+        if earlier is not None:
+            self.open.note_changed(earlier)
+            self.actions.note(earlier, action)
 
     def _execution_of(self, do: str, told: dict[str, Any], answers: Iterator[dict[str, Any]]) -> int:
         """The job execution that an operation is on. Notes who claimed a work item, and which is over."""
@@ -122,9 +159,19 @@ class Engine:
         if do == "checkpoint":
             return self.held[told["work"]].execution
         held = self.held.pop(told["work"])
+        self._note_free(held.execution)
         outcome = LOST if do == "lose" else told["outcome"]
-        self.ended_work.note(Ended(held, told["at"], outcome, told.get("exit")))
+        ended = Ended(held, told["at"], outcome, told.get("exit"))
+        self.ended_work.note(ended)
+        if outcome in FAILED:
+            self.failed_work.note(ended)
         return held.execution
+
+    def _note_free(self, execution: int) -> None:
+        """A work item of a job execution is over."""
+        left = self.busy.pop(execution) - 1
+        if left:
+            self.busy[execution] = left
 
     def _note_claim(self, told: dict[str, Any], reply: dict[str, Any]) -> int:
         work = reply.get("work")
@@ -132,6 +179,7 @@ class Engine:
             return int(reply["closed"])
         place = (work["work"], work["execution"], work["element"], work.get("partition"))
         self.held[work["work"]] = Held(*place, told["by"], told["at"])
+        self.busy[work["execution"]] = self.busy.get(work["execution"], 0) + 1
         return int(work["execution"])
 
     def note_kept(self, number: int) -> None:

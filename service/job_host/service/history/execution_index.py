@@ -119,6 +119,21 @@ class ExecutionIndex:
     def has_instance(self, instance: int) -> bool:
         return 0 < instance < len(self._newest) and instance not in self._purged
 
+    def instance_of(self, execution: int) -> int | None:
+        """The job instance of a job execution, also of a purged one."""
+        return self._instances[execution] if 0 < execution < len(self._instances) else None
+
+    def is_there(self, execution: int) -> bool:
+        """Whether its job instance wasn't purged."""
+        return self.has_instance(self._instances[execution])
+
+    def is_newest(self, execution: int) -> bool:
+        """Whether it is the most recent job execution of its job instance."""
+        return execution not in self._restarted
+
+    def newest_of(self, instance: int) -> int:
+        return self._newest[instance]
+
     def of_instance(self, instance: int, page: Page) -> list[int]:
         """The job executions of a job instance, the newest first."""
         found: list[int] = []
@@ -169,6 +184,6 @@ class ExecutionIndex:
         return found[start : start + count], len(found) > start + count
 
     def _is_wanted(self, wanted: Wanted, execution: int) -> bool:
-        if wanted.most_recent and execution in self._restarted:
+        if wanted.most_recent and not self.is_newest(execution):
             return False
         return wanted.takes(execution, self._rows[execution], self._parameters.get(execution, ""))

@@ -15,7 +15,7 @@ from job_host.service.history import log_file
 from job_host.service.history.coprocess import CatalogueRefused, CoProcess, CoProcessEnded
 from job_host.service.history.engine import Engine
 from job_host.service.keepers.embedded_term import Beside, EmbeddedTerm
-from job_host.service.keepers.keeper import Fatal, Keeper, check_catalogue, first_of
+from job_host.service.keepers.keeper import Fatal, Keeper, check_catalogue, first_of, needed
 from job_host.service.keepers.replayed_log import ReplayedLog
 from job_host.service.problems import Problem, unavailable
 from job_host.service.settings import ServeSettings
@@ -202,7 +202,7 @@ class EmbeddedKeeper(Keeper):
         await beside.do(lambda store: store.note_heard(heard))
         found = await beside.do(lambda store: store.silent_clients(self._settings.bounds.name_seconds))
         # The store knows the log's last client, by whose session a start tells whether both belong together.
-        silent = [one for one in found if one.number != term.engine.last_session]
+        silent = needed(term.engine, [one for one in found if one.number != term.engine.last_session])
         with term.sessions.forgetting(silent, term.engine.holding()) as dropped:
             await beside.do(lambda store: store.drop_clients(dropped))
 
@@ -226,6 +226,11 @@ class EmbeddedKeeper(Keeper):
         if self._beside is None:
             raise unavailable("Starting", "the history isn't here yet")
         return await self._beside.do(lambda store: store.logs(wanted))
+
+    async def log_ends(self, works: Sequence[int]) -> list[WorkLog]:
+        if self._beside is None:
+            raise unavailable("Starting", "the history isn't here yet")
+        return await self._beside.do(lambda store: store.log_ends(works))
 
     async def client_names(self, sessions: Sequence[int]) -> dict[int, str]:
         names = {one: self._sessions.name(one) for one in sessions}

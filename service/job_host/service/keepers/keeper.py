@@ -7,18 +7,20 @@ import logging
 from abc import ABC, abstractmethod
 from collections.abc import AsyncIterator, Awaitable, Mapping, Sequence
 from contextlib import asynccontextmanager
-from dataclasses import dataclass
+from dataclasses import dataclass, replace
 from typing import Any
 
 from job_host.protocol.lines import query, read
+from job_host.service.history.actions import Action
 from job_host.service.history.answers import Answers
 from job_host.service.history.coprocess import CatalogueRefused, CoProcess
 from job_host.service.history.engine import Engine
 from job_host.service.history.work_items import Ended, Held
 from job_host.service.pages import Page
 from job_host.service.problems import Problem, of_refusal, unavailable
-from job_host.service.terms.calls import Call, Kept, LogPage, WorkLog
+from job_host.service.terms.calls import SERVICE, SERVICE_SESSION, Call, Kept, LogPage, WorkLog
 from job_host.service.terms.leases import Leases
+from job_host.service.terms.sessions import Silent
 from job_host.service.terms.term import Term
 
 log = logging.getLogger(__name__)
@@ -86,6 +88,10 @@ class Keeper(ABC):
         """What workers handed in as logs of work items, by rising number."""
 
     @abstractmethod
+    async def log_ends(self, works: Sequence[int]) -> list[WorkLog]:
+        """The ends of the logs of these work items, as far as they have one."""
+
+    @abstractmethod
     async def reach(self, at_least: int) -> None:
         """Returns after so many operations are here. Raises a problem if they don't come."""
 
@@ -107,6 +113,7 @@ class Keeper(ABC):
                 engine.process.kill()
             elif engine.process.silence == 0.0:
                 engine.look()
+                engine.open.settle_soon()
 
     @property
     def operations(self) -> int:
@@ -206,6 +213,19 @@ class Keeper(ABC):
         ]
         return told, seen
 
+    async def actions(self, execution: int, page: Page, at_least: int) -> tuple[list[tuple[Action, str | None]], int]:
+        """Who did what to a job execution, the newest first, and how many operations that saw. It may be a purged one."""
+        await self.reach(at_least)
+        engine, term = self.reading(), self.term
+        seen, instance = engine.entered, engine.executions.instance_of(execution)
+        found = [] if instance is None else engine.actions.of(execution, instance, page)
+        if term is not None:
+            await term.until_committed(seen)
+        if instance is None:
+            raise Problem("NoSuchJobExecutionException", 404)
+        names = {SERVICE_SESSION: SERVICE} | await self.client_names(sorted({one.session for one in found} - {SERVICE_SESSION}))
+        return [(one, names.get(one.session)) for one in found], seen
+
     def _remaining(self, work: int) -> float | None:
         """The seconds of a lease that are left. Only the leader knows."""
         return self.leases.remaining(work) if self.term is not None else None
@@ -234,22 +254,27 @@ class Steps:
     """Reads of one state, one after the other."""
 
     def __init__(self, engine: Engine) -> None:
-        self._engine = engine
+        self.engine = engine
         self.seen = engine.entered
 
     async def ask(self, queries: Sequence[bytes]) -> list[bytes]:
         if not queries:
             return []
-        answers = await self._engine.ask(queries)
+        answers = await self.engine.ask(queries)
         self.seen = answers.seen
         return answers.replies
 
     async def executions_of(self, instance: int, page: Page) -> list[int]:
         """The job executions of a job instance, the newest first. Raises the refusal of one that isn't there."""
-        if not self._engine.executions.has_instance(instance):
+        if not self.engine.executions.has_instance(instance):
             told = read((await self.ask([query("job_executions", instance=instance)]))[0])
             raise of_refusal(told, self.seen) or ValueError(f"job instance {instance} isn't known here")
-        return self._engine.executions.of_instance(instance, page)
+        return self.engine.executions.of_instance(instance, page)
+
+
+def needed(engine: Engine, silent: Sequence[Silent]) -> list[Silent]:
+    """Client names, of which those are needed that did something to a job execution: it is told as long as the history."""
+    return [replace(one, is_needed=one.is_needed or one.number in engine.actions.sessions) for one in silent]
 
 
 async def check_catalogue(batchctl: Sequence[str], catalogue: bytes) -> None:

@@ -8,14 +8,14 @@ import os
 import socket
 import time
 import uuid
-from collections.abc import Sequence
+from collections.abc import Awaitable, Callable, Sequence
 from contextlib import suppress
 
 from job_host.catalogue import growth, jobs
 from job_host.catalogue.check import NoVerdict
 from job_host.service.history.coprocess import CoProcess, CoProcessEnded
 from job_host.service.history.engine import Engine, ReplayDiffers
-from job_host.service.keepers.keeper import Fatal, Keeper, check_catalogue, first_of
+from job_host.service.keepers.keeper import Fatal, Keeper, check_catalogue, first_of, needed
 from job_host.service.keepers.postgres_term import PostgresTerm, beating
 from job_host.service.problems import Problem, unavailable
 from job_host.service.settings import ServeSettings
@@ -233,7 +233,7 @@ class PostgresKeeper(Keeper):
     async def _forget_names(self, store: PostgresStore, term: PostgresTerm) -> None:
         """Forgets client names that hold no work item and weren't heard for long."""
         await store.note_heard(term.sessions.take_heard())
-        silent = await store.silent_clients(self._settings.bounds.name_seconds)
+        silent = needed(term.engine, await store.silent_clients(self._settings.bounds.name_seconds))
         with term.sessions.forgetting(silent, term.engine.holding()) as dropped:
             if dropped:
                 await store.drop_clients(term.epoch, dropped)
@@ -269,10 +269,16 @@ class PostgresKeeper(Keeper):
                     await asyncio.wait_for(self._followed.wait(), min(remaining, 0.05))
 
     async def logs(self, wanted: LogPage) -> list[WorkLog]:
+        return await self._read(lambda store: store.logs(wanted))
+
+    async def log_ends(self, works: Sequence[int]) -> list[WorkLog]:
+        return await self._read(lambda store: store.log_ends(works))
+
+    async def _read(self, read: Callable[[PostgresStore], Awaitable[list[WorkLog]]]) -> list[WorkLog]:
         if self._store is None:
             raise unavailable("Starting", "the history isn't here yet")
         try:
-            return await self._store.logs(wanted)
+            return await read(self._store)
         except LOST as fault:
             raise unavailable("StoreLost", f"{type(fault).__name__}: {fault}") from fault
 

@@ -78,22 +78,30 @@ async def change_instance(asked: Asked) -> web.StreamResponse:
     """Restarts the most recent job execution of a job instance."""
     if asked.request.query.get("action") != "restart":
         raise bad_request("action is restart")
-    instance, parameters = asked.path_number(), await parameters_of(asked)
+    instance, body = asked.path_number(), await restart_body(asked)
 
     async def resolve() -> Members:
         async with asked.keeper.steps(0) as steps:
             (newest,) = await steps.executions_of(instance, Page(0, 1))
-        return {"execution": newest, "parameters": parameters}
+        return await to_restart(asked, newest, body)
 
-    print_of = fingerprint("restart instance", instance, parameters)
+    print_of = fingerprint("restart instance", instance, body.get("jobParameters", {}))
     call = Call(asked.client, "restart", {}, asked.key, print_of, resolve)
     return begun(asked, await asked.keeper.submit(call), 200)
 
 
-async def parameters_of(asked: Asked) -> Any:
+async def restart_body(asked: Asked) -> dict[str, Any]:
     body = await asked.body()
     expect_members(body, "jobParameters")
-    return body.get("jobParameters", {})
+    return body
+
+
+async def to_restart(asked: Asked, execution: int, body: dict[str, Any]) -> Members:
+    """The members of a restart. If its body has no parameters, those of the earlier job execution are taken over."""
+    if "jobParameters" in body:
+        return {"execution": execution, "parameters": body["jobParameters"]}
+    answers = await asked.keeper.ask([query("parameters", execution=execution)])
+    return {"execution": execution, "parameters": read(answers.replies[0]).get("parameters", {})}
 
 
 async def list_executions(asked: Asked) -> web.StreamResponse:
@@ -127,8 +135,9 @@ async def change_execution(asked: Asked) -> web.StreamResponse:
         raise bad_request("action is stop, restart or abandon")
     members: dict[str, Any] = {"execution": execution}
     if action == "restart":
-        members["parameters"] = await parameters_of(asked)
-        call = Call(asked.client, action, members, asked.key, fingerprint(action, members))
+        body = await restart_body(asked)
+        print_of = fingerprint(action, {**members, "parameters": body.get("jobParameters", {})})
+        call = Call(asked.client, action, {}, asked.key, print_of, lambda: to_restart(asked, execution, body))
         return begun(asked, await asked.keeper.submit(call), 200)
     expect_members(await asked.body())
     kept = await asked.keeper.submit(Call(asked.client, action, members, asked.key, fingerprint(action, members)))

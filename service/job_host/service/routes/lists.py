@@ -3,7 +3,7 @@
 from __future__ import annotations
 
 import json
-from collections.abc import Iterable
+from collections.abc import Iterable, Sequence
 from functools import lru_cache
 from typing import Any
 
@@ -89,12 +89,12 @@ async def list_with_state(asked: Asked, wanted: Wanted, start: int, count: int) 
     return asked.answer([one for one in instances if one["instanceState"] in wanted.statuses], steps.seen)
 
 
-def statuses_of(word: str, given: Iterable[str]) -> frozenset[str]:
+def statuses_of(word: str, given: Iterable[str], known: Sequence[str] = STATUSES) -> frozenset[str]:
     """The batch statuses that a word of the query has."""
     statuses = frozenset(given)
-    unknown = sorted(statuses - set(STATUSES))
+    unknown = sorted(statuses - set(known))
     if unknown:
-        raise bad_request(f"{word} is one of {', '.join(STATUSES)}, and not {json.dumps(unknown[0])[:100]}")
+        raise bad_request(f"{word} is one of {', '.join(known)}, and not {json.dumps(unknown[0])[:100]}")
     return statuses
 
 
@@ -120,9 +120,10 @@ async def list_all_executions(asked: Asked) -> web.StreamResponse:
     counts, *replies = [read(reply) for reply in answers.replies]
     pairs = zip(replies[::2], replies[1::2])
     rows = [brief(told["job_execution"], parameters["parameters"]) for told, parameters in pairs if "job_execution" in told]
+    rows = [{**row, "mostRecent": executions.is_most_recent(row["executionId"], answers.seen)} for row in rows]
     shown = [row for row in rows if not wanted.statuses or row["batchStatus"] in wanted.statuses]
     if wanted.most_recent:
-        shown = [row for row in shown if executions.is_most_recent(row["executionId"], answers.seen)]
+        shown = [row for row in shown if row["mostRecent"]]
     told = {"jobExecutions": shown, "more": more, "statusCounts": counts["counts"], "total": total_of(wanted, counts["counts"])}
     return asked.answer(told, answers.seen)
 

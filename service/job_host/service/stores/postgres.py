@@ -5,8 +5,8 @@ from __future__ import annotations
 import asyncio
 import json
 import logging
-from collections.abc import AsyncIterator, Coroutine, Mapping, Sequence
-from contextlib import asynccontextmanager
+from collections.abc import AsyncIterator, Coroutine, Iterator, Mapping, Sequence
+from contextlib import asynccontextmanager, contextmanager
 from dataclasses import dataclass
 from typing import Any
 
@@ -21,6 +21,7 @@ from job_host.service.stores.postgres_schema import (
     BEGINNING,
     DROP_CLIENTS,
     HEARD,
+    LOG_ENDS,
     LOGS,
     NOTE_FIRST,
     RESIGN,
@@ -28,7 +29,7 @@ from job_host.service.stores.postgres_schema import (
     SILENT,
     TAKE_OVER,
 )
-from job_host.service.terms.calls import EVERYBODY_SESSION, Item, Kept, KeptRequest, LogPage, WorkLog
+from job_host.service.terms.calls import EVERYBODY_SESSION, LOG_END_CHARACTERS, Item, Kept, KeptRequest, LogPage, WorkLog
 from job_host.service.terms.sessions import Silent
 
 log = logging.getLogger(__name__)
@@ -85,6 +86,17 @@ async def _takes_writes(connection: asyncpg.Connection) -> bool:
     return takes_writes
 
 
+@contextmanager
+def closed_is_lost(connection: asyncpg.Connection) -> Iterator[None]:
+    """asyncpg looks for what a connection has no longer, if it is closed within a statement: it is lost then."""
+    try:
+        yield
+    except AttributeError as fault:
+        if not connection.is_closed():
+            raise
+        raise asyncpg.InterfaceError("the connection was closed within a statement") from fault
+
+
 async def or_drop(connection: asyncpg.Connection, seconds: float, asked: Coroutine[Any, Any, Any]) -> Any:
     """Awaits what a connection was asked. If it takes too long, or isn't waited for any more, the connection is dropped.
 
@@ -95,7 +107,8 @@ async def or_drop(connection: asyncpg.Connection, seconds: float, asked: Corouti
         done, _ = await asyncio.wait([task], timeout=seconds)
         if not done:
             raise asyncio.TimeoutError(f"no answer in {seconds:g} seconds")
-        return task.result()
+        with closed_is_lost(connection):
+            return task.result()
     finally:
         if not task.done():
             task.add_done_callback(lambda ended: ended.cancelled() or ended.exception())
@@ -152,7 +165,8 @@ class PostgresStore:
         """
         async with self._turn:
             try:
-                yield self._reads
+                with closed_is_lost(self._reads):
+                    yield self._reads
             except (asyncio.TimeoutError, asyncio.CancelledError):
                 self._reads.terminate()
                 raise
@@ -219,6 +233,10 @@ class PostgresStore:
     async def logs(self, wanted: LogPage) -> list[WorkLog]:
         element = None if wanted.element is None else without_nul(wanted.element)
         return [WorkLog(*row) for row in await self._fetch(LOGS, wanted.execution, element, *wanted.page)]
+
+    async def log_ends(self, works: Sequence[int]) -> list[WorkLog]:
+        """The ends of the logs of these work items."""
+        return [WorkLog(*row) for row in await self._fetch(LOG_ENDS, LOG_END_CHARACTERS, list(works))]
 
     async def take_over(self, seen: Leader, holder: str, url: str, catalogue: bytes | None) -> int | None:
         """The next epoch, if the leader's row is still as it was seen. The catalogue is kept with it."""

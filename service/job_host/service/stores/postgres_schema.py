@@ -150,6 +150,10 @@ select work, execution, element, partition, log from job_host_work_log
 where execution = $1 and ($2::text is null or element = $2) order by work offset $3 limit $4
 """
 
+LOG_ENDS = """
+select work, execution, element, partition, right(log, $1) from job_host_work_log where work = any($2::bigint[])
+"""
+
 # A leader that was cut off drops nothing: a later one waits for the row, or has changed it.
 DROP_CLIENTS = """
 with fence as (

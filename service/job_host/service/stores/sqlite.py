@@ -16,7 +16,7 @@ from pathlib import Path
 from job_host.protocol.lines import digest
 from job_host.service.history.log_file import Beginning
 from job_host.service.stores.sqlite_schema import migrate, refuse_later
-from job_host.service.terms.calls import EVERYBODY_SESSION, Item, Kept, KeptRequest, LogPage, WorkLog
+from job_host.service.terms.calls import EVERYBODY_SESSION, LOG_END_CHARACTERS, Item, Kept, KeptRequest, LogPage, WorkLog
 from job_host.service.terms.sessions import Silent
 
 INTEND = """
@@ -43,6 +43,9 @@ from client join client_heard using (session) where heard_at < ? and session < (
 LOGS = """
 select work, execution, element, partition, log from work_log
 where execution = :execution and (:element is null or element = :element) order by work limit :size offset :start
+"""
+LOG_ENDS = """
+select work, execution, element, partition, substr(log, ?) from work_log where work in (select value from json_each(?))
 """
 ANSWER = "update request set reply = ?, answers = ?, seen = ? where session = ? and key = ?"
 
@@ -237,6 +240,10 @@ class SqliteStore:
     def logs(self, wanted: LogPage) -> list[WorkLog]:
         words = {"execution": wanted.execution, "element": wanted.element, **wanted.page._asdict()}
         return [WorkLog(*row) for row in self._connection.execute(LOGS, words)]
+
+    def log_ends(self, works: Sequence[int]) -> list[WorkLog]:
+        """The ends of the logs of these work items."""
+        return [WorkLog(*row) for row in self._connection.execute(LOG_ENDS, (-LOG_END_CHARACTERS, json.dumps(list(works))))]
 
     def logged_executions(self) -> list[int]:
         return [row[0] for row in self._connection.execute("select distinct execution from work_log")]

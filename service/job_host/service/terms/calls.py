@@ -58,6 +58,10 @@ class WorkLog:
     text: str
 
 
+# What is told as the end of a log.
+LOG_END_CHARACTERS = 4_000
+
+
 @dataclass(frozen=True)
 class LogPage:
     """A page of the logs of a job execution, or of one element of it."""

@@ -3,6 +3,7 @@
 from __future__ import annotations
 
 import asyncio
+import time
 from collections import deque
 from collections.abc import Awaitable, Callable
 from dataclasses import dataclass, field
@@ -42,6 +43,7 @@ class ClaimDesk:
         self._failure: Exception | None = None
         self._is_passed_over = False
         self._wake = asyncio.Event()
+        self._asked_at = time.monotonic()
 
     def wake(self) -> None:
         self._wake.set()
@@ -49,6 +51,15 @@ class ClaimDesk:
     @property
     def waiting(self) -> int:
         return len(self._waiting)
+
+    def note_asked(self) -> None:
+        """A worker asks for work, or has asked until now."""
+        self._asked_at = time.monotonic()
+
+    @property
+    def silence(self) -> float:
+        """For how many seconds no worker has asked for work."""
+        return 0.0 if self._waiting else time.monotonic() - self._asked_at
 
     def is_withdrawn(self, call: Call) -> bool:
         return call.do == "claim" and (call.client, call.key) in self._withdrawn
@@ -70,6 +81,7 @@ class ClaimDesk:
         self._waiting.append(waiter)
         self.wake()
         await asyncio.wait([waiter.served], timeout=call.wait)
+        self.note_asked()
         waiter.is_late = True
         item = None
         if waiter in self._waiting:

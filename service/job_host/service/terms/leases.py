@@ -9,6 +9,8 @@ from collections.abc import Iterable
 from job_host.service.terms.term import Term
 
 TICK = 0.25
+# A lease with less than this part of its time left is late: its worker should have renewed it.
+LATE_PART = 0.5
 
 
 class Leases:
@@ -35,6 +37,11 @@ class Leases:
 
     def remaining(self, work: int) -> float:
         return max(0.0, self._ends.get(work, time.monotonic() + self.seconds) - time.monotonic())
+
+    def late(self, held: Iterable[int]) -> list[int]:
+        """Those of these work items whose lease is late."""
+        bound = time.monotonic() + self.seconds * LATE_PART
+        return [work for work in held if self._ends.get(work, bound) < bound]
 
     async def watch(self, term: Term) -> None:
         """Loses what has run out, for ever. Raises the problem by which the term failed."""

@@ -2,7 +2,8 @@
 
 A name is kept from its first accepted call on. Before that its client has a number as long as it has a call in hand: of a call
 that is refused nothing is left, but for the reply of its key, if it has one. A name that is silent for long is forgotten here,
-or sooner if room is short. The store keeps it as long as it holds a request key, and for a day at least.
+or sooner if room is short. The store keeps it for a day at least, as long as it holds a request key, and for good if it did
+something to a job execution.
 """
 
 from __future__ import annotations
@@ -21,11 +22,11 @@ PART_FORGOTTEN = 100
 
 @dataclass(frozen=True)
 class Silent:
-    """A kept name that wasn't heard for long, and whether it holds a request key."""
+    """A kept name that wasn't heard for long, and whether the store needs it, as for its request key."""
 
     name: str
     number: int
-    holds_key: bool
+    is_needed: bool
 
 
 @dataclass
@@ -149,11 +150,11 @@ class Sessions:
     def forgetting(self, silent: Collection[Silent], holding: Container[int]) -> Iterator[dict[str, int]]:
         """Forgets those of these names that weren't heard since `take_heard`, and that hold no work item.
 
-        Gives those that hold no request key either. The store drops them within the block. A name of these that is heard
+        Gives those that the store doesn't need either, and drops within the block. A name of these that is heard
         meanwhile, or later, has another session: no number is given twice.
         """
         gone = [one for one in silent if one.number not in holding and self._forget(one)]
-        dropped = {one.name: one.number for one in gone if not one.holds_key}
+        dropped = {one.name: one.number for one in gone if not one.is_needed}
         self._dropping.update(dropped)
         try:
             yield dropped

@@ -118,6 +118,8 @@ class Term(ABC):
     async def _perform(self, call: Call) -> Kept:
         if call.resolve is not None:
             call = replace(call, members=await call.resolve(), resolve=None)
+        if call.do == "claim":
+            self.desk.note_asked()
         if call.wait > 0:
             return await self.desk.claim(call)
         return await (await self.begin(call)).done

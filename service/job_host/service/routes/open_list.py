@@ -1,0 +1,111 @@
+"""What is open, why job executions are FAILED or STOPPED, and who did what to them."""
+
+from __future__ import annotations
+
+from collections.abc import Sequence
+from typing import Any
+
+from aiohttp import web
+
+from job_host.protocol.moments import moment
+from job_host.service.history.actions import Action
+from job_host.service.history.open_index import RESTARTABLE, Long, Running
+from job_host.service.http.requests import PAGE_WORDS, Asked, Route
+from job_host.service.keepers.keeper import HeldBy
+from job_host.service.keepers.open_items import Caused, Open, OpenWanted, ToRestart, causes_for, open_items
+from job_host.service.routes import views
+from job_host.service.routes.lists import statuses_of
+
+
+async def list_open(asked: Asked) -> web.StreamResponse:
+    """What somebody has to look at, page by page: each list has the same page."""
+    given = statuses_of("status", asked.request.query.getall("status", RESTARTABLE), RESTARTABLE)
+    statuses = tuple(one for one in RESTARTABLE if one in given)
+    wanted = OpenWanted(asked.page_of_large_rows(), statuses, asked.request.query.get("jobName"))
+    found = await open_items(asked.keeper, wanted, asked.at_least)
+    return asked.answer(shown(found, wanted), found.seen)
+
+
+def shown(found: Open, wanted: OpenWanted) -> dict[str, Any]:
+    return {
+        "jobInstances": [{**views.job_execution_row(one.execution), **causes(one)} for one in found.to_restart],
+        "long": [long(one) for one in found.long],
+        "late": None if found.late is None else [late(by, of) for by, of in found.late],
+        "waiting": None if found.waiting is None else [views.job_execution_row(one) for one in found.waiting],
+        "counts": found.counts,
+        "more": found.has_more(wanted),
+    }
+
+
+def causes(one: ToRestart) -> dict[str, Any]:
+    return {"causes": [cause(each) for each in one.causes], "moreCauses": one.count - len(one.causes)}
+
+
+def cause(caused: Caused) -> dict[str, Any]:
+    of = caused.cause
+    return {
+        "work": of.work or None,
+        "stepName": of.element,
+        "partition": of.partition,
+        "outcome": of.outcome,
+        "exitStatus": of.exit,
+        "logEnd": caused.log,
+    }
+
+
+def long(one: Long) -> dict[str, Any]:
+    return {**running(one.running), "seconds": one.lasts / 1000, "longestBefore": one.longest / 1000}
+
+
+def running(one: Running) -> dict[str, Any]:
+    return {
+        "jobName": one.job,
+        "executionId": one.execution,
+        "instanceId": one.instance,
+        "batchStatus": one.status,
+        "startTime": moment(one.start),
+    }
+
+
+def late(by: HeldBy, of: Running | None) -> dict[str, Any]:
+    return {
+        "jobName": None if of is None else of.job,
+        "executionId": by.held.execution,
+        "work": by.held.work,
+        "stepName": by.held.element,
+        "partition": by.held.partition,
+        "client": by.client,
+        "since": moment(by.held.since),
+        "leaseRemaining": None if by.remaining is None else round(by.remaining, 1),
+    }
+
+
+async def show_causes(asked: Asked) -> web.StreamResponse:
+    """The work items by which a job execution is FAILED or STOPPED, each with the end of its own log."""
+    one, seen = await causes_for(asked.keeper, asked.path_number(), asked.at_least)
+    return asked.answer(causes(one), seen)
+
+
+async def list_operations(asked: Asked) -> web.StreamResponse:
+    """Who did what to a job execution, the newest first, page by page. A purge is told, too."""
+    page = asked.page(asked.host.settings.bounds.page_size)
+    found, seen = await asked.keeper.actions(asked.path_number(), page, asked.at_least)
+    return asked.answer([operation(action, client) for action, client in found], seen)
+
+
+def operation(action: Action, client: str | None) -> dict[str, Any]:
+    return {
+        "operation": action.operation,
+        "action": action.name,
+        "client": client,
+        "time": moment(action.moment),
+        "made": action.of if action.name in ("start", "restart") else None,
+        "work": action.of if action.name == "lose" else None,
+    }
+
+
+ROUTES: Sequence[Route] = [
+    Route("GET", "/batch/open", "read", list_open, ("status", "jobName", *PAGE_WORDS, "atLeast")),
+    Route("GET", "/batch/jobexecutions/{id}/causes", "read", show_causes, ("atLeast",)),
+    Route("GET", "/batch/jobexecutions/{id}/operations", "read", list_operations, (*PAGE_WORDS, "atLeast")),
+]
