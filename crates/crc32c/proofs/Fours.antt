@@ -27,16 +27,17 @@ peeled n x =
     ∙ ap (λ (v : ℕ). bit_xor v (after_bits (8 + n) (x % 256)))
     (bits-more 8 n (x / 256 * 2 ^ 8) ∙ ap (after_bits n) (bits-shifted 8 (x / 256)))
 
-spread : (w : ℕ) → bit_xor (bit_xor (bit_xor (after_bits 8 (w / 16777216)) (after_bits 16 (w / 65536 % 256))) (after_bits 24 (w / 256 % 256))) (after_bits 32 (w % 256)) ≡ after_bits 32 w
-spread w =
+pub spread : (m w : ℕ) → bit_xor (bit_xor (bit_xor (after_bits (8 + m) (w / 16777216)) (after_bits (8 + (8 + m)) (w / 65536 % 256))) (after_bits (8 + (8 + (8 + m))) (w / 256 % 256))) (after_bits (8 + (8 + (8 + (8 + m)))) (w % 256))
+    ≡ after_bits (8 + (8 + (8 + (8 + m)))) w
+spread m w =
     let third : w / 65536 / 256 ≡ w / 16777216 = omega arith in
     let second : w / 256 / 256 ≡ w / 65536 = omega arith in
     sym (
-    peeled 24 w
-    ∙ ap (λ (v : ℕ). bit_xor v (after_bits 32 (w % 256)))
-    (peeled 16 (w / 256)
-    ∙ ap (λ (v : ℕ). bit_xor v (after_bits 24 (w / 256 % 256)))
-    (ap (after_bits 16) second ∙ peeled 8 (w / 65536) ∙ ap (λ (v : ℕ). bit_xor (after_bits 8 v) (after_bits 16 (w / 65536 % 256))) third))
+    peeled (8 + (8 + (8 + m))) w
+    ∙ ap (λ (v : ℕ). bit_xor v (after_bits (8 + (8 + (8 + (8 + m)))) (w % 256)))
+    (peeled (8 + (8 + m)) (w / 256)
+    ∙ ap (λ (v : ℕ). bit_xor v (after_bits (8 + (8 + (8 + m))) (w / 256 % 256)))
+    (ap (after_bits (8 + (8 + m))) second ∙ peeled (8 + m) (w / 65536) ∙ ap (λ (v : ℕ). bit_xor (after_bits (8 + m) v) (after_bits (8 + (8 + m)) (w / 65536 % 256))) third))
     )
 
 together : (state a b c d : ℕ) → a < 2 ^ 8 → b < 2 ^ 8 → c < 2 ^ 8 → d < 2 ^ 8
@@ -53,10 +54,14 @@ together state a b c d as_ bs cs ds =
     ∙ joined 16 one b (c + d * 256) bs
     ∙ joined 24 state a (b + (c + d * 256) * 256) as_
 
-pub four-by : (state a b c d word : ℕ) → a < 2 ^ 8 → b < 2 ^ 8 → c < 2 ^ 8 → d < 2 ^ 8 → word ≡ bit_xor state (a + (b + (c + d * 256) * 256) * 256)
-    → bit_xor (bit_xor (bit_xor (after_bits 8 (word / 16777216)) (after_bits 16 (word / 65536 % 256))) (after_bits 24 (word / 256 % 256))) (after_bits 32 (word % 256))
-    ≡ after_bytes state (a ∷ b ∷ c ∷ d ∷ [])
-four-by state a b c d word as_ bs cs ds is = spread word ∙ ap (after_bits 32) is ∙ sym (together state a b c d as_ bs cs ds)
+pub four-by : (state a b c d : ℕ) → a < 2 ^ 8 → b < 2 ^ 8 → c < 2 ^ 8 → d < 2 ^ 8
+    → after_bits 32 (bit_xor state (a + (b + (c + d * 256) * 256) * 256)) ≡ after_bytes state (a ∷ b ∷ c ∷ d ∷ [])
+four-by state a b c d as_ bs cs ds = sym (together state a b c d as_ bs cs ds)
+
+-- eight bytes: the first four are shifted out by 64 bits, and the others by 32
+pub eight-by : (state first second : ℕ) → bit_xor (after_bits 64 (bit_xor state first)) (after_bits 32 second) ≡ after_bits 32 (bit_xor (after_bits 32 (bit_xor state first)) second)
+eight-by state first second =
+    ap (λ (v : ℕ). bit_xor v (after_bits 32 second)) (bits-more 32 32 (bit_xor state first)) ∙ sym (bits-linear 32 (after_bits 32 (bit_xor state first)) second)
 
 abbrev pub at : List ℕ → ℕ → ℕ
 at bytes n = get_or bytes n 0
@@ -69,3 +74,16 @@ split-four (a ∷ b ∷ []) some = absurd (omega (arith, some))
 split-four (a ∷ b ∷ c ∷ []) some = absurd (omega (arith, some))
 split-four (a ∷ b ∷ c ∷ d ∷ bytes) some =
     ap (λ (xs : List ℕ). a ∷ b ∷ c ∷ d ∷ xs) (take_all (length (a ∷ b ∷ c ∷ d ∷ bytes) - 4) bytes (omega arith))
+
+-- the first eight of some bytes, and the others
+pub split-eight : (bytes : List ℕ) → 8 ≤ length bytes → at bytes 0 ∷ at bytes 1 ∷ at bytes 2 ∷ at bytes 3 ∷ at bytes 4 ∷ at bytes 5 ∷ at bytes 6 ∷ at bytes 7 ∷ take (length bytes - 8) (drop 8 bytes) ≡ bytes
+split-eight [] some = absurd (omega (arith, some))
+split-eight (a ∷ []) some = absurd (omega (arith, some))
+split-eight (a ∷ b ∷ []) some = absurd (omega (arith, some))
+split-eight (a ∷ b ∷ c ∷ []) some = absurd (omega (arith, some))
+split-eight (a ∷ b ∷ c ∷ d ∷ []) some = absurd (omega (arith, some))
+split-eight (a ∷ b ∷ c ∷ d ∷ e ∷ []) some = absurd (omega (arith, some))
+split-eight (a ∷ b ∷ c ∷ d ∷ e ∷ f ∷ []) some = absurd (omega (arith, some))
+split-eight (a ∷ b ∷ c ∷ d ∷ e ∷ f ∷ g ∷ []) some = absurd (omega (arith, some))
+split-eight (a ∷ b ∷ c ∷ d ∷ e ∷ f ∷ g ∷ h ∷ bytes) some =
+    ap (λ (xs : List ℕ). a ∷ b ∷ c ∷ d ∷ e ∷ f ∷ g ∷ h ∷ xs) (take_all (length (a ∷ b ∷ c ∷ d ∷ e ∷ f ∷ g ∷ h ∷ bytes) - 8) bytes (omega arith))

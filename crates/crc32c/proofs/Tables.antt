@@ -1,7 +1,7 @@
 -- The tables have the state after some bits, for each byte.
 use Rattle.std.proofs.Common.{◌≡◌, ℕ, zero, suc, ◌+◌, ◌<◌, List, [], ◌∷◌, get_or, refl, ◌∙◌, ap, arith}
 use Rattle.crc32c.specs.Check.{after_bit, after_bits}
-use Rattle.crc32c.specs.declared.table.TheConstants.{AFTER_8, AFTER_16, AFTER_24, AFTER_32}
+use Rattle.crc32c.specs.declared.table.TheConstants.{AFTER_8, AFTER_16, AFTER_24, AFTER_32, AFTER_40, AFTER_48, AFTER_56, AFTER_64}
 
 -- the states after some bits, from this byte on
 states : ℕ → ℕ → ℕ → List ℕ
@@ -37,6 +37,22 @@ table-32 : AFTER_32 ≡ states 32 256 0
 unfolding states after_bit
 table-32 = refl
 
+table-40 : AFTER_40 ≡ states 40 256 0
+unfolding states after_bit
+table-40 = refl
+
+table-48 : AFTER_48 ≡ states 48 256 0
+unfolding states after_bit
+table-48 = refl
+
+table-56 : AFTER_56 ≡ states 56 256 0
+unfolding states after_bit
+table-56 = refl
+
+table-64 : AFTER_64 ≡ states 64 256 0
+unfolding states after_bit
+table-64 = refl
+
 pub at-8 : (byte : ℕ) → byte < 256 → get_or AFTER_8 byte 0 ≡ after_bits 8 byte
 at-8 byte less = by-table AFTER_8 8 byte table-8 less
 
@@ -48,3 +64,15 @@ at-24 byte less = by-table AFTER_24 24 byte table-24 less
 
 pub at-32 : (byte : ℕ) → byte < 256 → get_or AFTER_32 byte 0 ≡ after_bits 32 byte
 at-32 byte less = by-table AFTER_32 32 byte table-32 less
+
+pub at-40 : (byte : ℕ) → byte < 256 → get_or AFTER_40 byte 0 ≡ after_bits 40 byte
+at-40 byte less = by-table AFTER_40 40 byte table-40 less
+
+pub at-48 : (byte : ℕ) → byte < 256 → get_or AFTER_48 byte 0 ≡ after_bits 48 byte
+at-48 byte less = by-table AFTER_48 48 byte table-48 less
+
+pub at-56 : (byte : ℕ) → byte < 256 → get_or AFTER_56 byte 0 ≡ after_bits 56 byte
+at-56 byte less = by-table AFTER_56 56 byte table-56 less
+
+pub at-64 : (byte : ℕ) → byte < 256 → get_or AFTER_64 byte 0 ≡ after_bits 64 byte
+at-64 byte less = by-table AFTER_64 64 byte table-64 less

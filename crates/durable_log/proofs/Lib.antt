@@ -1,4 +1,5 @@
 pub mod Numbers
+pub mod Digits
 pub mod Links
 pub mod Places
 pub mod Blocks

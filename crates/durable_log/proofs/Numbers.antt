@@ -10,13 +10,13 @@ eq-same x = grind (arith, nat_tests)
 value-digit : (d : ℕ) → d < 16 → value (digit d) ≡ d
 value-digit d small = grind (arith, nat_tests)
 
-value-small : (b : ℕ) → value b < 16
+pub value-small : (b : ℕ) → value b < 16
 value-small b = grind (arith, nat_tests)
 
 half-of : (p q r s : ℕ) → p < 16 → q < 16 → r < 16 → s < 16 → ((p * 16 + q) * 16 + r) * 16 + s < 65536
 half-of p q r s ps qs rs ss = omega arith
 
-half-small : (a b c d : ℕ) → half a b c d < 65536
+pub half-small : (a b c d : ℕ) → half a b c d < 65536
 half-small a b c d = half-of (value a) (value b) (value c) (value d) (value-small a) (value-small b) (value-small c) (value-small d)
 
 four-digits : (n : ℕ) → n < 65536 → ((n / 4096 % 16 * 16 + n / 256 % 16) * 16 + n / 16 % 16) * 16 + n % 16 ≡ n

@@ -1,9 +1,27 @@
 // Numbers as columns of text: eight digits and a space each.
-ghost use Rattle.std.specs.Prelude.{◌≡◌, ◌<◌, ◌+◌, ◌*◌, ◌++◌, [], OnOk};
+ghost use Rattle.std.specs.Prelude.{◌≡◌, ◌<◌, ◌==◌, ◌++◌, [], IfSome, OnOk, Some, None, if◌then◌else◌};
 ghost use Rattle.durable_log.specs.Format.{digit, digits, column, value, half, is_half, column_of};
 ghost use Rattle.durable_log.specs.Shown.{column_shown};
 
 use std::alloc::AllocError;
+
+// What no digit has for its value.
+const NO_DIGIT: u8 = 16;
+
+// The value of each byte as a digit.
+const VALUES: [u8; 256] = [
+    16, 16, 16, 16, 16, 16, 16, 16, 16, 16, 16, 16, 16, 16, 16, 16, 16, 16, 16, 16, 16, 16, 16, 16,
+    16, 16, 16, 16, 16, 16, 16, 16, 16, 16, 16, 16, 16, 16, 16, 16, 16, 16, 16, 16, 16, 16, 16, 16,
+    0, 1, 2, 3, 4, 5, 6, 7, 8, 9, 16, 16, 16, 16, 16, 16, 16, 16, 16, 16, 16, 16, 16, 16, 16, 16,
+    16, 16, 16, 16, 16, 16, 16, 16, 16, 16, 16, 16, 16, 16, 16, 16, 16, 16, 16, 16, 16, 16, 16, 10,
+    11, 12, 13, 14, 15, 16, 16, 16, 16, 16, 16, 16, 16, 16, 16, 16, 16, 16, 16, 16, 16, 16, 16, 16,
+    16, 16, 16, 16, 16, 16, 16, 16, 16, 16, 16, 16, 16, 16, 16, 16, 16, 16, 16, 16, 16, 16, 16, 16,
+    16, 16, 16, 16, 16, 16, 16, 16, 16, 16, 16, 16, 16, 16, 16, 16, 16, 16, 16, 16, 16, 16, 16, 16,
+    16, 16, 16, 16, 16, 16, 16, 16, 16, 16, 16, 16, 16, 16, 16, 16, 16, 16, 16, 16, 16, 16, 16, 16,
+    16, 16, 16, 16, 16, 16, 16, 16, 16, 16, 16, 16, 16, 16, 16, 16, 16, 16, 16, 16, 16, 16, 16, 16,
+    16, 16, 16, 16, 16, 16, 16, 16, 16, 16, 16, 16, 16, 16, 16, 16, 16, 16, 16, 16, 16, 16, 16, 16,
+    16, 16, 16, 16, 16, 16, 16, 16, 16, 16, 16, 16, 16, 16,
+];
 
 // A column, if there is one, and the bytes after it.
 #[derive(Clone, Copy)]
@@ -46,30 +64,26 @@ pub(crate) fn push_column(bytes: &mut Vec<u8>, n: u32) -> Result<(), AllocError>
     Ok(())
 }
 
-fn value(b: u8) -> u32
-    ensures value { result ≡ value b }
-    ensures small { result < 16 }
+// Returns the value of a digit. Other bytes have none.
+fn value(b: u8) -> Option<u32>
+    ensures value { result ≡ (if b == digit (value b) then Some (value b) else None) }
+    ensures small { IfSome result (λ v. v < 16) }
 {
-    if b < 97 {
-        u32::from(b) % 16
+    let values = &VALUES;
+    let found = values[usize::from(b)];
+    if found < NO_DIGIT {
+        Some(u32::from(found))
     } else {
-        (u32::from(b) + 9) % 16
+        None
     }
 }
 
-fn half(a: u8, b: u8, c: u8, d: u8) -> u32
-    ensures value { result ≡ half a b c d }
-    ensures small { result < 65536 }
+// Returns the value of four digits.
+fn half(a: u8, b: u8, c: u8, d: u8) -> Option<u32>
+    ensures value { result ≡ (if is_half (half a b c d) a b c d then Some (half a b c d) else None) }
+    ensures small { IfSome result (λ v. v < 65536) }
 {
-    ((value(a) * 16 + value(b)) * 16 + value(c)) * 16 + value(d)
-}
-
-// Checks whether these are the digits of the number.
-fn is_half(n: u32, a: u8, b: u8, c: u8, d: u8) -> bool
-    ensures { result ≡ is_half n a b c d }
-{
-    a == digit(n / 4096 % 16)
-        && (b == digit(n / 256 % 16) && (c == digit(n / 16 % 16) && d == digit(n % 16)))
+    Some(((value(a)? * 16 + value(b)?) * 16 + value(c)?) * 16 + value(d)?)
 }
 
 // Reads a column.
@@ -77,13 +91,10 @@ pub(crate) fn column(bytes: &[u8]) -> ColumnRead<'_>
     ensures { column_shown result ≡ column_of bytes.now }
 {
     match bytes {
-        [a, b, c, d, e, f, g, h, space, rest @ ..] => {
-            let high = half(*a, *b, *c, *d);
-            let low = half(*e, *f, *g, *h);
-            if is_half(high, *a, *b, *c, *d) && (is_half(low, *e, *f, *g, *h) && *space == b' ') {
-                ColumnRead::Number(high * 65536 + low, rest)
-            } else {
-                ColumnRead::Absent
+        [a, b, c, d, e, f, g, h, b' ', rest @ ..] => {
+            match (half(*a, *b, *c, *d), half(*e, *f, *g, *h)) {
+                (Some(high), Some(low)) => ColumnRead::Number(high * 65536 + low, rest),
+                _ => ColumnRead::Absent,
             }
         }
         _ => ColumnRead::Absent,

@@ -1,4 +1,4 @@
-use Rattle.std.proofs.Common.{◌≡◌, ◌∙◌, ◌++◌, ◌∷◌, ap, sym, [], List, ℕ, length, append_assoc, rules}
+use Rattle.std.proofs.Common.{◌≡◌, ◌∙◌, ◌++◌, ◌∷◌, ap, sym, [], List, ℕ, length, append_assoc}
 use Rattle.durable_log.specs.declared.link.Link.{Link}
 use Rattle.durable_log.specs.Format.{column, columns, shut}
 use Rattle.durable_log.proofs.frame.frame.Goals as goal

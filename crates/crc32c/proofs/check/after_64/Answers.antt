@@ -1,0 +1,14 @@
+use Rattle.std.proofs.Common.{◌%◌, ◌/◌, ◌∙◌, arith}
+use Rattle.std.specs.Prelude.{bit_xor}
+use Rattle.crc32c.proofs.Tables.{at-40, at-48, at-56, at-64}
+use Rattle.crc32c.proofs.Fours.{spread}
+use Rattle.crc32c.proofs.check.after_64.Goals as goal
+
+pub returns : goal.returns
+returns c =
+    let word = c.args.word in
+    let first = at-40 (word / 16777216) (omega (arith, c.ranges.word.fits)) in
+    let second = at-48 (word / 65536 % 256) (omega arith) in
+    let third = at-56 (word / 256 % 256) (omega arith) in
+    let fourth = at-64 (word % 256) (omega arith) in
+    (λ i. bit_xor (bit_xor (bit_xor (first i) (second i)) (third i)) (fourth i)) ∙ spread 32 word
