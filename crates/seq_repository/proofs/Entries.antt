@@ -30,8 +30,8 @@ use Rattle.batch_history.specs.declared.rows.LastNumbers.{LastNumbers}
 use Rattle.batch_history.proofs.Finding.{found-passes}
 use Rattle.records.specs.Maps.{Maps, mark_at, MayReplaceWork}
 use Rattle.seq_repository.specs.declared.rows.Change.{Change}
-use Rattle.seq_repository.specs.declared.rows.Change.TheVariants.{StopRequest, Abandonment, Claim as TakeUp, Report}
-use Rattle.seq_repository.specs.Changes.{row_after, put_row, place_at, SetsMark, LeavesMark}
+use Rattle.seq_repository.specs.declared.rows.Change.TheVariants.{StopRequest, Claim as TakeUp, Report}
+use Rattle.seq_repository.specs.Changes.{row_after, row_given_up, put_row, place_at, SetsMark, LeavesMark}
 use Rattle.seq_repository.proofs.Marks.{mark-set, mark-left, set-alone, left-alone}
 
 -- Changing the first that passes a test
@@ -85,7 +85,7 @@ changed_stop catalogue works at x reply rows =
     change-same (is_execution x) _ _ rows (λ r e. rw (at-own x r.execution e) refl)
 
 pub changed_abandon : (catalogue : List JobTree) (works : List WorkRow) (at x : ℕ) (reply : Reply) (rows : List ExecutionRow)
-    → change_first (is_execution x) (row_after Abandonment catalogue works at) rows ≡ change_first (is_execution x) (refreshed_by catalogue works at (Abandon x) reply) rows
+    → change_first (is_execution x) (row_given_up catalogue works at) rows ≡ change_first (is_execution x) (refreshed_by catalogue works at (Abandon x) reply) rows
 changed_abandon catalogue works at x reply rows =
     change-same (is_execution x) _ _ rows (λ r e. rw (at-own x r.execution e) refl)
 
@@ -111,7 +111,7 @@ stop_rows kept new who at x reply is =
 
 -- an abandonment
 pub abandon_rows : (kept new : Kept) (who at x : ℕ) (reply : Reply)
-    → rows_in new ≡ record (rows_in kept) { count = kept.count + 1; executions = change_first (is_execution x) (row_after Abandonment kept.catalogue kept.records.works at) kept.records.executions }
+    → rows_in new ≡ record (rows_in kept) { count = kept.count + 1; executions = change_first (is_execution x) (row_given_up kept.catalogue kept.records.works at) kept.records.executions }
     → rows_in new ≡ rows_after (rows_in kept) record { who = who; call = Abandon x; at = at; reply = reply }
 abandon_rows kept new who at x reply is =
     is
@@ -279,15 +279,15 @@ finish-entered catalogue count last old m1 m2 m3 who at w outcome exit step repl
     ∙ (ap (λ (k : WorkRow). rows_over catalogue (count + 1) last record { instances = old.instances; executions = put_row row.execution new old.executions; works = change_first (is_work w) (λ gone. k) old.works; checkpoints = m1.checkpoints }) is
     ∙ finish_rows (rows_over catalogue count last old) who at w outcome exit step reply row new (mark_at m1.checkpoints) found made marks)
 
-pub change-entered : (catalogue : List JobTree) (count : ℕ) (last : LastNumbers) (old m : Maps) (at x : ℕ) (change : Change) (new : Option ExecutionRow)
-    → new ≡ option_map (row_after change catalogue old.works at) (find (is_execution x) old.executions)
+pub change-entered : (catalogue : List JobTree) (count : ℕ) (last : LastNumbers) (old m : Maps) (x : ℕ) (f : ExecutionRow → ExecutionRow) (new : Option ExecutionRow)
+    → new ≡ option_map f (find (is_execution x) old.executions)
     → m ≡ record old { executions = put_row x new old.executions }
     → rows_over catalogue (count + 1) last m
-    ≡ record (rows_over catalogue count last old) { count = count + 1; executions = change_first (is_execution x) (row_after change catalogue old.works at) old.executions }
-change-entered catalogue count last old m at x change new made e =
+    ≡ record (rows_over catalogue count last old) { count = count + 1; executions = change_first (is_execution x) f old.executions }
+change-entered catalogue count last old m x f new made e =
     ap (rows_over catalogue (count + 1) last) e
     ∙ ap (λ (xs : List ExecutionRow). rows_over catalogue (count + 1) last (record old { executions = xs }))
-    (put_found x (row_after change catalogue old.works at) old.executions new made)
+    (put_found x f old.executions new made)
 
 pub work-entered : (catalogue : List JobTree) (count : ℕ) (last : LastNumbers) (old m1 m2 : Maps) (who at : ℕ) (item : WorkItem) (kept : WorkRow) (new : Option ExecutionRow)
     → kept ≡ busy_work who at item

@@ -415,7 +415,7 @@ own-followed catalogue after rows x new row cursor c own may is_cursor is_new st
 -- the cursors after an operation on job execution x: those of others, and its own, if it is unfinished still
 pub followed_put : (catalogue : List JobTree) (before after : List WorkRow) (rows : List ExecutionRow) (x : ℕ) (new : Option ExecutionRow) (cursor : Option CursorState)
     (old kept : ℕ → Option CursorState) → AreFollowed catalogue before rows old → KeepsOthers x before after → IfSome new (λ row. ReplacesExecution rows x row)
-    → Walks catalogue after (find (is_execution x) rows) cursor
+    → ((c : CursorState) → cursor ≡ Some c → Walks catalogue after (find (is_execution x) rows) cursor)
     → ((q : ℕ) → is_eq (nat_cmp x q) ≡ false → kept q ≡ old q) → IfSome (kept x) (IsKeptOf new cursor)
     → AreFollowed catalogue after (put_row x new rows) kept
 followed_put catalogue before after rows x new cursor old kept followed others own may beside here = λ q.
@@ -423,7 +423,7 @@ followed_put catalogue before after rows x new cursor old kept followed others o
     (λ same. subst (λ n. IfSome (kept n) (IsFollowed catalogue after (put_row x new rows) n)) (sym same)
     ((elim (kept x) as (λ o. IfSome o (IsKeptOf new cursor) → IfSome o (IsFollowed catalogue after (put_row x new rows) x)) [
       | None ↦ λ h. tt
-      | Some c ↦ λ h. own-followed catalogue after rows x new h.1.0 cursor c own may h.0 h.1.1 h.1.2
+      | Some c ↦ λ h. own-followed catalogue after rows x new h.1.0 cursor c own (may c h.0) h.0 h.1.1 h.1.2
     ]) here))
     (λ off differ. subst (λ o. IfSome o (IsFollowed catalogue after (put_row x new rows) q)) (sym (beside q off))
     ((elim (old q) as (λ o. IfSome o (IsFollowed catalogue before rows q) → IfSome o (IsFollowed catalogue after (put_row x new rows) q)) [

@@ -30,10 +30,12 @@ use Rattle.seq_repository.specs.declared.after.After.{After}
 use Rattle.seq_repository.specs.declared.rows.Change.TheVariants.{Report}
 use Rattle.seq_repository.specs.Kept.{Kept, IsRepository, IsSound}
 use Rattle.seq_repository.specs.Metered.{IsStep}
+use Rattle.seq_repository.specs.Settled.{AreSettled, IsSettled}
 use Rattle.seq_repository.proofs.Agendas.{KeepsOthers, agenda_changed, agenda_pushed, agenda_without, others_apart, others_beside, others_same}
 use Rattle.seq_repository.proofs.Below.{numbers_changed}
 use Rattle.seq_repository.proofs.Entries.{maps-changed}
 use Rattle.seq_repository.proofs.Numbers.{rising_filtered, rising_pushed}
+use Rattle.seq_repository.proofs.Settled.{settled_after, settled_pushed, settled_put, settled_without}
 use Rattle.seq_repository.proofs.Sound.{sound_change, sound_purge, sound_report, sound_restart, sound_start, sound_work}
 
 -- what an operation on job execution x did to the agenda: `put` where there is something to do, and then taken off where
@@ -61,9 +63,10 @@ kept-put : (limit : ℕ) (old done : List ℕ) (walks left : BTreeMap ℕ Slot) 
     → IsRepository limit old walks kept → IsSound limit after → after.catalogue ≡ kept.catalogue → after.records.executions ≡ put_row x new kept.records.executions
     → KeepsOthers x kept.records.works after.records.works → IfSome new (λ row. ReplacesExecution kept.records.executions x row)
     → new ≡ option_map f (find (is_execution x) kept.records.executions) → ready ≡ is_ready_row kept.catalogue after.records.works new → Puts ready x old done
-    → AllApart after.records.works → Walks kept.catalogue after.records.works (find (is_execution x) kept.records.executions) cursor → KeepsWalk x new cursor walks left
+    → AllApart after.records.works → ((c : CursorState) → cursor ≡ Some c → Walks kept.catalogue after.records.works (find (is_execution x) kept.records.executions) cursor) → KeepsWalk x new cursor walks left
+    → ((row : ExecutionRow) → IsSettled kept.catalogue after.records.works (f row))
     → IsRepository limit done left after
-kept-put limit old done walks left kept after x f new ready cursor k sound same rows others own made is_ready puts apart walked stays =
+kept-put limit old done walks left kept after x f new ready cursor k sound same rows others own made is_ready puts apart walked stays settles =
     record {
       sound = sound;
       rising = subst (λ l. AreRising (execution_numbers l)) (sym rows) (rising-put x new kept.records.executions own k.rising);
@@ -74,6 +77,10 @@ kept-put limit old done walks left kept after x f new ready cursor k sound same 
           (followed_put kept.catalogue kept.records.works after.records.works kept.records.executions x new cursor (kept_at walks) (kept_at left) k.followed others own walked
           (λ q off. ap (option_and_then (λ (slot : Slot). slot.cursor)) (stays.others q off)) (cursor_left new cursor (get nat_cmp left x) stays.own)));
       slots = subst (λ l. AreOfUnfinished l left) (sym rows) (slots_put x new cursor kept.records.executions walks left own stays.others stays.own k.slots);
+      settled =
+          subst (λ catalogue. AreSettled catalogue after.records.works after.records.executions) (sym same)
+          (subst (AreSettled kept.catalogue after.records.works) (sym rows)
+          (settled_put kept.catalogue kept.records.works after.records.works kept.records.executions x f new others own made settles k.settled));
       agenda =
           agenda_changed kept.catalogue kept.records.works after.records.works kept.records.executions x f new ready puts.goes old puts.put done k.rising k.agenda others own made is_ready puts.is_goes puts.is_put puts.is_done
           ∙ (ap (λ (l : List ExecutionRow). agenda_of kept.catalogue after.records.works l) (sym rows)
@@ -84,14 +91,16 @@ pub kept_change : (limit : ℕ) (old done : List ℕ) (walks left : BTreeMap ℕ
     → IsRepository limit old walks kept → kept.count < limit → IfSome new (λ row. ReplacesExecution kept.records.executions x row)
     → new ≡ option_map f (find (is_execution x) kept.records.executions) → ready ≡ is_ready_row kept.catalogue kept.records.works new
     → m ≡ record kept.records { executions = put_row x new kept.records.executions } → Puts ready x old done
-    → Walks kept.catalogue kept.records.works (find (is_execution x) kept.records.executions) cursor → KeepsWalk x new cursor walks left
+    → ((c : CursorState) → cursor ≡ Some c → Walks kept.catalogue kept.records.works (find (is_execution x) kept.records.executions) cursor) → KeepsWalk x new cursor walks left
+    → ((row : ExecutionRow) → IsSettled kept.catalogue kept.records.works (f row))
     → IsRepository limit done left (record kept { count = kept.count + 1; records = m })
-kept_change limit old done walks left kept m x f new ready cursor k room own made is_ready is puts walked stays =
+kept_change limit old done walks left kept m x f new ready cursor k room own made is_ready is puts walked stays settles =
     let same : kept.records.works ≡ m.works = ap (λ (maps : Maps). maps.works) (sym is) in
     kept-put limit old done walks left kept (record kept { count = kept.count + 1; records = m }) x f new ready cursor k (sound_change limit kept m x new k.sound room own is) refl
     (ap (λ (maps : Maps). maps.executions) is) (subst (KeepsOthers x kept.records.works) same (others_same x kept.records.works)) own made
     (subst (λ works. ready ≡ is_ready_row kept.catalogue works new) same is_ready) puts
-    (subst AllApart same k.apart) (subst (λ works. Walks kept.catalogue works (find (is_execution x) kept.records.executions) cursor) same walked) stays
+    (subst AllApart same k.apart) (λ c is_some. subst (λ works. Walks kept.catalogue works (find (is_execution x) kept.records.executions) cursor) same (walked c is_some)) stays
+    (λ row. subst (λ works. IsSettled kept.catalogue works (f row)) same (settles row))
 
 pub kept_work : (limit : ℕ) (old done : List ℕ) (walks left : BTreeMap ℕ Slot) (kept : Kept) (m1 m2 : Maps) (x : ℕ) (f : ExecutionRow → ExecutionRow) (new : Option ExecutionRow) (ready : Bool) (cursor : Option CursorState) (work : WorkRow)
     → IsRepository limit old walks kept → kept.count < limit → IfSome new (λ row. ReplacesExecution kept.records.executions x row)
@@ -99,8 +108,9 @@ pub kept_work : (limit : ℕ) (old done : List ℕ) (walks left : BTreeMap ℕ S
     → work.work ≡ kept.last.work + 1 → work.execution ≡ x → work.metrics ≡ zero_metrics
     → m1 ≡ record kept.records { works = kept.records.works ++ work ∷ [] } → m2 ≡ record m1 { executions = put_row x new m1.executions } → Puts ready x old done
     → AllApart (kept.records.works ++ work ∷ []) → Walks kept.catalogue (kept.records.works ++ work ∷ []) (find (is_execution x) kept.records.executions) cursor → KeepsWalk x new cursor walks left
+    → ((row : ExecutionRow) → IsSettled kept.catalogue (kept.records.works ++ work ∷ []) (f row))
     → IsRepository limit done left (record kept { count = kept.count + 1; last = record { instance = kept.last.instance; execution = kept.last.execution; work = kept.last.work + 1 }; records = m2 })
-kept_work limit old done walks left kept m1 m2 x f new ready cursor work k room own made is_ready next of zero e1 e2 puts apart walked stays =
+kept_work limit old done walks left kept m1 m2 x f new ready cursor work k room own made is_ready next of zero e1 e2 puts apart walked stays settles =
     let whole : m2 ≡ record kept.records { executions = put_row x new kept.records.executions; works = kept.records.works ++ work ∷ [] } =
     e2 ∙ ap (λ (m : Maps). record m { executions = put_row x new m.executions }) e1 in
     let same : kept.records.works ++ work ∷ [] ≡ m2.works = ap (λ (maps : Maps). maps.works) (sym whole) in
@@ -108,7 +118,8 @@ kept_work limit old done walks left kept m1 m2 x f new ready cursor work k room 
     (sound_work limit kept m1 m2 x new work k.sound room own next zero e1 e2) refl
     (ap (λ (maps : Maps). maps.executions) whole) (subst (KeepsOthers x kept.records.works) same (others_beside x kept.records.works work of)) own made
     (subst (λ works. ready ≡ is_ready_row kept.catalogue works new) same is_ready) puts
-    (subst AllApart same apart) (subst (λ works. Walks kept.catalogue works (find (is_execution x) kept.records.executions) cursor) same walked) stays
+    (subst AllApart same apart) (λ c is_some. subst (λ works. Walks kept.catalogue works (find (is_execution x) kept.records.executions) cursor) same walked) stays
+    (λ row. subst (λ works. IsSettled kept.catalogue works (f row)) same (settles row))
 
 kept-report : (limit : ℕ) (old done : List ℕ) (walks left : BTreeMap ℕ Slot) (kept : Kept) (m1 m2 m3 : Maps) (p : WorkRow → Bool) (x : ℕ) (f : ExecutionRow → ExecutionRow) (row work : WorkRow) (new : Option ExecutionRow) (ready : Bool) (cursor : Option CursorState) (step : MetricStep)
     → IsRepository limit old walks kept → kept.count < limit → IfSome new (λ row. ReplacesExecution kept.records.executions x row)
@@ -118,8 +129,9 @@ kept-report : (limit : ℕ) (old done : List ℕ) (walks left : BTreeMap ℕ Slo
     → m1 ≡ record kept.records { checkpoints = m1.checkpoints } → m2 ≡ record m1 { works = change_first p (λ gone. work) m1.works }
     → m3 ≡ record m2 { executions = put_row x new m2.executions } → Puts ready x old done
     → Walks kept.catalogue (change_first p (λ gone. work) kept.records.works) (find (is_execution x) kept.records.executions) cursor → KeepsWalk x new cursor walks left
+    → ((r : ExecutionRow) → IsSettled kept.catalogue (change_first p (λ gone. work) kept.records.works) (f r))
     → IsRepository limit done left (record kept { count = kept.count + 1; records = m3 })
-kept-report limit old done walks left kept m1 m2 m3 p x f row work new ready cursor step k room own made is_ready found of stays key same sum small e1 e2 e3 puts walked keeps =
+kept-report limit old done walks left kept m1 m2 m3 p x f row work new ready cursor step k room own made is_ready found of stays key same sum small e1 e2 e3 puts walked keeps settles =
     let whole = maps-changed kept.records m1 m2 m3 m1.checkpoints (change_first p (λ gone. work)) (put_row x new) e1 e2 e3 in
     let works : change_first p (λ gone. work) kept.records.works ≡ m3.works = ap (λ (maps : Maps). maps.works) (sym whole) in
     kept-put limit old done walks left kept (record kept { count = kept.count + 1; records = m3 }) x f new ready cursor k
@@ -127,7 +139,8 @@ kept-report limit old done walks left kept m1 m2 m3 p x f row work new ready cur
     (ap (λ (maps : Maps). maps.executions) whole) (subst (KeepsOthers x kept.records.works) works (others_apart x p kept.records.works row work found of stays)) own made
     (subst (λ l. ready ≡ is_ready_row kept.catalogue l new) works is_ready) puts
     (subst AllApart works (apart_put p kept.records.works row work found stays key k.apart))
-    (subst (λ l. Walks kept.catalogue l (find (is_execution x) kept.records.executions) cursor) works walked) keeps
+    (λ c is_some. subst (λ l. Walks kept.catalogue l (find (is_execution x) kept.records.executions) cursor) works walked) keeps
+    (λ r. subst (λ l. IsSettled kept.catalogue l (f r)) works (settles r))
 
 pub kept_reported : (limit : ℕ) (old done : List ℕ) (walks left : BTreeMap ℕ Slot) (kept : Kept) (m1 m2 m3 : Maps) (w at : ℕ) (work : WorkRow) (after : After) (cursor : Option CursorState)
     → IsRepository limit old walks kept → kept.count < limit → IsReport kept w at work after cursor
@@ -137,12 +150,13 @@ pub kept_reported : (limit : ℕ) (old done : List ℕ) (walks left : BTreeMap �
 kept_reported limit old done walks left kept m1 m2 m3 w at work after cursor k room r e1 e2 e3 puts keeps =
     kept-report limit old done walks left kept m1 m2 m3 (is_work w) work.execution (row_after Report kept.catalogue (works_with w work kept.records.works) at) r.row work after.row after.ready cursor r.step
     k room r.own r.new r.ready r.found (sym r.execution) r.execution r.key r.number r.counts r.small e1 e2 e3 puts r.walks keeps
+    (settled_after kept.catalogue (works_with w work kept.records.works) Report at)
 
 -- the rows and the agenda after a job execution is made
 kept-pushed : (limit : ℕ) (old put : List ℕ) (walks : BTreeMap ℕ Slot) (kept after : Kept) (row : ExecutionRow) → IsRepository limit old walks kept → IsSound limit after → after.catalogue ≡ kept.catalogue
     → after.records.works ≡ kept.records.works → after.records.executions ≡ kept.records.executions ++ row ∷ []
-    → row.execution ≡ kept.last.execution + 1 → row_status row ≡ Starting → put ≡ insert_key nat_cmp old row.execution → IsRepository limit put walks after
-kept-pushed limit old put walks kept after row k sound catalogue works rows is status is_put =
+    → row.execution ≡ kept.last.execution + 1 → row_status row ≡ Starting → IsSettled kept.catalogue kept.records.works row → put ≡ insert_key nat_cmp old row.execution → IsRepository limit put walks after
+kept-pushed limit old put walks kept after row k sound catalogue works rows is status settled is_put =
     let below : AreBelow row.execution (execution_numbers kept.records.executions) =
     subst (λ n. AreBelow n (execution_numbers kept.records.executions)) (sym is) k.sound.last.execution in
     record {
@@ -155,6 +169,10 @@ kept-pushed limit old put walks kept after row k sound catalogue works rows is s
           (subst (λ (l : List ExecutionRow). AreFollowed kept.catalogue kept.records.works l (kept_at walks)) (sym rows)
           (followed_pushed kept.catalogue kept.records.works kept.records.executions row (kept_at walks) k.followed)));
       slots = subst (λ l. AreOfUnfinished l walks) (sym rows) (slots_pushed kept.records.executions row walks k.slots);
+      settled =
+          subst (λ catalogue. AreSettled catalogue after.records.works after.records.executions) (sym catalogue)
+          (subst (λ (l : List WorkRow). AreSettled kept.catalogue l after.records.executions) (sym works)
+          (subst (AreSettled kept.catalogue kept.records.works) (sym rows) (settled_pushed kept.catalogue kept.records.works kept.records.executions row settled k.settled)));
       agenda =
           agenda_pushed kept.catalogue kept.records.works kept.records.executions row old put status below k.agenda is_put
           ∙ (ap (λ (l : List ExecutionRow). agenda_of kept.catalogue kept.records.works l) (sym rows)
@@ -163,22 +181,22 @@ kept-pushed limit old put walks kept after row k sound catalogue works rows is s
     }
 
 pub kept_start : (limit : ℕ) (old put : List ℕ) (walks : BTreeMap ℕ Slot) (kept : Kept) (m : Maps) (made : JobInstance) (row : ExecutionRow) → IsRepository limit old walks kept
-    → made.instance ≡ kept.last.instance + 1 → row.execution ≡ kept.last.execution + 1 → row_status row ≡ Starting → kept.count < limit → is_placed kept.catalogue row ≡ true
+    → made.instance ≡ kept.last.instance + 1 → row.execution ≡ kept.last.execution + 1 → row_status row ≡ Starting → IsSettled kept.catalogue kept.records.works row → kept.count < limit → is_placed kept.catalogue row ≡ true
     → m ≡ record kept.records { instances = kept.records.instances ++ made ∷ []; executions = kept.records.executions ++ row ∷ [] } → put ≡ insert_key nat_cmp old row.execution
     → IsRepository limit put walks (record kept { count = kept.count + 1; last = record { instance = kept.last.instance + 1; execution = kept.last.execution + 1; work = kept.last.work }; records = m })
-kept_start limit old put walks kept m made row k i x status room placed is is_put =
+kept_start limit old put walks kept m made row k i x status settled room placed is is_put =
     kept-pushed limit old put walks kept (record kept { count = kept.count + 1; last = record { instance = kept.last.instance + 1; execution = kept.last.execution + 1; work = kept.last.work }; records = m }) row k
     (sound_start limit kept m made row k.sound i x room placed is) refl
-    (ap (λ (maps : Maps). maps.works) is) (ap (λ (maps : Maps). maps.executions) is) x status is_put
+    (ap (λ (maps : Maps). maps.works) is) (ap (λ (maps : Maps). maps.executions) is) x status settled is_put
 
 pub kept_restart : (limit : ℕ) (old put : List ℕ) (walks : BTreeMap ℕ Slot) (kept : Kept) (m : Maps) (row : ExecutionRow) → IsRepository limit old walks kept → row.execution ≡ kept.last.execution + 1
-    → row_status row ≡ Starting → kept.count < limit → is_placed kept.catalogue row ≡ true
+    → row_status row ≡ Starting → IsSettled kept.catalogue kept.records.works row → kept.count < limit → is_placed kept.catalogue row ≡ true
     → m ≡ record kept.records { executions = kept.records.executions ++ row ∷ [] } → put ≡ insert_key nat_cmp old row.execution
     → IsRepository limit put walks (record kept { count = kept.count + 1; last = record { instance = kept.last.instance; execution = kept.last.execution + 1; work = kept.last.work }; records = m })
-kept_restart limit old put walks kept m row k x status room placed is is_put =
+kept_restart limit old put walks kept m row k x status settled room placed is is_put =
     kept-pushed limit old put walks kept (record kept { count = kept.count + 1; last = record { instance = kept.last.instance; execution = kept.last.execution + 1; work = kept.last.work }; records = m }) row k
     (sound_restart limit kept m row k.sound x room placed is) refl
-    (ap (λ (maps : Maps). maps.works) is) (ap (λ (maps : Maps). maps.executions) is) x status is_put
+    (ap (λ (maps : Maps). maps.works) is) (ap (λ (maps : Maps). maps.executions) is) x status settled is_put
 
 pub kept_purge : (limit : ℕ) (old : List ℕ) (walks : BTreeMap ℕ Slot) (kept : Kept) (m : Maps) (i : ℕ) → IsRepository limit old walks kept → kept.count < limit → list_any (is_running_in i) kept.records.executions ≡ false
     → m ≡ without_instance i kept.records → IsRepository limit old walks (record kept { count = kept.count + 1; records = m })
@@ -193,6 +211,7 @@ kept_purge limit old walks kept m i k room finished is =
           subst (λ (maps : Maps). AreFollowed kept.catalogue maps.works maps.executions (kept_at walks)) (sym is)
           (followed_without kept.catalogue i kept.records.works kept.records.executions (kept_at walks) finished k.followed);
       slots = subst (λ (maps : Maps). AreOfUnfinished maps.executions walks) (sym is) (slots_without i kept.records.executions walks finished k.slots);
+      settled = subst (λ (maps : Maps). AreSettled kept.catalogue maps.works maps.executions) (sym is) (settled_without kept.catalogue i kept.records.works kept.records.executions k.rising k.settled);
       agenda =
           k.agenda
           ∙ (sym (agenda_without kept.catalogue i kept.records.works kept.records.executions k.rising finished)
@@ -210,4 +229,5 @@ kept_taken limit numbers walks left kept x k rest same =
       agenda = k.agenda;
       followed = followed_some kept.catalogue kept.records.works kept.records.executions x (kept_at walks) (kept_at left) rest k.followed;
       slots = slots_same kept.records.executions walks left same k.slots;
+      settled = k.settled;
     }

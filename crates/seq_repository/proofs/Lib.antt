@@ -18,6 +18,7 @@ pub mod Shown
 pub mod Standing
 pub mod Reported
 pub mod Slots
+pub mod Settled
 pub mod Crossing
 mod JobCrossing
 mod RowsCrossing

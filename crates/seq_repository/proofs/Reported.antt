@@ -1,12 +1,13 @@
 -- What a report of a work item enters, where its rows are put.
-use Rattle.std.proofs.Common.{◌≡◌, false, ℕ, ◌+◌, Option, Some, IfSome, List, find, refl, sym, ◌∙◌, ap, subst}
+use Rattle.std.proofs.Common.{◌≡◌, false, ℕ, ◌+◌, ◌++◌, ◌∷◌, [], Bool, Option, None, Some, IfSome, List, find, refl, sym, ◌∙◌, ap, subst}
 use Rattle.std.specs.Option.{option_map}
 use Rattle.batch_ids.specs.declared.metric_step.MetricStep.{MetricStep}
 use Rattle.batch_ids.specs.declared.status.WorkOutcome.{WorkOutcome}
 use Rattle.batch_history.specs.NextRows.{over, over_as, reported, rows_after}
 use Rattle.batch_history.specs.Lists.{change_first}
 use Rattle.batch_history.specs.Replies.{is_execution}
-use Rattle.batch_history.specs.Works.{is_work, work_key}
+use Rattle.batch_history.specs.Works.{busy_work, is_work, work_key}
+use Rattle.batch_history.specs.declared.call.WorkItem.{WorkItem}
 use Rattle.batch_history.specs.declared.call.Call.TheVariants.{Checkpoint, Finish}
 use Rattle.batch_history.specs.declared.call.Reply.TheVariants.{Done}
 use Rattle.batch_history.specs.declared.rows.ExecutionRow.{ExecutionRow}
@@ -16,14 +17,17 @@ use Rattle.job_plans.specs.Cursors.{CursorState}
 use Rattle.jsl_model.specs.Jobs.{JobTree}
 use Rattle.records.specs.Maps.{Maps}
 use Rattle.restart_rules.specs.Restarting.{rows_over}
-use Rattle.seq_repository.specs.Changes.{LeavesMark, SetsMark, place_at, put_row, row_after, ReplacesExecution}
+use Rattle.seq_repository.specs.Changes.{LeavesMark, SetsMark, abandoned_at, place_at, put_row, row_after, row_given_up, Replaces}
 use Rattle.seq_repository.specs.Agendas.{is_ready_row}
 use Rattle.seq_repository.specs.Following.{Walks}
 use Rattle.seq_repository.specs.Kept.{Kept}
 use Rattle.seq_repository.specs.Metered.{IsStep}
-use Rattle.seq_repository.specs.Reports.{IsReport, works_with}
+use Rattle.seq_repository.specs.Reports.{IsAfter, IsChange, IsHanded, IsReport, works_with}
 use Rattle.seq_repository.specs.declared.after.After.{After}
-use Rattle.seq_repository.specs.declared.rows.Change.TheVariants.{Report}
+use Rattle.seq_repository.specs.declared.rows.Change.{Change}
+use Rattle.seq_repository.specs.declared.rows.Change.TheVariants.{Claim as TakeUp, Report}
+use Rattle.seq_repository.specs.Settled.{AreSettled}
+use Rattle.seq_repository.proofs.Settled.{given_up_found, given_up_idle, settled_after, settled_given_up}
 use Rattle.seq_repository.proofs.Entries.{change-found, checkpoint-entered, finish-entered, over-own, reported-own}
 use Rattle.seq_repository.proofs.Followed.{walks_same}
 use Rattle.seq_repository.proofs.Knowing.{known_put}
@@ -37,31 +41,20 @@ after-by kept w at work after cursor r f made =
     subst (λ (l : List WorkRow). after.row ≡ option_map (row_after Report kept.catalogue l at) (find (is_execution r.row.execution) kept.records.executions)) works
     (subst (λ (x : ℕ). after.row ≡ option_map (row_after Report kept.catalogue (works_with w work kept.records.works) at) (find (is_execution x) kept.records.executions)) r.execution r.new)
 
--- what is known of the job execution of a work item after a report, by its walk then
-pub record IsAfter (rows : List ExecutionRow) (at : ℕ) (work : WorkRow) (after : After) (cursor : Option CursorState) : Type 0 where
-  pub place : after.step ≡ work_key work
-  pub own : IfSome after.row (λ new. ReplacesExecution rows work.execution new)
-  pub new : (catalogue : List JobTree) (works : List WorkRow) → Walks catalogue works (find (is_execution work.execution) rows) cursor
-      → after.row ≡ option_map (row_after Report catalogue works at) (find (is_execution work.execution) rows)
-  pub ready : (catalogue : List JobTree) (works : List WorkRow) → Walks catalogue works (find (is_execution work.execution) rows) cursor
-      → after.ready ≡ is_ready_row catalogue works after.row
-
 -- a work item that is over
 pub is_end : (kept : Kept) (w at : ℕ) (outcome : WorkOutcome) (exit : List ℕ) (step : MetricStep) (row work : WorkRow) (after : After) (cursor : Option CursorState)
     → find (is_work w) kept.records.works ≡ Some row → work ≡ over_as outcome exit step at (kept.count + 1) row → IsStep step
-    → IfSome (find (is_work w) kept.records.works) (λ (r : WorkRow). (counts : MetricStep) (end n : ℕ)
-    → Walks kept.catalogue (change_first (is_work w) (over_as outcome exit counts end n) kept.records.works) (find (is_execution r.execution) kept.records.executions) cursor)
-    → IsAfter kept.records.executions at work after cursor
+    → Walks kept.catalogue (change_first (is_work w) (over_as outcome exit step at (kept.count + 1)) kept.records.works) (find (is_execution row.execution) kept.records.executions) cursor
+    → IsAfter (find (is_execution row.execution) kept.records.executions) at work after cursor
     → IsReport kept w at work after cursor
-is_end kept w at outcome exit step row work after cursor found made small walked is =
+is_end kept w at outcome exit step row work after cursor found made small there known =
     let before : List WorkRow = kept.records.works in
     let f : WorkRow → WorkRow = over_as outcome exit step at (kept.count + 1) in
     let of : work.execution ≡ row.execution = ap (λ (r : WorkRow). r.execution) made in
     let works : change_first (is_work w) f before ≡ works_with w work before =
     sym (change-found (is_work w) f before row found) ∙ ap (λ (new : WorkRow). works_with w new before) (sym made) in
-    let there : Walks kept.catalogue (change_first (is_work w) f before) (find (is_execution row.execution) kept.records.executions) cursor =
-    subst (λ (o : Option WorkRow). IfSome o (λ (r : WorkRow). (counts : MetricStep) (end n : ℕ)
-    → Walks kept.catalogue (change_first (is_work w) (over_as outcome exit counts end n) before) (find (is_execution r.execution) kept.records.executions) cursor)) found walked step at (kept.count + 1) in
+    let is : IsAfter (find (is_execution work.execution) kept.records.executions) at work after cursor =
+    subst (λ (x : ℕ). IsAfter (find (is_execution x) kept.records.executions) at work after cursor) (sym of) known in
     let walks : Walks kept.catalogue (works_with w work before) (find (is_execution work.execution) kept.records.executions) cursor =
     subst (λ (x : ℕ). Walks kept.catalogue (works_with w work before) (find (is_execution x) kept.records.executions) cursor) (sym of)
     (subst (λ (l : List WorkRow). Walks kept.catalogue l (find (is_execution row.execution) kept.records.executions) cursor) works there) in
@@ -85,14 +78,14 @@ is_end kept w at outcome exit step row work after cursor found made small walked
 -- a work item with a checkpoint
 pub is_checkpoint : (kept : Kept) (w at : ℕ) (step : MetricStep) (row work : WorkRow) (after : After) (cursor : Option CursorState)
     → find (is_work w) kept.records.works ≡ Some row → work ≡ reported step row → IsStep step
-    → IfSome (find (is_work w) kept.records.works) (λ (r : WorkRow). Walks kept.catalogue kept.records.works (find (is_execution r.execution) kept.records.executions) cursor)
-    → IsAfter kept.records.executions at work after cursor
+    → Walks kept.catalogue kept.records.works (find (is_execution row.execution) kept.records.executions) cursor
+    → IsAfter (find (is_execution row.execution) kept.records.executions) at work after cursor
     → IsReport kept w at work after cursor
-is_checkpoint kept w at step row work after cursor found made small walked is =
+is_checkpoint kept w at step row work after cursor found made small there known =
     let before : List WorkRow = kept.records.works in
     let of : work.execution ≡ row.execution = ap (λ (r : WorkRow). r.execution) made in
-    let there : Walks kept.catalogue before (find (is_execution row.execution) kept.records.executions) cursor =
-    subst (λ (o : Option WorkRow). IfSome o (λ (r : WorkRow). Walks kept.catalogue before (find (is_execution r.execution) kept.records.executions) cursor)) found walked in
+    let is : IsAfter (find (is_execution work.execution) kept.records.executions) at work after cursor =
+    subst (λ (x : ℕ). IsAfter (find (is_execution x) kept.records.executions) at work after cursor) (sym of) known in
     let walks : Walks kept.catalogue (works_with w work before) (find (is_execution work.execution) kept.records.executions) cursor =
     subst (λ (x : ℕ). Walks kept.catalogue (works_with w work before) (find (is_execution x) kept.records.executions) cursor) (sym of)
     (walks_same kept.catalogue before (works_with w work before) (find (is_execution row.execution) kept.records.executions) cursor
@@ -145,3 +138,46 @@ checkpoint-reported catalogue count last old m1 m2 m3 w at mark step work after 
     (after-by (record { catalogue = catalogue; count = count; last = last; records = old }) w at work after cursor r (reported step) made)
     e1 e2
     (subst (λ (x : ℕ). m3 ≡ record m2 { executions = put_row x after.row m2.executions }) r.execution e3)
+
+-- What an operation on a job execution leaves of it, by its row before and its walk after
+
+pub is_change : (kept : Kept) (x at : ℕ) (change : Change) (owner row : Option ExecutionRow) (ready : Bool) (cursor : Option CursorState)
+    → owner ≡ find (is_execution x) kept.records.executions → Walks kept.catalogue kept.records.works owner cursor → IfSome row (Replaces owner)
+    → ((catalogue : List JobTree) (works : List WorkRow) → Walks catalogue works owner cursor → row ≡ option_map (row_after change catalogue works at) owner)
+    → ((catalogue : List JobTree) (works : List WorkRow) → Walks catalogue works owner cursor → ready ≡ is_ready_row catalogue works row)
+    → IsChange kept x (row_after change kept.catalogue kept.records.works at) row ready cursor
+is_change kept x at change owner row ready cursor found walks own new is_ready =
+    record {
+      own = subst (λ o. IfSome row (Replaces o)) found own;
+      new = new kept.catalogue kept.records.works walks ∙ ap (option_map (row_after change kept.catalogue kept.records.works at)) found;
+      ready = is_ready kept.catalogue kept.records.works walks;
+      walks = λ one e. subst (λ o. Walks kept.catalogue kept.records.works o cursor) found walks;
+      settles = settled_after kept.catalogue kept.records.works change at;
+    }
+
+pub is_handed : (kept : Kept) (who at : ℕ) (item : WorkItem) (owner row : Option ExecutionRow) (ready : Bool) (cursor : Option CursorState)
+    → owner ≡ find (is_execution item.execution) kept.records.executions → Walks kept.catalogue (kept.records.works ++ busy_work who at item ∷ []) owner cursor → IfSome row (Replaces owner)
+    → ((catalogue : List JobTree) (works : List WorkRow) → Walks catalogue works owner cursor → row ≡ option_map (row_after TakeUp catalogue works at) owner)
+    → ((catalogue : List JobTree) (works : List WorkRow) → Walks catalogue works owner cursor → ready ≡ is_ready_row catalogue works row)
+    → IsHanded kept who at item row ready cursor
+is_handed kept who at item owner row ready cursor found walks own new is_ready =
+    let works : List WorkRow = kept.records.works ++ busy_work who at item ∷ [] in
+    record {
+      own = subst (λ o. IfSome row (Replaces o)) found own;
+      new = new kept.catalogue works walks ∙ ap (option_map (row_after TakeUp kept.catalogue works at)) found;
+      ready = is_ready kept.catalogue works walks;
+      walks = subst (λ o. Walks kept.catalogue works o cursor) found walks;
+    }
+
+pub is_given_up : (kept : Kept) (x at : ℕ) (owner row : Option ExecutionRow) → AreSettled kept.catalogue kept.records.works kept.records.executions
+    → owner ≡ find (is_execution x) kept.records.executions → row ≡ option_map (abandoned_at at) owner → IfSome row (Replaces owner)
+    → IsChange kept x (row_given_up kept.catalogue kept.records.works at) row false None
+is_given_up kept x at owner row settled found is own =
+    let made : row ≡ option_map (abandoned_at at) (find (is_execution x) kept.records.executions) = is ∙ ap (option_map (abandoned_at at)) found in
+    record {
+      own = subst (λ o. IfSome row (Replaces o)) found own;
+      new = given_up_found kept.catalogue kept.records.works at x kept.records.executions row settled made;
+      ready = given_up_idle kept.catalogue kept.records.works at x kept.records.executions row made;
+      walks = λ one e. cc;
+      settles = settled_given_up kept.catalogue kept.records.works at;
+    }

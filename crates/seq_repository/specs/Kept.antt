@@ -14,6 +14,7 @@ use Rattle.restart_rules.specs.Restarting.{rows_over}
 use Rattle.seq_repository.specs.Agendas.{agenda_of}
 use Rattle.seq_repository.specs.Following.{AreFollowed, AreOfUnfinished, kept_at}
 use Rattle.seq_repository.specs.Metered.{AreWithin}
+use Rattle.seq_repository.specs.Settled.{AreSettled}
 use Rattle.seq_repository.specs.declared.cursors.Slot.{Slot}
 
 -- the state of a repository: a catalogue, the number of accepted operations, the last numbers that were given
@@ -48,7 +49,8 @@ pub record IsSound (limit : ℕ) (kept : Kept) : Type 0 where
 
 -- its further invariant. The numbers of job executions rise. No two work items of a job execution have the
 -- same work key. The agenda has the numbers of the job executions that have something to do. Each cursor
--- follows the walk of an unfinished job execution. Only unfinished ones have slots.
+-- follows the walk of an unfinished job execution. Only unfinished ones have slots. Each row shows what its
+-- walk comes to.
 pub record IsRepository (limit : ℕ) (numbers : List ℕ) (cursors : BTreeMap ℕ Slot) (kept : Kept) : Type 0 where
   pub sound : IsSound limit kept
   pub rising : AreRising (execution_numbers kept.records.executions)
@@ -56,6 +58,7 @@ pub record IsRepository (limit : ℕ) (numbers : List ℕ) (cursors : BTreeMap �
   pub agenda : numbers ≡ agenda_of kept.catalogue kept.records.works kept.records.executions
   pub followed : AreFollowed kept.catalogue kept.records.works kept.records.executions (kept_at cursors)
   pub slots : AreOfUnfinished kept.records.executions cursors
+  pub settled : AreSettled kept.catalogue kept.records.works kept.records.executions
 
 -- a repository represents a history if its rows are the history's
 abbrev pub StandsFor : Kept → History → Type 0

@@ -1,25 +1,20 @@
-//! The state of a job execution after a report of one of its work items.
-ghost use Rattle.std.specs.Prelude.{◌≡◌, List, find, IfOk, IfSome};
-ghost use Rattle.std.specs.Option.{option_map};
-ghost use Rattle.batch_history.specs.Replies.{is_execution};
-ghost use Rattle.batch_history.specs.Works.{work_key};
-ghost use Rattle.batch_history.specs.declared.rows.WorkRow.{WorkRow as Work};
-ghost use Rattle.jsl_model.specs.Jobs.{JobTree as Tree};
-ghost use Rattle.seq_repository.specs.Agendas.{is_ready_row};
-ghost use Rattle.seq_repository.specs.Changes.{row_after, ReplacesExecution};
-ghost use Rattle.seq_repository.specs.Following.{Walks};
-ghost use Rattle.seq_repository.specs.declared.rows.Change.TheVariants.{Report};
+//! The state of a work item and of its job execution after a report of the work item.
+ghost use Rattle.std.specs.Prelude.{◌≡◌, IfOk};
+ghost use Rattle.std.specs.Option.{option_copied};
+ghost use Rattle.batch_ids.specs.Metrics.{IsWithin, most_after};
+ghost use Rattle.batch_history.specs.NextRows.{over_as, reported};
+ghost use Rattle.seq_repository.specs.Metered.{IsStep};
+ghost use Rattle.seq_repository.specs.Reports.{IsAfter};
 
 use crate::entering::execution_after;
-use crate::rows::Change;
+use crate::rows::{self, Change};
 use batch_history::{ExecutionRow, WorkRow};
-use batch_ids::{Moment, OutOfMemory};
+use batch_ids::{MetricStep, Moment, OutOfMemory, T256, WorkOutcome};
 use job_walk::Cursor;
-use records::Records;
 use std::alloc::Global;
 use walk_rules::WorkKey;
 
-/// The state after a report of a work item.
+/// The state of a job execution after a report of a work item.
 pub(crate) struct After {
     /// The work key of the work item.
     pub(crate) step: WorkKey,
@@ -29,28 +24,90 @@ pub(crate) struct After {
     pub(crate) ready: bool,
 }
 
-/// Returns the state after a report of this work item. `cursor` has the walk of its job execution
-/// after the report.
-pub(crate) fn after_report(
+/// The new row of a work item, and the state of its job execution.
+pub(crate) struct Reported {
+    pub(crate) work: WorkRow,
+    pub(crate) after: After,
+}
+
+/// How a work item ends.
+#[derive(Drop)]
+pub(crate) struct End {
+    pub(crate) outcome: WorkOutcome,
+    /// The exit status that the work item shows then.
+    pub(crate) exit: T256,
+    pub(crate) step: MetricStep,
+    pub(crate) at: Moment,
+    /// The number of the operation that ends it.
+    pub(crate) number: u64,
+}
+
+/// Returns the state after a report of this work item. `owner` is the row of its job execution
+/// before, and `cursor` has the walk after the report.
+fn after_report(
     alloc: Global,
-    records: &Records,
+    owner: Option<&ExecutionRow>,
     work: &WorkRow,
     cursor: &Option<Cursor>,
     at: Moment,
 ) -> Result<After, OutOfMemory>
-    ensures step { IfOk result (λ after. after.step ≡ work_key work.now) }
-    ensures row { (catalogue : List Tree) (works : List Work)
-        → Walks catalogue works (find (is_execution work.now.execution) records.now.executions) cursor.now
-        → IfOk result (λ after. after.row ≡ option_map (row_after Report catalogue works at)
-        (find (is_execution work.now.execution) records.now.executions)) }
-    ensures own { IfOk result (λ after. IfSome after.row
-        (λ row. ReplacesExecution records.now.executions work.now.execution row)) }
-    ensures ready { (catalogue : List Tree) (works : List Work)
-        → Walks catalogue works (find (is_execution work.now.execution) records.now.executions) cursor.now
-        → IfOk result (λ after. after.ready ≡ is_ready_row catalogue works after.row) }
+    ensures { IfOk result (λ after. IsAfter (option_copied owner.entry) at work.now after cursor.now) }
 {
     let step = work.key()?;
-    let x = work.execution;
-    let (row, ready) = execution_after(alloc, records, x, Change::Report, cursor, at)?;
+    let (row, ready) = execution_after(alloc, owner, Change::Report, cursor, at)?;
     Ok(After { step, row, ready })
+}
+
+/// Returns the state after a checkpoint of this work item.
+pub(crate) fn after_checkpoint(
+    alloc: Global,
+    owner: Option<&ExecutionRow>,
+    work: &WorkRow,
+    step: MetricStep,
+    cursor: &Option<Cursor>,
+    at: Moment,
+) -> Result<Reported, OutOfMemory>
+    requires { IsWithin (most_after 1000000) work.now.metrics }
+    ensures work { IfOk result (λ new. new.work ≡ reported step work.now) }
+    ensures small { IfOk result (λ _. IsStep step) }
+    ensures after { IfOk result (λ new. IsAfter (option_copied owner.entry) at new.work new.after cursor.now) }
+{
+    let work = rows::report_counts(step, work)?;
+    match after_report(alloc, owner, &work, cursor, at) {
+        Ok(after) => Ok(Reported { work, after }),
+        Err(error) => {
+            drop(work);
+            Err(error)
+        }
+    }
+}
+
+/// Returns the state after the end of this work item.
+pub(crate) fn after_end(
+    alloc: Global,
+    owner: Option<&ExecutionRow>,
+    work: &WorkRow,
+    end: End,
+    cursor: &Option<Cursor>,
+) -> Result<Reported, OutOfMemory>
+    requires { IsWithin (most_after 1000000) work.now.metrics }
+    ensures work { IfOk result (λ new. new.work ≡ over_as end.outcome end.exit end.step end.at end.number work.now) }
+    ensures small { IfOk result (λ _. IsStep end.step) }
+    ensures after { IfOk result (λ new. IsAfter (option_copied owner.entry) end.at new.work new.after cursor.now) }
+{
+    let End {
+        outcome,
+        exit,
+        step,
+        at,
+        number,
+    } = end;
+    let work = rows::end_work(outcome, exit, step, at, number, work)?;
+    match after_report(alloc, owner, &work, cursor, at) {
+        Ok(after) => Ok(Reported { work, after }),
+        Err(error) => {
+            drop(work);
+            Err(error)
+        }
+    }
 }

@@ -7,13 +7,12 @@ ghost use Rattle.batch_ids.specs.declared.metric_step.MetricStep.{MetricStep as 
 ghost use Rattle.batch_history.specs.NextRows.{over_as};
 ghost use Rattle.batch_history.specs.Walks.{known_elements};
 ghost use Rattle.batch_history.specs.Lists.{change_first};
-ghost use Rattle.batch_history.specs.Replies.{is_execution};
 ghost use Rattle.batch_history.specs.Works.{is_work, busy_work, AllApart};
 ghost use Rattle.batch_history.specs.declared.rows.ExecutionRow.{ExecutionRow};
 ghost use Rattle.batch_history.specs.declared.rows.WorkRow.{WorkRow as Work};
 ghost use Rattle.jsl_model.specs.Jobs.{JobTree};
-ghost use Rattle.restart_rules.specs.Placed.{is_placed, IsPlaced};
-ghost use Rattle.seq_repository.specs.Following.{Follows, IsFirst, IsFollowed, IsSlotOf, Walks, kept_at};
+ghost use Rattle.restart_rules.specs.Placed.{is_placed};
+ghost use Rattle.seq_repository.specs.Following.{Follows, IsFirst, IsSlotOf, Walks, kept_at};
 
 use crate::search;
 use batch_history::{ExecutionRow, WorkItem, WorkRow};
@@ -89,22 +88,22 @@ fn current_of(
     }
 }
 
-/// Returns the current walk of a job execution, if this exists: the stored walk, or else one that
-/// is made anew.
+/// Returns the current walk of the job execution with this row, if it exists: the stored walk, or
+/// else one that is made anew.
 pub(crate) fn current(
     kept: Option<Cursor>,
     alloc: Global,
     catalogue: &Catalogue,
     records: &Records,
-    x: ExecutionId,
+    owner: Option<&ExecutionRow>,
 ) -> Result<Option<Cursor>, OutOfMemory>
-    requires placed { IsPlaced catalogue.now records.now.executions x }
-    requires kept { IfSome kept (IsFollowed catalogue.now records.now.works
-        records.now.executions x) }
+    requires placed { IfSome (option_copied owner) (λ row. is_placed catalogue.now row ≡ true) }
+    requires kept { IfSome kept (λ cursor. Walks catalogue.now records.now.works
+        (option_copied owner) (Some cursor)) }
     ensures { IfOk result (λ cursor. Walks catalogue.now records.now.works
-        (find (is_execution x) records.now.executions) cursor) }
+        (option_copied owner.entry) cursor) }
 {
-    match records.execution(x) {
+    match owner {
         None => Ok(None),
         Some(row) => {
             let cursor = current_of(kept, alloc, catalogue, records, row)?;
@@ -114,25 +113,25 @@ pub(crate) fn current(
 }
 
 /// Returns the walk of a job execution, if this exists, after this work item of its first ready
-/// work key is handed out.
+/// work key is handed out. `owner` is its row.
 pub(crate) fn claimed(
     kept: Option<Cursor>,
     alloc: Global,
     catalogue: &Catalogue,
     records: &Records,
+    owner: Option<&ExecutionRow>,
     item: &WorkItem,
 ) -> Result<Option<Cursor>, OutOfMemory>
-    requires placed { IsPlaced catalogue.now records.now.executions item.now.execution }
-    requires kept { IfSome kept (IsFollowed catalogue.now records.now.works
-        records.now.executions item.now.execution) }
-    requires first { IsFirst catalogue.now records.now.works
-        (find (is_execution item.now.execution) records.now.executions) item.now }
+    requires placed { IfSome (option_copied owner) (λ row. is_placed catalogue.now row ≡ true) }
+    requires kept { IfSome kept (λ cursor. Walks catalogue.now records.now.works
+        (option_copied owner) (Some cursor)) }
+    requires own { IfSome (option_copied owner) (λ row. row.execution ≡ item.now.execution) }
+    requires first { IsFirst catalogue.now records.now.works (option_copied owner) item.now }
     ensures { (who at : ℕ) → IfOk result (λ cursor. Walks catalogue.now
-        (records.now.works ++ busy_work who at item.now ∷ [])
-        (find (is_execution item.now.execution) records.now.executions) cursor) }
+        (records.now.works ++ busy_work who at item.now ∷ []) (option_copied owner.entry) cursor) }
 {
     let key = item.key()?;
-    match records.execution(item.execution) {
+    match owner {
         None => Ok(None),
         Some(row) => {
             let mut cursor = current_of(kept, alloc, catalogue, records, row)?;
@@ -230,27 +229,29 @@ fn finished_of(
 }
 
 /// Returns the walk of the job execution of a work item, if this exists, after the work item is
-/// over.
+/// over. `owner` is the row of the job execution.
 pub(crate) fn finished(
     kept: Option<Cursor>,
     alloc: Global,
     catalogue: &Catalogue,
     records: &Records,
+    owner: Option<&ExecutionRow>,
     work: &WorkRow,
     w: WorkId,
     outcome: WorkOutcome,
     exit: &T256,
 ) -> Result<Option<Cursor>, OutOfMemory>
-    requires placed { IsPlaced catalogue.now records.now.executions work.now.execution }
-    requires kept { IfSome kept (IsFollowed catalogue.now records.now.works
-        records.now.executions work.now.execution) }
+    requires placed { IfSome (option_copied owner) (λ row. is_placed catalogue.now row ≡ true) }
+    requires kept { IfSome kept (λ cursor. Walks catalogue.now records.now.works
+        (option_copied owner) (Some cursor)) }
     requires apart { AllApart records.now.works }
     requires there { find (is_work w) records.now.works ≡ Some work.now }
+    requires own { IfSome (option_copied owner) (λ row. row.execution ≡ work.now.execution) }
     ensures { (step : Counts) (at number : ℕ) → IfOk result (λ cursor. Walks catalogue.now
         (change_first (is_work w) (over_as outcome exit.now step at number) records.now.works)
-        (find (is_execution work.now.execution) records.now.executions) cursor) }
+        (option_copied owner.entry) cursor) }
 {
-    match records.execution(work.execution) {
+    match owner {
         None => Ok(None),
         Some(row) => {
             let cursor = finished_of(kept, alloc, catalogue, records, row, work, w, outcome, exit)?;

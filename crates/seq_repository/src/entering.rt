@@ -1,27 +1,28 @@
 ghost use Rattle.std.specs.Prelude.{ℕ, ◌≡◌, ◌<◌, ◌+◌, [], ◌∷◌, ◌++◌, true, false, find, Option, is_some, IfOk, IfSome, OnOk, OnErr, List, Ok, if◌then◌else◌};
 ghost use Rattle.std.specs.List.{list_any};
-ghost use Rattle.std.specs.Option.{option_map};
+ghost use Rattle.std.specs.Option.{option_copied, option_map};
+ghost use Rattle.batch_history.specs.declared.rows.ExecutionRow.{ExecutionRow as Row};
 ghost use Rattle.batch_history.specs.declared.rows.WorkRow.{WorkRow as Work};
 ghost use Rattle.batch_history.specs.Due.{IsDue};
 ghost use Rattle.batch_history.specs.Lists.{change_first};
 ghost use Rattle.batch_history.specs.Replies.{is_execution, is_running_in, reply_by, is_nothing};
 ghost use Rattle.batch_history.specs.Walks.{job_named};
 ghost use Rattle.batch_ids.specs.declared.metric_step.MetricStep.{MetricStep as Counts};
-ghost use Rattle.batch_history.specs.NextRows.{over, over_as, reported, rows_after};
-ghost use Rattle.batch_history.specs.Works.{busy_work, exit_or_name, is_work};
-ghost use Rattle.seq_repository.specs.Reports.{IsReport};
+ghost use Rattle.batch_history.specs.NextRows.{over, reported as counted_to, rows_after};
+ghost use Rattle.batch_history.specs.Works.{is_work};
+ghost use Rattle.seq_repository.specs.Reports.{IsChange, IsHanded, IsReport};
 ghost use Rattle.seq_repository.specs.Kept.{rows_in};
 ghost use Rattle.records.specs.Maps.{is_instance};
 ghost use Rattle.seq_repository.specs.Agendas.{is_ready_row};
-ghost use Rattle.seq_repository.specs.Following.{IsFollowed, Walks};
+ghost use Rattle.seq_repository.specs.Following.{Walks};
 ghost use Rattle.jsl_model.specs.Jobs.{JobTree as Tree};
-ghost use Rattle.seq_repository.specs.Changes.{ReplacesExecution, put_row, place_at, row_after, LeavesMark};
+ghost use Rattle.seq_repository.specs.Changes.{Replaces, ReplacesExecution, abandoned_at, put_row, place_at, row_after, row_given_up, LeavesMark};
 
-use crate::after::{After, after_report};
+use crate::after::{After, End, Reported, after_checkpoint, after_end};
 use crate::repository::Repository;
 use crate::rows::Change;
 use crate::{adding, agenda, cursors, rows};
-use batch_history::{Call, ExecutionRow, JobInstance, Reply, WorkItem, WorkRow};
+use batch_history::{Call, ExecutionRow, JobInstance, Reply, WorkItem};
 use batch_ids::{
     ExecutionId, InstanceId, MetricStep, Moment, OutOfMemory, Parameters, Refusal, T256, Text,
     WorkId, WorkOutcome,
@@ -61,50 +62,45 @@ fn drop_mark(records: &mut Records, outcome: WorkOutcome, row: &Option<Execution
 }
 
 /// Returns the row of a job execution after an operation on it, if it exists, and whether there is
-/// something to do for it. `cursor` has its walk after the operation.
+/// something to do for it. `owner` is its row before, and `cursor` has its walk after the operation.
 pub(crate) fn execution_after(
     alloc: Global,
-    records: &Records,
-    x: ExecutionId,
+    owner: Option<&ExecutionRow>,
     change: Change,
     cursor: &Option<Cursor>,
     at: Moment,
 ) -> Result<(Option<ExecutionRow>, bool), OutOfMemory>
     ensures row { (catalogue : List Tree) (works : List Work)
-        → Walks catalogue works (find (is_execution x) records.now.executions) cursor.now
+        → Walks catalogue works (option_copied owner.entry) cursor.now
         → IfOk result (λ new. new.0 ≡ option_map (row_after change catalogue works at)
-        (find (is_execution x) records.now.executions)) }
-    ensures own { IfOk result (λ new. IfSome new.0
-        (λ row. ReplacesExecution records.now.executions x row)) }
+        (option_copied owner.entry)) }
+    ensures own { IfOk result (λ new. IfSome new.0 (Replaces (option_copied owner.entry))) }
     ensures ready { (catalogue : List Tree) (works : List Work)
-        → Walks catalogue works (find (is_execution x) records.now.executions) cursor.now
+        → Walks catalogue works (option_copied owner.entry) cursor.now
         → IfOk result (λ new. new.1 ≡ is_ready_row catalogue works new.0) }
 {
-    let Some(cursor) = cursor else {
+    let (Some(row), Some(cursor)) = (owner, cursor) else {
         return Ok((None, false));
     };
-    match records.execution(x) {
-        None => Ok((None, false)),
-        Some(row) => {
-            let value = cursor.value();
-            let shown = reply_rules::first_ready(value).is_some();
-            let new = rows::change_row(alloc, change, value, at, row)?;
-            let ready = reply_rules::has_something(new.status(), shown);
-            Ok((Some(new), ready))
-        }
+    let value = cursor.value();
+    let shown = reply_rules::first_ready(value).is_some();
+    let new = rows::change_row(alloc, change, value, at, row)?;
+    let ready = reply_rules::has_something(new.status(), shown);
+    Ok((Some(new), ready))
+}
+
+/// Returns the row of a job execution that is abandoned now, if it exists.
+fn given_up(owner: Option<&ExecutionRow>, at: Moment) -> Result<Option<ExecutionRow>, OutOfMemory>
+    ensures row { IfOk result (λ new. new ≡ option_map (abandoned_at at) (option_copied owner.entry)) }
+    ensures own { IfOk result (λ new. IfSome new (Replaces (option_copied owner.entry))) }
+{
+    match owner {
+        None => Ok(None),
+        Some(row) => Ok(Some(rows::give_up_row(at, row)?)),
     }
 }
 
 impl<const LIMIT: u64> Repository<LIMIT> {
-    /// Takes the walk of a job execution out of the stored walks.
-    fn take_cursor(&mut self, x: ExecutionId) -> Option<Cursor>
-        ensures same { self.new ≡ self.old }
-        ensures cursor { IfSome result (IsFollowed self.old.catalogue
-            self.old.records.works self.old.records.executions x) }
-    {
-        cursors::take(&mut self.cursors, x)
-    }
-
     fn enter_start(
         &mut self,
         job: &T256,
@@ -184,55 +180,34 @@ impl<const LIMIT: u64> Repository<LIMIT> {
         }) }
         ensures unchanged { OnErr result (self.new ≡ self.old) }
     {
-        let kept = self.take_cursor(x);
-        self.change_with(kept, x, change, at)
-    }
-
-    /// Like `enter_change`, given the stored walk of the job execution, if there is one.
-    fn change_with(
-        &mut self,
-        kept: Option<Cursor>,
-        x: ExecutionId,
-        change: Change,
-        at: Moment,
-    ) -> Result<(), OutOfMemory>
-        requires room { self.old.count < LIMIT }
-        requires kept { IfSome kept (IsFollowed self.old.catalogue
-            self.old.records.works self.old.records.executions x) }
-        ensures rows { OnOk result (rows_in self.new ≡ record (rows_in self.old) {
-          count = self.old.count + 1;
-          executions = change_first (is_execution x)
-              (row_after change self.old.catalogue self.old.records.works at)
-              self.old.records.executions;
-        }) }
-        ensures unchanged { OnErr result (self.new ≡ self.old) }
-    {
-        let mut cursor = cursors::current(kept, self.alloc, &self.catalogue, &self.records, x)?;
-        let result = self.change_by(&mut cursor, x, change, at);
+        let owner = self.records.execution(x);
+        let kept = cursors::take(&mut self.cursors, x);
+        let mut cursor = cursors::current(kept, self.alloc, &self.catalogue, &self.records, owner)?;
+        let result = match execution_after(self.alloc, owner, change, &cursor, at) {
+            Ok((row, ready)) => self.put_change(x, row, ready, &mut cursor),
+            Err(error) => Err(error),
+        };
         drop(cursor);
         result
     }
 
-    /// Like `enter_change`, given the walk of the job execution, if this exists.
-    fn change_by(
+    /// Stores the row of a job execution after an operation that changes no work item, and its walk.
+    fn put_change(
         &mut self,
-        cursor: &mut Option<Cursor>,
         x: ExecutionId,
-        change: Change,
-        at: Moment,
+        row: Option<ExecutionRow>,
+        ready: bool,
+        cursor: &mut Option<Cursor>,
     ) -> Result<(), OutOfMemory>
         requires room { self.old.count < LIMIT }
-        requires walks { Walks self.old.catalogue self.old.records.works
-            (find (is_execution x) self.old.records.executions) cursor.old }
-        ensures rows { OnOk result (rows_in self.new ≡ record (rows_in self.old) {
-          count = self.old.count + 1;
-          executions = change_first (is_execution x)
-              (row_after change self.old.catalogue self.old.records.works at)
-              self.old.records.executions;
-        }) }
+        requires change { (f : Row → Row) × IsChange self.old x f row ready cursor.old }
+        ensures rows { (f : Row → Row) → IsChange self.old x f row ready cursor.old
+            → OnOk result (rows_in self.new ≡ record (rows_in self.old) {
+              count = self.old.count + 1;
+              executions = change_first (is_execution x) f self.old.records.executions;
+            }) }
         ensures unchanged { OnErr result (self.new ≡ self.old) }
     {
-        let (row, ready) = execution_after(self.alloc, &self.records, x, change, cursor, at)?;
         if let Err(error) = agenda::put(&mut self.agenda, x, ready) {
             drop(row);
             return Err(error);
@@ -242,6 +217,21 @@ impl<const LIMIT: u64> Repository<LIMIT> {
         put_row(&mut self.records, x, row);
         self.count += 1;
         Ok(())
+    }
+
+    /// Enters that a job execution is abandoned. Nothing of its walk changes.
+    fn enter_abandonment(&mut self, x: ExecutionId, at: Moment) -> Result<(), OutOfMemory>
+        requires room { self.old.count < LIMIT }
+        ensures rows { OnOk result (rows_in self.new ≡ record (rows_in self.old) {
+          count = self.old.count + 1;
+          executions = change_first (is_execution x)
+              (row_given_up self.old.catalogue self.old.records.works at)
+              self.old.records.executions;
+        }) }
+        ensures unchanged { OnErr result (self.new ≡ self.old) }
+    {
+        let row = given_up(self.records.execution(x), at)?;
+        self.put_change(x, row, false, &mut None)
     }
 
     fn enter_work(&mut self, who: u64, at: Moment, item: &WorkItem) -> Result<(), OutOfMemory>
@@ -255,51 +245,37 @@ impl<const LIMIT: u64> Repository<LIMIT> {
         }) }
         ensures unchanged { OnErr result (self.new ≡ self.old) }
     {
-        let kept = self.take_cursor(item.execution);
-        self.work_with(kept, who, at, item)
-    }
-
-    /// Enters that a work item is handed out, given the stored walk of its job execution, if there
-    /// is one.
-    fn work_with(
-        &mut self,
-        kept: Option<Cursor>,
-        who: u64,
-        at: Moment,
-        item: &WorkItem,
-    ) -> Result<(), OutOfMemory>
-        requires room { self.old.count < LIMIT }
-        requires due { reply_by LIMIT (rows_in self.old) who Call.Claim ≡ Ok (Reply.Work item.now) }
-        requires kept { IfSome kept (IsFollowed self.old.catalogue
-            self.old.records.works self.old.records.executions item.now.execution) }
-        ensures rows { OnOk result (rows_in self.new ≡ rows_after (rows_in self.old) record {
-          who = who;
-          call = Call.Claim;
-          at = at;
-          reply = Reply.Work item.now;
-        }) }
-        ensures unchanged { OnErr result (self.new ≡ self.old) }
-    {
-        let mut cursor = cursors::claimed(kept, self.alloc, &self.catalogue, &self.records, item)?;
-        let result = self.work_by(&mut cursor, who, at, item);
+        let owner = self.records.execution(item.execution);
+        let kept = cursors::take(&mut self.cursors, item.execution);
+        let mut cursor = cursors::claimed(
+            kept,
+            self.alloc,
+            &self.catalogue,
+            &self.records,
+            owner,
+            item,
+        )?;
+        let result = match execution_after(self.alloc, owner, Change::Claim, &cursor, at) {
+            Ok((row, ready)) => self.put_work(who, at, item, row, ready, &mut cursor),
+            Err(error) => Err(error),
+        };
         drop(cursor);
         result
     }
 
-    /// Like `work_with`, given the walk after the work item is handed out, if the job execution
-    /// exists.
-    fn work_by(
+    /// Stores the row of a work item that is handed out, and that of its job execution, and its walk.
+    fn put_work(
         &mut self,
-        cursor: &mut Option<Cursor>,
         who: u64,
         at: Moment,
         item: &WorkItem,
+        row: Option<ExecutionRow>,
+        ready: bool,
+        cursor: &mut Option<Cursor>,
     ) -> Result<(), OutOfMemory>
         requires room { self.old.count < LIMIT }
         requires due { reply_by LIMIT (rows_in self.old) who Call.Claim ≡ Ok (Reply.Work item.now) }
-        requires walks { Walks self.old.catalogue
-            (self.old.records.works ++ busy_work who at item.now ∷ [])
-            (find (is_execution item.now.execution) self.old.records.executions) cursor.old }
+        requires handed { IsHanded self.old who at item.now row ready cursor.old }
         ensures rows { OnOk result (rows_in self.new ≡ rows_after (rows_in self.old) record {
           who = who;
           call = Call.Claim;
@@ -309,8 +285,6 @@ impl<const LIMIT: u64> Repository<LIMIT> {
         ensures unchanged { OnErr result (self.new ≡ self.old) }
     {
         let x = item.execution;
-        let change = Change::Claim;
-        let (row, ready) = execution_after(self.alloc, &self.records, x, change, cursor, at)?;
         let added = adding::add_work(&mut self.agenda, &mut self.records, ready, who, at, item);
         if let Err(error) = added {
             drop(row);
@@ -344,77 +318,15 @@ impl<const LIMIT: u64> Repository<LIMIT> {
         let Some(work) = self.records.work(w) else {
             unreachable!();
         };
-        let x = work.execution;
-        let kept = self.take_cursor(x);
-        self.checkpoint_with(kept, at, w, mark, step)
-    }
-
-    /// Enters a checkpoint of a work item, given the stored walk of its job execution, if there is
-    /// one.
-    fn checkpoint_with(
-        &mut self,
-        kept: Option<Cursor>,
-        at: Moment,
-        w: WorkId,
-        mark: &Text<65536>,
-        step: &MetricStep,
-    ) -> Result<(), OutOfMemory>
-        requires room { self.old.count < LIMIT }
-        requires held { is_some (find (is_work w) self.old.records.works) ≡ true }
-        requires kept { IfSome (find (is_work w) self.old.records.works) (λ row. IfSome kept
-            (IsFollowed self.old.catalogue self.old.records.works self.old.records.executions
-            row.execution)) }
-        ensures rows { OnOk result (rows_in self.new ≡ rows_after (rows_in self.old) record {
-          who = 0;
-          call = Call.Checkpoint w mark.now step.now;
-          at = at;
-          reply = Reply.Done;
-        }) }
-        ensures unchanged { OnErr result (self.new ≡ self.old) }
-    {
-        let Some(work) = self.records.work(w) else {
-            unreachable!();
+        let owner = self.records.execution(work.execution);
+        let kept = cursors::take(&mut self.cursors, work.execution);
+        let mut cursor = cursors::current(kept, self.alloc, &self.catalogue, &self.records, owner)?;
+        let result = match after_checkpoint(self.alloc, owner, work, *step, &cursor, at) {
+            Ok(reported) => self.put_checkpoint(w, mark, reported, &mut cursor),
+            Err(error) => Err(error),
         };
-        let x = work.execution;
-        let mut cursor = cursors::current(kept, self.alloc, &self.catalogue, &self.records, x)?;
-        let result = self.checkpoint_by(&mut cursor, at, w, mark, step);
         drop(cursor);
         result
-    }
-
-    /// Like `checkpoint_with`, given the walk of the job execution, if this exists.
-    fn checkpoint_by(
-        &mut self,
-        cursor: &mut Option<Cursor>,
-        at: Moment,
-        w: WorkId,
-        mark: &Text<65536>,
-        step: &MetricStep,
-    ) -> Result<(), OutOfMemory>
-        requires room { self.old.count < LIMIT }
-        requires held { is_some (find (is_work w) self.old.records.works) ≡ true }
-        requires walks { IfSome (find (is_work w) self.old.records.works) (λ row.
-            Walks self.old.catalogue self.old.records.works
-            (find (is_execution row.execution) self.old.records.executions) cursor.old) }
-        ensures rows { OnOk result (rows_in self.new ≡ rows_after (rows_in self.old) record {
-          who = 0;
-          call = Call.Checkpoint w mark.now step.now;
-          at = at;
-          reply = Reply.Done;
-        }) }
-        ensures unchanged { OnErr result (self.new ≡ self.old) }
-    {
-        let Some(work) = self.records.work(w) else {
-            unreachable!();
-        };
-        let counted = rows::report_counts(*step, work)?;
-        match after_report(self.alloc, &self.records, &counted, cursor, at) {
-            Ok(after) => self.put_checkpoint(w, mark, counted, after, cursor),
-            Err(error) => {
-                drop(counted);
-                Err(error)
-            }
-        }
     }
 
     /// Stores the rows of a work item and of its job execution after a checkpoint of the work item.
@@ -422,14 +334,15 @@ impl<const LIMIT: u64> Repository<LIMIT> {
         &mut self,
         w: WorkId,
         mark: &Text<65536>,
-        counted: WorkRow,
-        after: After,
+        reported: Reported,
         cursor: &mut Option<Cursor>,
     ) -> Result<(), OutOfMemory>
         requires room { self.old.count < LIMIT }
-        requires report { (at : ℕ) × IsReport self.old w at counted after cursor.old }
-        ensures rows { (at : ℕ) (step : Counts) → IsReport self.old w at counted after cursor.old
-            → IfSome (find (is_work w) self.old.records.works) (λ row. counted ≡ reported step row)
+        requires report { (at : ℕ) × IsReport self.old w at reported.work reported.after cursor.old }
+        ensures rows { (at : ℕ) (step : Counts)
+            → IsReport self.old w at reported.work reported.after cursor.old
+            → IfSome (find (is_work w) self.old.records.works)
+            (λ row. reported.work ≡ counted_to step row)
             → OnOk result (rows_in self.new ≡ rows_after (rows_in self.old) record {
               who = 0;
               call = Call.Checkpoint w mark.now step;
@@ -438,7 +351,8 @@ impl<const LIMIT: u64> Repository<LIMIT> {
             }) }
         ensures unchanged { OnErr result (self.new ≡ self.old) }
     {
-        let x = counted.execution;
+        let Reported { work, after } = reported;
+        let x = work.execution;
         let After { step, row, ready } = after;
         let put = adding::put_mark(
             &mut self.agenda,
@@ -450,13 +364,13 @@ impl<const LIMIT: u64> Repository<LIMIT> {
             mark,
         );
         if let Err(error) = put {
-            drop(counted);
+            drop(work);
             drop(row);
             return Err(error);
         }
         agenda::remove_if(&mut self.agenda, x, !ready);
         cursors::keep(&mut self.cursors, x, &row, cursor.take());
-        self.records.change_work(w, counted);
+        self.records.change_work(w, work);
         put_row(&mut self.records, x, row);
         self.count += 1;
         Ok(())
@@ -483,91 +397,32 @@ impl<const LIMIT: u64> Repository<LIMIT> {
         let Some(work) = self.records.work(w) else {
             unreachable!();
         };
-        let x = work.execution;
-        let exit = reply_rules::exit_or_name(self.alloc, outcome, exit)?;
-        let kept = self.take_cursor(x);
-        self.finish_with(kept, at, w, outcome, exit, step)
-    }
-
-    /// Enters the end of a work item, with the exit status that the work item shows then. `kept` is
-    /// the stored walk of its job execution, if there is one.
-    fn finish_with(
-        &mut self,
-        kept: Option<Cursor>,
-        at: Moment,
-        w: WorkId,
-        outcome: WorkOutcome,
-        exit: T256,
-        step: &MetricStep,
-    ) -> Result<(), OutOfMemory>
-        requires room { self.old.count < LIMIT }
-        requires held { is_some (find (is_work w) self.old.records.works) ≡ true }
-        requires kept { IfSome (find (is_work w) self.old.records.works) (λ row. IfSome kept
-            (IsFollowed self.old.catalogue self.old.records.works self.old.records.executions
-            row.execution)) }
-        ensures rows { (given : Option (List ℕ)) → exit ≡ exit_or_name outcome given
-            → OnOk result (rows_in self.new ≡ rows_after (rows_in self.old) record {
-              who = 0;
-              call = Call.Finish w outcome given step.now;
-              at = at;
-              reply = Reply.Done;
-            }) }
-        ensures unchanged { OnErr result (self.new ≡ self.old) }
-    {
-        let Some(work) = self.records.work(w) else {
-            unreachable!();
+        let end = End {
+            outcome,
+            exit: reply_rules::exit_or_name(self.alloc, outcome, exit)?,
+            step: *step,
+            at,
+            number: self.count + 1,
         };
+        let owner = self.records.execution(work.execution);
+        let kept = cursors::take(&mut self.cursors, work.execution);
         let mut cursor = cursors::finished(
             kept,
             self.alloc,
             &self.catalogue,
             &self.records,
+            owner,
             work,
             w,
             outcome,
-            &exit,
+            &end.exit,
         )?;
-        let result = self.finish_by(&mut cursor, at, w, outcome, exit, step);
+        let result = match after_end(self.alloc, owner, work, end, &cursor) {
+            Ok(reported) => self.put_end(w, outcome, reported, &mut cursor),
+            Err(error) => Err(error),
+        };
         drop(cursor);
         result
-    }
-
-    /// Like `finish_with`, given the walk after the work item is over, if the job execution exists.
-    fn finish_by(
-        &mut self,
-        cursor: &mut Option<Cursor>,
-        at: Moment,
-        w: WorkId,
-        outcome: WorkOutcome,
-        exit: T256,
-        step: &MetricStep,
-    ) -> Result<(), OutOfMemory>
-        requires room { self.old.count < LIMIT }
-        requires held { is_some (find (is_work w) self.old.records.works) ≡ true }
-        requires walks { IfSome (find (is_work w) self.old.records.works) (λ row.
-            (counts : Counts) (end number : ℕ) → Walks self.old.catalogue (change_first (is_work w)
-            (over_as outcome exit counts end number) self.old.records.works)
-            (find (is_execution row.execution) self.old.records.executions) cursor.old) }
-        ensures rows { (given : Option (List ℕ)) → exit ≡ exit_or_name outcome given
-            → OnOk result (rows_in self.new ≡ rows_after (rows_in self.old) record {
-              who = 0;
-              call = Call.Finish w outcome given step.now;
-              at = at;
-              reply = Reply.Done;
-            }) }
-        ensures unchanged { OnErr result (self.new ≡ self.old) }
-    {
-        let Some(work) = self.records.work(w) else {
-            unreachable!();
-        };
-        let ended = rows::end_work(outcome, exit, *step, at, self.count + 1, work)?;
-        match after_report(self.alloc, &self.records, &ended, cursor, at) {
-            Ok(after) => self.put_end(w, outcome, ended, after, cursor),
-            Err(error) => {
-                drop(ended);
-                Err(error)
-            }
-        }
     }
 
     /// Stores the rows of a work item and of its job execution after the end of the work item.
@@ -575,16 +430,15 @@ impl<const LIMIT: u64> Repository<LIMIT> {
         &mut self,
         w: WorkId,
         outcome: WorkOutcome,
-        ended: WorkRow,
-        after: After,
+        reported: Reported,
         cursor: &mut Option<Cursor>,
     ) -> Result<(), OutOfMemory>
         requires room { self.old.count < LIMIT }
-        requires report { (at : ℕ) × IsReport self.old w at ended after cursor.old }
+        requires report { (at : ℕ) × IsReport self.old w at reported.work reported.after cursor.old }
         ensures rows { (at : ℕ) (given : Option (List ℕ)) (step : Counts)
-            → IsReport self.old w at ended after cursor.old
+            → IsReport self.old w at reported.work reported.after cursor.old
             → IfSome (find (is_work w) self.old.records.works)
-            (λ row. ended ≡ over outcome given step at (self.old.count + 1) row)
+            (λ row. reported.work ≡ over outcome given step at (self.old.count + 1) row)
             → OnOk result (rows_in self.new ≡ rows_after (rows_in self.old) record {
               who = 0;
               call = Call.Finish w outcome given step;
@@ -593,17 +447,18 @@ impl<const LIMIT: u64> Repository<LIMIT> {
             }) }
         ensures unchanged { OnErr result (self.new ≡ self.old) }
     {
-        let x = ended.execution;
+        let Reported { work, after } = reported;
+        let x = work.execution;
         let After { step, row, ready } = after;
         if let Err(error) = agenda::put(&mut self.agenda, x, ready) {
-            drop(ended);
+            drop(work);
             drop(row);
             return Err(error);
         }
         agenda::remove_if(&mut self.agenda, x, !ready);
         cursors::keep(&mut self.cursors, x, &row, cursor.take());
         drop_mark(&mut self.records, outcome, &row, step);
-        self.records.change_work(w, ended);
+        self.records.change_work(w, work);
         put_row(&mut self.records, x, row);
         self.count += 1;
         Ok(())
@@ -687,7 +542,7 @@ impl<const LIMIT: u64> Repository<LIMIT> {
                 parameters,
             } => self.enter_restart(*execution, parameters, at),
             Call::Stop { execution } => self.enter_change(*execution, Change::StopRequest, at),
-            Call::Abandon { execution } => self.enter_change(*execution, Change::Abandonment, at),
+            Call::Abandon { execution } => self.enter_abandonment(*execution, at),
             Call::Claim => self.enter_claim(who, at, reply),
             Call::Checkpoint { work, mark, step } => {
                 self.enter_checkpoint(at, *work, mark, step)

@@ -4,12 +4,12 @@ ghost use Rattle.batch_ids.specs.Metrics.{IsWithin, most_after};
 ghost use Rattle.seq_repository.specs.Metered.{IsStep};
 ghost use Rattle.batch_history.specs.NextRows.{reported, over_as, fresh_row, renewed, refreshed};
 ghost use Rattle.batch_history.specs.Works.{busy_work};
-ghost use Rattle.seq_repository.specs.Changes.{effect_of};
+ghost use Rattle.seq_repository.specs.Changes.{abandoned_at, effect_of};
 
 use batch_history::{ExecutionRow, WorkItem, WorkRow, WorkState};
 use batch_ids::{
     BatchStatus, ExecutionId, InstanceId, MetricStep, Metrics, Moment, OutOfMemory, Parameters,
-    Shared, T256, WorkOutcome,
+    Shared, T256, WorkOutcome, try_clone_option,
 };
 use job_plans::Plan;
 use reply_rules::{batch_status, earliest, exit_status, is_finished};
@@ -21,8 +21,6 @@ use walk_rules::Value;
 pub(crate) enum Change {
     /// A stop is requested.
     StopRequest,
-    /// The job execution is abandoned.
-    Abandonment,
     /// The job execution is taken up.
     Claim,
     /// A work item of the job execution is reported on.
@@ -122,13 +120,37 @@ pub(crate) fn change_row(
 {
     match change {
         Change::StopRequest => row_with(alloc, true, row.abandoned, row.start, value, at, row),
-        Change::Abandonment => row_with(alloc, row.stop, true, row.start, value, at, row),
         Change::Claim => {
             let start = earliest(row.start, true, at);
             row_with(alloc, row.stop, row.abandoned, start, value, at, row)
         }
         Change::Report => row_with(alloc, row.stop, row.abandoned, row.start, value, at, row),
     }
+}
+
+/// Returns the row of a job execution that is abandoned now. It shows the same of its walk.
+pub(crate) fn give_up_row(at: Moment, row: &ExecutionRow) -> Result<ExecutionRow, OutOfMemory>
+    ensures { IfOk result (λ new. new ≡ abandoned_at at row.now) }
+{
+    let job = row.job.try_clone()?;
+    let parameters = row.parameters.try_clone()?;
+    let plan = row.plan.try_clone()?;
+    let exit = try_clone_option(&row.exit)?;
+    Ok(ExecutionRow {
+        execution: row.execution,
+        instance: row.instance,
+        job,
+        parameters,
+        plan,
+        stop: row.stop,
+        abandoned: true,
+        bare: row.bare,
+        create: row.create,
+        start: row.start,
+        end: row.end,
+        exit,
+        updated: at,
+    })
 }
 
 /// Returns the row of a work item that is handed out to this session.

@@ -1,4 +1,4 @@
-use Rattle.std.proofs.Common.{◌≡◌, ℕ, ◌+◌, true, Some, List, sym, ◌∙◌, ap, arith}
+use Rattle.std.proofs.Common.{◌≡◌, ℕ, ◌+◌, true, Some, List, sym, ◌∙◌, ap, subst, arith}
 use Rattle.batch_history.specs.NextRows.{fresh_row}
 use Rattle.batch_history.specs.Replies.{row_status}
 use Rattle.batch_history.specs.Restarts.{first_plan}
@@ -11,6 +11,8 @@ use Rattle.batch_history.specs.declared.rows.LastNumbers.{LastNumbers}
 use Rattle.batch_history.specs.declared.call.Reply.TheVariants.{Done}
 use Rattle.seq_repository.specs.Kept.{Kept}
 use Rattle.seq_repository.proofs.Entries.{start-entered}
+use Rattle.seq_repository.specs.Settled.{IsSettled}
+use Rattle.seq_repository.proofs.Settled.{settled_fresh}
 use Rattle.seq_repository.proofs.Keeping.{kept_start}
 use Rattle.seq_repository.proofs.repository.Repository.enter_start.Goals as goal
 
@@ -24,7 +26,7 @@ invariant_of-self-2 g c =
     let placed : is_placed kept.catalogue row ≡ true =
     ap (λ (r : ExecutionRow). is_placed kept.catalogue r) c.in_ok-row.ensures
     ∙ (ap (begins_in_job c.in_ok-plan.plan) named ∙ c.in_ok-plan.ensures.begins) in
-    kept_start g.row.LIMIT c.self.inside.agenda.keys c.add_instance.new.agenda.keys c.self.inside.cursors kept c.add_instance.new.records record { instance = c.new-instance.result; job = c.in_ok-job.job } row c.self.invariant c.new-instance.ensures (ap (λ (r : ExecutionRow). r.execution) c.in_ok-row.ensures) (ap row_status c.in_ok-row.ensures) (omega (arith, c.requires.room, ap (λ (r : Kept). r.count) c.self.view_is)) placed c.in_ok-add_instance.ensures.added c.in_ok-add_instance.ensures.agenda
+    kept_start g.row.LIMIT c.self.inside.agenda.keys c.add_instance.new.agenda.keys c.self.inside.cursors kept c.add_instance.new.records record { instance = c.new-instance.result; job = c.in_ok-job.job } row c.self.invariant c.new-instance.ensures (ap (λ (r : ExecutionRow). r.execution) c.in_ok-row.ensures) (ap row_status c.in_ok-row.ensures) (subst (IsSettled kept.catalogue kept.records.works) (sym c.in_ok-row.ensures) (settled_fresh kept.catalogue kept.records.works _ _ _ _ _ _)) (omega (arith, c.requires.room, ap (λ (r : Kept). r.count) c.self.view_is)) placed c.in_ok-add_instance.ensures.added c.in_ok-add_instance.ensures.agenda
 
 pub returns-clause-rows : goal.returns-clause-rows
 returns-clause-rows g c =

@@ -14,18 +14,18 @@ use Rattle.seq_repository.proofs.repository.Repository.put_checkpoint.Goals as g
 pub invariant_of-self-2 : goal.invariant_of-self-2
 invariant_of-self-2 g c =
     let kept : Kept = record { catalogue = c.self.inside.catalogue; count = c.self.inside.count; last = c.self.inside.last; records = c.self.inside.records } in
-    let x : ℕ = c.args.counted.execution in
-    let report = subst (λ (r : Kept). IsReport r c.args.w c.requires.report.0 c.args.counted c.args.after c.args.cursor.now) (sym c.self.view_is) c.requires.report.1 in
-    kept_reported g.row.LIMIT c.self.inside.agenda.keys c.remove_if.new.agenda.keys c.self.inside.cursors c.keep.new.cursors kept c.put_mark-put.new.records _ c.put_row.new.records c.args.w c.requires.report.0 c.args.counted c.args.after c.args.cursor.now
+    let x : ℕ = c.args.reported.work.execution in
+    let report = subst (λ (r : Kept). IsReport r c.args.w c.requires.report.0 c.args.reported.work c.args.reported.after c.args.cursor.now) (sym c.self.view_is) c.requires.report.1 in
+    kept_reported g.row.LIMIT c.self.inside.agenda.keys c.remove_if.new.agenda.keys c.self.inside.cursors c.keep.new.cursors kept c.put_mark-put.new.records _ c.put_row.new.records c.args.w c.requires.report.0 c.args.reported.work c.args.reported.after c.args.cursor.now
     c.self.invariant (omega (arith, c.requires.room, ap (λ (r : Kept). r.count) c.self.view_is)) report
-    (set-alone (place_at c.args.after.row c.args.after.step) (Some c.args.mark.now) c.self.inside.records c.put_mark-put.new.records c.in_default.ensures.rows) c.change_work.ensures c.put_row.ensures
-    record { goes = not c.args.after.ready; put = c.put_mark-put.new.agenda.keys; is_goes = refl; is_put = c.in_default.ensures.agenda; is_done = c.remove_if.ensures }
-    (subst (λ (o : Option CursorState). KeepsWalk x c.args.after.row o c.self.inside.cursors c.keep.new.cursors) c.take.ensures.value record { others = c.keep.ensures.others; own = c.keep.ensures.own })
+    (set-alone (place_at c.args.reported.after.row c.args.reported.after.step) (Some c.args.mark.now) c.self.inside.records c.put_mark-put.new.records c.in_default.ensures.rows) c.change_work.ensures c.put_row.ensures
+    record { goes = not c.args.reported.after.ready; put = c.put_mark-put.new.agenda.keys; is_goes = refl; is_put = c.in_default.ensures.agenda; is_done = c.remove_if.ensures }
+    (subst (λ (o : Option CursorState). KeepsWalk x c.args.reported.after.row o c.self.inside.cursors c.keep.new.cursors) c.take.ensures.value record { others = c.keep.ensures.others; own = c.keep.ensures.own })
 
 pub returns-clause-rows : goal.returns-clause-rows
 returns-clause-rows g c = λ at step report made.
     rw (← c.self.view_is)
-    (checkpoint-reported c.self.inside.catalogue c.self.inside.count c.self.inside.last c.self.inside.records c.put_mark-put.new.records _ c.put_row.new.records c.args.w at c.args.mark.now step c.args.counted c.args.after c.args.cursor.now
-    (subst (λ (r : Kept). IsReport r c.args.w at c.args.counted c.args.after c.args.cursor.now) (sym c.self.view_is) report)
-    (subst (λ (r : Kept). IfSome (find (is_work c.args.w) r.records.works) (λ (row : WorkRow). c.args.counted ≡ reported step row)) (sym c.self.view_is) made)
+    (checkpoint-reported c.self.inside.catalogue c.self.inside.count c.self.inside.last c.self.inside.records c.put_mark-put.new.records _ c.put_row.new.records c.args.w at c.args.mark.now step c.args.reported.work c.args.reported.after c.args.cursor.now
+    (subst (λ (r : Kept). IsReport r c.args.w at c.args.reported.work c.args.reported.after c.args.cursor.now) (sym c.self.view_is) report)
+    (subst (λ (r : Kept). IfSome (find (is_work c.args.w) r.records.works) (λ (row : WorkRow). c.args.reported.work ≡ reported step row)) (sym c.self.view_is) made)
     c.in_default.ensures.rows c.change_work.ensures c.put_row.ensures)
