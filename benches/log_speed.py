@@ -10,8 +10,8 @@ Three tables are printed:
 - So many lines (2,000) one at a time, each after the reply before: the median and the 99th percentile of a line that
   is accepted and of one that is not. Beside it a write of 100 bytes and a sync of the same disk, by this script.
 - So many operations (1,000,000), of one job execution that is stopped again and again: without a log, into a new log, and an
-  opening of that log with no line. Seconds, and peak memory. Beside it the bytes of that log, written at once and synced by
-  this script: an opening writes them too, and no program over that disk takes less.
+  opening of that log with no line, by turns. The median of the seconds, and peak memory. Beside it the bytes of that log,
+  written at once and synced by this script: an opening writes them too, and no program over that disk takes less.
 
 The log stands in DIR, else in the folder of temporary files: its disk decides. Each run is compared with what it has to write.
 """
@@ -213,22 +213,31 @@ def shown(seconds: list[float]) -> list[str]:
     return [f"{1e6 * statistics.median(seconds):,.0f}", f"{1e6 * statistics.quantiles(seconds, n=100)[98]:,.0f}"]
 
 
+def median_of(runs: Sequence[Run]) -> Run:
+    """The median of the seconds, and the largest memory, of runs that wrote the same."""
+    return Run(statistics.median(one.seconds for one in runs), max(one.memory for one in runs), runs[0].told)
+
+
 def measure_openings(words: Words, count: int) -> None:
-    """A full history without a log, into a new log, and an opening of that log."""
+    """A full history without a log, into a new log, and an opening of that log, by turns."""
     stop = text_of([{"do": "stop", "by": 1, "at": 0, "execution": 1}])
     ahead = text_of([STOPPED, {"do": "start", "by": 1, "at": 0, "job": "a"}, {"do": "claim", "by": 1, "at": 0}])
-    log = words.folder / "full.log"
-    runs = [
-        ("a script without a log", run(words, ahead + stop * (count - 2), None)),
-        ("a script into a new log", run(words, ahead + stop * (count - 2), log)),
-        ("an opening of that log", run(words, text_of([STOPPED]), log)),
-    ]
+    whole, log = ahead + stop * (count - 2), words.folder / "full.log"
+    plain, logged, opened = list[Run](), list[Run](), list[Run]()
+    for _ in range(words.turns):
+        log.unlink(missing_ok=True)
+        plain.append(run(words, whole, None))
+        logged.append(run(words, whole, log))
+        opened.append(run(words, text_of([STOPPED]), log))
+        if plain[-1].told != logged[-1].told or opened[-1].told:
+            sys.exit("the replies with a log differ from those without one")
     want_operations(log, count)
-    if runs[0][1].told != runs[1][1].told or runs[2][1].told:
-        sys.exit("the replies with a log differ from those without one")
-    rows = [[what, f"{one.seconds:.2f}", f"{one.memory:,.0f}"] for what, one in runs]
-    rows.append(["the bytes of that log, written and synced by this script", f"{seconds_of_copy(log):.2f}", ""])
-    print_table([f"{count:,} operations", "seconds", "peak memory, MiB"], rows)
+    named = (("a script without a log", plain), ("a script into a new log", logged), ("an opening of that log", opened))
+    table = [(what, median_of(runs)) for what, runs in named]
+    least = table[0][1].seconds
+    rows = [[what, f"{one.seconds:.2f}", f"{one.seconds / least:.2f}", f"{one.memory:,.0f}"] for what, one in table]
+    rows.append(["the bytes of that log, written and synced by this script", f"{seconds_of_copy(log):.2f}", "", ""])
+    print_table([f"{count:,} operations", "seconds, the median", "of the first", "peak memory, MiB"], rows)
     print(f"The log has {log.stat().st_size:,} bytes.")
 
 

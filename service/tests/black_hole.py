@@ -23,6 +23,16 @@ def swallow(connection: socket.socket) -> None:
     connection.setsockopt(socket.SOL_SOCKET, SO_ATTACH_FILTER, struct.pack("@HP", 1, ctypes.addressof(code)))
 
 
+def why_not_swallowed() -> str | None:
+    """Why no connection can be swallowed here, if none can: some systems let root alone give a filter to a socket."""
+    with socket.socket() as one:
+        try:
+            swallow(one)
+        except OSError as fault:
+            return f"no filter can be given to a socket here: {fault}"
+    return None
+
+
 class Networks:
     """Two networks of the tests' own: the service's, and a worker's, whose machine can be cut off."""
 

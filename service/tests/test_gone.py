@@ -28,6 +28,8 @@ from job_host.service.terms.claims import ClaimDesk
 Make = Callable[..., ServeSettings]
 CLAIM = b"POST /batch/work HTTP/1.1\r\nHost: localhost\r\nContent-Type: application/json\r\nBatch-Client: dead%d\r\n"
 WAITS = b'{"wait": 60}'
+NOT_SWALLOWED = black_hole.why_not_swallowed()
+swallowing = pytest.mark.skipif(NOT_SWALLOWED is not None, reason=str(NOT_SWALLOWED))
 OPTIONS = [
     (socket.SOL_SOCKET, socket.SO_KEEPALIVE),
     (socket.IPPROTO_TCP, socket.TCP_KEEPIDLE),
@@ -64,6 +66,7 @@ async def test_the_systems_options_of_a_workers_connection(idle: Callable[..., S
         assert options_of(kept[0][0].transport) == [1, 2, 1, 8, 10_000]
 
 
+@swallowing
 async def test_a_connection_to_a_machine_that_is_gone_ends(idle: Callable[..., Service]) -> None:
     """One waits for the next request, and one hasn't acknowledged its answer."""
     async with listening(idle(Bounds(slow_after=3.0))) as service:
@@ -149,6 +152,7 @@ async def wait_and_die(instance: Instance, count: int) -> list[socket.socket]:
     return dead
 
 
+@swallowing
 @pytest.mark.parametrize("after", [3.0, 6.0])
 async def test_work_goes_to_those_who_are_there(either: Make, after: float) -> None:
     """Four claims of a dead machine wait first: it is noticed that they are unheard, and then that they are gone."""
@@ -168,6 +172,7 @@ async def test_work_goes_to_those_who_are_there(either: Make, after: float) -> N
             one.close()
 
 
+@swallowing
 async def test_a_client_leaves_an_instance_that_is_gone(idle: Callable[..., Service], monkeypatch: pytest.MonkeyPatch) -> None:
     """Its machine is gone while an answer is waited for. The next instance is asked within seconds."""
     monkeypatch.setattr(client, "GONE_SECONDS", 3.0)
