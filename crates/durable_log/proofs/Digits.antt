@@ -2,7 +2,7 @@
 use Rattle.std.proofs.Common.{◌≡◌, ℕ, zero, suc, ◌+◌, ◌*◌, ◌/◌, ◌%◌, ◌<◌, ◌≤◌, List, [], ◌∷◌, Bool, true, false, None, Some, get_or, refl, sym, ◌∙◌, ap, arith}
 use Rattle.std.specs.Prelude.{◌==◌, ◌&&◌, if◌then◌else◌}
 use Rattle.durable_log.specs.Format.{digit, value, half, is_half}
-use Rattle.durable_log.specs.declared.columns.TheConstants.{VALUES}
+use Rattle.durable_log.specs.declared.columns.TheConstants.{DIGITS, VALUES}
 use Rattle.durable_log.proofs.Numbers.{value-small}
 
 -- the entry of a byte: its value, if it is a digit, and else 16
@@ -30,6 +30,28 @@ pub at : (b : ℕ) → b < 256 → get_or VALUES b 0 ≡ entry b
 at b less =
     let same : 0 + b ≡ b = omega arith in
     ap (λ (l : List ℕ). get_or l b 0) table ∙ entries-at 256 0 b less ∙ ap entry same
+
+-- the digits of so many values, from this one on
+written : ℕ → ℕ → List ℕ
+written zero d = []
+written (suc n) d = digit d ∷ written n (d + 1)
+
+written-at : (n d k : ℕ) → k < n → get_or (written n d) k 0 ≡ digit (d + k)
+unfolding written
+written-at zero d k less = absurd (omega arith)
+written-at (suc n) d zero less = let same : d ≡ d + 0 = omega arith in ap digit same
+written-at (suc n) d (suc k) less =
+    let same : d + 1 + k ≡ d + suc k = omega arith in
+    written-at n (d + 1) k (omega arith) ∙ ap digit same
+
+all-digits : DIGITS ≡ written 16 0
+unfolding written
+all-digits = refl
+
+pub digit-at : (d : ℕ) → d < 16 → get_or DIGITS d 0 ≡ digit d
+digit-at d less =
+    let same : 0 + d ≡ d = omega arith in
+    ap (λ (l : List ℕ). get_or l d 0) all-digits ∙ written-at 16 0 d less ∙ ap digit same
 
 -- the digits of a half are those of its four values
 pub by-values : (a b c d : ℕ) → is_half (half a b c d) a b c d ≡ (a == digit (value a) && (b == digit (value b) && (c == digit (value c) && d == digit (value d))))

@@ -5,6 +5,9 @@ ghost use Rattle.durable_log.specs.Shown.{column_shown};
 
 use std::alloc::AllocError;
 
+// The digits, by their values.
+const DIGITS: [u8; 16] = *b"0123456789abcdef";
+
 // What no digit has for its value.
 const NO_DIGIT: u8 = 16;
 
@@ -34,7 +37,8 @@ fn digit(d: u32) -> u8
     requires { d < 16 }
     ensures { result ≡ digit d }
 {
-    if d < 10 { 48 + d as u8 } else { 87 + d as u8 }
+    let digits = &DIGITS;
+    digits[d as usize]
 }
 
 // Returns a number as eight digits, the highest first.
