@@ -1,10 +1,10 @@
-"""A picture of a catalogue has ids, kinds and patterns, and Graphviz takes every text."""
+"""A picture of a catalogue has ids, kinds and patterns, and takes every text."""
 
 from __future__ import annotations
 
 import json
 import random
-from pathlib import Path
+import re
 from typing import Any
 
 import pytest
@@ -12,11 +12,12 @@ from catalogue_samples import one_job, step
 from defusedxml.ElementTree import fromstring
 from random_catalogues import Maker
 
-from job_host.catalogue import diagram
 from job_host.catalogue.check import jobs_in
-from job_host.catalogue.diagram import NoDiagram, draw, graph_of
+from job_host.catalogue.diagram import TITLE, draw, width_of
 from job_host.catalogue.file import read_json
 from job_host.catalogue.tree import Job
+
+SVG = "{http://www.w3.org/2000/svg}"
 
 
 def jobs_of(text: str) -> list[Job]:
@@ -26,7 +27,7 @@ def jobs_of(text: str) -> list[Job]:
 
 
 def texts_in(svg: bytes) -> list[str]:
-    return [element.text or "" for element in fromstring(svg).iter("{http://www.w3.org/2000/svg}text")]
+    return [element.text or "" for element in fromstring(svg).iter(f"{SVG}text")]
 
 
 CHUNK = {"item-count": 5, "reader": {"ref": "rows"}, "processor": {"ref": "odd"}, "writer": {"ref": "table"}}
@@ -62,15 +63,6 @@ def test_a_picture_has_ids_kinds_and_patterns() -> None:
     assert set(wanted) <= set(texts_in(draw(jobs_of(WHOLE))))
 
 
-def test_ways_lead_from_and_to_frames() -> None:
-    lines = graph_of(jobs_of(WHOLE)).splitlines()
-    assert "j0 -> e0_0 [];" in lines
-    assert "e0_0 -> e0_1 [lhead=cluster_e0_1];" in lines
-    assert "e0_1 -> e0_2 [lhead=cluster_e0_2];" in lines
-    assert "e0_6 -> e0_7 [ltail=cluster_e0_1];" in lines
-    assert 'e0_7 -> e0_8 [label="SUN?"];' in lines
-
-
 @pytest.mark.parametrize(
     "text", ['"', "\\", "\\N", "<b>", "&lt;", "a\nb", "\x00\x1b[31m", "é𝄞", "\u2028", "", "{x|y}", "x" * 256]
 )
@@ -81,16 +73,25 @@ def test_each_text_is_drawn_as_it_is(text: str) -> None:
     assert shown in drawn or not text
 
 
+def test_a_box_is_as_wide_as_its_texts() -> None:
+    flow = {"kind": "flow", "id": "f" * 90, "elements": [step("i")]}
+    drawn = fromstring(draw(jobs_of(one_job(flow, step("宽" * 40), step("\x00" * 20)))))
+    frame, wide, control, short = [int(rect.get("width", "0")) for rect in drawn.iter(f"{SVG}rect")]
+    assert frame > width_of("flow " + "f" * 90) > 2 * short
+    assert wide > 2 * width_of("x" * 40) and control > width_of("\\u0000" * 20)
+
+
+def test_jobs_stand_one_below_the_other() -> None:
+    jobs = [*jobs_of(WHOLE), *jobs_of(one_job(step("s"), id="b"))]
+    drawn = fromstring(draw(jobs))
+    tops = [int(found[1]) for group in drawn if (found := re.fullmatch(r"translate\(0 (\d+)\)", group.get("transform", "")))]
+    heights = [int(fromstring(draw([job])).get("height", "0")) for job in jobs]
+    assert (tops, int(drawn.get("height", "0"))) == ([0, heights[0]], sum(heights))
+    lowest = max(int(rect.get("y", "0")) + int(rect.get("height", "0")) for rect in drawn[1].iter(f"{SVG}rect"))
+    assert lowest + TITLE < heights[0]
+
+
 def test_random_catalogues_are_drawn() -> None:
     for seed in range(15):
         catalogue: dict[str, Any] = Maker(random.Random(seed)).catalogue()
         assert draw(jobs_of(json.dumps(catalogue))).startswith(b"<?xml")
-
-
-def test_without_graphviz_there_is_no_picture(monkeypatch: pytest.MonkeyPatch, tmp_path: Path) -> None:
-    monkeypatch.setattr(diagram, "DOT", (str(tmp_path / "dot"),))
-    with pytest.raises(NoDiagram, match="package graphviz"):
-        draw(jobs_of(WHOLE))
-    monkeypatch.setattr(diagram, "DOT", ("dot", "-Tnothing"))
-    with pytest.raises(NoDiagram, match="dot: "):
-        draw(jobs_of(WHOLE))

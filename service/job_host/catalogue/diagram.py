@@ -1,154 +1,128 @@
-"""Draws the jobs of a catalogue as SVG, by Graphviz' `dot`."""
+"""Draws the jobs of a catalogue as SVG."""
 
 from __future__ import annotations
 
-import subprocess
 from collections.abc import Iterator, Sequence
+from unicodedata import east_asian_width
+from xml.sax.saxutils import escape
 
-from job_host.catalogue.text import Value
-from job_host.catalogue.tree import FLOW_OF_A_SPLIT, Element, Job, Listing, restart_of
+from job_host.catalogue.layout import PAD, Element, Item, Measures, Point, Size, transitions_of
+from job_host.catalogue.picture import Picture, Placed, Way, picture_of
+from job_host.catalogue.text import plain
+from job_host.catalogue.tree import Job
 
-DOT = ("dot", "-Tsvg")
-HEAD = """digraph catalogue {
-graph [compound=true, fontname="sans-serif", fontsize=12, style=rounded, color="#8090a0"];
-node [shape=box, fontname="sans-serif", fontsize=11, style="rounded,filled", fillcolor="#eef3f8", color="#40566b"];
-edge [fontname="sans-serif", fontsize=10, color="#40566b"];
-"""
-BEGIN = 'shape=circle, width=0.12, label="", style=filled, fillcolor="#40566b"'
+CHARACTER = 7
+LINE = 16
+BASE = 12
+SPACE = 10
+TITLE = 30
+INK = "#40566b"
+OVER_LINES = ' paint-order="stroke" stroke="#ffffff" stroke-width="4"'
+FRAME = 'fill="none" stroke="#8090a0"'
+BOX = f'fill="#eef3f8" stroke="{INK}"'
 ENDS = {"end": "#dff0d8", "fail": "#f6d5d5", "stop": "#fbeecb"}
+HEAD = """<?xml version="1.0" encoding="UTF-8"?>
+<svg xmlns="http://www.w3.org/2000/svg" width="{0}" height="{1}" viewBox="0 0 {0} {1}" font-family="sans-serif" font-size="12">
+<marker id="arrow" markerWidth="8" markerHeight="8" refX="8" refY="4" orient="auto">
+<path d="M0 0 L8 4 L0 8 z" fill="{2}"/></marker>
+"""
 
 
-class NoDiagram(Exception):
-    """Graphviz isn't there, or refused the graph."""
+def told(text: str) -> str:
+    """A text as SVG may hold it."""
+    return escape("".join(one if one.isprintable() else f"\\u{ord(one):04x}" for one in text))
 
 
-def quoted(*lines: str) -> str:
-    """Lines of a label, or another text of the language of `dot`."""
-    return '"' + "\\n".join("".join(map(escaped, line)) for line in lines) + '"'
+def width_of(text: str) -> int:
+    return CHARACTER * sum(2 if east_asian_width(one) in "WF" else 1 if one.isprintable() else 6 for one in text)
 
 
-def escaped(character: str) -> str:
-    """A character of a label. `dot` reads entities there."""
-    if character in '"\\':
-        return "\\" + character
-    if character == "&":
-        return "&amp;"
-    return character if character.isprintable() else f"\\\\u{ord(character):04x}"
+def size_of(lines: Sequence[str]) -> Size:
+    return Size(max(map(width_of, lines)) + 2 * SPACE, LINE * len(lines) + SPACE)
 
 
-def name_of(job: Job, element: Element) -> str:
-    return f"e{job.number}_{element.number}"
-
-
-def count_of(value: Value, name: str, default: int) -> int:
-    member = value.members.get(name)
-    return member.value.held if member is not None and isinstance(member.value.held, int) else default
-
-
-def label_of(element: Element) -> list[str]:
+def lines_of(element: Element) -> list[str]:
     """The id, the kind, and what is run."""
-    if element.form == "decision":
-        return [element.id or "", f"decision {element.value.text('ref')}"]
-    if element.form != "step":
-        return [f"{'flow' if element.form == FLOW_OF_A_SPLIT else element.form} {element.id}"]
-    told = [element.id or ""]
-    members = element.value.members
-    if "chunk" in members:
-        chunk = members["chunk"].value
-        told.append(f"step, chunk of {count_of(chunk, 'item-count', 10)}")
-        parts = [name for name in ("reader", "processor", "writer") if name in chunk.members]
-        told += [f"{name} {chunk.members[name].value.text('ref')}" for name in parts]
+    if element["kind"] == "decision":
+        return [element["id"], f"decision {element['ref']}"]
+    if "batchlet" in element:
+        lines = [element["id"], f"step, batchlet {element['batchlet']['ref']}"]
     else:
-        told.append(f"step, batchlet {members['batchlet'].value.text('ref')}")
-    return told + ([f"{count_of(element.value, 'partitions', 1)} partitions"] if "partitions" in members else [])
+        chunk = element["chunk"]
+        parts = [f"{name} {chunk[name]['ref']}" for name in ("reader", "processor", "writer") if name in chunk]
+        lines = [element["id"], f"step, chunk of {chunk.get('item-count', 10)}", *parts]
+    return lines + ([f"{element['partitions']} partitions"] if "partitions" in element else [])
 
 
-class JobDrawer:
-    """Draws one job. A flow and a split are frames around what is inside them, and begin at a point of their own."""
-
-    def __init__(self, job: Job) -> None:
-        self.job = job
-
-    def name(self, element: Element) -> str:
-        return name_of(self.job, element)
-
-    def lines(self) -> Iterator[str]:
-        begin = f"j{self.job.number}"
-        yield f"subgraph cluster_{begin} {{ label={quoted('job ' + (self.job.id or ''))};"
-        yield f"{begin} [{BEGIN}];"
-        if self.job.listing is not None:
-            yield from self.listing(self.job.listing, begin)
-        yield "}"
-
-    def listing(self, listing: Listing, begin: str) -> Iterator[str]:
-        """A list begins at its first element, and a split's flows begin together."""
-        firsts = listing.elements if listing.list_kind == FLOW_OF_A_SPLIT else listing.elements[:1]
-        yield from (self.arc(begin, "", first, "") for first in firsts)
-        for element in listing.elements:
-            yield from self.element(element)
-            yield from self.ways(element, {other.id: other for other in reversed(listing.elements)})
-
-    def element(self, element: Element) -> Iterator[str]:
-        name = self.name(element)
-        if not element.inner:
-            shape = ', shape=diamond, style=filled, margin="0.02,0.02"' if element.form == "decision" else ""
-            yield f"{name} [label={quoted(*label_of(element))}{shape}];"
-            return
-        yield f"subgraph cluster_{name} {{ label={quoted(*label_of(element))};"
-        yield f"{name} [{BEGIN}];"
-        for listing in element.inner:
-            yield from self.listing(listing, name)
-        yield "}"
-
-    def frame(self, element: Element) -> str:
-        return f"cluster_{self.name(element)}" if element.inner else ""
-
-    def tail(self, element: Element) -> str:
-        """The node from which a way on is drawn: of a frame the last one inside."""
-        while element.inner:
-            element = element.inner[-1].elements[-1]
-        return self.name(element)
-
-    def arc(self, tail: str, frame: str, target: Element, label: str) -> str:
-        given = [f"label={quoted(label)}"] if label else []
-        given += [f"ltail={frame}"] if frame else []
-        given += [f"lhead={self.frame(target)}"] if target.inner else []
-        return f"{tail} -> {self.name(target)} [{', '.join(given)}];"
-
-    def ways(self, element: Element, by_id: dict[str | None, Element]) -> Iterator[str]:
-        """Its transition elements with their patterns, and its `next`."""
-        tail, frame = self.tail(element), self.frame(element)
-        for number, transition in enumerate(element.transitions):
-            pattern, to = transition.text("on") or "", transition.text("to")
-            if transition.text("kind") == "next":
-                yield self.arc(tail, frame, by_id[to], pattern)
-            else:
-                yield from self.end(f"{self.name(element)}_{number}", transition, tail, frame)
-        following = element.value.text("next")
-        if following is not None:
-            yield self.arc(tail, frame, by_id[following], "")
-
-    def end(self, name: str, transition: Value, tail: str, frame: str) -> Iterator[str]:
-        """Where a transition element ends the job."""
-        kind = transition.text("kind") or ""
-        told = [kind, *([status] if (status := transition.text("exit-status")) is not None else [])]
-        told += [f"restart at {restart}"] if (restart := restart_of(transition)) is not None else []
-        yield f'{name} [label={quoted(*told)}, shape=ellipse, style=filled, fillcolor="{ENDS[kind]}"];'
-        ltail = f", ltail={frame}" if frame else ""
-        yield f"{tail} -> {name} [label={quoted(transition.text('on') or '')}{ltail}];"
+def head_of(element: Element) -> str:
+    return f"{element['kind']} {element['id']}"
 
 
-def graph_of(jobs: Sequence[Job]) -> str:
-    """The graph of an accepted catalogue's jobs, in the language of `dot`."""
-    return HEAD + "\n".join(line for job in jobs for line in JobDrawer(job).lines()) + "\n}\n"
+def lines_of_ending(transition: Element) -> list[str]:
+    """How a transition element ends the job."""
+    status = [transition["exit-status"]] if "exit-status" in transition else []
+    return [transition["kind"], *status, *([f"restart at {transition['restart']}"] if "restart" in transition else [])]
+
+
+MEASURES = Measures(
+    box=lambda element: size_of(lines_of(element)),
+    ending=lambda transition: size_of(lines_of_ending(transition)),
+    head=lambda element: width_of(head_of(element)) + 2 * PAD,
+    label=width_of,
+)
+
+
+def drawn_text(text: str, at: Point, anchor: str = "middle", more: str = "") -> str:
+    return f'<text x="{at.x}" y="{at.y}" text-anchor="{anchor}"{more}>{told(text)}</text>' if text else ""
+
+
+def drawn_lines(lines: Sequence[str], item: Item, at: Point) -> str:
+    middle = at.x + item.size.width // 2
+    return "".join(drawn_text(line, Point(middle, at.y + SPACE // 2 + BASE + LINE * row)) for row, line in enumerate(lines))
+
+
+def drawn_box(size: Size, at: Point, colours: str, round_by: int = 8) -> str:
+    return f'<rect x="{at.x}" y="{at.y}" width="{size.width}" height="{size.height}" rx="{round_by}" {colours}/>'
+
+
+def drawn_item(item: Item, at: Point) -> str:
+    element = item.element or {}
+    if item.inner is not None:
+        return drawn_box(item.size, at, FRAME) + drawn_text(head_of(element), Point(at.x + PAD, at.y + 18), "start")
+    if item.ending is not None:
+        transition = transitions_of(element)[item.ending]
+        colours = f'fill="{ENDS[transition["kind"]]}" stroke="{INK}"'
+        return drawn_box(item.size, at, colours, item.size.height // 2) + drawn_lines(lines_of_ending(transition), item, at)
+    round_by = item.size.height // 2 if element["kind"] == "decision" else 8
+    return drawn_box(item.size, at, BOX, round_by) + drawn_lines(lines_of(element), item, at)
+
+
+def drawn_way(way: Way) -> str:
+    arrow = ' marker-end="url(#arrow)"' if way.tip else ""
+    path = f'<path d="{way.path}" fill="none" stroke="{INK}"{arrow}/>'
+    return path + drawn_text(way.label, way.label_at, way.anchor, OVER_LINES)
+
+
+def parts_of(name: str, picture: Picture, above: int) -> Iterator[str]:
+    """A job under its name, with all that was drawn above it."""
+    yield f'<g transform="translate(0 {above})">{drawn_text(f"job {name}", Point(PAD, TITLE - SPACE), "start")}'
+    yield f'<g transform="translate(0 {TITLE})">'
+    yield from (drawn_item(*placed) for placed in sorted(picture.placed, key=is_inside))
+    yield from map(drawn_way, picture.ways)
+    yield "</g></g>"
+
+
+def is_inside(placed: Placed) -> bool:
+    """Whether it is drawn over the frames."""
+    return placed.item.inner is None
 
 
 def draw(jobs: Sequence[Job]) -> bytes:
-    """The jobs as SVG. Raises NoDiagram."""
-    try:
-        done = subprocess.run(DOT, input=graph_of(jobs).encode(), capture_output=True, check=False)
-    except OSError as fault:
-        raise NoDiagram(f"there is no program `dot` (Debian's package graphviz): {fault}") from fault
-    if done.returncode != 0:
-        raise NoDiagram(f"dot: {done.stderr.decode('utf-8', 'replace').strip()}")
-    return done.stdout
+    """The jobs of an accepted catalogue as SVG, one below the other."""
+    drawn = [(job.id or "", picture_of(plain(job.value), MEASURES)) for job in jobs]
+    width = max((max(picture.size.width, width_of(f"job {name}") + 2 * PAD) for name, picture in drawn), default=0)
+    lines, above = list[str](), 0
+    for name, picture in drawn:
+        lines += parts_of(name, picture, above)
+        above += TITLE + picture.size.height
+    return "\n".join([HEAD.format(width, above, INK), *lines, "</svg>", ""]).encode()

@@ -13,7 +13,7 @@ from typing import TextIO
 
 from job_host.catalogue import jsl, jsl_text
 from job_host.catalogue.check import Checked, NoVerdict, ask, check, jobs_in
-from job_host.catalogue.diagram import NoDiagram, draw
+from job_host.catalogue.diagram import draw
 from job_host.catalogue.diff import compare
 from job_host.catalogue.faults import Fault, Note
 from job_host.catalogue.file import CatalogueFile, read_data, read_jsl
@@ -182,7 +182,7 @@ def run(command: Callable[[argparse.Namespace], int]) -> Callable[[argparse.Name
         except BrokenPipeError:
             os.dup2(os.open(os.devnull, os.O_WRONLY), sys.stdout.fileno())
             return REFUSED
-        except (WrongWords, NoVerdict, NoDiagram) as fault:
+        except (WrongWords, NoVerdict) as fault:
             print(printable(f"jobhost catalogue: {fault}"), file=sys.stderr)
             return WRONG_WORDS
         finally:
@@ -227,7 +227,7 @@ def add_catalogue(subcommands: Subcommands[argparse.ArgumentParser]) -> None:
     )
     turning = add_command(commands, "from-jsl", from_jsl, "turns JSL into a catalogue; a file has one job")
     turning.add_argument("files", nargs="+", metavar="FILE", help="a job in JSL")
-    drawing = add_command(commands, "diagram", diagram, "draws a catalogue's jobs as SVG, by Graphviz")
+    drawing = add_command(commands, "diagram", diagram, "draws a catalogue's jobs as SVG")
     drawing.add_argument("file", metavar="FILE", help=a_file)
     drawing.add_argument("--job", metavar="ID", help="the one job to draw (default: all jobs)")
     comparing = add_command(commands, "diff", diff, "says what a new catalogue adds, changes and drops beside an old one")
