@@ -15,6 +15,7 @@ from browser import Browser, browsing
 from instances import Answer, Caller, Instance, Process, running
 from selenium.webdriver.common.action_chains import ActionChains
 from selenium.webdriver.common.keys import Keys
+from test_catalogue_picture import DEEP, dense
 from workers import WorkerProcess
 
 from job_host.service.settings import ServeSettings
@@ -52,6 +53,7 @@ def leads(number: int) -> dict[str, Any]:
 
 
 MONDAY = [{"kind": "next", "on": "MONDAY", "to": "both"}, {"kind": "end", "on": "HOLIDAY", "exit-status": "NO WORK"}]
+GO = [{"kind": "next", "on": "*", "to": "f1"}]
 JOBS = [
     {
         "id": "nightly",
@@ -76,6 +78,8 @@ JOBS = [
         ],
     },
     {"id": "many", "elements": [step("print", "report", partitions=64)]},
+    {"id": "deep", "elements": [{"kind": "decision", "id": "go", "ref": "extract", "transitions": GO}, *DEEP["elements"]]},
+    {**dense(150, 39), "id": "dense"},
     {"id": "long", "elements": [step(f"s{number}", "report", **leads(number)) for number in range(1000)]},
 ]
 
@@ -574,6 +578,9 @@ async def until_count(instance: Instance, count: int) -> None:
             await asyncio.sleep(0.05)
 
 
+JOB_LOG_READS = "return performance.getEntriesByType('resource').filter(one => one.name.endsWith('/joblogs')).length"
+
+
 def test_a_page_that_follows_keeps_what_a_person_does(browser: Browser, service: Process, worker: WorkerProcess) -> None:
     """The focus, a closed log and a half-typed search stay while the page is drawn anew."""
     start(service, HARD_JOB)
@@ -581,10 +588,9 @@ def test_a_page_that_follows_keeps_what_a_person_does(browser: Browser, service:
     browser.see("Why it failed")
     browser.click("details summary")
     browser.run("window.kept = [document.querySelector('details'), document.querySelector('h1 a')]; window.kept[1].focus()")
-    reads = "return performance.getEntriesByType('resource').filter(one => one.name.endsWith('/joblogs')).length"
-    before = browser.run(reads)
+    before = browser.run(JOB_LOG_READS)
     start(service, "nightly")
-    browser.until(lambda: browser.run(reads) > before)
+    browser.until(lambda: browser.run(JOB_LOG_READS) > before)
     time.sleep(0.5)
     kept = "return [kept[0].isConnected, kept[0].open, document.activeElement === kept[1]]"
     assert browser.run(kept) == [True, False, True]
@@ -624,6 +630,79 @@ def test_the_largest_picture_is_drawn(browser: Browser, service: Process) -> Non
     browser.until(lambda: len(browser.all(".picture .box")) == 1000)
     lefts = browser.run("return [...document.querySelectorAll('.picture .box rect')].map(r => r.getBoundingClientRect().left)")
     assert lefts == sorted(lefts) and len(set(lefts)) == 1000
+
+
+# Whether the middle of the second element is inside the first one.
+IS_SEEN = """const [outer, inner] = [...arguments].map(selector => document.querySelector(selector)?.getBoundingClientRect());
+    if (!outer || !inner) return false;
+    const [x, y] = [inner.left + inner.width / 2, inner.top + inner.height / 2];
+    return x > outer.left && x < outer.right && y > outer.top && y < outer.bottom"""
+FAILED_BOX = ".picture [data-element=f1-g6]"
+
+
+def test_what_failed_in_a_large_job_is_seen_at_once_and_found_by_a_key(browser: Browser, service: Process) -> None:
+    def see_what_failed() -> None:
+        browser.until(lambda: focused(browser).endswith("\u2715 FAILED"))
+        browser.until(lambda: browser.run(IS_SEEN, ".picture", FAILED_BOX))
+
+    async def fail() -> None:
+        caller = Caller(service.url)
+        await caller.start("deep")
+        for work in range(1, 9):
+            await caller.claim()
+            await caller.finish(work, "FAILED" if work == 8 else "COMPLETED")
+
+    asyncio.run(fail())
+    browser.open(service.url + "/#/execution/1")
+    browser.until(lambda: browser.run(IS_SEEN, ".picture", FAILED_BOX))
+    assert len(browser.all(".picture .folded")) == 2 and len(browser.all(".overview .status-FAILED")) == 1
+    assert browser.run(IS_SEEN, ".overview .seen", ".overview .status-FAILED")
+    browser.click_text("Fold all")
+    browser.see("1 of 11 FAILED", ".picture")
+    before = browser.run(JOB_LOG_READS)
+    start(service, "nightly")
+    browser.until(lambda: browser.run(JOB_LOG_READS) > before)
+    time.sleep(0.5)
+    assert len(browser.all(".picture .folded")) == 3 and not browser.all(".overview")
+    press(browser, "f")
+    see_what_failed()
+    browser.run("document.querySelector('.picture').scrollTo(0, 0)")
+    browser.click_text("To what failed (F)")
+    see_what_failed()
+    tab_to_fold(browser, "f2, flow, 11 steps")
+    press(browser, Keys.ENTER)
+    browser.until(lambda: browser.run("return document.activeElement.getAttribute('aria-expanded')") == "true")
+    chains: Any = ActionChains
+    scrolled = "return document.querySelector('.picture').scrollLeft"
+    assert browser.run(scrolled) > 1000
+    chains(browser.driver).move_to_element_with_offset(browser.find(".overview"), -500, 0).click().perform()
+    browser.until(lambda: browser.run(scrolled) < 100)
+    browser.click_text("As a list")
+    press(browser, "f")
+    browser.until(lambda: focused(browser) == "f1-g6 batchlet \u2715 FAILED")
+
+
+def tab_to_fold(browser: Browser, name: str) -> None:
+    for _ in range(20):
+        press(browser, Keys.TAB)
+        if browser.run("return document.activeElement.getAttribute('aria-label')") == name:
+            return
+    raise AssertionError(f"no key leads to {name}")
+
+
+def test_a_job_without_a_picture_is_a_list(browser: Browser, service: Process) -> None:
+    browser.open(service.url + "/#/job/dense")
+    browser.see("ways lead from its elements. A picture has 4,000 at most, so this is a list.")
+    assert len(browser.all(".tree li")) == 150 and not browser.all(".picture")
+    browser.see("s0 batchlet, on P2: s2, on P3: s3, on P4: s4, on P5: s5, and 35 more transition elements", ".tree")
+    browser.run(
+        """const real = window.fetch;
+        window.fetch = (path, given) => (path.startsWith("/batch/catalogue/picture")
+            ? Promise.resolve(new Response('{"title": "InternalError"}', {status: 500})) : real(path, given));
+        location.hash = '#/job/nightly'"""
+    )
+    browser.see("The service draws no picture of it (InternalError), so this is a list.")
+    assert len(browser.all(".tree li")) == 3
 
 
 @pytest.fixture

@@ -58,11 +58,6 @@ export function room() {
   return main.clientWidth - (isNarrow() ? 56 : 96);
 }
 
-// A picture that may be wider than its place: it is scrolled by keys too.
-export function framed(drawn) {
-  return element("div", { class: "picture", tabindex: "0", role: "group", "aria-label": "Picture of the job" }, drawn);
-}
-
 export function link(href, ...children) {
   return element("a", { href }, ...children);
 }

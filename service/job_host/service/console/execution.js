@@ -1,11 +1,12 @@
 // The page of a job execution: what it came to and why, its picture, its steps, their logs, and its other attempts.
 
 import {
-  badge, button, element, executionLink, facts, framed, heading, isNarrow, jobLink, MOST_ROWS, pageOf, pager, room, section, span, table, told, UNFINISHED, when,
+  badge, button, element, executionLink, facts, heading, jobLink, MOST_ROWS, pageOf, pager, section, span, table, told, UNFINISHED, when,
 } from "./dom.js";
 import { causesSection } from "./open.js";
-import { picture, runnables } from "./picture.js";
+import { runnables } from "./picture.js";
 import { read, shapeOf, USUAL_SIZE } from "./service.js";
+import { pageNow, pictured, ready } from "./view.js";
 
 // The titles above the causes of these batch statuses.
 const CAUSES = { FAILED: "Why it failed", STOPPED: "Where it stopped" };
@@ -13,7 +14,7 @@ const CAUSES = { FAILED: "Why it failed", STOPPED: "Where it stopped" };
 const LISTS = { others: USUAL_SIZE, items: MOST_ROWS, logs: USUAL_SIZE, operations: USUAL_SIZE };
 
 async function load({ number, query }) {
-  const path = `/batch/jobexecutions/${number}`;
+  const [asked, path] = [pageNow(), `/batch/jobexecutions/${number}`];
   const one = await read(path);
   const instance = `/batch/jobinstances/${one.instanceId}`;
   const page = (name) => ({ ...(LISTS[name] === USUAL_SIZE ? {} : { pageSize: LISTS[name] }), ...(pageOf(query, name) ? { page: pageOf(query, name) } : {}) });
@@ -23,7 +24,10 @@ async function load({ number, query }) {
   ]);
   const lists = { others, items, logs, operations };
   const isWhole = Object.fromEntries(Object.entries(lists).map(([name, rows]) => [name, !pageOf(query, name) && rows.length < LISTS[name]]));
-  return { one, newest, ...lists, isWhole, shape, causes };
+  const data = { one, newest, ...lists, isWhole, shape, causes };
+  const states = new Map(runnables(shape.elements).map((each) => [each.id, stateOf(each.id, data)]));
+  await ready(asked, shape, states);
+  return { ...data, states };
 }
 
 // What stands in the box of a step or decision: what this job execution made of it, or an earlier one.
@@ -159,12 +163,11 @@ export const execution = {
   isLive: ({ one }) => UNFINISHED.includes(one.batchStatus),
   draw(data, route, may) {
     const { one, shape } = data;
-    const states = new Map(runnables(shape.elements).map((each) => [each.id, stateOf(each.id, data)]));
     return [
       heading("Job execution ", String(one.executionId), " of ", jobLink(one.jobName), " ", badge(one.batchStatus)),
       actions(data, may),
       data.causes ? causesSection(CAUSES[one.batchStatus], data.causes) : null,
-      section("Picture", framed(picture(shape, states, isNarrow(), room()))),
+      section("Picture", pictured(shape, data.states)),
       section("Facts", facts([
         ["Job instance", String(one.instanceId)], ["Exit status", one.exitStatus === null ? "" : told(one.exitStatus)], ["Created", when(one.createTime)], ["Started", when(one.startTime)],
         ["Ended", when(one.endTime)], ["Took", one.startTime ? span(one.startTime, one.endTime) : ""], ["Updated", one.endTime ? "" : when(one.lastUpdatedTime)],

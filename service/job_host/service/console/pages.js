@@ -1,12 +1,12 @@
 // The pages: each has what it reads, and what it shows of that.
 
 import {
-  badge, button, count, element, executionLink, facts, framed, heading, isNarrow, jobLink, link, MOST_ROWS, pageOf, pager, room, section, span, STATUSES,
+  badge, button, count, element, executionLink, facts, heading, jobLink, link, MOST_ROWS, pageOf, pager, section, span, STATUSES,
   table, told, UNFINISHED, when,
 } from "./dom.js";
 import { lookSection, openSection } from "./open.js";
-import { picture } from "./picture.js";
 import { read, shapeOf, USUAL_SIZE } from "./service.js";
+import { pageNow, pictured, ready } from "./view.js";
 
 const NEWEST = 8;
 const RESTARTABLE = ["FAILED", "STOPPED"];
@@ -176,9 +176,11 @@ function turn(data, kept, page) {
 export const job = {
   page: "jobs",
   async load({ name }) {
+    const asked = pageNow();
     const [shape, list] = await Promise.all([
       shapeOf(name), read("/batch/jobexecutions", { jobName: name, pageSize: NEWEST * 2 }),
     ]);
+    await ready(asked, shape, new Map());
     return { shape, list };
   },
   title: ({ name }) => `Job ${name}`,
@@ -187,7 +189,7 @@ export const job = {
     return [
       heading("Job ", told(name)),
       element("p", { class: "actions" }, may("operate") ? button("start", "Start", { job: name }, "main") : null),
-      section("Picture", framed(picture(shape, new Map(), isNarrow(), room()))),
+      section("Picture", pictured(shape, new Map())),
       section("Newest job executions", executionsTable("Job executions of this job, the newest first", list.jobExecutions, "It was never started."),
         list.more ? element("p", {}, link(`#/executions?${new URLSearchParams({ jobName: name })}`, "All job executions of this job")) : null),
     ];

@@ -32,15 +32,21 @@ PARAMETER_CHARACTERS = 160
 catalogue_jobs = lru_cache(maxsize=2)(jobs_of)
 
 
+def catalogue_job(catalogue: bytes, name: str) -> Any:
+    jobs = catalogue_jobs(catalogue)
+    if name not in jobs:
+        raise Problem("JobStartException", 404, "the catalogue has no such job")
+    return jobs[name]
+
+
 async def show_catalogue(asked: Asked) -> web.StreamResponse:
     """The jobs that can be started, each with its newest job instance; or with `jobName` one job, as the catalogue has it."""
     await asked.keeper.reach(asked.at_least)
-    jobs = catalogue_jobs(asked.keeper.reading().process.catalogue)
+    catalogue = asked.keeper.reading().process.catalogue
     name = asked.request.query.get("jobName")
     if name is not None:
-        if name not in jobs:
-            raise Problem("JobStartException", 404, "the catalogue has no such job")
-        return web.json_response(jobs[name])
+        return web.json_response(catalogue_job(catalogue, name))
+    jobs = catalogue_jobs(catalogue)
     async with asked.keeper.steps(asked.at_least) as steps:
         counts = await steps.ask([query("job_instance_count", job=job) for job in jobs])
         lists = await steps.ask([query("job_instances", job=job, start=0, count=1) for job in jobs])
