@@ -10,7 +10,8 @@ cd "$(dirname "$0")"
 : "${JOBHOST_BATCHCTL:=$PWD/../crates/batchctl/out/batchctl}"
 export JOBHOST_BATCHCTL
 python=/usr/bin/python3
-figures="../benches/service_calls.py ../benches/waiting_slots.py ../benches/console_lists.py ../benches/sql_repository.py"
+figures="../benches/service_calls.py ../benches/waiting_slots.py ../benches/console_lists.py ../benches/console_tabs.py"
+figures="$figures ../benches/sql_repository.py"
 # shellcheck disable=SC2086
 $python -m flake8 . $figures
 # shellcheck disable=SC2086

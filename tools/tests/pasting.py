@@ -55,6 +55,7 @@ INSTEAD = {
     "service/soak.py standby --kills 20": ":",
     "service/soak.py embedded --kills 200": ":",
     "benches/console_lists.py": "benches/console_lists.py --help > /dev/null",
+    "benches/console_tabs.py": "benches/console_tabs.py --help > /dev/null",
     "service/screenshots.py": "test -x service/screenshots.py",
     "service/check.sh": ":",
     # These need a PostgreSQL server: service/tests/test_each_group_once.py runs them.
