@@ -13,8 +13,8 @@ import pytest
 from instances import until
 
 from job_host.protocol.client import Client
-from job_host.worker import worker
-from job_host.worker.folder import names_of
+from job_host.worker import folder, worker
+from job_host.worker.folder import ArtifactFolder, names_of
 from job_host.worker.worker import Worker
 
 COUNT = 200
@@ -148,3 +148,22 @@ async def test_a_worker_ends_at_once_though_it_claims_nothing(artifacts: Path) -
 )
 def test_the_names_of_a_work_item(work: dict[str, Any], names: list[str]) -> None:
     assert names_of(work) == names
+
+
+def test_artifacts_are_told_at_first_after_a_change_and_now_and_then(tmp_path: Path, monkeypatch: pytest.MonkeyPatch) -> None:
+    """What can't be executed is none."""
+    for name in ("report", "load"):
+        (tmp_path / name).touch(0o755)
+    (tmp_path / "amounts").touch(0o644)
+    (tmp_path / "more").mkdir()
+    one = ArtifactFolder(tmp_path)
+    assert one.news() == ["load", "report"]
+    assert one.news() is None
+    (tmp_path / "report").unlink()
+    assert one.news() == ["load"] and one.news() is None
+    monkeypatch.setattr(folder, "TELL_SECONDS", 0.0)
+    (tmp_path / "post").touch(0o755)
+    assert one.news() == one.news() == ["load", "post"]
+    monkeypatch.setattr(folder, "MOST_ARTIFACTS", 1)
+    assert one.news() == ["load"]
+    assert ArtifactFolder(tmp_path / "none").news() == []

@@ -34,6 +34,8 @@ PATHS = [
     "/batch/open",
     "/batch/work",
     "/batch/work/{id}",
+    "/batch/work/{id}/log",
+    "/batch/workers",
     "/metrics",
     "/health/ready",
     "/",

@@ -8,5 +8,7 @@ MOST_NUMBER = 2**64 - 1
 PAGE_SIZE, PAGE_OF_LARGE_ROWS = 1_000, 100
 # Requests of one client that may be in hand at a time.
 REQUESTS_AT_ONCE = 64
+# Names of artifacts that a worker tells, and the characters of a name, at most.
+MOST_ARTIFACTS, ARTIFACT_CHARACTERS = 1_000, 255
 # The log of a work item: its last bytes.
 LOG_BYTES = 65_536

@@ -5,10 +5,12 @@ from __future__ import annotations
 import logging
 import os
 import time
-from collections.abc import Mapping
+from collections.abc import Iterator, Mapping
+from contextlib import suppress
 from pathlib import Path
 from typing import Any
 
+from job_host.protocol.bounds import MOST_ARTIFACTS
 from job_host.protocol.executables import NoArtifact, find
 from job_host.protocol.seldom import seldom
 
@@ -16,6 +18,8 @@ log = logging.getLogger(__name__)
 
 SHORTEST_SECONDS = 1.0
 LONGEST_SECONDS = 60.0
+# The names of the executables are told so often, as a service that has begun anew doesn't know them.
+TELL_SECONDS = 60.0
 
 
 def names_of(work: Mapping[str, Any]) -> list[str]:
@@ -40,6 +44,8 @@ class ArtifactFolder:
         self._until = 0.0
         self._missing: list[str] = []
         self._state: list[tuple[int, ...]] = []
+        self._told: list[str] | None = None
+        self._tell_from = 0.0
         self._say_gone = seldom(log.warning)
         self._say_missing = seldom(log.warning)
 
@@ -65,6 +71,18 @@ class ArtifactFolder:
         told = f"{', '.join(map(repr, self._missing))} of step {work['element']!r} isn't in {self.path}"
         self._say_missing(f"{told}: nothing is claimed for {self._pause:g} seconds, or until it is there")
         self._pause = min(2 * self._pause, LONGEST_SECONDS)
+
+    def news(self) -> list[str] | None:
+        """The first names of the executables, if they have changed since they were told, or weren't told for a minute."""
+        names = sorted(self._names())[:MOST_ARTIFACTS]
+        if names == self._told and time.monotonic() < self._tell_from:
+            return None
+        self._told, self._tell_from = names, time.monotonic() + TELL_SECONDS
+        return names
+
+    def _names(self) -> Iterator[str]:
+        with suppress(OSError), os.scandir(self.path) as files:
+            yield from (file.name for file in files if file.is_file() and os.access(file.path, os.X_OK))
 
     def _forget(self) -> None:
         self._pause, self._until, self._missing = SHORTEST_SECONDS, 0.0, []

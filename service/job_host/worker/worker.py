@@ -140,6 +140,7 @@ class Worker:
         self._client = client
         self._folder = ArtifactFolder(folder)
         self._slots = slots
+        self._tells_artifacts = True
         self.ending = asyncio.Event()
         self.hurry = asyncio.Event()
 
@@ -180,6 +181,8 @@ class Worker:
             return await self._claim(key) or await self._withdraw(key)
         except Refused as refused:
             log.warning("a claim was refused: %s", refused)
+            # A service of an earlier version knows no such member.
+            self._tells_artifacts = self._tells_artifacts and refused.name != "BadRequest"
             await asyncio.sleep(1.0)
         except (Lost, Unreachable) as fault:
             log.warning("a claim couldn't be withdrawn: %s", fault)
@@ -187,7 +190,9 @@ class Worker:
 
     async def _claim(self, key: str) -> dict[str, Any] | None:
         """Claims, until the worker is told to end: then the connection is closed, and there is no answer."""
-        call = self._client.operate("POST", "/batch/work", {"wait": CLAIM_SECONDS}, CLAIM_SECONDS, FOREVER, key)
+        news = await asyncio.to_thread(self._folder.news) if self._tells_artifacts else None
+        body: dict[str, Any] = {"wait": CLAIM_SECONDS, **({} if news is None else {"artifacts": news})}
+        call = self._client.operate("POST", "/batch/work", body, CLAIM_SECONDS, FOREVER, key)
         claiming, telling = asyncio.ensure_future(call), asyncio.ensure_future(self.ending.wait())
         try:
             await asyncio.wait([claiming, telling], return_when=asyncio.FIRST_COMPLETED)

@@ -13,6 +13,7 @@ ACTIONS = ("start", "restart", "stop", "abandon", "purge", "lose")
 PLACES = {name: place for place, name in enumerate(ACTIONS)}
 # Numbers of a row: those of an action, and the row before it on the same job execution.
 WIDTH = 6
+PLACE_OF_MOMENT = 3
 
 
 class Action(NamedTuple):
@@ -55,6 +56,13 @@ class Actions:
         """What was done to a job execution, the newest first."""
         rows = islice(self._of(execution, instance), page.start, page.start + page.size)
         return [self._action(row) for row in rows]
+
+    def made_at(self, execution: int) -> int:
+        """The moment of the start or restart that made a job execution. They rise with its number."""
+        row = before = self._last[execution]
+        while before:
+            row, before = before, self._rows[before * WIDTH + WIDTH - 1]
+        return self._rows[row * WIDTH + PLACE_OF_MOMENT]
 
     def _of(self, execution: int, instance: int) -> Iterator[int]:
         if instance in self._purges:

@@ -4,6 +4,7 @@ from __future__ import annotations
 
 import asyncio
 import json
+from bisect import bisect_left
 from collections import deque
 from collections.abc import Callable, Iterator, Sequence
 from functools import lru_cache
@@ -14,10 +15,12 @@ from job_host.protocol.lines import LinesDigest, is_accepted, query
 from job_host.service.history.actions import ACTIONS, Action, Actions
 from job_host.service.history.answers import Answers
 from job_host.service.history.causes import FAILED
+from job_host.service.history.changes import MOST_NAMED, Changes
 from job_host.service.history.coprocess import CoProcess, CoProcessEnded
 from job_host.service.history.execution_index import ExecutionIndex
 from job_host.service.history.open_index import OpenIndex
 from job_host.service.history.work_items import LOST, Ended, EndedWork, Held
+from job_host.service.pages import Page
 
 # Commands whose replies tell what the operation is on.
 TELLING = frozenset({"start", "restart", "claim"})
@@ -27,6 +30,8 @@ GIVES_NO_WORK = frozenset({"claim", "checkpoint"})
 STATE = (query("status_counts"), query("job_names"))
 # A co-process that doesn't answer for so long isn't used further.
 ANSWER_SECONDS = 10.0
+# One more than an event names: so a purge of more is told without their numbers.
+PURGED = Page(0, MOST_NAMED + 1)
 
 
 @lru_cache(maxsize=2)
@@ -74,6 +79,7 @@ class Engine:
         # Also those that failed long ago.
         self.failed_work = EndedWork()
         self.actions = Actions()
+        self.changes = Changes()
         self.executions = ExecutionIndex(self)
         self.open = OpenIndex(self, self.executions, self.busy, lambda job: job not in not_restartable(self.process.catalogue))
         self.recent: deque[Record] = deque()
@@ -82,6 +88,12 @@ class Engine:
         self.looked: Answers | None = None
         self.turn = asyncio.Lock()
         self.may_give_work: Callable[[], None] = lambda: None
+
+    def made_between(self, since: int | None, until: int | None) -> tuple[int, int | None]:
+        """The numbers of the job executions that were made from a moment on, and before another one."""
+        numbers = range(1, self.executions.last + 1)
+        first = 1 if since is None else 1 + bisect_left(numbers, since, key=self.actions.made_at)
+        return first, None if until is None else bisect_left(numbers, until, key=self.actions.made_at)
 
     def holding(self) -> set[int]:
         """The sessions that hold work items."""
@@ -126,6 +138,7 @@ class Engine:
         execution = self._execution_of(do, told, answers)
         self.executions.note_changed(execution, self.entered)
         self.open.note_changed(execution)
+        self.changes.note(self.entered, [execution, told["execution"]] if do == "restart" else [execution])
         if do in ACTIONS:
             self._note_action(do, told, execution)
 
@@ -133,6 +146,7 @@ class Engine:
         instance = told["instance"]
         self.executions.note_purged(instance, self.entered)
         self.open.note_changed(self.executions.newest_of(instance))
+        self.changes.note(self.entered, self.executions.of_instance(instance, PURGED))
         self.actions.note_purge(instance, Action(self.entered, "purge", told["by"], told["at"], 0))
 
     def _note_action(self, do: str, told: dict[str, Any], execution: int) -> None:

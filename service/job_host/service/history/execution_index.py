@@ -17,6 +17,7 @@ from job_host.service.pages import Page
 
 BLOCK = 1_000
 PARAMETER_CHARACTERS = 1_000
+ALL_NUMBERS = (1, None)
 # Lines of thousands at once: written without an encoder each.
 ASK_EXECUTION = b'{"ask":"job_execution","execution":%d}'
 ASK_PARAMETERS = b'{"ask":"parameters","execution":%d}'
@@ -36,17 +37,19 @@ class Row(NamedTuple):
 class Wanted:
     """A list's filter. Without statuses all of them are meant; `search` is in lower case.
 
-    With `most_recent` only the most recent job execution of each job instance is meant.
+    With `most_recent` only the most recent job execution of each job instance is meant. `numbers` are the first number that is
+    meant, and the last one if there is one.
     """
 
     statuses: frozenset[str] = frozenset()
     job: str | None = None
     search: str = ""
     most_recent: bool = False
+    numbers: tuple[int, int | None] = ALL_NUMBERS
 
     @property
     def is_by_status_alone(self) -> bool:
-        return self.job is None and not self.search and not self.most_recent
+        return self.job is None and not self.search and not self.most_recent and self.numbers == ALL_NUMBERS
 
     def has_status(self, row: Row) -> bool:
         return bool(row.status) and (not self.statuses or row.status in self.statuses)
@@ -172,9 +175,10 @@ class ExecutionIndex:
         `most` is how many have one of the statuses, if that is known: behind the last of these there are no more.
         """
         found: list[int] = []
-        high, passed = self.last, 0
-        while high > 0 and len(found) <= start + count and (most is None or passed < most):
-            block = range(high, max(0, high - BLOCK), -1)
+        first, last = wanted.numbers
+        high, passed = self.last if last is None else min(last, self.last), 0
+        while high >= first and len(found) <= start + count and (most is None or passed < most):
+            block = range(high, max(first - 1, high - BLOCK), -1)
             await self._know(block, bool(wanted.search))
             with_status = [one for one in block if wanted.has_status(self._rows[one])]
             found += [one for one in with_status if self._is_wanted(wanted, one)]

@@ -190,10 +190,12 @@ class OpenIndex:
         found = [Long(one, now - one.start, longest.get(one.job) or 0) for one in busy if longest.get(one.job) is not None]
         return [one for one in found if one.lasts > one.longest + max(one.longest, LEAST_MORE)]
 
+    def past(self, job: str) -> list[int]:
+        """How many milliseconds each of a job's past took, the shortest first. A restart runs a part of its job."""
+        return sorted(one.took for one in self._past.get(job, ()) if self._executions.is_there(one.execution))
+
     def _longest(self, job: str) -> int | None:
-        """The longest of a job's past. A restart runs a part of its job, so it may be short."""
-        there = [one.took for one in self._past.get(job, ()) if self._executions.is_there(one.execution)]
-        return max(there, default=None)
+        return max(self.past(job), default=None)
 
     def running(self, execution: int) -> Running | None:
         return self._running.get(execution)

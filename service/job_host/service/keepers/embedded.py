@@ -5,9 +5,10 @@ from __future__ import annotations
 import asyncio
 import logging
 import sqlite3
-from collections.abc import Iterable, Sequence
+from collections.abc import Callable, Iterable, Sequence
 from concurrent.futures import ThreadPoolExecutor
 from contextlib import suppress
+from typing import TypeVar
 
 from job_host.catalogue import growth, jobs
 from job_host.catalogue.check import NoVerdict
@@ -23,12 +24,14 @@ from job_host.service.stores.beside_files import STORE_NAME, open_store
 from job_host.service.stores.private_folder import make_private
 from job_host.service.stores.sqlite import OpenRequest, SqliteStore, refuse_later_file
 from job_host.service.stores.versions import LaterVersion
-from job_host.service.terms.calls import SERVICE_SESSION, Kept, LogPage, WorkLog
+from job_host.service.terms.calls import SERVICE_SESSION, Kept, LogPage, LogSize, WorkLog
 from job_host.service.terms.leases import Leases
 from job_host.service.terms.sessions import Sessions
 from job_host.service.terms.term import Observers, TermSettings, not_yet
 
 log = logging.getLogger(__name__)
+
+T = TypeVar("T")
 
 RETRY = 0.25
 # batchctl's exit status if it doesn't know its words.
@@ -223,14 +226,21 @@ class EmbeddedKeeper(Keeper):
             raise not_yet(at_least, self.committed)
 
     async def logs(self, wanted: LogPage) -> list[WorkLog]:
-        if self._beside is None:
-            raise unavailable("Starting", "the history isn't here yet")
-        return await self._beside.do(lambda store: store.logs(wanted))
+        return await self._read(lambda store: store.logs(wanted))
+
+    async def log_sizes(self, wanted: LogPage) -> list[LogSize]:
+        return await self._read(lambda store: store.log_sizes(wanted))
+
+    async def log_of(self, work: int) -> WorkLog | None:
+        return await self._read(lambda store: store.log_of(work))
 
     async def log_ends(self, works: Sequence[int]) -> list[WorkLog]:
+        return await self._read(lambda store: store.log_ends(works))
+
+    async def _read(self, read: Callable[[SqliteStore], T]) -> T:
         if self._beside is None:
             raise unavailable("Starting", "the history isn't here yet")
-        return await self._beside.do(lambda store: store.log_ends(works))
+        return await self._beside.do(read)
 
     async def client_names(self, sessions: Sequence[int]) -> dict[int, str]:
         names = {one: self._sessions.name(one) for one in sessions}

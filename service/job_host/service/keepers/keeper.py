@@ -18,7 +18,7 @@ from job_host.service.history.engine import Engine
 from job_host.service.history.work_items import Ended, Held
 from job_host.service.pages import Page
 from job_host.service.problems import Problem, of_refusal, unavailable
-from job_host.service.terms.calls import SERVICE, SERVICE_SESSION, Call, Kept, LogPage, WorkLog
+from job_host.service.terms.calls import SERVICE, SERVICE_SESSION, Call, Kept, LogPage, LogSize, WorkLog
 from job_host.service.terms.leases import Leases
 from job_host.service.terms.sessions import Silent
 from job_host.service.terms.term import Term
@@ -86,6 +86,14 @@ class Keeper(ABC):
     @abstractmethod
     async def logs(self, wanted: LogPage) -> list[WorkLog]:
         """What workers handed in as logs of work items, by rising number."""
+
+    @abstractmethod
+    async def log_sizes(self, wanted: LogPage) -> list[LogSize]:
+        """Which logs there are, by rising number of the work item."""
+
+    @abstractmethod
+    async def log_of(self, work: int) -> WorkLog | None:
+        """The log of one work item, if it has one."""
 
     @abstractmethod
     async def log_ends(self, works: Sequence[int]) -> list[WorkLog]:
@@ -241,6 +249,7 @@ class Keeper(ABC):
             await term.confirm()
             raise Problem("NoLease", 409, "no lease of this client on this work item: it is over, or another client's")
         self.leases.renew(work)
+        term.workers.note_sign(client)
         await term.confirm(term.log_of(work, log))
         answers = await term.ask([query("job_execution", execution=held.execution)])
         told = read(answers.replies[0])

@@ -10,6 +10,7 @@ import time
 import uuid
 from collections.abc import Awaitable, Callable, Sequence
 from contextlib import suppress
+from typing import TypeVar
 
 from job_host.catalogue import growth, jobs
 from job_host.catalogue.check import NoVerdict
@@ -21,12 +22,14 @@ from job_host.service.problems import Problem, unavailable
 from job_host.service.settings import ServeSettings
 from job_host.service.stores.postgres import LOST, Leader, NoPrimary, NotDurable, PostgresStore
 from job_host.service.stores.versions import LaterVersion
-from job_host.service.terms.calls import LogPage, WorkLog
+from job_host.service.terms.calls import LogPage, LogSize, WorkLog
 from job_host.service.terms.leases import Leases
 from job_host.service.terms.sessions import Sessions
 from job_host.service.terms.term import Observers, TermSettings, not_yet
 
 log = logging.getLogger(__name__)
+
+T = TypeVar("T")
 
 POLL = 0.1
 CHUNK = 2_000
@@ -271,10 +274,16 @@ class PostgresKeeper(Keeper):
     async def logs(self, wanted: LogPage) -> list[WorkLog]:
         return await self._read(lambda store: store.logs(wanted))
 
+    async def log_sizes(self, wanted: LogPage) -> list[LogSize]:
+        return await self._read(lambda store: store.log_sizes(wanted))
+
+    async def log_of(self, work: int) -> WorkLog | None:
+        return await self._read(lambda store: store.log_of(work))
+
     async def log_ends(self, works: Sequence[int]) -> list[WorkLog]:
         return await self._read(lambda store: store.log_ends(works))
 
-    async def _read(self, read: Callable[[PostgresStore], Awaitable[list[WorkLog]]]) -> list[WorkLog]:
+    async def _read(self, read: Callable[[PostgresStore], Awaitable[T]]) -> T:
         if self._store is None:
             raise unavailable("Starting", "the history isn't here yet")
         try:

@@ -11,6 +11,7 @@ from typing import Any
 
 from aiohttp import web
 
+from job_host.service.history.engine import Engine
 from job_host.service.http.browsers import Browsers
 from job_host.service.http.requests import Asked
 from job_host.service.keepers.keeper import Keeper
@@ -79,17 +80,38 @@ def state_of(keeper: Keeper) -> dict[str, Any]:
     return {"operations": keeper.committed, "role": keeper.role, "epoch": keeper.epoch}
 
 
+class Changed:
+    """Names what one stream of events hasn't told yet, as long as the history goes on by one engine."""
+
+    def __init__(self) -> None:
+        self._engine: Engine | None = None
+        self._told = 0
+
+    def names(self, keeper: Keeper, operations: int) -> dict[str, Any]:
+        """The job executions that have changed since the last call, if they are known. Before the first one none are."""
+        engine, told = self._engine, self._told
+        self._engine, self._told = keeper.engine, operations
+        if engine is None or engine is not keeper.engine:
+            return {}
+        executions = engine.changes.between(told, operations)
+        return {} if executions is None else {"executions": executions}
+
+
 async def show_events(asked: Asked) -> web.StreamResponse:
-    """Says how many operations there are, at once and after each growth (server-sent events). Ends if the client is gone."""
+    """Says how many operations there are, at once and after each growth (server-sent events). Ends if the client is gone.
+
+    Each event but the first names the job executions that have changed since the one before it.
+    """
     response = web.StreamResponse(headers={**HEADERS, "Content-Type": "text/event-stream", "Cache-Control": "no-store"})
     await response.prepare(asked.request)
     told: dict[str, Any] = {}
-    last = 0.0
+    changed, last = Changed(), 0.0
     try:
         while not asked.is_gone() and not asked.host.ending.is_set():
             state, now = state_of(asked.keeper), time.monotonic()
             if state != told:
-                await response.write(f"data: {json.dumps(state)}\n\n".encode())
+                event = {**state, **changed.names(asked.keeper, state["operations"])}
+                await response.write(f"data: {json.dumps(event)}\n\n".encode())
             elif now - last >= QUIET_SECONDS:
                 await response.write(b":\n\n")
             else:

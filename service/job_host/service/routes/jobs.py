@@ -7,14 +7,14 @@ from typing import Any
 
 from aiohttp import web
 
-from job_host.protocol.headers import OPERATIONS, REQUEST_KEY
+from job_host.protocol.headers import REQUEST_KEY
 from job_host.protocol.lines import Members, fingerprint, query, read
 from job_host.service.http.requests import PAGE_WORDS, Asked, Route, expect_members
 from job_host.service.keepers.keeper import Steps
 from job_host.service.pages import USUAL_SIZE, Page
 from job_host.service.problems import bad_request, of_refusal
 from job_host.service.routes import views
-from job_host.service.terms.calls import Call, Kept, LogPage
+from job_host.service.terms.calls import Call, Kept
 
 
 def answer_of(reply: bytes, seen: int | None = None) -> dict[str, Any]:
@@ -154,21 +154,6 @@ async def list_steps(asked: Asked) -> web.StreamResponse:
     return asked.answer(told, answers.seen)
 
 
-async def show_logs(asked: Asked) -> web.StreamResponse:
-    """What the workers of a job execution handed in as logs, by work item; with `type=text`, one behind the other."""
-    execution, kind, page = asked.path_number(), asked.request.query.get("type"), asked.page_of_large_rows()
-    if kind not in (None, "text"):
-        raise bad_request("type is text, or left out")
-    answers = await asked.keeper.ask([query("job_instance", execution=execution)], asked.at_least)
-    answer_of(answers.replies[0], answers.seen)
-    logs = await asked.keeper.logs(LogPage(execution, asked.request.query.get("stepName"), page))
-    if kind == "text":
-        text = "".join(f"# work item {log.work}, {log.element}\n{log.text}\n" for log in logs)
-        return web.Response(text=text, headers={OPERATIONS: str(answers.seen)})
-    told = [{"work": log.work, "stepName": log.element, "partition": log.partition, "log": log.text} for log in logs]
-    return asked.answer(told, answers.seen)
-
-
 async def list_jobs(asked: Asked) -> web.StreamResponse:
     """The jobs that have job instances, and how many job executions have each batch status."""
     answers = await asked.keeper.ask([query("job_names"), query("status_counts")], asked.at_least)
@@ -187,5 +172,4 @@ ROUTES = [
     Route("PUT", "/batch/jobexecutions/{id}", "operate", change_execution, ("action",)),
     Route("GET", "/batch/jobexecutions/{id}/jobinstance", "read", show_instance_of, ("atLeast",)),
     Route("GET", "/batch/jobexecutions/{id}/stepexecutions", "read", list_steps, (*PAGE_WORDS, "atLeast")),
-    Route("GET", "/batch/jobexecutions/{id}/joblogs", "read", show_logs, ("type", "stepName", *PAGE_WORDS, "atLeast")),
 ]

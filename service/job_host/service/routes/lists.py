@@ -4,6 +4,7 @@ from __future__ import annotations
 
 import json
 from collections.abc import Iterable, Sequence
+from datetime import datetime, timezone
 from functools import lru_cache
 from typing import Any
 
@@ -16,6 +17,7 @@ from job_host.protocol.moments import moment
 from job_host.service.history.execution_index import Wanted, parameter_text
 from job_host.service.history.work_items import Ended
 from job_host.service.http.requests import PAGE_WORDS, Asked, Route
+from job_host.service.keepers.details import Details, details_of
 from job_host.service.keepers.keeper import HeldBy
 from job_host.service.pages import USUAL_SIZE
 from job_host.service.problems import Problem, bad_request
@@ -23,7 +25,9 @@ from job_host.service.routes import views
 from job_host.service.routes.jobs import answer_of, instances_of
 from job_host.service.settings import MOST_OPERATIONS
 
-WORDS_OF_EXECUTIONS = ("status", "jobName", "search", "mostRecent", *PAGE_WORDS)
+WORDS_OF_EXECUTIONS = ("status", "jobName", "search", "mostRecent", "details", "createdFrom", "createdUntil", *PAGE_WORDS)
+# In milliseconds.
+DAY = 86_400_000
 SEARCH_CHARACTERS = 256
 PARAMETER_CHARACTERS = 160
 
@@ -107,14 +111,36 @@ def statuses_of(word: str, given: Iterable[str], known: Sequence[str] = STATUSES
 def wanted_of(asked: Asked) -> Wanted:
     given = asked.request.query
     statuses = statuses_of("status", given.getall("status", []))
-    search = given.get("search", "").strip().lower()
-    if len(search) > SEARCH_CHARACTERS:
+    search = search_of(asked).lower()
+    since, until = day_of(asked, "createdFrom"), day_of(asked, "createdUntil")
+    numbers = asked.keeper.reading().made_between(since, None if until is None else until + DAY)
+    return Wanted(statuses, given.get("jobName"), search, asked.query_flag("mostRecent"), numbers)
+
+
+def search_of(asked: Asked) -> str:
+    search = asked.request.query.get("search", "").strip()
+    if len(search.lower()) > SEARCH_CHARACTERS:
         raise bad_request(f"search has at most {SEARCH_CHARACTERS} characters")
-    return Wanted(statuses, given.get("jobName"), search, asked.query_flag("mostRecent"))
+    return search
+
+
+def day_of(asked: Asked, word: str) -> int | None:
+    """The moment at which a day of the query begins, in UTC."""
+    given = asked.request.query.get(word)
+    if given is None:
+        return None
+    try:
+        return int(datetime.strptime(given, "%Y-%m-%d").replace(tzinfo=timezone.utc).timestamp()) * 1_000
+    except ValueError as fault:
+        raise bad_request(f"{word} is a day, as 2026-11-27") from fault
 
 
 async def list_all_executions(asked: Asked) -> web.StreamResponse:
-    """The newest job executions that a filter takes, page by page. One that changes meanwhile may be left out."""
+    """The newest job executions that a filter takes, page by page. One that changes meanwhile may be left out.
+
+    With `details` each has the names of its failed steps, and how long its job took before.
+    """
+    with_details = asked.query_flag("details")
     wanted, page = wanted_of(asked), asked.page(asked.host.settings.bounds.page_size)
     counted = await asked.keeper.ask([query("status_counts")], asked.at_least)
     executions = asked.keeper.reading().executions
@@ -125,7 +151,11 @@ async def list_all_executions(asked: Asked) -> web.StreamResponse:
     answers = await asked.keeper.ask(lines, counted.seen)
     counts, *replies = [read(reply) for reply in answers.replies]
     pairs = zip(replies[::2], replies[1::2])
-    rows = [brief(told["job_execution"], parameters["parameters"]) for told, parameters in pairs if "job_execution" in told]
+    there = [(told["job_execution"], parameters["parameters"]) for told, parameters in pairs if "job_execution" in told]
+    rows = [brief(told, parameters) for told, parameters in there]
+    if with_details:
+        details = await details_of(asked.keeper, [told for told, _ in there], answers.seen)
+        rows = [{**row, **detailed(one)} for row, one in zip(rows, details, strict=True)]
     rows = [{**row, "mostRecent": executions.is_most_recent(row["executionId"], answers.seen)} for row in rows]
     shown = [row for row in rows if not wanted.statuses or row["batchStatus"] in wanted.statuses]
     if wanted.most_recent:
@@ -145,6 +175,11 @@ def with_status(wanted: Wanted, counts: dict[str, int]) -> int:
 
 def brief(told: dict[str, Any], parameters: dict[str, str]) -> dict[str, Any]:
     return {**views.job_execution_row(told), "parameterText": parameter_text(parameters, PARAMETER_CHARACTERS)}
+
+
+def detailed(details: Details) -> dict[str, Any]:
+    past = None if details.past is None else {"median": details.past.median, "longest": details.past.longest}
+    return {"failedSteps": details.failed, "past": past}
 
 
 async def list_work_items(asked: Asked) -> web.StreamResponse:

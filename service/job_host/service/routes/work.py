@@ -8,11 +8,13 @@ from typing import Any
 
 from aiohttp import web
 
+from job_host.protocol.bounds import ARTIFACT_CHARACTERS, MOST_ARTIFACTS
 from job_host.protocol.headers import REQUEST_KEY
 from job_host.protocol.lines import Members, fingerprint, query, read
 from job_host.protocol.moments import moment
 from job_host.service.http.requests import PAGE_WORDS, Asked, Route, expect_members
 from job_host.service.keepers.keeper import HeldPage
+from job_host.service.keepers.workers import Worker, workers_page
 from job_host.service.problems import Problem, bad_request
 from job_host.service.routes import views
 from job_host.service.routes.jobs import answer_of
@@ -30,15 +32,25 @@ ACTIONS = {
 async def claim(asked: Asked) -> web.StreamResponse:
     """Claims a work item. With `wait` it takes up to so many seconds until there is one."""
     body = await asked.body()
-    expect_members(body, "wait")
+    expect_members(body, "wait", "artifacts")
     wait = body.get("wait", 0)
     longest = asked.host.settings.bounds.longest_poll
     if isinstance(wait, bool) or not isinstance(wait, (int, float)) or not 0 <= wait <= longest:
         raise bad_request(f"wait is a number of seconds from 0 to {longest:g}")
+    if "artifacts" in body:
+        asked.keeper.leading().workers.note_artifacts(asked.named_client(), artifacts_of(body["artifacts"]))
     call = Call(asked.named_client(), "claim", {}, asked.key, fingerprint("claim"), wait=float(wait))
     call = replace(call, is_gone=asked.is_gone, is_unheard=asked.is_unheard)
     with asked.waiting() if wait > 0 else nullcontext():
         return claimed(asked, await asked.keeper.submit(call))
+
+
+def artifacts_of(names: Any) -> list[str]:
+    """The names of the artifacts that a worker has."""
+    is_list = isinstance(names, list) and len(names) <= MOST_ARTIFACTS
+    if not is_list or not all(isinstance(name, str) and len(name) <= ARTIFACT_CHARACTERS for name in names):
+        raise bad_request(f"artifacts are at most {MOST_ARTIFACTS} names of at most {ARTIFACT_CHARACTERS} characters")
+    return list(names)
 
 
 def claimed(asked: Asked, kept: Kept) -> web.StreamResponse:
@@ -80,6 +92,29 @@ async def list_held(asked: Asked) -> web.StreamResponse:
         told = [{**one, "jobName": read(reply).get("job")} for one, reply in zip(told, answers.replies)]
         seen = answers.seen
     return asked.answer(told, seen)
+
+
+async def list_workers(asked: Asked) -> web.StreamResponse:
+    """Who asks for work or holds work items, by name, page by page; and whether any worker asks."""
+    found = await workers_page(asked.keeper, asked.page(asked.host.settings.bounds.page_size), asked.at_least)
+    silence = None if found.silence is None else round(found.silence, 1)
+    told = {"workers": [worker(one) for one in found.workers], "silence": silence, "noneAsks": found.none_asks}
+    return asked.answer(told, found.seen)
+
+
+def worker(one: Worker) -> dict[str, Any]:
+    return {
+        "client": one.client,
+        "waits": one.waits,
+        "lastClaim": moment(one.heard.claim),
+        "lastSign": moment(one.heard.sign),
+        "artifacts": one.heard.artifacts,
+        "work": [
+            {"work": held.work, "executionId": held.execution, "stepName": held.element, "partition": held.partition}
+            for held in one.held
+        ],
+        "moreWork": one.count - len(one.held),
+    }
 
 
 def held_page(asked: Asked) -> HeldPage:
@@ -132,6 +167,7 @@ async def heartbeat(asked: Asked) -> web.StreamResponse:
 
 ROUTES = [
     Route("GET", "/batch/work", "read", list_held, ("withJobs", *HELD_WORDS, *PAGE_WORDS, "atLeast")),
+    Route("GET", "/batch/workers", "read", list_workers, (*PAGE_WORDS, "atLeast")),
     Route("POST", "/batch/work", "work", claim),
     Route("DELETE", "/batch/work", "work", withdraw),
     Route("PUT", "/batch/work/{id}", "read", change_work, ("action",)),

@@ -21,7 +21,9 @@ from job_host.service.stores.postgres_schema import (
     BEGINNING,
     DROP_CLIENTS,
     HEARD,
+    LOG,
     LOG_ENDS,
+    LOG_SIZES,
     LOGS,
     NOTE_FIRST,
     RESIGN,
@@ -29,7 +31,16 @@ from job_host.service.stores.postgres_schema import (
     SILENT,
     TAKE_OVER,
 )
-from job_host.service.terms.calls import EVERYBODY_SESSION, LOG_END_CHARACTERS, Item, Kept, KeptRequest, LogPage, WorkLog
+from job_host.service.terms.calls import (
+    EVERYBODY_SESSION,
+    LOG_END_CHARACTERS,
+    Item,
+    Kept,
+    KeptRequest,
+    LogPage,
+    LogSize,
+    WorkLog,
+)
 from job_host.service.terms.sessions import Silent
 
 log = logging.getLogger(__name__)
@@ -231,8 +242,14 @@ class PostgresStore:
         return KeptRequest(bytes(rows[0]["fingerprint"]), kept)
 
     async def logs(self, wanted: LogPage) -> list[WorkLog]:
-        element = None if wanted.element is None else without_nul(wanted.element)
-        return [WorkLog(*row) for row in await self._fetch(LOGS, wanted.execution, element, *wanted.page)]
+        return [WorkLog(*row) for row in await self._fetch(LOGS, *words_of(wanted))]
+
+    async def log_sizes(self, wanted: LogPage) -> list[LogSize]:
+        return [LogSize(*row) for row in await self._fetch(LOG_SIZES, *words_of(wanted))]
+
+    async def log_of(self, work: int) -> WorkLog | None:
+        rows = await self._fetch(LOG, work)
+        return WorkLog(*rows[0]) if rows else None
 
     async def log_ends(self, works: Sequence[int]) -> list[WorkLog]:
         """The ends of the logs of these work items."""
@@ -304,6 +321,12 @@ class PostgresStore:
         replies = [reply.decode() for reply in once.values()]
         async with self._reading() as reads:
             await reads.execute(statement, EVERYBODY_SESSION, list(once), replies)
+
+
+def words_of(wanted: LogPage) -> tuple[Any, ...]:
+    """The words of a statement that finds logs."""
+    element = None if wanted.element is None else without_nul(wanted.element)
+    return wanted.execution, element, *wanted.page, without_nul(wanted.search)
 
 
 def without_nul(text: str) -> str:

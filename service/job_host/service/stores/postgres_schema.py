@@ -147,8 +147,17 @@ where h.heard_at < now() - make_interval(secs => $1) and c.session < (select max
 
 LOGS = """
 select work, execution, element, partition, log from job_host_work_log
-where execution = $1 and ($2::text is null or element = $2) order by work offset $3 limit $4
+where execution = $1 and ($2::text is null or element = $2) and ($5::text = '' or position(lower($5::text) in lower(log)) > 0)
+order by work offset $3 limit $4
 """
+
+LOG_SIZES = """
+select work, element, partition, octet_length(log) from job_host_work_log
+where execution = $1 and ($2::text is null or element = $2) and ($5::text = '' or position(lower($5::text) in lower(log)) > 0)
+order by work offset $3 limit $4
+"""
+
+LOG = "select work, execution, element, partition, log from job_host_work_log where work = $1"
 
 LOG_ENDS = """
 select work, execution, element, partition, right(log, $1) from job_host_work_log where work = any($2::bigint[])

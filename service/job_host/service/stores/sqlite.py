@@ -12,11 +12,21 @@ from collections.abc import Mapping, Sequence
 from contextlib import closing
 from dataclasses import dataclass
 from pathlib import Path
+from typing import Any
 
 from job_host.protocol.lines import digest
 from job_host.service.history.log_file import Beginning
 from job_host.service.stores.sqlite_schema import migrate, refuse_later
-from job_host.service.terms.calls import EVERYBODY_SESSION, LOG_END_CHARACTERS, Item, Kept, KeptRequest, LogPage, WorkLog
+from job_host.service.terms.calls import (
+    EVERYBODY_SESSION,
+    LOG_END_CHARACTERS,
+    Item,
+    Kept,
+    KeptRequest,
+    LogPage,
+    LogSize,
+    WorkLog,
+)
 from job_host.service.terms.sessions import Silent
 
 INTEND = """
@@ -42,8 +52,15 @@ from client join client_heard using (session) where heard_at < ? and session < (
 """
 LOGS = """
 select work, execution, element, partition, log from work_log
-where execution = :execution and (:element is null or element = :element) order by work limit :size offset :start
+where execution = :execution and (:element is null or element = :element)
+and (:search = '' or instr(lower(log), lower(:search)) > 0) order by work limit :size offset :start
 """
+LOG_SIZES = """
+select work, element, partition, length(cast(log as blob)) from work_log
+where execution = :execution and (:element is null or element = :element)
+and (:search = '' or instr(lower(log), lower(:search)) > 0) order by work limit :size offset :start
+"""
+LOG = "select work, execution, element, partition, log from work_log where work = ?"
 LOG_ENDS = """
 select work, execution, element, partition, substr(log, ?) from work_log where work in (select value from json_each(?))
 """
@@ -66,6 +83,12 @@ class History:
 
     identity: str
     beginning: Beginning
+
+
+def words_of(wanted: LogPage) -> dict[str, Any]:
+    """The words of a statement that finds logs."""
+    words = {"execution": wanted.execution, "element": wanted.element, "search": wanted.search}
+    return {**words, **wanted.page._asdict()}
 
 
 def history_in(connection: sqlite3.Connection) -> History | None:
@@ -238,8 +261,14 @@ class SqliteStore:
         return KeptRequest(row[0], Kept(row[1], answers, row[3]))
 
     def logs(self, wanted: LogPage) -> list[WorkLog]:
-        words = {"execution": wanted.execution, "element": wanted.element, **wanted.page._asdict()}
-        return [WorkLog(*row) for row in self._connection.execute(LOGS, words)]
+        return [WorkLog(*row) for row in self._connection.execute(LOGS, words_of(wanted))]
+
+    def log_sizes(self, wanted: LogPage) -> list[LogSize]:
+        return [LogSize(*row) for row in self._connection.execute(LOG_SIZES, words_of(wanted))]
+
+    def log_of(self, work: int) -> WorkLog | None:
+        row = self._connection.execute(LOG, (work,)).fetchone()
+        return None if row is None else WorkLog(*row)
 
     def log_ends(self, works: Sequence[int]) -> list[WorkLog]:
         """The ends of the logs of these work items."""

@@ -58,17 +58,28 @@ class WorkLog:
     text: str
 
 
+@dataclass(frozen=True)
+class LogSize:
+    """The log of a work item by its size in bytes."""
+
+    work: int
+    element: str
+    partition: int | None
+    size: int
+
+
 # What is told as the end of a log.
 LOG_END_CHARACTERS = 4_000
 
 
 @dataclass(frozen=True)
 class LogPage:
-    """A page of the logs of a job execution, or of one element of it."""
+    """A page of the logs of a job execution, or of one element of it. With `search` those are meant that have this text."""
 
     execution: int
     element: str | None
     page: Page
+    search: str = ""
 
 
 @dataclass(frozen=True)

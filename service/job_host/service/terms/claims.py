@@ -52,6 +52,11 @@ class ClaimDesk:
     def waiting(self) -> int:
         return len(self._waiting)
 
+    @property
+    def clients(self) -> set[str]:
+        """The clients whose claims wait."""
+        return {waiter.call.client for waiter in self._waiting}
+
     def note_asked(self) -> None:
         """A worker asks for work, or has asked until now."""
         self._asked_at = time.monotonic()

@@ -19,6 +19,10 @@ from job_host.service.terms.claims import ClaimDesk, ClaimWithdrawn
 from job_host.service.terms.follow_ups import follow_ups
 from job_host.service.terms.moments import Moments
 from job_host.service.terms.sessions import Sessions
+from job_host.service.terms.workers import Workers
+
+# What a worker reports of its work items.
+REPORTS = ("checkpoint", "finish")
 
 
 @dataclass(frozen=True)
@@ -46,6 +50,7 @@ class Term(ABC):
         self.committed = engine.entered
         self.failure: Problem | None = None
         self.desk = ClaimDesk(self.begin)
+        self.workers = Workers()
         self._queue: deque[Item] = deque()
         self._wake = asyncio.Event()
         self._under_way: dict[tuple[str | None, str], tuple[bytes, asyncio.Task[Kept]]] = {}
@@ -118,10 +123,15 @@ class Term(ABC):
     async def _perform(self, call: Call) -> Kept:
         if call.resolve is not None:
             call = replace(call, members=await call.resolve(), resolve=None)
-        if call.do == "claim":
-            self.desk.note_asked()
-        if call.wait > 0:
-            return await self.desk.claim(call)
+        if call.do != "claim":
+            return await self._made(call)
+        self.desk.note_asked()
+        self.workers.note_claim(call.client)
+        kept = await (self.desk.claim(call) if call.wait > 0 else self._made(call))
+        self.workers.note_claim(call.client)
+        return kept
+
+    async def _made(self, call: Call) -> Kept:
         return await (await self.begin(call)).done
 
     async def withdraw(self, claim: Call) -> Kept | None:
@@ -185,6 +195,8 @@ class Term(ABC):
             item.log = None
         else:
             self.note_accepted(item.call.client, item.session)
+            if item.call.do in REPORTS:
+                self.workers.note_sign(item.call.client)
         if not item.heard.done():
             item.heard.set_result(reply)
         queries = follow_ups(item.call.do, read(reply))
