@@ -61,7 +61,7 @@ class Browser:
         """Clicks what is shown. A page that follows may draw it anew in between."""
 
         def press() -> bool:
-            self.driver.find_element(By.CSS_SELECTOR, selector).click()
+            self._press(self.driver.find_element(By.CSS_SELECTOR, selector))
             return True
 
         self.until(press)
@@ -71,10 +71,15 @@ class Browser:
         path = f".//*[self::a or self::button][normalize-space()='{text}']"
 
         def press() -> bool:
-            self.driver.find_element(By.CSS_SELECTOR, within).find_element(By.XPATH, path).click()
+            self._press(self.driver.find_element(By.CSS_SELECTOR, within).find_element(By.XPATH, path))
             return True
 
         self.until(press)
+
+    def _press(self, part: Any) -> None:
+        """Clicks a part of the page that may stand under the header, which stays."""
+        self.run("arguments[0].scrollIntoView({block: 'center'})", part)
+        part.click()
 
     def text(self, selector: str = "body") -> str:
         return str(self.driver.execute_script("return document.querySelector(arguments[0])?.innerText ?? ''", selector))

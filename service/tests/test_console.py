@@ -3,7 +3,6 @@
 from __future__ import annotations
 
 import asyncio
-import json
 import re
 import time
 from collections.abc import Callable, Iterator
@@ -11,146 +10,19 @@ from pathlib import Path
 from typing import Any
 
 import pytest
-from browser import Browser, browsing
-from instances import Answer, Caller, Instance, Process, running
+from browser import Browser
+from consoles import HARD_JOB, HARD_LOG, HARD_VALUE, MARKS, ask, bars, reads, start, states
+from consoles import artifacts_made, browser_made, no_complaints, service_made, words_made, worker_made  # noqa: F401
+from instances import Caller, Instance, Process, running
 from selenium.webdriver.common.action_chains import ActionChains
 from selenium.webdriver.common.keys import Keys
-from test_catalogue_picture import DEEP, dense
+from selenium.webdriver.support.select import Select
 from workers import WorkerProcess
 
 from job_host.service.settings import ServeSettings
 
 Make = Callable[..., ServeSettings]
 READER, OPERATOR = "r" * 20, "o" * 20
-
-# Texts that are markup, that end attributes, and that turn the direction of what stands behind them.
-MARKS = "<script>window.bad=1</script><img src=x onerror=window.bad=1>\"'&amp;{}${1}\u202e\u200f\u2067abc"
-HARD_JOB = (MARKS + "j" * 256)[: 256 - (len(MARKS.encode()) - len(MARKS))]
-HARD_VALUE = (MARKS + "\r\nline\n" + "v" * 4096)[: 4096 - (len(MARKS.encode()) - len(MARKS))]
-HARD_LOG = MARKS + "\n" + "</pre></details></main>" * 170 + "\n\u202eend"
-
-LOAD = """#!/bin/sh
-[ -e mended ] || { echo 'no space left on the ledger' >&2; exit 3; }
-echo "LOADED FOR $BATCH_PARAMETER_date"
-"""
-ARTIFACTS = {
-    "extract": "#!/bin/sh\necho '120 ROWS'\n",
-    "load": LOAD,
-    "report": "#!/bin/sh\necho SENT\n",
-    "hard": "#!/bin/sh\ncat hard.log >&2\nexit 3\n",
-    "patient": "#!/bin/sh\nwhile [ ! -e go-on ]; do sleep 0.05; done\n",
-}
-
-
-def step(name: str, ref: str, **more: Any) -> dict[str, Any]:
-    return {"kind": "step", "id": name, "batchlet": {"ref": ref}, **more}
-
-
-def leads(number: int) -> dict[str, Any]:
-    """Each step leads to the next one, and to the last one if it says so."""
-    last = [{"kind": "next", "on": "LAST", "to": "s999"}] if number < 998 else []
-    return {"transitions": last, **({"next": f"s{number + 1}"} if number < 999 else {})}
-
-
-MONDAY = [{"kind": "next", "on": "MONDAY", "to": "both"}, {"kind": "end", "on": "HOLIDAY", "exit-status": "NO WORK"}]
-GO = [{"kind": "next", "on": "*", "to": "f1"}]
-JOBS = [
-    {
-        "id": "nightly",
-        "elements": [step("extract", "extract", next="load"), step("load", "load", next="report"), step("report", "report")],
-    },
-    {"id": HARD_JOB, "elements": [step(MARKS, "hard")]},
-    {"id": "patient", "elements": [step("wait", "patient", partitions=2)]},
-    {
-        "id": "branching",
-        "elements": [
-            {"kind": "decision", "id": "day", "ref": "extract", "transitions": MONDAY},
-            {
-                "kind": "split",
-                "id": "both",
-                "next": "last",
-                "flows": [
-                    {"kind": "flow", "id": "left", "elements": [step("one", "extract", next="two"), step("two", "report")]},
-                    {"kind": "flow", "id": "right", "elements": [step("three", "report")]},
-                ],
-            },
-            step("last", "report"),
-        ],
-    },
-    {"id": "many", "elements": [step("print", "report", partitions=64)]},
-    {"id": "deep", "elements": [{"kind": "decision", "id": "go", "ref": "extract", "transitions": GO}, *DEEP["elements"]]},
-    {**dense(150, 39), "id": "dense"},
-    {"id": "long", "elements": [step(f"s{number}", "report", **leads(number)) for number in range(1000)]},
-]
-
-
-@pytest.fixture(scope="module")
-def browser() -> Iterator[Browser]:
-    with browsing() as one:
-        yield one
-
-
-@pytest.fixture
-def artifacts(tmp_path: Path) -> Path:
-    folder = tmp_path / "artifacts"
-    folder.mkdir()
-    (folder / "hard.log").write_text(HARD_LOG)
-    for name, text in ARTIFACTS.items():
-        (folder / name).write_text(text)
-        (folder / name).chmod(0o755)
-    return folder
-
-
-@pytest.fixture
-def words(dsn: str, tmp_path: Path) -> list[str]:
-    """The words of a service over PostgreSQL, with the jobs of these tests."""
-    path = tmp_path / "jobs.json"
-    path.write_text(json.dumps({"jobs": JOBS}))
-    return ["--catalogue", str(path), "--postgres", dsn, "--takeover-after", "2"]
-
-
-@pytest.fixture
-def service(words: list[str], tmp_path: Path) -> Iterator[Process]:
-    process = Process(tmp_path / "serve.log", *words)
-    process.start()
-    try:
-        asyncio.run(process.until_role("leader"))
-        yield process
-    finally:
-        process.kill()
-
-
-@pytest.fixture
-def worker(service: Process, artifacts: Path) -> Iterator[WorkerProcess]:
-    process = WorkerProcess(service.url, artifacts, 2)
-    try:
-        yield process
-    finally:
-        process.stop()
-
-
-@pytest.fixture(autouse=True)
-def no_complaints(request: pytest.FixtureRequest) -> Iterator[None]:
-    """A browser that complained, of a script or of what the content policy refused, fails its test."""
-    yield
-    if "browser" in request.fixturenames:
-        complaints = request.getfixturevalue("browser").complaints()
-        assert not [one for one in complaints if "Failed to load resource" not in one and "ERR_" not in one], complaints
-
-
-def start(service: Process, job: str, **parameters: str) -> int:
-    return int(asyncio.run(Caller(service.url).start(job, **parameters)).told["executionId"])
-
-
-def ask(url: str, method: str, path: str, body: Any = None, token: str | None = None, **headers: str) -> Answer:
-    return asyncio.run(Caller(url, token=token).ask(method, path, body, None, **headers))
-
-
-def states(browser: Browser) -> dict[str, str]:
-    """What stands in the boxes of the picture."""
-    script = """return [...document.querySelectorAll('.picture [data-element]')].map(
-        g => [g.dataset.element, g.querySelector('.state').textContent])"""
-    return dict(browser.run(script))
 
 
 def colours(browser: Browser) -> dict[str, str]:
@@ -236,6 +108,20 @@ def test_what_is_open_was_not_restarted_since(browser: Browser, service: Process
     asyncio.run(Caller(service.url).start("nightly"))
     browser.until(lambda: rows("Running") == ["5", "4", "3"])
     assert rows("Jobs of the catalogue") == ["patient"]
+    browser.find("#filter").send_keys(Keys.BACKSPACE * 3)
+    check_orders(browser, lambda: " ".join(row for row in rows("Jobs of the catalogue") if row.isalnum()))
+
+
+def check_orders(browser: Browser, told: Callable[[], str]) -> None:
+    orders = {
+        "by name": "branching deep dense long many nightly patient",
+        "changed last first": "nightly branching",
+        "most job instances first": "branching nightly",
+    }
+    select: Any = Select
+    for order, names in orders.items():
+        select(browser.find("#sort")).select_by_visible_text(order)
+        browser.until(lambda names=names: told().startswith(names))  # type: ignore[misc]
 
 
 # Whether the page's own words behind a text of the service still run from left to right.
@@ -308,7 +194,7 @@ def test_stop_lose_abandon_and_purge_by_clicks(
     browser.see("1 work item is held")
     browser.click("tbody td a[href='#/execution/1']")
     browser.see("LOST", "section[data-key='Work items']")
-    browser.see("2: 1 LOST, 1 STARTED", "section[data-key=Steps]")
+    browser.until(lambda: bars(browser, "Steps") == ["2 partitions: 1 LOST, 1 STARTED"])
     browser.click("[data-action=stop]")
     browser.see("Running now: wait, partition 1", "dialog")
     browser.click("dialog [data-confirm=Stop]")
@@ -443,6 +329,11 @@ def test_lists_are_searched_narrowed_and_paged_by_clicks(browser: Browser, servi
     browser.click(".search button")
     browser.until(lambda: len(browser.all("tbody tr")) == 11)
     assert browser.run("return document.activeElement.closest('form.search') !== null")
+    for day, count in (("2000-01-01", 1), ("2999-12-31", 11)):
+        browser.run("document.getElementById('createdUntil').value = arguments[0]", day)
+        browser.click(".search button")
+        browser.until(lambda count=count: len(browser.all("tbody tr, section .empty")) == count)  # type: ignore[misc]
+    assert "search=night%3Dn1&createdUntil=2999-12-31" in browser.run("return location.hash")
 
 
 def test_attempts_of_a_job_instance_are_paged_by_clicks(browser: Browser, service: Process) -> None:
@@ -481,7 +372,19 @@ def test_attempts_of_a_job_instance_are_paged_by_clicks(browser: Browser, servic
     assert not browser.all("[data-action=restart]") and states(browser)["extract"] == "\u2713 COMPLETED"
 
 
-def test_logs_of_many_partitions_are_paged_and_what_failed_is_told(browser: Browser, service: Process) -> None:
+def find_and_save_log(browser: Browser, logs: Callable[[], int], folder: Path) -> None:
+    browser.find("#log-search").send_keys("LOG 64.")
+    browser.click("section[data-key=Logs] .search button")
+    browser.until(lambda: logs() == 1)
+    browser.click("section[data-key=Logs] summary")
+    browser.see("log 64.", "section[data-key=Logs] pre")
+    browser.driver.execute_cdp_cmd("Browser.setDownloadBehavior", {"behavior": "allow", "downloadPath": str(folder)})
+    browser.click("[data-action=save-log]")
+    browser.until(lambda: (folder / "work-64.log").exists())
+    assert (folder / "work-64.log").read_text() == "log 64."
+
+
+def test_logs_of_many_partitions_are_paged_and_what_failed_is_told(browser: Browser, service: Process, tmp_path: Path) -> None:
     async def finish_many() -> None:
         caller = Caller(service.url)
         await caller.start("many")
@@ -506,11 +409,12 @@ def test_logs_of_many_partitions_are_paged_and_what_failed_is_told(browser: Brow
     browser.open(service.url + "/#/execution/1")
     browser.see("print, partition 63 is FAILED", ".reason")
     assert [one.text for one in browser.all(".reason pre")] == ["log 64."]
-    browser.see("64: 63 COMPLETED, 1 FAILED", "section[data-key=Steps]")
+    browser.until(lambda: bars(browser, "Steps") == ["64 partitions: 63 COMPLETED, 1 FAILED"])
     browser.until(lambda: logs() == 50)
     browser.click_text("Later", "section[data-key=Logs]")
     browser.until(lambda: logs() == 14)
     browser.see("work item 64", "section[data-key=Logs]")
+    find_and_save_log(browser, logs, tmp_path)
     browser.open(service.url + "/#/execution/2")
     browser.click("[data-action=stop]")
     browser.see("Running now: print, partition 63, held by", "dialog")
@@ -524,8 +428,14 @@ def test_it_follows_by_itself_over_a_new_start_of_the_service(browser: Browser, 
     browser.see("live", "#connection")
     service.kill()
     browser.see("not connected", "#connection")
+    browser.until(lambda: re.fullmatch(r"as of [0-9]{2}:[0-9]{2}:[0-9]{2}", browser.text("#as-of")))
+    assert browser.run("return getComputedStyle(document.querySelector('main')).filter") == "grayscale(1)"
+    browser.run("document.querySelector('main').style.minHeight = '3000px'; window.scrollTo(0, 9999)")
+    assert browser.run("return document.querySelector('header').getBoundingClientRect().top") == 0
     service.start()
     browser.see("live", "#connection")
+    browser.until(lambda: browser.text("#as-of") == "")
+    assert browser.run("return getComputedStyle(document.querySelector('main')).filter") == "none"
     start(service, "patient")
     browser.see("patient", "tbody")
     browser.click("tbody tr:nth-child(1) th a")
@@ -578,9 +488,6 @@ async def until_count(instance: Instance, count: int) -> None:
             await asyncio.sleep(0.05)
 
 
-JOB_LOG_READS = "return performance.getEntriesByType('resource').filter(one => one.name.endsWith('/joblogs')).length"
-
-
 def test_a_page_that_follows_keeps_what_a_person_does(browser: Browser, service: Process, worker: WorkerProcess) -> None:
     """The focus, a closed log and a half-typed search stay while the page is drawn anew."""
     start(service, HARD_JOB)
@@ -588,9 +495,9 @@ def test_a_page_that_follows_keeps_what_a_person_does(browser: Browser, service:
     browser.see("Why it failed")
     browser.click("details summary")
     browser.run("window.kept = [document.querySelector('details'), document.querySelector('h1 a')]; window.kept[1].focus()")
-    before = browser.run(JOB_LOG_READS)
-    start(service, "nightly")
-    browser.until(lambda: browser.run(JOB_LOG_READS) > before)
+    before = reads(browser, "/joblogs")
+    asyncio.run(Caller(service.url).change(1, "restart"))
+    browser.until(lambda: reads(browser, "/joblogs") > before)
     time.sleep(0.5)
     kept = "return [kept[0].isConnected, kept[0].open, document.activeElement === kept[1]]"
     assert browser.run(kept) == [True, False, True]
@@ -659,9 +566,9 @@ def test_what_failed_in_a_large_job_is_seen_at_once_and_found_by_a_key(browser: 
     assert browser.run(IS_SEEN, ".overview .seen", ".overview .status-FAILED")
     browser.click_text("Fold all")
     browser.see("1 of 11 FAILED", ".picture")
-    before = browser.run(JOB_LOG_READS)
-    start(service, "nightly")
-    browser.until(lambda: browser.run(JOB_LOG_READS) > before)
+    before = reads(browser, "/joblogs")
+    asyncio.run(Caller(service.url).change(1, "restart"))
+    browser.until(lambda: reads(browser, "/joblogs") > before)
     time.sleep(0.5)
     assert len(browser.all(".picture .folded")) == 3 and not browser.all(".overview")
     press(browser, "f")
@@ -775,7 +682,7 @@ def test_a_token_that_is_withdrawn_is_asked_for(browser: Browser, guarded: Proce
     browser.see("Jobs of the catalogue")
 
 
-PAGES = ["#/", "#/executions", "#/execution/1", "#/job/branching", "#/work"]
+PAGES = ["#/", "#/executions", "#/execution/1", "#/job/branching", "#/work", "#/workers"]
 NEEDS_NAME = {
     "button",
     "link",

@@ -3,21 +3,36 @@
 import { explained, question } from "./actions.js";
 import { element, heading, renewChildren } from "./dom.js";
 import { execution } from "./execution.js";
+import { isUnread, readOpenLogs, saveLog } from "./logs.js";
+import { chosenIn, manyQuestion } from "./many.js";
 import { executions, job, jobs, warningOf, work } from "./pages.js";
-import { follow, hasToken, passes, read, setToken, TokenNeeded } from "./service.js";
+import { charactersTaken, follow, hasToken, passes, read, setToken, TokenNeeded } from "./service.js";
+import { workers } from "./workers.js";
 
+// After a read a page rests so many milliseconds at least, and so many times as long as it read. It rests longer if
+// it would take more than so many characters a second otherwise: many screens may follow one service.
 const REST = 700;
+const RESTS = 5;
+const MOST_CHARACTERS = 12000;
 const LIVE = 5000;
 const SAID = 8000;
 const FAULT_REST = 2000;
+// What is shown is old if it lacks something for so many milliseconds, or if the service is gone.
+const OLD = 10000;
+// Pages whose addresses have nothing but their name and a query.
+const PLAIN = new Map([["executions", executions], ["work", work], ["workers", workers]]);
 const main = document.getElementById("content");
 
 let caller = null;
 let route = null;
 let data = null;
+let history = null;
 let isFollowing = false;
 let reading = 0;
 let isStale = false;
+let isGone = false;
+let readAt = 0;
+let staleSince = 0;
 let restUntil = 0;
 
 const may = (right) => caller !== null && caller.rights.includes(right);
@@ -28,8 +43,7 @@ function routeOf(hash) {
   const query = new URLSearchParams(words || "");
   if (first === "execution" && /^\d+$/.test(second || "")) return { page: execution, number: second, query };
   if (first === "job" && second) return { page: job, name: decoded(second), query };
-  if (first === "executions") return { page: executions, query };
-  return { page: first === "work" ? work : jobs, query };
+  return { page: PLAIN.get(first) || jobs, query };
 }
 
 function decoded(text) {
@@ -64,22 +78,40 @@ function drawFault(fault) {
   return main.replaceChildren(heading("Nothing to show"), element("p", { class: "fault", role: "alert" }, explained(fault)));
 }
 
+function markStale() {
+  isStale = true;
+  staleSince = staleSince || Date.now();
+}
+
+// Says of what moment the page is, if it is old.
+function showAge() {
+  const isOld = data !== null && (isGone || (staleSince > 0 && Date.now() - staleSince > OLD));
+  const text = isOld ? `as of ${new Date(readAt).toISOString().slice(11, 19)}` : "";
+  const place = document.getElementById("as-of");
+  if (place.textContent !== text) place.textContent = text;
+  main.classList.toggle("old", isOld);
+}
+
 // Reads the page's data anew, and shows it if the page is still the same.
 async function refresh(isNew) {
   const asked = route;
+  const [begun, taken] = [Date.now(), charactersTaken()];
   let rest = REST;
   reading += 1;
   isStale = false;
   try {
-    const [fresh] = await Promise.all([asked.page.load(asked), showHistory()]);
+    const [fresh] = await Promise.all([asked.page.load(asked), isNew || !history ? readHistory() : null]);
     if (asked !== route) return;
     data = fresh;
+    readAt = begun;
+    staleSince = isStale ? begun : 0;
     if (isNew) main.replaceChildren();
     draw();
+    rest = Math.max(REST, RESTS * (Date.now() - begun), (1000 * (charactersTaken() - taken)) / MOST_CHARACTERS);
   } catch (fault) {
     if (asked !== route) return;
     if (isNew || !passes(fault) || fault instanceof TokenNeeded) drawFault(fault);
-    isStale = passes(fault);
+    if (passes(fault)) markStale();
     rest = FAULT_REST;
   } finally {
     reading -= 1;
@@ -101,20 +133,28 @@ async function navigate() {
   markPage(route.page.page);
   await refresh(!isSamePage(before, asked));
   if (asked !== route) return;
-  const [search, title] = ["#search", "h1"].map((selector) => main.querySelector(selector));
-  if (search) search.value = asked.query.get("search") || "";
+  for (const field of main.querySelectorAll("input[data-word]")) {
+    field.value = asked.query.get(field.dataset.word) || "";
+  }
+  const title = main.querySelector("h1");
   if (title && before !== null && !isSamePage(before, asked)) title.focus();
 }
 
 // Reads again what has changed: soon after an event, and from time to time where something runs.
 function tick() {
+  showAge();
   if (!caller || !route || reading || document.hidden || Date.now() < restUntil) return;
   const isOld = data !== null && route.page.isLive(data) && Date.now() > restUntil + LIVE;
   if (isStale || isOld) refresh(false);
 }
 
-async function showHistory() {
-  const warning = warningOf(await read("/batch/history"));
+async function readHistory() {
+  history = await read("/batch/history");
+  showWarning();
+}
+
+function showWarning() {
+  const warning = warningOf(history);
   const place = document.getElementById("warning");
   place.hidden = !warning;
   if (place.textContent !== warning) place.textContent = warning;
@@ -125,7 +165,15 @@ function onEvent(event) {
   const text = event === null ? "not connected" : event.role === "leader" ? "live" : event.role;
   place.textContent = text;
   place.className = `connection ${event === null ? "off" : event.role}`;
-  if (event !== null) isStale = true;
+  isGone = event === null;
+  if (isGone) return;
+  if (history) {
+    history.operations = event.operations;
+    showWarning();
+  }
+  // An event that names no job executions may be of any.
+  const concerns = route?.page.concerns;
+  if (!concerns || !data || !event.executions || concerns(data, event.executions)) markStale();
 }
 
 function askToken() {
@@ -172,13 +220,23 @@ async function begin() {
   await navigate();
 }
 
+function chooseAll() {
+  for (const box of main.querySelectorAll("input[data-choose]")) box.checked = true;
+}
+
 async function act(pressed) {
+  const { action } = pressed.dataset;
+  const after = (said, target) => {
+    say(said);
+    markStale();
+    restUntil = 0;
+    if (target && target !== location.hash) location.hash = target;
+  };
+  if (action === "choose-all") return chooseAll();
+  if (action.endsWith("-many")) return manyQuestion(action.replace("-many", ""), chosenIn(data.jobExecutions), after);
   try {
-    await question(pressed.dataset.action, { ...pressed.dataset }, (said, target) => {
-      say(said);
-      isStale = true;
-      if (target && target !== location.hash) location.hash = target;
-    });
+    if (action === "save-log") await saveLog(pressed.dataset.work);
+    else await question(action, { ...pressed.dataset }, after);
   } catch (fault) {
     if (fault instanceof TokenNeeded) askToken();
     else say(explained(fault));
@@ -190,17 +248,30 @@ main.addEventListener("click", (event) => {
   if (pressed) act(pressed);
 });
 
+main.addEventListener("toggle", async (event) => {
+  if (!data || !isUnread(event.target)) return;
+  const asked = route;
+  try {
+    await readOpenLogs(data.one, data.logs, data.items);
+    if (asked === route && data) draw();
+  } catch (fault) {
+    if (fault instanceof TokenNeeded) askToken();
+    else say(explained(fault));
+  }
+}, true);
+
 main.addEventListener("input", (event) => {
-  if (event.target.id === "filter" && data) draw();
+  if (["filter", "sort"].includes(event.target.id) && data) draw();
 });
 
 main.addEventListener("submit", (event) => {
-  const form = event.target.closest("form[data-form=search]");
+  const form = event.target.closest("form[data-form]");
   if (!form) return;
   event.preventDefault();
-  const given = { status: form.dataset.status, jobName: form.dataset.job, search: form.elements.search.value.trim() };
-  const kept = Object.fromEntries(Object.entries(given).filter(([, value]) => value));
-  location.hash = `#/executions?${new URLSearchParams(kept)}`;
+  const words = [...form.querySelectorAll("input[data-word]")].map((field) => [field.dataset.word, field.value.trim()]);
+  const { status, job: jobName, execution: number } = form.dataset;
+  const kept = Object.entries({ status, jobName, ...Object.fromEntries(words) }).filter(([, value]) => value);
+  location.hash = `#/${number ? `execution/${number}` : "executions"}?${new URLSearchParams(kept)}`;
 });
 
 document.getElementById("skip").addEventListener("click", (event) => {

@@ -1,12 +1,15 @@
 // The page of a job execution: what it came to and why, its picture, its steps, their logs, and its other attempts.
 
+import { partitionsBar } from "./bars.js";
 import {
   badge, button, element, executionLink, facts, heading, jobLink, MOST_ROWS, pageOf, pager, section, span, table, told, UNFINISHED, when,
 } from "./dom.js";
+import { logList, readOpenLogs } from "./logs.js";
 import { causesSection } from "./open.js";
 import { runnables } from "./picture.js";
 import { read, shapeOf, USUAL_SIZE } from "./service.js";
 import { pageNow, pictured, ready } from "./view.js";
+import { waitingFor } from "./workers.js";
 
 // The titles above the causes of these batch statuses.
 const CAUSES = { FAILED: "Why it failed", STOPPED: "Where it stopped" };
@@ -17,17 +20,23 @@ async function load({ number, query }) {
   const [asked, path] = [pageNow(), `/batch/jobexecutions/${number}`];
   const one = await read(path);
   const instance = `/batch/jobinstances/${one.instanceId}`;
+  const search = query.get("logSearch") || "";
   const page = (name) => ({ ...(LISTS[name] === USUAL_SIZE ? {} : { pageSize: LISTS[name] }), ...(pageOf(query, name) ? { page: pageOf(query, name) } : {}) });
   const [newest, others, items, logs, operations, shape, causes] = await Promise.all([
-    read(instance), read(`${instance}/jobexecutions`, page("others")), read(`${path}/workitems`, page("items")), read(`${path}/joblogs`, page("logs")),
-    read(`${path}/operations`, page("operations")), shapeOf(one.jobName), CAUSES[one.batchStatus] ? read(`${path}/causes`) : null,
+    read(instance), read(`${instance}/jobexecutions`, page("others")), read(`${path}/workitems`, page("items")),
+    read(`${path}/joblogs`, { ...page("logs"), sizes: true, ...(search ? { search } : {}) }),
+    read(`${path}/operations`, page("operations")), shapeOf(one.jobName),
+    CAUSES[one.batchStatus] ? read(`${path}/causes`) : null,
   ]);
   const lists = { others, items, logs, operations };
   const isWhole = Object.fromEntries(Object.entries(lists).map(([name, rows]) => [name, !pageOf(query, name) && rows.length < LISTS[name]]));
   const data = { one, newest, ...lists, isWhole, shape, causes };
   const states = new Map(runnables(shape.elements).map((each) => [each.id, stateOf(each.id, data)]));
-  await ready(asked, shape, states);
-  return { ...data, states };
+  const mayWait = UNFINISHED.includes(one.batchStatus) && isWhole.items;
+  const [waiting] = await Promise.all([
+    waitingFor(mayWait, items), readOpenLogs(one, logs, items), ready(asked, shape, states),
+  ]);
+  return { ...data, states, waiting };
 }
 
 // What stands in the box of a step or decision: what this job execution made of it, or an earlier one.
@@ -81,7 +90,7 @@ function partitionsOf(step, element, { items, isWhole }) {
     const outcome = item.outcome || "STARTED";
     groups.set(outcome, (groups.get(outcome) || 0) + 1);
   }
-  return [`${element.partitions}${isWhole.items ? "" : ", on this page"}: `, [...groups].map(([outcome, number]) => `${number} ${outcome}`).join(", ")];
+  return partitionsBar(element.partitions, groups, isWhole.items ? "" : ", on this page");
 }
 
 function stepsTable(data) {
@@ -114,15 +123,6 @@ function workTable({ items }, may) {
       ...(mayLose ? [item.until === null ? button("lose", "Lose", { work: item.work }, "small danger") : ""] : []),
     ],
   })), "No worker has claimed anything of it, or it was long ago.");
-}
-
-function logList({ one, logs }) {
-  const shown = logs.filter((log) => log.log);
-  if (!shown.length) return element("p", { class: "empty" }, "No worker has handed in a log.");
-  const isOpen = one.batchStatus === "FAILED" || shown.length === 1;
-  return shown.map((log) => element("details", { "data-key": `log ${log.work}`, "aria-label": `${log.stepName}, work item ${log.work}`, open: isOpen },
-    element("summary", {}, told(log.stepName), log.partition === null ? "" : `, partition ${log.partition}`, `, work item ${log.work}`),
-    element("pre", { tabindex: "0", role: "group", "aria-label": `Log of work item ${log.work}`, dir: "auto" }, log.log)));
 }
 
 function operationsTable({ one, operations }) {
@@ -161,11 +161,15 @@ export const execution = {
   load,
   title: ({ number }) => `Job execution ${number}`,
   isLive: ({ one }) => UNFINISHED.includes(one.batchStatus),
+  // Its own operations, and those on the other attempts. So a page of what is over rests.
+  concerns: ({ one, newest, others }, changed) =>
+    [one, newest, ...others].some((each) => changed.includes(each.executionId)),
   draw(data, route, may) {
     const { one, shape } = data;
     return [
       heading("Job execution ", String(one.executionId), " of ", jobLink(one.jobName), " ", badge(one.batchStatus)),
       actions(data, may),
+      data.waiting ? element("p", { class: "waits", role: "status" }, "It waits. ", data.waiting) : null,
       data.causes ? causesSection(CAUSES[one.batchStatus], data.causes) : null,
       section("Picture", pictured(shape, data.states)),
       section("Facts", facts([
@@ -175,7 +179,8 @@ export const execution = {
       section("Parameters", parameterList(one.jobParameters)),
       section("Steps", stepsTable(data)),
       section("Work items", workTable(data, may), turn("items", "Pages of the work items", data, route, ["Earlier", "Later"])),
-      section("Logs", logList(data), turn("logs", "Pages of the logs", data, route, ["Earlier", "Later"])),
+      section("Logs", logList(one, data.logs, route.query.get("logSearch") || ""),
+        turn("logs", "Pages of the logs", data, route, ["Earlier", "Later"])),
       section("Who did what", operationsTable(data), turn("operations", "Pages of the operations", data, route)),
       section("Earlier and later job executions", attempts(data), turn("others", "Pages of the job executions", data, route)),
     ];

@@ -1,9 +1,11 @@
 // The pages: each has what it reads, and what it shows of that.
 
+import { tookBar } from "./bars.js";
 import {
   badge, button, count, element, executionLink, facts, heading, jobLink, link, MOST_ROWS, pageOf, pager, section, span, STATUSES,
   table, told, UNFINISHED, when,
 } from "./dom.js";
+import { mayBeChosen } from "./many.js";
 import { lookSection, openSection } from "./open.js";
 import { read, shapeOf, USUAL_SIZE } from "./service.js";
 import { pageNow, pictured, ready } from "./view.js";
@@ -24,19 +26,40 @@ export function warningOf(history) {
   return `The history is almost full: ${fill(history)}.${stop} Begin a new one soon.`;
 }
 
-function executionsTable(caption, rows, empty) {
+// With `mayChoose` many may be chosen, on which an operation is made at once.
+function executionsTable(caption, rows, empty, mayChoose = false) {
   const columns = [
     { name: "Job execution", kind: "number" }, { name: "Job" }, { name: "Status" }, { name: "Exit status" }, { name: "Parameters", kind: "wide" },
     { name: "Created" }, { name: "Ended" }, { name: "Took", kind: "number" },
+    ...(mayChoose ? [{ name: "Choose", kind: "action" }] : []),
   ];
   const exit = (row) => (row.exitStatus === row.batchStatus ? "" : told(row.exitStatus));
   return table(caption, columns, rows.map((row) => ({
     key: row.executionId,
     cells: [
-      executionLink(row.executionId), jobLink(row.jobName), [badge(row.batchStatus), isSettled(row) ? " restarted" : ""], exit(row), told(row.parameterText || ""),
-      when(row.createTime), when(row.endTime), row.startTime ? span(row.startTime, row.endTime) : "",
+      executionLink(row.executionId), jobLink(row.jobName),
+      [badge(row.batchStatus), isSettled(row) ? " restarted" : ""],
+      [exit(row), failedSteps(row)], told(row.parameterText || ""), when(row.createTime), when(row.endTime),
+      row.startTime ? [span(row.startTime, row.endTime), " ", tookBar(row)] : "",
+      ...(mayChoose ? [mayBeChosen(row) ? choice(row) : ""] : []),
     ],
   })), empty);
+}
+
+function manyButtons() {
+  return element("p", { class: "actions", "data-key": "many" },
+    button("restart-many", "Restart the chosen"), button("stop-many", "Stop the chosen"),
+    button("choose-all", "Choose all of this page", {}, "quiet"));
+}
+
+// Told by the list if it was asked for details.
+function failedSteps({ failedSteps: names }) {
+  return names?.length ? element("p", {}, "in ", names.map((name, place) => [place ? ", " : "", told(name)])) : null;
+}
+
+function choice({ executionId }) {
+  const label = `Choose job execution ${executionId}`;
+  return element("input", { type: "checkbox", "data-choose": executionId, "aria-label": label });
 }
 
 // It failed or was stopped, and its job instance has gone on since then.
@@ -71,9 +94,23 @@ function rank({ jobName, newest }, open) {
   return UNFINISHED.includes(statuses[0]) ? 2 : 3;
 }
 
+function byText(one, other) {
+  return one < other ? -1 : Number(one > other);
+}
+
+// How jobs may be sorted; each keeps the order of those that it finds alike.
+const SORTS = {
+  "failing first": (one, other, open) => rank(one, open) - rank(other, open),
+  "by name": (one, other) => byText(one.jobName, other.jobName),
+  "changed last first": (one, other) => byText(other.newest?.lastUpdatedTime || "", one.newest?.lastUpdatedTime || ""),
+  "most job instances first": (one, other) => other.instances - one.instances,
+};
+
 function filterForm() {
   return element("div", { class: "search" }, element("label", { for: "filter" }, "Part of a job's name"),
-    element("input", { id: "filter", type: "search", maxlength: "256", autocomplete: "off", dir: "auto" }));
+    element("input", { id: "filter", type: "search", maxlength: "256", autocomplete: "off", dir: "auto" }),
+    element("label", { for: "sort" }, "Order"),
+    element("select", { id: "sort" }, Object.keys(SORTS).map((name) => element("option", {}, name))));
 }
 
 function jobsTable(catalogue, open, may) {
@@ -82,8 +119,9 @@ function jobsTable(catalogue, open, may) {
     ...(may("operate") ? [{ name: "Action", kind: "action" }] : []),
   ];
   const wanted = (document.getElementById("filter")?.value || "").trim().toLowerCase();
-  const ranks = new Map(catalogue.jobs.map((job) => [job, rank(job, open)]));
-  const shown = catalogue.jobs.filter((job) => job.jobName.toLowerCase().includes(wanted)).sort((one, other) => ranks.get(one) - ranks.get(other));
+  const order = document.getElementById("sort")?.value || Object.keys(SORTS)[0];
+  const shown = catalogue.jobs.filter((job) => job.jobName.toLowerCase().includes(wanted))
+    .sort((one, other) => SORTS[order](one, other, open));
   const rows = shown.map((job) => ({
     key: job.jobName,
     cells: [
@@ -92,7 +130,8 @@ function jobsTable(catalogue, open, may) {
       ...(may("operate") ? [button("start", "Start", { job: job.jobName }, "small")] : []),
     ],
   }));
-  return table("Jobs of the catalogue, failing ones first, each with its newest job instance", columns, rows, wanted ? "No job has this in its name." : "The catalogue has no job.");
+  const caption = `Jobs of the catalogue, ${order}, each with its newest job instance`;
+  return table(caption, columns, rows, wanted ? "No job has this in its name." : "The catalogue has no job.");
 }
 
 // Jobs: what is open, what runs, what may be started, and how full the history is.
@@ -136,30 +175,48 @@ function fullness(history) {
 export const executions = {
   page: "executions",
   load({ query }) {
-    const given = { pageSize: USUAL_SIZE, page: pageOf(query) };
-    for (const name of ["status", "search", "jobName"]) if (query.get(name)) given[name] = query.get(name);
+    const given = { pageSize: USUAL_SIZE, page: pageOf(query), details: true };
+    for (const name of ["status", "search", "jobName", ...Object.keys(DAYS)]) {
+      if (query.get(name)) given[name] = query.get(name);
+    }
     return read("/batch/jobexecutions", given);
   },
   title: ({ query }) => `Job executions ${query.get("status") || ""}`.trim(),
   isLive: (data) => data.jobExecutions.some((row) => UNFINISHED.includes(row.batchStatus)),
-  draw(data, { query }) {
+  draw(data, { query }, may) {
+    const mayChoose = may("operate") && data.jobExecutions.some(mayBeChosen);
     const [status, search, jobName] = ["status", "search", "jobName"].map((name) => query.get(name) || "");
-    const kept = { ...(search ? { search } : {}), ...(jobName ? { jobName } : {}) };
+    const words = ["search", "jobName", ...Object.keys(DAYS)].filter((word) => query.get(word));
+    const kept = Object.fromEntries(words.map((word) => [word, query.get(word)]));
     const caption = `Job executions${status ? ` that are ${status}` : ""}${search ? " that the search finds" : ""}, the newest first`;
     return [
       heading("Job executions"),
-      searchForm(status, search, jobName),
+      searchForm(status, search, jobName, daysOf(query)),
       counts(data.statusCounts, kept, status),
-      element("section", { "aria-label": caption }, executionsTable(caption, data.jobExecutions, "No job execution is found.")),
+      mayChoose ? manyButtons() : null,
+      element("section", { "aria-label": caption },
+        executionsTable(caption, data.jobExecutions, "No job execution is found.", mayChoose)),
       turn(data, { ...kept, ...(status ? { status } : {}) }, pageOf(query)),
     ];
   },
 };
 
-function searchForm(status, search, jobName) {
+// Days of the address, in UTC, and what each is called.
+const DAYS = { createdFrom: "Created from", createdUntil: "until" };
+
+function daysOf(query) {
+  return Object.entries(DAYS).map(([word, name]) => [word, name, query.get(word) || ""]);
+}
+
+function searchForm(status, search, jobName, days) {
   return element("form", { class: "search", role: "search", "aria-label": "Job executions", "data-form": "search", "data-status": status, "data-job": jobName },
     element("label", { for: "search" }, "Job, exit status, parameter or number"),
-    element("input", { id: "search", name: "search", type: "search", value: search, maxlength: "256", autocomplete: "off", dir: "auto" }),
+    element("input", {
+      id: "search", name: "search", "data-word": "search", type: "search", value: search, maxlength: "256",
+      autocomplete: "off", dir: "auto",
+    }),
+    days.map(([word, name, value]) => [element("label", { for: word }, name),
+      element("input", { id: word, name: word, "data-word": word, type: "date", value })]),
     element("button", { type: "submit" }, "Search"),
     jobName ? element("span", {}, "of the job ", told(jobName), " ", link(`#/executions?${new URLSearchParams(status ? { status } : {})}`, "of all jobs")) : null);
 }
@@ -178,7 +235,7 @@ export const job = {
   async load({ name }) {
     const asked = pageNow();
     const [shape, list] = await Promise.all([
-      shapeOf(name), read("/batch/jobexecutions", { jobName: name, pageSize: NEWEST * 2 }),
+      shapeOf(name), read("/batch/jobexecutions", { jobName: name, pageSize: NEWEST * 2, details: true }),
     ]);
     await ready(asked, shape, new Map());
     return { shape, list };

@@ -11,7 +11,11 @@ const TOKEN = "jobhost-token";
 // Reads are counted for each tab, so that many consoles don't stand in one another's way.
 const TAB = `console-${requestKey().slice(0, 8)}`;
 
+// What an answer has beside its body.
+const HEAD_CHARACTERS = 300;
+
 let seen = 0;
+let taken = 0;
 let forgeryToken = document.querySelector("meta[name=forgery-token]").content;
 
 export class Refused extends Error {
@@ -56,12 +60,28 @@ async function ask(method, path, body, more) {
   if (response.status === 401) throw new TokenNeeded();
   if (!response.ok) throw new Refused(response.status, await documentOf(response));
   seen = Math.max(seen, Number(response.headers.get("Batch-Operations") || 0));
-  return response.json();
+  const text = await response.text();
+  taken += text.length + HEAD_CHARACTERS;
+  return JSON.parse(text);
+}
+
+// How many characters the answers until now had.
+export function charactersTaken() {
+  return taken;
 }
 
 export function read(path, parameters = {}) {
   const query = new URLSearchParams(parameters).toString();
   return ask("GET", query ? `${path}?${query}` : path, null, { "Batch-Client": TAB, "Batch-At-Least": String(seen) });
+}
+
+// A text as it is, and no document.
+export async function readText(path) {
+  const given = headers({ "Batch-Client": TAB, "Batch-At-Least": String(seen) });
+  const response = await fetch(path, { headers: given, cache: "no-store" });
+  if (response.status === 401) throw new TokenNeeded();
+  if (!response.ok) throw new Refused(response.status, await documentOf(response));
+  return response.text();
 }
 
 const shapes = new Map();
