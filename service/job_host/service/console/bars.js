@@ -2,7 +2,7 @@
 
 import { count, date, drawing, element, lasting } from "./dom.js";
 
-const WIDTH = 80;
+const WIDTH = 56;
 const HEIGHT = 8;
 
 function bar(label, ...parts) {
