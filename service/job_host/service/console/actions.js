@@ -32,13 +32,17 @@ const QUESTIONS = {
     return {
       title: ["Start ", told(job), "?"],
       body: [
-        running.length ? paragraph(element("strong", {}, "It runs already"), `: ${running.map((one) => `job execution ${one.executionId} is ${one.batchStatus}`).join(", ")}.`) : null,
-        paragraph("A new job instance of ", told(job), " is made, with its first job execution. Workers run its steps from then on."),
-        last ? paragraph(`The parameters below are those of its last job execution, ${last.executionId}, which is ${last.batchStatus}.`) : null,
+        running.length ? paragraph(element("strong", {}, "It runs already"),
+          `: ${running.map((one) => `job execution ${one.executionId} is ${one.batchStatus}`).join(", ")}.`) : null,
+        paragraph("A new job instance of ", told(job),
+          " is made, with its first job execution. Workers run its steps from then on."),
+        last ? paragraph(`The parameters below are those of its last job execution, ${last.executionId}, `
+          + `which is ${last.batchStatus}.`) : null,
       ],
       parameters: last ? last.jobParameters : {},
       confirm: "Start",
-      make: (parameters, key) => operate("POST", "/batch/jobinstances", { jobName: job, jobParameters: parameters }, key),
+      make: (parameters, key) =>
+        operate("POST", "/batch/jobinstances", { jobName: job, jobParameters: parameters }, key),
       said: (answer) => [`Job execution ${answer.executionId} of `, told(job), " was made."],
       leadsTo: (answer) => `#/execution/${answer.executionId}`,
     };
@@ -49,24 +53,31 @@ const QUESTIONS = {
     return {
       title: ["Restart job execution ", execution, " of ", told(one.jobName), "?"],
       body: [
-        paragraph("The next job execution of job instance ", String(one.instanceId), " is made. It goes on where this one ended: steps that are COMPLETED aren't run again, unless they allow it."),
+        paragraph("The next job execution of job instance ", String(one.instanceId), " is made. It goes on where this "
+          + "one ended: steps that are COMPLETED aren't run again, unless they allow it."),
         done.length ? paragraph("COMPLETED here: ", listed(done), ".") : null,
         paragraph("It has the parameters below and no others."),
       ],
       parameters: one.jobParameters,
       confirm: "Restart",
-      make: (parameters, key) => operate("PUT", `/batch/jobexecutions/${execution}?action=restart`, { jobParameters: parameters }, key),
+      make: (parameters, key) =>
+        operate("PUT", `/batch/jobexecutions/${execution}?action=restart`, { jobParameters: parameters }, key),
       said: (answer) => [`Job execution ${answer.executionId} goes on for job execution ${execution}.`],
       leadsTo: (answer) => `#/execution/${answer.executionId}`,
     };
   },
   async stop({ execution }) {
-    const [one, busy] = await Promise.all([read(`/batch/jobexecutions/${execution}`), read("/batch/work", { executionId: execution })]);
+    const [one, busy] = await Promise.all([
+      read(`/batch/jobexecutions/${execution}`), read("/batch/work", { executionId: execution }),
+    ]);
     return {
       title: ["Stop job execution ", execution, " of ", told(one.jobName), "?"],
       body: [
-        paragraph("Nothing more of it is handed out to workers. It is STOPPED after what runs now has ended, and can be restarted then."),
-        busy.length ? paragraph("Running now: ", listed(busy.map(place)), busy.length < USUAL_SIZE ? "." : "; and perhaps more.") : paragraph("Nothing of it runs now, so it is STOPPED at once."),
+        paragraph("Nothing more of it is handed out to workers. "
+          + "It is STOPPED after what runs now has ended, and can be restarted then."),
+        busy.length
+          ? paragraph("Running now: ", listed(busy.map(place)), busy.length < USUAL_SIZE ? "." : "; and perhaps more.")
+          : paragraph("Nothing of it runs now, so it is STOPPED at once."),
       ],
       confirm: "Stop",
       make: (parameters, key) => operate("PUT", `/batch/jobexecutions/${execution}?action=stop`, null, key),
@@ -77,7 +88,10 @@ const QUESTIONS = {
     const one = await read(`/batch/jobexecutions/${execution}`);
     return {
       title: ["Abandon job execution ", execution, " of ", told(one.jobName), "?"],
-      body: [paragraph(`It is ${one.batchStatus} now, and ABANDONED then. It can never be restarted. Its steps and logs stay.`)],
+      body: [
+        paragraph(`It is ${one.batchStatus} now, and ABANDONED then. `
+          + "It can never be restarted. Its steps and logs stay."),
+      ],
       confirm: "Abandon",
       isDanger: true,
       make: (parameters, key) => operate("PUT", `/batch/jobexecutions/${execution}?action=abandon`, null, key),
@@ -87,7 +101,9 @@ const QUESTIONS = {
   async purge({ instance }) {
     const all = await read(`/batch/jobinstances/${instance}/jobexecutions`);
     const numbers = all.map((one) => String(one.executionId)).join(", ");
-    const named = all.length < USUAL_SIZE ? `Its ${all.length} job executions (${numbers})` : `Its job executions (${numbers} and those before them)`;
+    const named = all.length < USUAL_SIZE
+      ? `Its ${all.length} job executions (${numbers})`
+      : `Its job executions (${numbers} and those before them)`;
     return {
       title: ["Purge job instance ", instance, " of ", told(all[0].jobName), "?"],
       body: [
@@ -95,7 +111,9 @@ const QUESTIONS = {
           ? `Its job execution ${numbers}, with all its steps, checkpoints and logs, is removed for good.`
           : `${named}, with all their steps, checkpoints and logs, are removed for good.`,
         " Nobody finds anything of it afterwards."),
-        all.some((one) => UNFINISHED.includes(one.batchStatus)) ? paragraph("One of them still runs, so this will be refused.") : null,
+        all.some((one) => UNFINISHED.includes(one.batchStatus))
+          ? paragraph("One of them still runs, so this will be refused.")
+          : null,
       ],
       confirm: "Purge",
       isDanger: true,
@@ -111,7 +129,8 @@ const QUESTIONS = {
       title: ["Lose work item ", work, "?"],
       body: [
         paragraph("It is ", place(one), " of job execution ", String(one.executionId), "."),
-        paragraph("It is FAILED from then on. If its worker still lives, what it reports of this work item is refused: be sure that the worker is gone."),
+        paragraph("It is FAILED from then on. If its worker still lives, what it reports of this work item is refused: "
+          + "be sure that the worker is gone."),
       ],
       confirm: "Lose",
       isDanger: true,
@@ -133,18 +152,23 @@ async function runningOf(jobName) {
 }
 
 function place(one) {
-  return element("span", {}, told(one.stepName), one.partition === null ? "" : `, partition ${one.partition}`, ", held by ", told(one.client));
+  const partition = one.partition === null ? "" : `, partition ${one.partition}`;
+  return element("span", {}, told(one.stepName), partition, ", held by ", told(one.client));
 }
 
 function listed(parts) {
   return parts.map((part, number) => [number ? "; " : "", typeof part === "string" ? told(part) : part]);
 }
 
-// A field of a parameter. Fields normalise line feeds, so one that nobody has changed stands for its text as it was told.
+// A field of a parameter. Fields normalise line feeds, so one that nobody has changed stands for its text as it was
+// told.
 class ParameterField {
   constructor(label, name, text) {
     this.text = text;
-    this.node = element(name, { "aria-label": label, placeholder: label.split(" ")[0].toLowerCase(), autocomplete: "off", spellcheck: "false", dir: "auto", rows: name === "textarea" ? "1" : null });
+    this.node = element(name, {
+      "aria-label": label, placeholder: label.split(" ")[0].toLowerCase(), autocomplete: "off", spellcheck: "false",
+      dir: "auto", rows: name === "textarea" ? "1" : null,
+    });
     this.node.value = text;
     this.shown = this.node.value;
   }
@@ -166,9 +190,14 @@ class ParameterEditor {
   }
 
   add(name, value) {
-    const row = { name: new ParameterField("Name of the parameter", "input", name), value: new ParameterField("Value of the parameter", "textarea", value) };
-    const remove = element("button", { type: "button", class: "small quiet", "aria-label": "Remove this parameter" }, "\u2715");
-    row.node = element("div", { class: "editor-row" }, row.name.node, element("span", { "aria-hidden": "true" }, "="), row.value.node, remove);
+    const row = {
+      name: new ParameterField("Name of the parameter", "input", name),
+      value: new ParameterField("Value of the parameter", "textarea", value),
+    };
+    const removes = { type: "button", class: "small quiet", "aria-label": "Remove this parameter" };
+    const remove = element("button", removes, "\u2715");
+    row.node = element("div", { class: "editor-row" },
+      row.name.node, element("span", { "aria-hidden": "true" }, "="), row.value.node, remove);
     // It would start the job.
     row.name.node.addEventListener("keydown", (event) => {
       if (event.key !== "Enter") return;
@@ -206,7 +235,8 @@ class ParameterEditor {
 function explained(fault) {
   if (!(fault instanceof Refused)) return ["The service doesn't answer."];
   const detail = fault.detail ? `: ${fault.detail}` : "";
-  const leader = fault.leader ? [" ", element("a", { href: /^https?:/.test(fault.leader) ? fault.leader : "#/" }, told(fault.leader))] : [];
+  const href = /^https?:/.test(fault.leader) ? fault.leader : "#/";
+  const leader = fault.leader ? [" ", element("a", { href }, told(fault.leader))] : [];
   return [element("strong", {}, fault.title), told(detail), ". ", MEANINGS[fault.title] || "", leader];
 }
 
@@ -215,14 +245,15 @@ dialog.addEventListener("close", () => {
   if (!dialog.open) dialog.replaceChildren();
 });
 
-function show(question, after) {
+function show(asked, after) {
   let key = requestKey();
-  const editor = question.parameters ? new ParameterEditor(question.parameters) : null;
+  const editor = asked.parameters ? new ParameterEditor(asked.parameters) : null;
   const fault = element("p", { class: "fault", role: "alert" });
-  const confirm = element("button", { type: "submit", class: question.isDanger ? "danger" : "main", "data-confirm": question.confirm }, question.confirm);
+  const submits = { type: "submit", class: asked.isDanger ? "danger" : "main", "data-confirm": asked.confirm };
+  const confirm = element("button", submits, asked.confirm);
   const cancel = element("button", { type: "button", "data-cancel": "" }, "Cancel");
   const form = element("form", { method: "dialog" },
-    element("h2", { id: "question-title" }, ...question.title), question.body, editor ? editor.node : null, fault,
+    element("h2", { id: "question-title" }, ...asked.title), asked.body, editor ? editor.node : null, fault,
     element("p", { class: "buttons" }, cancel, confirm));
   cancel.addEventListener("click", () => dialog.close());
   form.addEventListener("submit", async (event) => {
@@ -230,9 +261,9 @@ function show(question, after) {
     confirm.disabled = true;
     fault.replaceChildren();
     try {
-      const answer = await question.make(editor ? editor.parameters() : null, key);
+      const answer = await asked.make(editor ? editor.parameters() : null, key);
       dialog.close();
-      after(question.said(answer), question.leadsTo ? question.leadsTo(answer) : null);
+      after(asked.said(answer), asked.leadsTo ? asked.leadsTo(answer) : null);
     } catch (failed) {
       if (failed instanceof TokenNeeded) location.reload();
       if (passes(failed)) fault.append("It may have been done. Ask again: whatever happened, it is done once. ");
@@ -243,7 +274,7 @@ function show(question, after) {
   });
   dialog.replaceChildren(form);
   dialog.showModal();
-  if (question.isDanger) cancel.focus();
+  if (asked.isDanger) cancel.focus();
   else if (editor) editor.focus();
   else confirm.focus();
 }

@@ -75,7 +75,8 @@ function draw() {
 function drawFault(fault) {
   data = null;
   if (fault instanceof TokenNeeded) return askToken();
-  return main.replaceChildren(heading("Nothing to show"), element("p", { class: "fault", role: "alert" }, explained(fault)));
+  const reason = element("p", { class: "fault", role: "alert" }, explained(fault));
+  return main.replaceChildren(heading("Nothing to show"), reason);
 }
 
 function markStale() {
@@ -123,7 +124,8 @@ function isSamePage(one, other) {
   return one !== null && one.page === other.page && one.number === other.number && one.name === other.name;
 }
 
-// Shows the page of the address. Its heading has the focus then, except on the first page, and where a list is narrowed.
+// Shows the page of the address. Its heading has the focus then, except on the first page, and where a list is
+// narrowed.
 async function navigate() {
   if (!caller || (location.hash && !location.hash.startsWith("#/"))) return;
   const before = route;
@@ -188,9 +190,10 @@ function askToken() {
     begin();
   });
   route = null;
-  const refused = hasToken() ? element("p", { class: "fault", role: "alert" }, "The service doesn't know this token.") : null;
+  const refused = element("p", { class: "fault", role: "alert" }, "The service doesn't know this token.");
+  const shown = hasToken() ? [refused, form] : [form];
   setToken(null);
-  main.replaceChildren(heading("Who are you?"), ...[refused, form].filter(Boolean));
+  main.replaceChildren(heading("Who are you?"), ...shown);
   field.focus();
 }
 
@@ -224,23 +227,33 @@ function chooseAll() {
   for (const box of main.querySelectorAll("input[data-choose]")) box.checked = true;
 }
 
-async function act(pressed) {
-  const { action } = pressed.dataset;
-  const after = (said, target) => {
-    say(said);
-    markStale();
-    restUntil = 0;
-    if (target && target !== location.hash) location.hash = target;
-  };
-  if (action === "choose-all") return chooseAll();
-  if (action.endsWith("-many")) return manyQuestion(action.replace("-many", ""), chosenIn(data.jobExecutions), after);
+function afterwards(said, target) {
+  say(said);
+  markStale();
+  restUntil = 0;
+  if (target && target !== location.hash) location.hash = target;
+}
+
+// Saves a log, or asks an operation's question.
+async function actOnOne(given) {
   try {
-    if (action === "save-log") await saveLog(pressed.dataset.work);
-    else await question(action, { ...pressed.dataset }, after);
+    if (given.action === "save-log") await saveLog(given.work);
+    else await question(given.action, given, afterwards);
   } catch (fault) {
     if (fault instanceof TokenNeeded) askToken();
     else say(explained(fault));
   }
+}
+
+function actOnMany(action) {
+  manyQuestion(action.replace("-many", ""), chosenIn(data.jobExecutions), afterwards);
+}
+
+function act(pressed) {
+  const { action } = pressed.dataset;
+  if (action === "choose-all") chooseAll();
+  else if (action.endsWith("-many")) actOnMany(action);
+  else actOnOne({ ...pressed.dataset });
 }
 
 main.addEventListener("click", (event) => {

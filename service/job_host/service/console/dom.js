@@ -37,7 +37,8 @@ export function sign(status) {
 }
 
 export function badge(status) {
-  return element("span", { class: `badge status-${status}` }, element("span", { "aria-hidden": "true" }, sign(status)), ` ${status}`);
+  const mark = element("span", { "aria-hidden": "true" }, sign(status));
+  return element("span", { class: `badge status-${status}` }, mark, ` ${status}`);
 }
 
 export function heading(...children) {
@@ -75,18 +76,27 @@ export function button(action, label, data = {}, kind = "") {
   return element("button", { type: "button", class: kind, "data-action": action, ...given }, label);
 }
 
-// A table that keeps its roles where the page is narrow and each row is shown as a card. Of very many rows the first are shown.
+// A cell of a table. The first one of a row is its heading.
+function tableCell(column, cell, place) {
+  const role = place === 0 ? { role: "rowheader", scope: "row" } : { role: "cell", scope: null };
+  const given = { ...role, "data-name": column.name, class: column.kind || null };
+  return element(place === 0 ? "th" : "td", given, element("div", {}, cell));
+}
+
+// A table that keeps its roles where the page is narrow and each row is shown as a card. Of very many rows the first
+// are shown.
 export function table(caption, columns, rows, empty) {
   if (!rows.length) return element("p", { class: "empty" }, empty);
-  const head = columns.map((column) => element("th", { scope: "col", role: "columnheader", class: column.kind || null }, column.name));
+  const head = columns.map((column) =>
+    element("th", { scope: "col", role: "columnheader", class: column.kind || null }, column.name));
   const body = rows.slice(0, MOST_ROWS).map((row) =>
-    element("tr", { role: "row", "data-key": row.key, class: row.kind || null, "aria-current": row.current ? "true" : null },
-      row.cells.map((cell, place) => element(
-        place === 0 ? "th" : "td",
-        { role: place === 0 ? "rowheader" : "cell", scope: place === 0 ? "row" : null, "data-name": columns[place].name, class: columns[place].kind || null },
-        element("div", {}, cell)))));
+    element("tr",
+      { role: "row", "data-key": row.key, class: row.kind || null, "aria-current": row.current ? "true" : null },
+      row.cells.map((cell, place) => tableCell(columns[place], cell, place))));
   return element("table", { role: "table" },
-    element("caption", rows.length > MOST_ROWS ? {} : { class: "unseen" }, rows.length > MOST_ROWS ? `${caption}: the first ${MOST_ROWS} of ${rows.length}` : caption),
+    rows.length > MOST_ROWS
+      ? element("caption", {}, `${caption}: the first ${MOST_ROWS} of ${rows.length}`)
+      : element("caption", { class: "unseen" }, caption),
     element("thead", { role: "rowgroup" }, element("tr", { role: "row" }, head)),
     element("tbody", { role: "rowgroup" }, body));
 }
@@ -104,7 +114,8 @@ export function pager(label, page, hasMore, to, text = "", [before, after] = ["N
 }
 
 export function facts(pairs) {
-  return element("dl", { class: "facts" }, pairs.filter(([, value]) => value !== "" && value !== null).map(([name, value]) =>
+  const known = pairs.filter(([, value]) => value !== "" && value !== null);
+  return element("dl", { class: "facts" }, known.map(([name, value]) =>
     element("div", {}, element("dt", {}, name), element("dd", {}, value))));
 }
 
@@ -157,7 +168,8 @@ function takeAttributes(old, fresh) {
   }
 }
 
-// Makes a shown element say what a fresh one does. What stays keeps its focus, its place and what a person has typed or opened.
+// Makes a shown element say what a fresh one does. What stays keeps its focus, its place and what a person has typed
+// or opened.
 export function renew(old, fresh) {
   if (old.nodeType === Node.TEXT_NODE) {
     if (old.data !== fresh.data) old.data = fresh.data;

@@ -2,7 +2,8 @@
 
 import { partitionsBar } from "./bars.js";
 import {
-  badge, button, element, executionLink, facts, heading, jobLink, MOST_ROWS, pageOf, pager, section, span, table, told, UNFINISHED, when,
+  badge, button, element, executionLink, facts, heading, jobLink, MOST_ROWS, pageOf, pager, section, span, table, told,
+  UNFINISHED, when,
 } from "./dom.js";
 import { logList, readOpenLogs } from "./logs.js";
 import { causesSection } from "./open.js";
@@ -21,7 +22,10 @@ async function load({ number, query }) {
   const one = await read(path);
   const instance = `/batch/jobinstances/${one.instanceId}`;
   const search = query.get("logSearch") || "";
-  const page = (name) => ({ ...(LISTS[name] === USUAL_SIZE ? {} : { pageSize: LISTS[name] }), ...(pageOf(query, name) ? { page: pageOf(query, name) } : {}) });
+  const page = (name) => ({
+    ...(LISTS[name] === USUAL_SIZE ? {} : { pageSize: LISTS[name] }),
+    ...(pageOf(query, name) ? { page: pageOf(query, name) } : {}),
+  });
   const [newest, others, items, logs, operations, shape, causes] = await Promise.all([
     read(instance), read(`${instance}/jobexecutions`, page("others")), read(`${path}/workitems`, page("items")),
     read(`${path}/joblogs`, { ...page("logs"), sizes: true, ...(search ? { search } : {}) }),
@@ -29,7 +33,8 @@ async function load({ number, query }) {
     CAUSES[one.batchStatus] ? read(`${path}/causes`) : null,
   ]);
   const lists = { others, items, logs, operations };
-  const isWhole = Object.fromEntries(Object.entries(lists).map(([name, rows]) => [name, !pageOf(query, name) && rows.length < LISTS[name]]));
+  const isWhole = Object.fromEntries(Object.entries(lists).map(([name, rows]) =>
+    [name, !pageOf(query, name) && rows.length < LISTS[name]]));
   const data = { one, newest, ...lists, isWhole, shape, causes };
   const states = new Map(runnables(shape.elements).map((each) => [each.id, stateOf(each.id, data)]));
   const mayWait = UNFINISHED.includes(one.batchStatus) && isWhole.items;
@@ -48,8 +53,9 @@ function stateOf(id, { one, others, items, isWhole }) {
   const earlier = others.filter((each) => each.executionId < one.executionId)
     .find((each) => each.stepExecutions.some((done) => done.stepName === id && done.batchStatus === "COMPLETED"));
   if (earlier) return { status: "COMPLETED", text: `COMPLETED in ${earlier.executionId}`, kind: "carried" };
-  const here = isWhole.others ? "" : " here";
-  return { status: "", text: !isWhole.items ? "not on this page" : `${UNFINISHED.includes(one.batchStatus) ? "not yet run" : "not run"}${here}` };
+  if (!isWhole.items) return { status: "", text: "not on this page" };
+  const notRun = UNFINISHED.includes(one.batchStatus) ? "not yet run" : "not run";
+  return { status: "", text: `${notRun}${isWhole.others ? "" : " here"}` };
 }
 
 function saying(status, exit) {
@@ -72,38 +78,41 @@ function actions({ one, newest }, may) {
 function parameterList(parameters) {
   const pairs = Object.entries(parameters);
   if (!pairs.length) return element("p", { class: "empty" }, "It has no parameters.");
+  const valued = (name) => ({ tabindex: "0", role: "group", "aria-label": `Value of ${name}` });
   return element("dl", { class: "parameters" }, pairs.map(([name, value]) =>
-    element("div", {}, element("dt", {}, told(name)), element("dd", { tabindex: "0", role: "group", "aria-label": `Value of ${name}` }, told(value)))));
+    element("div", {}, element("dt", {}, told(name)), element("dd", valued(name), told(value)))));
 }
 
 function metrics(counts) {
   const pairs = Object.entries(counts);
+  const words = (name) => name.replace(/_COUNT$/, "").toLowerCase().replaceAll("_", " ");
   return pairs.length ? element("ul", { class: "metrics" }, pairs.map(([name, number]) =>
-    element("li", {}, `${name.replace(/_COUNT$/, "").toLowerCase().replaceAll("_", " ")} `, element("strong", {}, number.toLocaleString("en"))))) : "";
+    element("li", {}, `${words(name)} `, element("strong", {}, number.toLocaleString("en"))))) : "";
 }
 
 // How many partitions a step has, and what those that were claimed came to.
-function partitionsOf(step, element, { items, isWhole }) {
-  if (!element || !element.partitions) return "";
+function partitionsOf(step, jobElement, { items, isWhole }) {
+  if (!jobElement || !jobElement.partitions) return "";
   const groups = new Map();
   for (const item of items.filter((each) => each.stepName === step.stepName)) {
     const outcome = item.outcome || "STARTED";
     groups.set(outcome, (groups.get(outcome) || 0) + 1);
   }
-  return partitionsBar(element.partitions, groups, isWhole.items ? "" : ", on this page");
+  return partitionsBar(jobElement.partitions, groups, isWhole.items ? "" : ", on this page");
 }
 
 function stepsTable(data) {
   const { one, shape } = data;
   const elements = new Map(runnables(shape.elements).map((each) => [each.id, each]));
   const columns = [
-    { name: "Step" }, { name: "Status" }, { name: "Exit status" }, { name: "Partitions" }, { name: "Started" }, { name: "Ended" },
-    { name: "Took", kind: "number" }, { name: "Metrics", kind: "wide" },
+    { name: "Step" }, { name: "Status" }, { name: "Exit status" }, { name: "Partitions" }, { name: "Started" },
+    { name: "Ended" }, { name: "Took", kind: "number" }, { name: "Metrics", kind: "wide" },
   ];
   return table("Step executions", columns, one.stepExecutions.map((step) => ({
     key: step.stepName,
     cells: [
-      told(step.stepName), badge(step.batchStatus), step.exitStatus === step.batchStatus ? "" : told(step.exitStatus), partitionsOf(step, elements.get(step.stepName), data),
+      told(step.stepName), badge(step.batchStatus), step.exitStatus === step.batchStatus ? "" : told(step.exitStatus),
+      partitionsOf(step, elements.get(step.stepName), data),
       when(step.startTime), when(step.endTime), span(step.startTime, step.endTime), metrics(step.metrics),
     ],
   })), "No step was run.");
@@ -112,39 +121,54 @@ function stepsTable(data) {
 function workTable({ items }, may) {
   const mayLose = (may("operate") || may("work")) && items.some((item) => item.until === null);
   const columns = [
-    { name: "Work item", kind: "number" }, { name: "Step or decision" }, { name: "Partition", kind: "number" }, { name: "Outcome" }, { name: "Exit status" },
-    { name: "Worker" }, { name: "Claimed" }, { name: "Ended" }, { name: "Took", kind: "number" }, ...(mayLose ? [{ name: "Action", kind: "action" }] : []),
+    { name: "Work item", kind: "number" }, { name: "Step or decision" }, { name: "Partition", kind: "number" },
+    { name: "Outcome" }, { name: "Exit status" }, { name: "Worker" }, { name: "Claimed" }, { name: "Ended" },
+    { name: "Took", kind: "number" }, ...(mayLose ? [{ name: "Action", kind: "action" }] : []),
   ];
   return table("Work items: each step, partition and decision that a worker claimed", columns, items.map((item) => ({
     key: item.work,
     cells: [
-      String(item.work), told(item.stepName), item.partition === null ? "" : String(item.partition), badge(item.outcome || "STARTED"), told(item.exitStatus),
+      String(item.work), told(item.stepName), item.partition === null ? "" : String(item.partition),
+      badge(item.outcome || "STARTED"), told(item.exitStatus),
       told(item.client), when(item.since), when(item.until), span(item.since, item.until),
       ...(mayLose ? [item.until === null ? button("lose", "Lose", { work: item.work }, "small danger") : ""] : []),
     ],
   })), "No worker has claimed anything of it, or it was long ago.");
 }
 
+// What an operation was made on, besides the job execution that is shown.
+function madeOn({ work, made }, one) {
+  if (work) return `, work item ${work}`;
+  return !made || made === one.executionId ? "" : [", job execution ", executionLink(made)];
+}
+
+function madeBy(client) {
+  if (client === "") return "the service, as its lease ran out";
+  return client === null ? "a client whose name isn't known any more" : told(client);
+}
+
 function operationsTable({ one, operations }) {
   const columns = [{ name: "Operation", kind: "number" }, { name: "What" }, { name: "By" }, { name: "At" }];
-  const of = (each) => (each.work ? `, work item ${each.work}` : !each.made || each.made === one.executionId ? "" : [", job execution ", executionLink(each.made)]);
-  const by = (client) => (client === "" ? "the service, as its lease ran out" : client === null ? "a client whose name isn't known any more" : told(client));
   return table("Who did what to this job execution, the newest first", columns, operations.map((each) => ({
     key: each.operation,
-    cells: [String(each.operation), [each.action, of(each)], by(each.client), when(each.time)],
+    cells: [String(each.operation), [each.action, madeOn(each, one)], madeBy(each.client), when(each.time)],
   })), "Nothing was done.");
 }
 
 function attempts({ one, others }) {
-  const columns = [{ name: "Job execution", kind: "number" }, { name: "Status" }, { name: "Exit status" }, { name: "Steps", kind: "wide" }, { name: "Created" }, { name: "Ended" }];
+  const columns = [
+    { name: "Job execution", kind: "number" }, { name: "Status" }, { name: "Exit status" },
+    { name: "Steps", kind: "wide" }, { name: "Created" }, { name: "Ended" },
+  ];
   const steps = (each) => element("ul", { class: "metrics" }, each.stepExecutions.map((step) =>
     element("li", {}, told(step.stepName), " ", element("strong", {}, step.batchStatus))));
   return table(`Job executions of job instance ${one.instanceId}, the newest first`, columns, others.map((each) => ({
     key: each.executionId,
     current: each.executionId === one.executionId,
     cells: [
-      each.executionId === one.executionId ? `${each.executionId} (this one)` : executionLink(each.executionId), badge(each.batchStatus),
-      each.exitStatus === each.batchStatus ? "" : told(each.exitStatus), steps(each), when(each.createTime), when(each.endTime),
+      each.executionId === one.executionId ? `${each.executionId} (this one)` : executionLink(each.executionId),
+      badge(each.batchStatus), each.exitStatus === each.batchStatus ? "" : told(each.exitStatus), steps(each),
+      when(each.createTime), when(each.endTime),
     ],
   })), "There is none.");
 }
@@ -173,16 +197,21 @@ export const execution = {
       data.causes ? causesSection(CAUSES[one.batchStatus], data.causes) : null,
       section("Picture", pictured(shape, data.states)),
       section("Facts", facts([
-        ["Job instance", String(one.instanceId)], ["Exit status", one.exitStatus === null ? "" : told(one.exitStatus)], ["Created", when(one.createTime)], ["Started", when(one.startTime)],
-        ["Ended", when(one.endTime)], ["Took", one.startTime ? span(one.startTime, one.endTime) : ""], ["Updated", one.endTime ? "" : when(one.lastUpdatedTime)],
+        ["Job instance", String(one.instanceId)],
+        ["Exit status", one.exitStatus === null ? "" : told(one.exitStatus)],
+        ["Created", when(one.createTime)], ["Started", when(one.startTime)], ["Ended", when(one.endTime)],
+        ["Took", one.startTime ? span(one.startTime, one.endTime) : ""],
+        ["Updated", one.endTime ? "" : when(one.lastUpdatedTime)],
       ])),
       section("Parameters", parameterList(one.jobParameters)),
       section("Steps", stepsTable(data)),
-      section("Work items", workTable(data, may), turn("items", "Pages of the work items", data, route, ["Earlier", "Later"])),
+      section("Work items", workTable(data, may),
+        turn("items", "Pages of the work items", data, route, ["Earlier", "Later"])),
       section("Logs", logList(one, data.logs, route.query.get("logSearch") || ""),
         turn("logs", "Pages of the logs", data, route, ["Earlier", "Later"])),
       section("Who did what", operationsTable(data), turn("operations", "Pages of the operations", data, route)),
-      section("Earlier and later job executions", attempts(data), turn("others", "Pages of the job executions", data, route)),
+      section("Earlier and later job executions", attempts(data),
+        turn("others", "Pages of the job executions", data, route)),
     ];
   },
 };

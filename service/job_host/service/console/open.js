@@ -1,6 +1,9 @@
-// What is open: job instances to restart, each with what failed and the end of its log; what runs long, is late, or waits in vain.
+// What is open: job instances to restart, each with what failed and the end of its log; what runs long, is late, or
+// waits in vain.
 
-import { badge, button, element, executionLink, jobLink, lasting, pageOf, pager, section, table, told, when } from "./dom.js";
+import {
+  badge, button, element, executionLink, jobLink, lasting, pageOf, pager, section, table, told, when,
+} from "./dom.js";
 import { USUAL_SIZE } from "./service.js";
 
 // So many job instances are shown with the ends of their logs; of more, a log is opened by a click.
@@ -11,7 +14,8 @@ function place({ stepName, partition }) {
 }
 
 function logEnd({ stepName, work, logEnd: text }) {
-  return text ? element("pre", { tabindex: "0", role: "group", "aria-label": `End of the log of ${stepName}${work ? `, work item ${work}` : ""}`, dir: "auto" }, text) : null;
+  const label = `End of the log of ${stepName}${work ? `, work item ${work}` : ""}`;
+  return text ? element("pre", { tabindex: "0", role: "group", "aria-label": label, dir: "auto" }, text) : null;
 }
 
 function more(count) {
@@ -23,16 +27,18 @@ export function causesSection(title, { causes, moreCauses }) {
   if (!causes.length) return null;
   const shown = causes.map((cause, number) => element("div", { "data-key": `why ${cause.work || `step ${number}`}` },
     element("p", {}, place(cause), ` is ${cause.outcome}, exit status `, told(cause.exitStatus)), logEnd(cause)));
-  return element("section", { class: "reason", "data-key": "reason", "aria-label": title }, element("h2", {}, title), shown, more(moreCauses));
+  return element("section", { class: "reason", "data-key": "reason", "aria-label": title },
+    element("h2", {}, title), shown, more(moreCauses));
 }
 
 function causesCell({ causes, moreCauses }, isOpen) {
   return [causes.map((cause) => {
     const summary = [place(cause), ": ", cause.outcome === "LOST" ? "LOST, " : "", told(cause.exitStatus)];
-    const log = logEnd(cause);
-    return log
-      ? element("details", { "data-key": `why ${cause.work}`, "aria-label": `${cause.stepName}, work item ${cause.work}`, open: isOpen }, element("summary", {}, summary), log)
-      : element("p", { "data-key": `why ${cause.work}` }, summary);
+    const [log, key] = [logEnd(cause), `why ${cause.work}`];
+    if (!log) return element("p", { "data-key": key }, summary);
+    const label = `${cause.stepName}, work item ${cause.work}`;
+    return element("details", { "data-key": key, "aria-label": label, open: isOpen },
+      element("summary", {}, summary), log);
   }), more(moreCauses)];
 }
 
@@ -40,33 +46,40 @@ function causesCell({ causes, moreCauses }, isOpen) {
 export function openSection(data, query, may, to) {
   const rows = data.jobInstances;
   const columns = [
-    { name: "Job execution", kind: "number" }, { name: "Job" }, { name: "Status" }, { name: "What, and its exit status", kind: "wide" }, { name: "Ended" },
+    { name: "Job execution", kind: "number" }, { name: "Job" }, { name: "Status" },
+    { name: "What, and its exit status", kind: "wide" }, { name: "Ended" },
     ...(may("operate") ? [{ name: "Action", kind: "action" }] : []),
   ];
   const isOpen = rows.length <= MOST_WITH_LOG;
   const shown = rows.map((row) => ({
     key: row.executionId,
     cells: [
-      executionLink(row.executionId), jobLink(row.jobName), badge(row.batchStatus), causesCell(row, isOpen), when(row.endTime),
+      executionLink(row.executionId), jobLink(row.jobName), badge(row.batchStatus), causesCell(row, isOpen),
+      when(row.endTime),
       ...(may("operate") ? [button("restart", "Restart", { execution: row.executionId }, "small")] : []),
     ],
   }));
   const page = pageOf(query);
   const isPaged = page > 0 || rows.length === USUAL_SIZE;
-  return section("Open", table("Job instances to restart, the newest first", columns, shown, "No job instance is FAILED or STOPPED."),
+  return section("Open",
+    table("Job instances to restart, the newest first", columns, shown, "No job instance is FAILED or STOPPED."),
     isPaged ? pager("Pages of the job instances", page, rows.length === USUAL_SIZE, to) : null);
 }
 
 function line(kind, key, one, ...words) {
-  return element("li", { class: kind, "data-key": `${kind} ${key}` }, jobLink(one.jobName), ": job execution ", executionLink(one.executionId), ...words);
+  return element("li", { class: kind, "data-key": `${kind} ${key}` },
+    jobLink(one.jobName), ": job execution ", executionLink(one.executionId), ...words);
 }
 
 // What isn't to be restarted, and yet has to be looked at.
 export function lookSection({ long, late, waiting }) {
   const lines = [
-    ...long.map((one) => line("long", one.executionId, one, ` has run for ${lasting(one.seconds)}; the longest before took ${lasting(one.longestBefore)}.`)),
-    ...(late || []).map((one) => line("late", one.work, one, ", ", place(one), ": no sign of its worker ", told(one.client), `, ${lasting(one.leaseRemaining)} of its lease are left.`)),
-    ...(waiting || []).map((one) => line("waiting", one.executionId, one, " waits since ", when(one.lastUpdatedTime), ": no worker asks for work.")),
+    ...long.map((one) => line("long", one.executionId, one,
+      ` has run for ${lasting(one.seconds)}; the longest before took ${lasting(one.longestBefore)}.`)),
+    ...(late || []).map((one) => line("late", one.work, one, ", ", place(one),
+      ": no sign of its worker ", told(one.client), `, ${lasting(one.leaseRemaining)} of its lease are left.`)),
+    ...(waiting || []).map((one) => line("waiting", one.executionId, one,
+      " waits since ", when(one.lastUpdatedTime), ": no worker asks for work.")),
   ];
   return lines.length ? section("Long, late or waiting", element("ul", { class: "look" }, lines)) : null;
 }

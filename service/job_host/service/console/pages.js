@@ -2,8 +2,8 @@
 
 import { tookBar } from "./bars.js";
 import {
-  badge, button, count, element, executionLink, facts, heading, jobLink, link, MOST_ROWS, pageOf, pager, section, span, STATUSES,
-  table, told, UNFINISHED, when,
+  badge, button, count, element, executionLink, facts, heading, jobLink, link, MOST_ROWS, pageOf, pager, section, span,
+  STATUSES, table, told, UNFINISHED, when,
 } from "./dom.js";
 import { mayBeChosen } from "./many.js";
 import { lookSection, openSection } from "./open.js";
@@ -16,7 +16,8 @@ const RESTARTABLE = ["FAILED", "STOPPED"];
 function fill(history) {
   const share = (100 * history.operations) / history.mostOperations;
   const percent = share > 0 && share < 0.01 ? "less than 0.01" : share.toFixed(2);
-  return `${history.operations.toLocaleString("en")} of ${history.mostOperations.toLocaleString("en")} operations (${percent} %)`;
+  const [made, most] = [history.operations, history.mostOperations].map((number) => number.toLocaleString("en"));
+  return `${made} of ${most} operations (${percent} %)`;
 }
 
 // What is said on every page if the history is almost full.
@@ -29,8 +30,8 @@ export function warningOf(history) {
 // With `mayChoose` many may be chosen, on which an operation is made at once.
 function executionsTable(caption, rows, empty, mayChoose = false) {
   const columns = [
-    { name: "Job execution", kind: "number" }, { name: "Job" }, { name: "Status" }, { name: "Exit status" }, { name: "Parameters", kind: "wide" },
-    { name: "Created" }, { name: "Ended" }, { name: "Took", kind: "number" },
+    { name: "Job execution", kind: "number" }, { name: "Job" }, { name: "Status" }, { name: "Exit status" },
+    { name: "Parameters", kind: "wide" }, { name: "Created" }, { name: "Ended" }, { name: "Took", kind: "number" },
     ...(mayChoose ? [{ name: "Choose", kind: "action" }] : []),
   ];
   const exit = (row) => (row.exitStatus === row.batchStatus ? "" : told(row.exitStatus));
@@ -68,27 +69,31 @@ function isSettled(row) {
 }
 
 function tile(href, status, number, isCurrent, name = status) {
-  return element("li", {}, element("a", { href, class: `tile ${status ? `status-${status}` : ""}`, "aria-current": isCurrent ? "true" : null },
-    element("strong", {}, number.toLocaleString("en")), " ", name || "all"));
+  const given = { href, class: `tile ${status ? `status-${status}` : ""}`, "aria-current": isCurrent ? "true" : null };
+  return element("li", {},
+    element("a", given, element("strong", {}, number.toLocaleString("en")), " ", name || "all"));
 }
 
 function counts(statusCounts, query, current) {
   const total = Object.values(statusCounts).reduce((sum, number) => sum + number, 0);
-  const of = (status, number) => tile(`#/executions?${new URLSearchParams({ ...query, ...(status ? { status } : {}) })}`, status, number, status === current);
+  const to = (status) => `#/executions?${new URLSearchParams({ ...query, ...(status ? { status } : {}) })}`;
+  const of = (status, number) => tile(to(status), status, number, status === current);
   return element("ul", { class: "tiles", "aria-label": "Job executions by batch status" },
     of("", total), STATUSES.map((status) => of(status, statusCounts[status] || 0)));
 }
 
 // How much is open, and how much isn't finished.
 function openCounts(open, statusCounts, current) {
-  const of = (status) => tile(status === current ? "#/" : `#/?status=${status}`, status, open[status], status === current, `${status}, open`);
+  const to = (status) => (status === current ? "#/" : `#/?status=${status}`);
+  const of = (status) => tile(to(status), status, open[status], status === current, `${status}, open`);
   return element("ul", { class: "tiles", "aria-label": "What is open, and what isn't finished" }, RESTARTABLE.map(of),
     UNFINISHED.map((status) => tile(`#/executions?status=${status}`, status, statusCounts[status] || 0, false)));
 }
 
 // Failing jobs come first, then those that were stopped, then those that run.
 function rank({ jobName, newest }, open) {
-  const statuses = [newest ? newest.batchStatus : "", ...open.filter((one) => one.jobName === jobName).map((one) => one.batchStatus)];
+  const ofJob = open.filter((one) => one.jobName === jobName);
+  const statuses = [newest ? newest.batchStatus : "", ...ofJob.map((one) => one.batchStatus)];
   const place = ["FAILED", "STOPPED"].findIndex((status) => statuses.includes(status));
   if (place >= 0) return place;
   return UNFINISHED.includes(statuses[0]) ? 2 : 3;
@@ -115,7 +120,8 @@ function filterForm() {
 
 function jobsTable(catalogue, open, may) {
   const columns = [
-    { name: "Job" }, { name: "Job instances", kind: "number" }, { name: "Last job execution", kind: "number" }, { name: "Status" }, { name: "Updated" },
+    { name: "Job" }, { name: "Job instances", kind: "number" }, { name: "Last job execution", kind: "number" },
+    { name: "Status" }, { name: "Updated" },
     ...(may("operate") ? [{ name: "Action", kind: "action" }] : []),
   ];
   const wanted = (document.getElementById("filter")?.value || "").trim().toLowerCase();
@@ -139,7 +145,8 @@ export const jobs = {
   page: "jobs",
   async load({ query }) {
     const status = query.get("status");
-    const of = { ...(RESTARTABLE.includes(status) ? { status } : {}), ...(pageOf(query) ? { page: pageOf(query) } : {}) };
+    const chosen = RESTARTABLE.includes(status) ? { status } : {};
+    const of = { ...chosen, ...(pageOf(query) ? { page: pageOf(query) } : {}) };
     const running = [...UNFINISHED.map((one) => ["status", one]), ["pageSize", NEWEST]];
     const [open, runs, catalogue, history] = await Promise.all([
       read("/batch/open", of), read("/batch/jobexecutions", running), read("/batch/catalogue"), read("/batch/history"),
@@ -155,7 +162,8 @@ export const jobs = {
       openCounts(open.counts, runs.statusCounts, query.get("status")),
       openSection(open, query, may, (page) => `#/?${new URLSearchParams({ ...kept, page })}`),
       lookSection(open),
-      section("Running", executionsTable("Job executions that aren't finished, the newest first", runs.jobExecutions, "Nothing runs."),
+      section("Running",
+        executionsTable("Job executions that aren't finished, the newest first", runs.jobExecutions, "Nothing runs."),
         runs.more ? element("p", {}, "More run: ", link("#/executions?status=STARTED", "all that are STARTED")) : null),
       section("Jobs of the catalogue", filterForm(), jobsTable(catalogue, open.jobInstances, may)),
       section("History", fullness(history)),
@@ -164,11 +172,18 @@ export const jobs = {
 };
 
 function fullness(history) {
-  const { warnFrom, refuseFrom } = history;
+  const { operations, mostOperations, warnFrom, refuseFrom } = history;
+  const [warns, refuses] = [warnFrom, refuseFrom].map((number) => number.toLocaleString("en"));
   return element("div", {},
-    element("meter", { min: 0, max: history.mostOperations, high: warnFrom, optimum: 0, value: history.operations, "aria-label": fill(history) }),
-    element("p", {}, `${fill(history)}. From ${warnFrom.toLocaleString("en")} on the service warns. From ${refuseFrom.toLocaleString("en")} on nothing is started or restarted.`),
-    facts([["This instance", history.role], ["Epoch", String(history.epoch)], ["Leader", history.role === "follower" ? told(history.leader) : ""]]));
+    element("meter", {
+      min: 0, max: mostOperations, high: warnFrom, optimum: 0, value: operations, "aria-label": fill(history),
+    }),
+    element("p", {}, `${fill(history)}. From ${warns} on the service warns. `
+      + `From ${refuses} on nothing is started or restarted.`),
+    facts([
+      ["This instance", history.role], ["Epoch", String(history.epoch)],
+      ["Leader", history.role === "follower" ? told(history.leader) : ""],
+    ]));
 }
 
 // Executions: by batch status, the newest first, with search and pages.
@@ -188,7 +203,8 @@ export const executions = {
     const [status, search, jobName] = ["status", "search", "jobName"].map((name) => query.get(name) || "");
     const words = ["search", "jobName", ...Object.keys(DAYS)].filter((word) => query.get(word));
     const kept = Object.fromEntries(words.map((word) => [word, query.get(word)]));
-    const caption = `Job executions${status ? ` that are ${status}` : ""}${search ? " that the search finds" : ""}, the newest first`;
+    const which = `${status ? ` that are ${status}` : ""}${search ? " that the search finds" : ""}`;
+    const caption = `Job executions${which}, the newest first`;
     return [
       heading("Job executions"),
       searchForm(status, search, jobName, daysOf(query)),
@@ -209,7 +225,12 @@ function daysOf(query) {
 }
 
 function searchForm(status, search, jobName, days) {
-  return element("form", { class: "search", role: "search", "aria-label": "Job executions", "data-form": "search", "data-status": status, "data-job": jobName },
+  const given = {
+    class: "search", role: "search", "aria-label": "Job executions", "data-form": "search", "data-status": status,
+    "data-job": jobName,
+  };
+  const all = `#/executions?${new URLSearchParams(status ? { status } : {})}`;
+  return element("form", given,
     element("label", { for: "search" }, "Job, exit status, parameter or number"),
     element("input", {
       id: "search", name: "search", "data-word": "search", type: "search", value: search, maxlength: "256",
@@ -218,7 +239,7 @@ function searchForm(status, search, jobName, days) {
     days.map(([word, name, value]) => [element("label", { for: word }, name),
       element("input", { id: word, name: word, "data-word": word, type: "date", value })]),
     element("button", { type: "submit" }, "Search"),
-    jobName ? element("span", {}, "of the job ", told(jobName), " ", link(`#/executions?${new URLSearchParams(status ? { status } : {})}`, "of all jobs")) : null);
+    jobName ? element("span", {}, "of the job ", told(jobName), " ", link(all, "of all jobs")) : null);
 }
 
 function turn(data, kept, page) {
@@ -226,7 +247,8 @@ function turn(data, kept, page) {
   const last = first + data.jobExecutions.length - 1;
   const of = data.total === null ? "" : ` of ${data.total.toLocaleString("en")}`;
   const text = data.jobExecutions.length ? `${first.toLocaleString("en")} to ${last.toLocaleString("en")}${of}` : "";
-  return pager("Pages of the list", page, data.more, (number) => `#/executions?${new URLSearchParams({ ...kept, page: number })}`, text);
+  const to = (number) => `#/executions?${new URLSearchParams({ ...kept, page: number })}`;
+  return pager("Pages of the list", page, data.more, to, text);
 }
 
 // A job: its picture, and its newest job executions.
@@ -243,12 +265,14 @@ export const job = {
   title: ({ name }) => `Job ${name}`,
   isLive: ({ list }) => list.jobExecutions.some((row) => UNFINISHED.includes(row.batchStatus)),
   draw({ shape, list }, { name }, may) {
+    const caption = "Job executions of this job, the newest first";
+    const all = `#/executions?${new URLSearchParams({ jobName: name })}`;
     return [
       heading("Job ", told(name)),
       element("p", { class: "actions" }, may("operate") ? button("start", "Start", { job: name }, "main") : null),
       section("Picture", pictured(shape, new Map())),
-      section("Newest job executions", executionsTable("Job executions of this job, the newest first", list.jobExecutions, "It was never started."),
-        list.more ? element("p", {}, link(`#/executions?${new URLSearchParams({ jobName: name })}`, "All job executions of this job")) : null),
+      section("Newest job executions", executionsTable(caption, list.jobExecutions, "It was never started."),
+        list.more ? element("p", {}, link(all, "All job executions of this job")) : null),
     ];
   },
 };
@@ -262,25 +286,29 @@ export const work = {
   draw(data, { query }, may) {
     const mayLose = may("operate") || may("work");
     const [page, isFull] = [pageOf(query), data.length === MOST_ROWS];
+    const to = (number) => `#/work?page=${number}`;
     const held = isFull || page ? "" : `${count(data.length, "work item")} ${data.length === 1 ? "is" : "are"} held. `;
     const columns = [
-      { name: "Work item", kind: "number" }, { name: "Step" }, { name: "Partition", kind: "number" }, { name: "Job execution", kind: "number" },
-      { name: "Worker" }, { name: "Since" }, { name: "For", kind: "number" }, { name: "Lease left", kind: "number" },
+      { name: "Work item", kind: "number" }, { name: "Step" }, { name: "Partition", kind: "number" },
+      { name: "Job execution", kind: "number" }, { name: "Worker" }, { name: "Since" }, { name: "For", kind: "number" },
+      { name: "Lease left", kind: "number" },
       ...(mayLose ? [{ name: "Action", kind: "action" }] : []),
     ];
     const rows = data.map((one) => ({
       key: one.work,
       cells: [
-        String(one.work), told(one.stepName), one.partition === null ? "" : String(one.partition), executionLink(one.executionId), told(one.client),
-        when(one.since), span(one.since, null), one.leaseRemaining === null ? "" : `${Math.round(one.leaseRemaining)} s`,
+        String(one.work), told(one.stepName), one.partition === null ? "" : String(one.partition),
+        executionLink(one.executionId), told(one.client), when(one.since), span(one.since, null),
+        one.leaseRemaining === null ? "" : `${Math.round(one.leaseRemaining)} s`,
         ...(mayLose ? [button("lose", "Lose", { work: one.work }, "small danger")] : []),
       ],
     }));
     return [
       heading("Work"),
       element("p", {}, data.length ? `${held}A lease that runs out loses its work item.` : ""),
-      element("section", { "aria-label": "Work items" }, table("Which worker holds which work item", columns, rows, "No worker holds a work item.")),
-      isFull || page ? pager("Pages of the work items", page, isFull, (number) => `#/work?page=${number}`, "", ["Earlier", "Later"]) : null,
+      element("section", { "aria-label": "Work items" },
+        table("Which worker holds which work item", columns, rows, "No worker holds a work item.")),
+      isFull || page ? pager("Pages of the work items", page, isFull, to, "", ["Earlier", "Later"]) : null,
     ];
   },
 };

@@ -55,14 +55,16 @@ async function documentOf(response) {
 }
 
 async function ask(method, path, body, more) {
-  const given = { "Batch-Forgery-Token": forgeryToken, ...(body ? { "Content-Type": "application/json" } : {}), ...more };
-  const response = await fetch(path, { method, headers: headers(given), body: body ? JSON.stringify(body) : undefined, cache: "no-store" });
+  const kind = body ? { "Content-Type": "application/json" } : {};
+  const given = headers({ "Batch-Forgery-Token": forgeryToken, ...kind, ...more });
+  const text = body ? JSON.stringify(body) : undefined;
+  const response = await fetch(path, { method, headers: given, body: text, cache: "no-store" });
   if (response.status === 401) throw new TokenNeeded();
   if (!response.ok) throw new Refused(response.status, await documentOf(response));
   seen = Math.max(seen, Number(response.headers.get("Batch-Operations") || 0));
-  const text = await response.text();
-  taken += text.length + HEAD_CHARACTERS;
-  return JSON.parse(text);
+  const answer = await response.text();
+  taken += answer.length + HEAD_CHARACTERS;
+  return JSON.parse(answer);
 }
 
 // How many characters the answers until now had.
@@ -152,13 +154,15 @@ function untilShown() {
   });
 }
 
-// Tells the events of one stream. It ends with the stream, or if the tab is hidden: a browser has few connections for all its tabs.
+// Tells the events of one stream. It ends with the stream, or if the tab is hidden: a browser has few connections for
+// all its tabs.
 async function followOnce(tell) {
   const stop = new AbortController();
   const look = () => { if (document.hidden) stop.abort(); };
   document.addEventListener("visibilitychange", look);
   try {
-    const response = await fetch("/batch/events", { headers: headers({ "Batch-Client": TAB }), cache: "no-store", signal: stop.signal });
+    const given = headers({ "Batch-Client": TAB });
+    const response = await fetch("/batch/events", { headers: given, cache: "no-store", signal: stop.signal });
     if (!response.ok) return response.status;
     for await (const line of lines(response)) {
       if (line.startsWith("data: ")) tell(JSON.parse(line.slice(6)));

@@ -31,8 +31,8 @@ function lookedFor({ job, states }) {
 
 // The numbers of the flows and splits around an element.
 function around(elements, number) {
-  const isIn = (one, place) => place < number && number <= place + numbered(inside(one)).length;
-  return elements.flatMap((one, place) => (isIn(one, place) ? [place] : []));
+  const isIn = (one, index) => index < number && number <= index + numbered(inside(one)).length;
+  return elements.flatMap((one, index) => (isIn(one, index) ? [index] : []));
 }
 
 function queryOf({ job, states, folded, unfolded }) {
@@ -170,15 +170,18 @@ async function jump() {
   const others = view.layout.folded.filter((one) => !frames.has(one));
   if (others.length < view.layout.folded.length && !view.isList) await change((one) => { one.folded = others; });
   view.at = number;
-  nodeOf(number)?.focus({ preventScroll: true });
-  nodeOf(number)?.scrollIntoView({ block: "center", inline: "center" });
+  const node = nodeOf(number);
+  if (!node) return;
+  node.focus({ preventScroll: true });
+  node.scrollIntoView({ block: "center", inline: "center" });
 }
 
 async function toggle(number) {
   const isFolded = view.layout.folded.includes(number);
   const others = view.layout.folded.filter((one) => one !== number);
   await change((one) => { one.folded = isFolded ? others : [...others, number]; });
-  find(`.view [data-fold="${number}"]`)?.focus();
+  const fold = find(`.view [data-fold="${number}"]`);
+  if (fold) fold.focus();
 }
 
 const frames = () => numbered(view.job.elements).flatMap((one, number) => (inside(one).length ? [number] : []));
