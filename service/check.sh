@@ -1,6 +1,6 @@
 #!/bin/sh
-# The gate's part of the service: layout and types, of its figures in benches/ too, and the tests with real PostgreSQL servers and
-# worker processes.
+# The gate's part of the service: layout and types, of its figures in benches/ too, the console by eslint, and the tests with real
+# PostgreSQL servers and worker processes.
 #
 #     service/check.sh [WORDS OF PYTEST ..]
 #
@@ -16,6 +16,8 @@ figures="$figures ../benches/sql_repository.py"
 $python -m flake8 . $figures
 # shellcheck disable=SC2086
 $python -m black --config pyproject.toml --check -q . $figures
+# Only Debian's own Node.js finds Debian's modules untold. The usual format of eslint needs a package more.
+NODE_PATH=/usr/share/nodejs eslint --format unix job_host/service/console
 MYPYPATH=tests:. $python -m mypy check_catalogues.py
 $python -m mypy
 # shellcheck disable=SC2086

@@ -67,7 +67,7 @@ def test_postgres_needs_more(tmp_path: Path) -> None:
 def test_development_needs_all(tmp_path: Path, words: list[str]) -> None:
     missing = " ".join(install(tmp_path, NONE, *words)[1]).split()
     assert missing[:7] == TO_RUN + FOR_POSTGRES
-    assert {"mypy", "chromium", "openssl"} < set(missing)
+    assert {"mypy", "chromium", "eslint", "openssl"} < set(missing)
     assert len(missing) == len(set(missing))
 
 

@@ -62,6 +62,7 @@ def test_all_that_is_missing_is_named_at_once() -> None:
         ("python3", "exit 1", "missing: python3, 3.11 or newer, on the path (Debian's python3)"),
         ("cc", "exit 1", "missing: cc, with the headers of tools/tests/libraries/*.c (Debian's gcc libc6-dev)"),
         ("dpkg-query", 'case "$4" in openssl) exit 1 ;; esac; echo installed', "missing: openssl (Debian's openssl)"),
+        ("dpkg-query", 'case "$4" in eslint) exit 1 ;; esac; echo installed', "missing: eslint (Debian's eslint)"),
     ],
 )
 def test_what_is_missing_is_named(name: str, line: str, said: str) -> None:
