@@ -17,7 +17,7 @@ $python -m flake8 . $figures
 # shellcheck disable=SC2086
 $python -m black --config pyproject.toml --check -q . $figures
 # Only Debian's own Node.js finds Debian's modules untold. The usual format of eslint needs a package more.
-NODE_PATH=/usr/share/nodejs eslint --format unix job_host/service/console
+NODE_PATH=/usr/share/nodejs eslint --format unix job_host/service/console tests
 MYPYPATH=tests:. $python -m mypy check_catalogues.py
 $python -m mypy
 # shellcheck disable=SC2086
