@@ -230,5 +230,10 @@ async def test_a_server_that_is_started_again(own_server: PostgresServer, catalo
         await asyncio.to_thread(own_server.start)
         await until_epoch(one, 2)
         assert (await Caller(one.url).start("short", key="a")).operations == 11
+
+        async def has_followed() -> bool:
+            return (await Caller(two.url).ask("GET", "/batch/jobs?atLeast=11")).status == 200
+
+        await until(has_followed)
         assert await executions(Caller(two.url), "?atLeast=11") == [5, 4, 3, 2]
         assert ([engine_of(one), engine_of(two)], started) == (engines, [])
