@@ -1,5 +1,6 @@
-// Runs functions of the console without a browser: `node console_functions.js FILE < EXPRESSIONS`, beside the console's
-// files. It reads a JSON list of expressions, and writes the list of their values.
+// Runs functions of the console without a browser: `node console_functions.js FILE FOLDER.. < EXPRESSIONS`, beside
+// folders with the console's files. It reads a JSON list of expressions, and writes a line for each folder: the list of
+// their values.
 /* eslint-env node */
 
 import { readFileSync } from "node:fs";
@@ -77,9 +78,19 @@ async function valueOf(expression, scope) {
   }
 }
 
+// Each folder begins with a new browser and a new service.
+async function valuesOf(folder, file, expressions) {
+  kept.clear();
+  Object.assign(browser.location, { hash: "" });
+  Object.assign(service, { asked: [], replies: [], documents: {} });
+  const scope = { ...await import(`./${folder}/${file}`), ...helpers };
+  const values = [];
+  for (const expression of expressions) values.push((await valueOf(expression, scope)) ?? null);
+  return values;
+}
+
 Object.assign(global, browser);
 if (!global.crypto) global.crypto = webcrypto;
-const scope = { ...await import(`./${process.argv[2]}`), ...helpers };
-const values = [];
-for (const expression of JSON.parse(readFileSync(0, "utf8"))) values.push((await valueOf(expression, scope)) ?? null);
-console.log(JSON.stringify(values));
+const [file, ...folders] = process.argv.slice(2);
+const expressions = JSON.parse(readFileSync(0, "utf8"));
+for (const folder of folders) console.log(JSON.stringify(await valuesOf(folder, file, expressions)));

@@ -5,6 +5,7 @@ from __future__ import annotations
 import json
 import shutil
 import subprocess
+from collections.abc import Sequence
 from pathlib import Path
 from typing import Any
 
@@ -321,36 +322,47 @@ PLANTS = {
 
 @pytest.fixture
 def scripts(tmp_path: Path) -> Path:
-    """A folder with the console's files. Node.js takes these for modules only if it is told."""
-    for file in [*CONSOLE.glob("*.js"), RUNNER]:
-        shutil.copy(file, tmp_path)
+    """A folder for copies of the console's files. Node.js takes these for modules only if it is told."""
+    shutil.copy(RUNNER, tmp_path)
     (tmp_path / "package.json").write_text('{"type": "module"}')
     return tmp_path
 
 
-def wrong_values(folder: Path, name: str) -> dict[str, Any]:
-    """The expressions on a file that don't come to what is due, and what they come to."""
+def copied(folder: Path) -> Path:
+    folder.mkdir()
+    for file in CONSOLE.glob("*.js"):
+        shutil.copy(file, folder)
+    return folder
+
+
+def wrong_values(scripts: Path, name: str, folders: Sequence[Path]) -> list[set[str]]:
+    """The expressions on a file that don't come to what is due, for each folder."""
     expressions = [expression for expression, _ in CASES[name]]
-    words = ["node", RUNNER.name, name]
-    done = subprocess.run(words, cwd=folder, input=json.dumps(expressions), stdout=subprocess.PIPE, check=True, text=True)
-    values = json.loads(done.stdout)
-    return {expression: value for (expression, due), value in zip(CASES[name], values, strict=True) if value != due}
+    words = ["node", RUNNER.name, name, *(folder.name for folder in folders)]
+    done = subprocess.run(words, cwd=scripts, input=json.dumps(expressions), stdout=subprocess.PIPE, check=True, text=True)
+    return [
+        {expression for (expression, due), value in zip(CASES[name], json.loads(line), strict=True) if value != due}
+        for line in done.stdout.splitlines()
+    ]
 
 
 @pytest.mark.parametrize("name", CASES)
 def test_functions_do_what_is_due(scripts: Path, name: str) -> None:
-    assert wrong_values(scripts, name) == {}
+    assert wrong_values(scripts, name, [copied(scripts / "right")]) == [set()]
+
+
+def planted(folder: Path, file: str, right: str, wrong: str) -> Path:
+    script = copied(folder) / file
+    text = script.read_text()
+    assert text.count(right) == 1, right
+    script.write_text(text.replace(right, wrong))
+    return folder
 
 
 @pytest.mark.parametrize("name", CASES)
 def test_wrong_bodies_are_noticed_and_each_expression_notices_one(scripts: Path, name: str) -> None:
-    noticing: set[str] = set()
-    for file, right, wrong in PLANTS[name]:
-        text = (scripts / file).read_text()
-        assert text.count(right) == 1, right
-        (scripts / file).write_text(text.replace(right, wrong))
-        found = wrong_values(scripts, name)
-        assert found, wrong
-        noticing |= set(found)
-        (scripts / file).write_text(text)
-    assert noticing == {expression for expression, _ in CASES[name]}
+    folders = [planted(scripts / f"wrong{number}", *plant) for number, plant in enumerate(PLANTS[name])]
+    found = wrong_values(scripts, name, folders)
+    assert len(found) == len(folders)
+    assert [plant for plant, noticed in zip(PLANTS[name], found, strict=True) if not noticed] == []
+    assert set[str]().union(*found) == {expression for expression, _ in CASES[name]}
