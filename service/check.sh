@@ -18,8 +18,6 @@ $python -m flake8 . $figures
 $python -m black --config pyproject.toml --check -q . $figures
 # Only Debian's own Node.js finds Debian's modules untold. The usual format of eslint needs a package more.
 NODE_PATH=/usr/share/nodejs eslint --format unix job_host/service/console tests
-MYPYPATH=tests:. $python -m mypy check_catalogues.py
-$python -m mypy
 # shellcheck disable=SC2086
-MYPYPATH=tests:.:../benches $python -m mypy tests soak*.py screenshots.py $figures
+MYPYPATH=tests:.:../benches $python -m mypy job_host tests ./*.py $figures
 $python -m pytest -q "$@"
