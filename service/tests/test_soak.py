@@ -8,12 +8,15 @@ from collections.abc import Callable, Iterator, Sequence
 from dataclasses import dataclass, replace
 from pathlib import Path
 
+import black_hole
 import pytest
 from soak import Parts, Plan, compare, operations_of, soak
 from soak_check import Lost, Operation, Seen, Wrong, check, replay
 
 from job_host.catalogue.jobs import read_file
 
+NOT_SWALLOWED = black_hole.why_not_swallowed()
+pytestmark = pytest.mark.skipif(NOT_SWALLOWED is not None, reason=str(NOT_SWALLOWED))
 EMBEDDED = ["worker", "black-hole", "store", "grandchild", "silent", "folder", "hung-batchctl", "late"]
 POSTGRES = ["absent", "connections", "pipelining", "hung-postgres", "batchctl", "cut-off", "postgres", "worker"]
 

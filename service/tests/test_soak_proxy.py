@@ -8,10 +8,13 @@ import socket
 from collections.abc import AsyncIterator
 from contextlib import ExitStack, asynccontextmanager
 
+import black_hole
+import pytest
 from instances import until
 from soak_proxy import Proxy
 
 ANSWER = b"answer"
+NOT_SWALLOWED = black_hole.why_not_swallowed()
 
 
 @asynccontextmanager
@@ -60,6 +63,7 @@ async def ask(one: socket.socket) -> None:
     assert await asyncio.wait_for(loop.sock_recv(one, 100), 3.0) == ANSWER
 
 
+@pytest.mark.skipif(NOT_SWALLOWED is not None, reason=str(NOT_SWALLOWED))
 async def test_a_connection_that_ends_while_it_is_lost_leaves_its_port_free() -> None:
     """Both sides have ended it before, and the proxy passes their ends on later. Then a client has the same port again."""
     may_close = asyncio.Event()
